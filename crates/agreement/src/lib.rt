@@ -1,0 +1,1 @@
+// Demand 3 as one statement, and the bench sheet; definitions and theorems, no function.

@@ -1,0 +1,61 @@
+-- A chart (the paper's word for a hierarchical graph scheme) as its node records, ten bytes a node.
+use Prim.Native.Nat.{ℕ}
+use mathlib.Core.Bool.{Bool, _&&_}
+use mathlib.Core.List.{List}
+use lib.Dec.{eqb}
+use Rattle.lists.specs.Pick.{pick}
+use Rattle.lists.specs.Numbers.{lowest, highest}
+use Rattle.bits.specs.Word.{bit}
+use Rattle.frames.specs.Frame.{size, field, quadAt}
+
+abbrev pub Chart : Type 0
+Chart = List ℕ
+
+abbrev pub kind : Chart → ℕ → ℕ
+kind c v = field c v 0
+
+abbrev pub scheme : Chart → ℕ → ℕ
+scheme c v = field c v 1
+
+-- the scheme that an operation or a function calls, the number of a condition
+abbrev pub argument : Chart → ℕ → ℕ
+argument c v = field c v 2
+
+-- the next node, or the next on a 0; the next on a 1
+abbrev pub next0 : Chart → ℕ → ℕ
+next0 c v = field c v 3
+
+abbrev pub next1 : Chart → ℕ → ℕ
+next1 c v = field c v 4
+
+-- the arc of a condition that a word takes: bit i of the word is condition i
+abbrev pub taken : Chart → ℕ → ℕ → ℕ
+taken c w v = pick (eqb (bit w (argument c v)) 0) (next0 c v) (next1 c v)
+
+abbrev pub result : Chart → ℕ → ℕ
+result c v = field c v 5
+
+abbrev pub mask : Chart → ℕ → ℕ
+mask c v = quadAt c v 6
+
+-- node v is of kind k: 0 Begin, 1 End, 2 operation, 3 condition, 4 function
+abbrev pub is : Chart → ℕ → ℕ → Bool
+is c k v = eqb (kind c v) k
+
+-- H, the number of schemes: the largest scheme of a node
+abbrev pub schemes : Chart → ℕ
+schemes c = highest (scheme c) 0 (size c)
+
+-- node v is of kind k in scheme h
+abbrev pub isOf : Chart → ℕ → ℕ → ℕ → Bool
+isOf c k h v = is c k v && eqb (scheme c v) h
+
+-- the lowest such node: a scheme's Begin and its End
+unfoldable pub nodeOf : Chart → ℕ → ℕ → ℕ
+nodeOf c k h = lowest (isOf c k h) 0 (size c)
+
+abbrev pub begin : Chart → ℕ → ℕ
+begin c h = nodeOf c 0 h
+
+abbrev pub end : Chart → ℕ → ℕ
+end c h = nodeOf c 1 h

@@ -1,0 +1,3 @@
+pub mod Chart
+pub mod Check
+pub mod Entry

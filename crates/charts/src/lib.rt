@@ -1,0 +1,1 @@
+// Charts as node records of ten bytes: their checks, reading and writing.

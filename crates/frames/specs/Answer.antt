@@ -1,0 +1,49 @@
+-- What an entry point answers and leaves in the buffer lent to it, in the paper's numbers.
+use Prim.Native.Nat.{ℕ, _/_}
+use mathlib.Core.List.{List}
+use lib.Dec.{ltb}
+use lib.ListN.{length}
+use Rattle.lists.specs.Pick.{pick}
+use Rattle.lists.specs.Sequences.{over}
+use Rattle.frames.specs.Verdict.{Verdict, fine, refused}
+use Rattle.frames.specs.declared.Answer.{Answer}
+use Rattle.frames.specs.declared.Answer.the-variants.{Done, Refused}
+
+-- success with the count written; or a refusal's number, index and count
+pub data Reply : Type 0 where
+  success : ℕ → Reply
+  refusal : ℕ → ℕ → ℕ → Reply
+
+-- what each case of the enum stands for; every promise about an answer goes through this
+abbrev pub reply : Answer → Reply
+reply (Done n) = success n
+reply (Refused k i n) = refusal k i n
+
+-- the number as printed, 0 for success, and the values beside it
+abbrev pub number : Reply → ℕ
+number (success n) = 0
+number (refusal k i n) = k
+
+abbrev pub index : Reply → ℕ
+index (success n) = 0
+index (refusal k i n) = i
+
+abbrev pub count : Reply → ℕ
+count (success n) = n
+count (refusal k i n) = n
+
+-- a verdict with the count that goes with it
+abbrev pub replied : Verdict → ℕ → Reply
+replied fine n = success n
+replied (refused k i) n = refusal k i n
+
+pub record Lent : Type 0 where
+  pub reply : Reply
+  pub buffer : List ℕ
+
+-- a refusal leaves the buffer as it was; else its front is written, counted by units, or there is no room: 16
+abbrev pub lent : Verdict → ℕ → (Unit {0} → List ℕ) → List ℕ → Lent
+lent (refused k i) unit new old = record { reply = refusal k i 0; buffer = old }
+lent fine unit new old = let xs = new tt in pick (ltb (length old) (length xs))
+    (record { reply = refusal 16 0 0; buffer = old })
+    (record { reply = success (length xs / unit); buffer = over xs old })

@@ -1,0 +1,28 @@
+-- Why a text is turned back: refusals 1 to 3.
+use Prim.Native.Nat.{ℕ, _+_, _*_, _%_}
+use mathlib.Core.Bool.{Bool, _||_, not}
+use mathlib.Core.List.{List}
+use lib.Dec.{leb, ltb, eqb}
+use lib.ListN.{length, getD}
+use Rattle.lists.specs.Numbers.{any, sum}
+use Rattle.frames.specs.Digit.{digitOf}
+use Rattle.frames.specs.Frame.{byteAt, frameCount}
+use Rattle.frames.specs.Verdict.{Verdict, next, when, atLowest}
+
+-- 1: empty, parts of a unit left over, or more than the most; a unit is a frame's 23 characters or a record's 10 bytes
+abbrev pub badLength : ℕ → ℕ → ℕ → Bool
+badLength unit most n = eqb n 0 || not (eqb (n % unit) 0) || ltb most n
+
+-- 2: a place of 0 to 21 that is no digit, or place 22 that is no line feed
+unfoldable pub badForm : List ℕ → ℕ → Bool
+badForm t f = any (λ k. leb 16 (digitOf (getD t (23 * f + k) 0))) 0 22 || not (eqb (getD t (23 * f + 22) 0) 10)
+
+-- 3
+unfoldable pub badSum : List ℕ → ℕ → Bool
+badSum t f = not (eqb (sum (byteAt t f) 0 11 % 256) 0)
+
+unfoldable pub textVerdict : ℕ → List ℕ → Verdict
+textVerdict most t =
+    next (when 1 (badLength 23 most (length t))) λ _.
+    next (atLowest 2 (badForm t) (frameCount t)) λ _.
+    atLowest 3 (badSum t) (frameCount t)

@@ -1,0 +1,1 @@
+// Marks on numbered nodes and how they spread over arcs.

@@ -1,0 +1,39 @@
+-- The image that the contents of a text hold, ten bytes a frame.
+use Prim.Native.Nat.{ℕ, _+_}
+use mathlib.Core.List.{List, map}
+use Rattle.lists.specs.Numbers.{range}
+use Rattle.frames.specs.Frame.{field, pairAt, quadAt}
+use Rattle.image.specs.Image.{Image, Label, Row}
+
+-- H, M and the row count of the header
+abbrev pub schemeCount : List ℕ → ℕ
+schemeCount b = field b 0 1
+
+abbrev pub lastLabel : List ℕ → ℕ
+lastLabel b = field b 0 2
+
+abbrev pub rowCount : List ℕ → ℕ
+rowCount b = pairAt b 0 3
+
+-- the frames of entries start at 1, those of labels and of rows where the ones before end
+abbrev pub labelsFrom : List ℕ → ℕ
+labelsFrom b = 1 + schemeCount b
+
+abbrev pub rowsFrom : List ℕ → ℕ
+rowsFrom b = 2 + schemeCount b + lastLabel b
+
+abbrev pub entryIn : List ℕ → ℕ → ℕ
+entryIn b h = field b h 2
+
+abbrev pub labelIn : List ℕ → ℕ → Label
+labelIn b l = let f = labelsFrom b + l in record { kind = field b f 2; called = field b f 3; owner = field b f 4; result = field b f 5; mask = quadAt b f 6 }
+
+abbrev pub rowIn : List ℕ → ℕ → Row
+rowIn b k = let f = rowsFrom b + k in record { from = field b f 1; care = pairAt b f 2; values = pairAt b f 4; bit = field b f 6; next = field b f 7 }
+
+unfoldable pub decoded : List ℕ → Image
+decoded b = record {
+  entries = map (entryIn b) (range 1 (schemeCount b));
+  labels = map (labelIn b) (range 0 (lastLabel b + 1));
+  rows = map (rowIn b) (range 0 (rowCount b));
+}

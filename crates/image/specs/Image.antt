@@ -1,0 +1,46 @@
+-- The image (the paper's word for the table that the machine steps through): entries, labels and rows, and its frames.
+use Prim.Native.Nat.{ℕ, _-_}
+use mathlib.Core.List.{List, [], _∷_, _++_, map}
+use lib.ListN.{length, replicate}
+use Rattle.lists.specs.Sequences.{mapFrom}
+use Rattle.frames.specs.Frame.{pair, quad, framesText}
+
+-- kind: 0 plain, 1 a call of an operation, 2 a call of a function, 3 return, 4 home
+pub record Label : Type 0 where
+  pub kind : ℕ
+  pub called : ℕ
+  pub owner : ℕ
+  pub result : ℕ
+  pub mask : ℕ
+
+-- bit: the function bit, 2 for none
+pub record Row : Type 0 where
+  pub from : ℕ
+  pub care : ℕ
+  pub values : ℕ
+  pub bit : ℕ
+  pub next : ℕ
+
+pub record Image : Type 0 where
+  pub entries : List ℕ
+  pub labels : List Label
+  pub rows : List Row
+
+-- ---- its frames, ten bytes each
+abbrev pub headerFrame : Image → List ℕ
+headerFrame i = 15 ∷ length (i .entries) ∷ (length (i .labels) - 1) ∷ pair (length (i .rows)) ++ replicate 5 0
+
+abbrev pub entryFrame : ℕ → ℕ → List ℕ
+entryFrame h l = 16 ∷ h ∷ l ∷ replicate 7 0
+
+abbrev pub labelFrame : ℕ → Label → List ℕ
+labelFrame l x = 17 ∷ l ∷ x .kind ∷ x .called ∷ x .owner ∷ x .result ∷ quad (x .mask)
+
+abbrev pub rowFrame : Row → List ℕ
+rowFrame r = 18 ∷ r .from ∷ pair (r .care) ++ (pair (r .values) ++ (r .bit ∷ r .next ∷ 0 ∷ 0 ∷ []))
+
+unfoldable pub imageFrames : Image → List (List ℕ)
+imageFrames i = headerFrame i ∷ mapFrom entryFrame 1 (i .entries) ++ (mapFrom labelFrame 0 (i .labels) ++ map rowFrame (i .rows))
+
+unfoldable pub imageText : Image → List ℕ
+imageText i = framesText (imageFrames i)

@@ -1,0 +1,57 @@
+-- One tick of the machine over an image; refusals 17 and 18.
+use Prim.Native.Nat.{ℕ, zero, suc, _+_, _-_}
+use mathlib.Core.Bool.{Bool, true, false, _&&_, _||_}
+use mathlib.Core.List.{List, [], _∷_}
+use lib.Dec.{leb, eqb}
+use lib.ListN.{set}
+use Rattle.lists.specs.Pick.{pick}
+use Rattle.bits.specs.Word.{agrees}
+use Rattle.bits.specs.Results.{Results, resultOf, withResult}
+use Rattle.image.specs.Image.{Image, Label, Row}
+use Rattle.machine.specs.declared.State.{State}
+use Rattle.machine.specs.State.{labelAt, entryAt, placeAt}
+
+-- a row matches a word and the bit of the scheme that its label calls
+abbrev pub matches : ℕ → ℕ → Row → Bool
+matches w b r = agrees w (r .care) (r .values) && (eqb (r .bit) 2 || eqb (r .bit) b)
+
+pub data Found : Type 0 where
+  found : ℕ → Found
+  missing : Found
+
+-- where the first matching row of label l leads
+unfoldable pub firstRow : ℕ → ℕ → ℕ → List Row → Found
+firstRow l w b [] = missing
+firstRow l w b (r ∷ rs) = elim (eqb (r .from) l && matches w b r) [ true ↦ found (r .next) | false ↦ firstRow l w b rs ]
+
+abbrev pub rowOf : Image → Results → ℕ → ℕ → Found
+rowOf i b l w = firstRow l w (pick (resultOf (labelAt i l .called) b) 1 0) (i .rows)
+
+-- a finished tick: mask, code, the state after it; or the number that stops it, and nothing changes
+pub data Ticked : Type 0 where
+  ticked : ℕ → ℕ → State → Ticked
+  stopped : ℕ → Ticked
+
+-- the label found is put at place k, and the depth is then d
+abbrev pub moved : ℕ → ℕ → State → ℕ → ℕ → List ℕ → Results → Found → Ticked
+moved m code s k d places b (found l) = ticked m code (record { size = s .size; depth = d; places = set places k l; bits = b })
+moved m code s k d places b missing = stopped 18
+
+-- the entry of scheme h is put above the top; at depth Σ the call is refused
+abbrev pub pushed : Image → State → ℕ → ℕ → ℕ → Results → Bool → Ticked
+pushed i s m code h b true = stopped 17
+pushed i s m code h b false =
+    ticked m code (record { size = s .size; depth = suc (s .depth); places = set (s .places) (s .depth) (entryAt i h); bits = b })
+
+-- by the tick kind of the top label l, which holds x, with the bits after its result
+abbrev pub tickBy : Image → State → ℕ → ℕ → Label → Results → ℕ → Ticked
+tickBy i s w l x b zero = moved (x .mask) 0 s (s .depth - 1) (s .depth) (s .places) b (rowOf i b l w)
+tickBy i s w l x b (suc zero) = pushed i s (x .mask) (16 + x .called) (x .called) b (leb (s .size) (s .depth))
+tickBy i s w l x b (suc (suc zero)) = pushed i s (x .mask) (64 + x .called) (x .called) b (leb (s .size) (s .depth))
+tickBy i s w l x b (suc (suc (suc zero))) =
+    moved (x .mask) 3 s (s .depth - 2) (s .depth - 1) (set (s .places) (s .depth - 1) 0) b (rowOf i b (placeAt s (s .depth - 2)) w)
+tickBy i s w l x b (suc (suc (suc (suc n)))) = moved (x .mask) 4 s (s .depth - 1) (s .depth) (s .places) b (found (entryAt i 1))
+
+unfoldable pub tick : Image → State → ℕ → Ticked
+tick i s w = let l = placeAt s (s .depth - 1) in let x = labelAt i l in
+    tickBy i s w l x (withResult (x .result) (x .owner) (s .bits)) (x .kind)

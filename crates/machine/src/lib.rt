@@ -1,0 +1,24 @@
+// The stack machine: its state, one tick, and a run of ticks over an image.
+use frames::Answer;
+
+// Places hold labels, the bottom first, up to the depth, and 0 above it; scheme h's result bit stands at h - 1.
+pub struct State {
+    pub size: u8,
+    pub depth: u8,
+    pub places: [u8; 32],
+    pub bits: [bool; 16],
+}
+
+// What a call that hands back a state answers.
+pub struct Answered {
+    pub answer: Answer,
+    pub state: State,
+}
+
+impl State {
+    pub const PLACES: usize = 32;
+
+    pub const LABELS: usize = 256;
+
+    pub const ROWS: usize = 1024;
+}

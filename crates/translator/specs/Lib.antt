@@ -1,0 +1,4 @@
+pub mod Labels
+pub mod Rows
+pub mod Table
+pub mod Entry

@@ -1,0 +1,14 @@
+-- The table of a chart.
+use mathlib.Core.List.{List, _∷_, map}
+use Rattle.lists.specs.Numbers.{range}
+use Rattle.charts.specs.Chart.{Chart, schemes}
+use Rattle.image.specs.Image.{Image}
+use Rattle.translator.specs.Labels.{entry, homeLabel, returnLabel, labelOf, numberedNodes}
+use Rattle.translator.specs.Rows.{rows}
+
+unfoldable pub table : Chart → Image
+table c = record {
+  entries = map (entry c) (range 1 (schemes c));
+  labels = homeLabel ∷ returnLabel ∷ map (labelOf c) (numberedNodes c);
+  rows = rows c;
+}

@@ -1,0 +1,56 @@
+-- Stops (the nodes that take a tick) and the way from one to the next.
+use Prim.Native.Nat.{ℕ, zero, suc}
+use mathlib.Core.Bool.{Bool, true, false, _&&_, not}
+use lib.Dec.{eqb}
+use Rattle.lists.specs.Pick.{pick}
+use Rattle.frames.specs.Frame.{size}
+use Rattle.charts.specs.Chart.{Chart, scheme, argument, next0, next1, result, mask, is, begin, taken}
+
+-- In scheme 1 the condition that Begin leads to stops; in other schemes a Begin that leads to a condition does.
+unfoldable pub stops : Chart → ℕ → Bool
+stops c v = elim (is c 3 v) [
+  | true ↦ eqb (scheme c v) 1 && eqb (next0 c (begin c 1)) v
+  | false ↦ elim (is c 0 v) [ true ↦ not (eqb (scheme c v) 1) && is c 3 (next0 c v) | false ↦ true ]
+]
+
+-- the stop where performing a scheme starts
+unfoldable pub start : Chart → ℕ → ℕ
+start c h = pick (stops c (begin c h)) (begin c h) (next0 c (begin c h))
+
+-- from an arc's end through conditions that take no tick to a stop, in at most n steps
+unfoldable pub follow : ℕ → Chart → ℕ → ℕ → ℕ
+follow zero c w v = v
+follow (suc n) c w v = elim (stops c v) [ true ↦ v | false ↦ follow n c w (taken c w v) ]
+
+-- by a word to the next stop: from an arc's end, and from a condition, whether it is a stop or not
+abbrev pub byArc : Chart → ℕ → ℕ → ℕ
+byArc c w v = follow (size c) c w v
+
+abbrev pub byWord : Chart → ℕ → ℕ → ℕ
+byWord c w v = byArc c w (taken c w v)
+
+-- a stop by what it does
+pub data Stop : Type 0 where
+  -- an operation with no call: mask, result, next node
+  plain : ℕ → ℕ → ℕ → Stop
+  -- an operation with a call: mask, result, scheme called, next node
+  call : ℕ → ℕ → ℕ → ℕ → Stop
+  -- scheme called, next node on a 0 and on a 1
+  function : ℕ → ℕ → ℕ → Stop
+  -- a stopping Begin or condition: the condition that is tested
+  test : ℕ → Stop
+  -- the End of scheme 1, and every other End
+  home : Stop
+  back : Stop
+
+unfoldable pub stopAt : Chart → ℕ → Stop
+stopAt c v = elim (is c 2 v) [
+  | true ↦ pick (eqb (argument c v) 0) (plain (mask c v) (result c v) (next0 c v)) (call (mask c v) (result c v) (argument c v) (next0 c v))
+  | false ↦ elim (is c 4 v) [
+    | true ↦ function (argument c v) (next0 c v) (next1 c v)
+    | false ↦ elim (is c 1 v) [
+      | true ↦ pick (eqb (scheme c v) 1) home back
+      | false ↦ test (pick (is c 3 v) v (next0 c v))
+    ]
+  ]
+]

@@ -1,0 +1,61 @@
+-- The walk: schemes performed recursively, one tick a word. It knows charts and nothing of labels, rows or a stack.
+use Prim.Native.Nat.{ℕ, zero, suc, _+_}
+use mathlib.Core.Bool.{Bool}
+use mathlib.Core.List.{List, [], _∷_, _++_}
+use lib.ListN.{length}
+use Rattle.lists.specs.Pick.{pick}
+use Rattle.bits.specs.Results.{Results, noResults, resultOf, withResult}
+use Rattle.charts.specs.Chart.{Chart, scheme, end}
+use Rattle.walk.specs.Stops.{start, byArc, byWord, Stop, plain, call, function, test, home, back, stopAt}
+
+-- a tick (the paper's word for one step): its mask, its code, and how many schemes were open
+pub record Tick : Type 0 where
+  pub mask : ℕ
+  pub code : ℕ
+  pub opened : ℕ
+
+abbrev pub tick : ℕ → ℕ → ℕ → List Tick
+tick m k o = record { mask = m; code = k; opened = o } ∷ []
+
+-- performing a scheme: the words ran out after these ticks; or its End was reached: the ticks, the End's word, the words left, the result bits
+pub data Course : Type 0 where
+  spent : List Tick → Course
+  ended : List Tick → ℕ → List ℕ → Results → Course
+
+abbrev pub ticksOf : Course → List Tick
+ticksOf (spent ts) = ts
+ticksOf (ended ts w ws b) = ts
+
+abbrev pub after : List Tick → Course → Course
+after ts (spent us) = spent (ts ++ us)
+after ts (ended us w ws b) = ended (ts ++ us) w ws b
+
+-- performing on from a stop, given how many schemes are open, the words and the result bits
+abbrev pub Performer : Type 0
+Performer = ℕ → ℕ → List ℕ → Results → Course
+
+-- after a call's course the caller goes on from the stop that f gives for the End's word and the result bits
+abbrev pub resume : Performer → ℕ → List Tick → (ℕ → Results → ℕ) → Course → Course
+resume go o ts f (spent us) = spent (ts ++ us)
+resume go o ts f (ended us w ws b) = after (ts ++ us) (go o (f w b) ws b)
+
+-- one stop v of a scheme with o open, by its word w, and what follows it
+abbrev pub act : Performer → Chart → ℕ → ℕ → ℕ → List ℕ → Results → Stop → Course
+act go c o v w ws b (plain m r u) = after (tick m 0 o) (go o (byArc c w u) ws (withResult r (scheme c v) b))
+act go c o v w ws b (call m r h u) =
+    resume go o (tick m (16 + h) o) (λ x d. byArc c x u) (go (suc o) (start c h) ws (withResult r (scheme c v) b))
+act go c o v w ws b (function h u₀ u₁) =
+    resume go o (tick 0 (64 + h) o) (λ x d. byArc c x (pick (resultOf h d) u₁ u₀)) (go (suc o) (start c h) ws b)
+act go c o v w ws b (test u) = after (tick 0 0 o) (go o (byWord c w u) ws b)
+act go c o v w ws b home = after (tick 0 4 o) (go o (start c 1) ws b)
+act go c o v w ws b back = ended (tick 0 3 o) w ws b
+
+-- n is at least the number of words
+unfoldable pub perform : ℕ → Chart → Performer
+perform zero c o v ws b = spent []
+perform (suc n) c o v [] b = spent []
+perform (suc n) c o v (w ∷ ws) b = act (perform n c) c o v w ws b (stopAt c v)
+
+-- from the home tick on, every result bit 0
+unfoldable pub walk : Chart → List ℕ → List Tick
+walk c ws = ticksOf (perform (length ws) c 1 (end c 1) ws noResults)

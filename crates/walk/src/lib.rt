@@ -1,0 +1,1 @@
+// The recursive walk of a chart, from the chart alone; definitions and laws, no function.
