@@ -1,4 +1,16 @@
-// Text of frames, 22 hexadecimal characters and a line feed each; the answer that entry points give.
+// Text of frames, 22 hexadecimal characters and a line feed each: checked, decoded, written; the answer that entry points give.
+mod check;
+mod contents;
+mod digits;
+mod write;
+
+pub use check::bad_length;
+pub use check::check_text;
+pub use contents::decode;
+pub use digits::character;
+pub use digits::digit;
+pub use write::put_frame;
+pub use write::put_text;
 
 // What an entry point answers: the count that it made, or a refusal's number and frame index with the ticks finished before it.
 pub enum Answer {
