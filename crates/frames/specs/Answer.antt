@@ -32,10 +32,15 @@ abbrev pub count : Reply → ℕ
 count (success n) = n
 count (refusal k i n) = n
 
--- a verdict with the count that goes with it
+-- a verdict with the count that goes with it, be it refused or not
 abbrev pub replied : Verdict → ℕ → Reply
 replied fine n = success n
 replied (refused k i) n = refusal k i n
+
+-- a verdict of 1 to 16, with the count of success; a refusal of these counts 0
+abbrev pub judged : Verdict → ℕ → Reply
+judged fine n = success n
+judged (refused k i) n = refusal k i 0
 
 pub record Lent : Type 0 where
   pub reply : Reply

@@ -1,0 +1,120 @@
+-- Laws of joined lists, and of what holds of every element.
+use mathlib.Core.Path.{_≡_, refl, sym, _∙_, ap, ap₂, subst}
+use mathlib.Core.List.{List, [], _∷_, _++_, map, append-assoc, append-nil}
+use Prim.Native.Nat.{ℕ, zero, suc, _+_, _*_, _≤_, _<_}
+use native.Mathlib.Nat.{mul-suc, mul-zero}
+use native.Mathlib.Omega.{arith}
+use lib.ListN.{length, getD, length-append, List·getD-append}
+use lib.Seq.{getD-append-add}
+use Rattle.lists.specs.Numbers.{range}
+use Rattle.lists.specs.Sequences.{concatMap}
+use Rattle.lists.proofs.Ranges.{range-snoc}
+
+-- every element
+abbrev pub All : {A : Type 0} → (A → Type 0) → List A → Type 0
+All P [] = Unit {0}
+All P (x ∷ xs) = P x × All P xs
+
+pub all-at : {A : Type 0} (P : A → Type 0) (d : A) (xs : List A) → All P xs → (i : ℕ) → i < length xs → P (getD xs i d)
+all-at P d [] a i h = absurd (omega arith)
+all-at P d (x ∷ xs) a zero h = a .0
+all-at P d (x ∷ xs) a (suc i) h = all-at P d xs (a .1) i (omega arith)
+
+pub all-every : {A : Type 0} (P : A → Type 0) → ((x : A) → P x) → (xs : List A) → All P xs
+all-every P f [] = tt
+all-every P f (x ∷ xs) = (f x, all-every P f xs)
+
+pub all-append : {A : Type 0} (P : A → Type 0) (xs ys : List A) → All P xs → All P ys → All P (xs ++ ys)
+all-append P [] ys a b = b
+all-append P (x ∷ xs) ys a b = (a .0, all-append P xs ys (a .1) b)
+
+pub all-map : {A B : Type 0} (P : B → Type 0) (f : A → B) (xs : List A) → All (λ x. P (f x)) xs → All P (map f xs)
+all-map P f [] a = tt
+all-map P f (x ∷ xs) a = (a .0, all-map P f xs (a .1))
+
+pub all-of : {A : Type 0} (P Q : A → Type 0) → ((x : A) → P x → Q x) → (xs : List A) → All P xs → All Q xs
+all-of P Q f [] a = tt
+all-of P Q f (x ∷ xs) a = (f x (a .0), all-of P Q f xs (a .1))
+
+pub all-concat : {A B : Type 0} (P : B → Type 0) (f : A → List B) (xs : List A) → All (λ x. All P (f x)) xs → All P (concatMap f xs)
+unfolding concatMap
+all-concat P f [] a = tt
+all-concat P f (x ∷ xs) a = all-append P (f x) (concatMap f xs) (a .0) (all-concat P f xs (a .1))
+
+pub all-range : (P : ℕ → Type 0) (a n : ℕ) → ((i : ℕ) → i < n → P (a + i)) → All P (range a n)
+all-range P a zero h = tt
+all-range P a (suc n) h = (
+  subst P (omega arith) (h 0 (omega arith)),
+  all-range P (suc a) n (λ i l. subst P (omega arith) (h (suc i) (omega arith))),
+)
+
+pub concat-cons : {A B : Type 0} (f : A → List B) (x : A) (xs : List A) → concatMap f (x ∷ xs) ≡ f x ++ concatMap f xs
+unfolding concatMap
+concat-cons f x xs = refl
+
+-- joined lists
+pub concat-map : {A B C : Type 0} (f : B → List C) (g : A → B) (xs : List A) → concatMap f (map g xs) ≡ concatMap (λ x. f (g x)) xs
+unfolding concatMap
+concat-map f g [] = refl
+concat-map f g (x ∷ xs) = ap (λ ys. f (g x) ++ ys) (concat-map f g xs)
+
+pub concat-append : {A B : Type 0} (f : A → List B) (xs ys : List A) → concatMap f (xs ++ ys) ≡ concatMap f xs ++ concatMap f ys
+unfolding concatMap
+concat-append f [] ys = refl
+concat-append f (x ∷ xs) ys = ap (λ zs. f x ++ zs) (concat-append f xs ys) ∙ sym (append-assoc (f x) (concatMap f xs) (concatMap f ys))
+
+pub concat-places : {A B : Type 0} (g : ℕ → List B) (h : A → List B) (d : A) (xs : List A) (a : ℕ)
+    → ((i : ℕ) → i < length xs → g (a + i) ≡ h (getD xs i d)) → concatMap g (range a (length xs)) ≡ concatMap h xs
+unfolding concatMap
+concat-places g h d [] a e = refl
+concat-places g h d (x ∷ xs) a e =
+    ap₂ (λ y ys. y ++ ys) (ap g (omega arith) ∙ e 0 (omega arith))
+    (concat-places g h d xs (suc a) (λ i l. ap g (omega arith) ∙ e (suc i) (omega arith)))
+
+-- lists of m elements each
+module _ {A B : Type 0} (f : A → List B) (m : ℕ) where
+  pub length-concat : (xs : List A) → All (λ x. length (f x) ≡ m) xs → length (concatMap f xs) ≡ m * length xs
+  unfolding concatMap
+  length-concat [] a = omega arith
+  length-concat (x ∷ xs) a =
+      length-append (f x) (concatMap f xs) ∙ omega (arith, a .0, length-concat xs (a .1), mul-suc m (length xs))
+
+  pub getD-concat : (d : A) (e : B) (xs : List A) → All (λ x. length (f x) ≡ m) xs → (i k : ℕ) → i < length xs → k < m
+      → getD (concatMap f xs) (m * i + k) e ≡ getD (f (getD xs i d)) k e
+  unfolding concatMap
+  getD-concat d e [] a i k h l = absurd (omega arith)
+  getD-concat d e (x ∷ xs) a zero k h l =
+      ap (λ (j : ℕ). getD (f x ++ concatMap f xs) j e) (omega (arith, mul-zero m)) ∙ List·getD-append (f x) (concatMap f xs) e k (omega (arith, a .0))
+  getD-concat d e (x ∷ xs) a (suc i) k h l =
+      ap (λ (j : ℕ). getD (f x ++ concatMap f xs) j e) (omega (arith, mul-suc m i, a .0))
+      ∙ getD-append-add (f x) (concatMap f xs) (m * i + k) e ∙ getD-concat d e xs (a .1) i k (omega arith) l
+
+pub length-concat-range : {B : Type 0} (f : ℕ → List B) (m i n : ℕ) → ((k : ℕ) → length (f k) ≡ m) → length (concatMap f (range i n)) ≡ m * n
+unfolding concatMap
+length-concat-range f m i zero h = omega arith
+length-concat-range f m i (suc n) h = length-append (f i) (concatMap f (range (suc i) n)) ∙ omega (arith, h i, length-concat-range f m (suc i) n h, mul-suc m n)
+
+-- every element below a bound that is not 0
+abbrev pub Below : ℕ → List ℕ → Type 0
+Below m xs = (k : ℕ) → getD xs k 0 < m
+
+pub below-append : (m : ℕ) (xs ys : List ℕ) → Below m xs → Below m ys → Below m (xs ++ ys)
+below-append m [] ys a b k = b k
+below-append m (x ∷ xs) ys a b zero = a zero
+below-append m (x ∷ xs) ys a b (suc k) = below-append m xs ys (λ j. a (suc j)) b k
+
+pub below-map : (m : ℕ) (f : ℕ → ℕ) (i n : ℕ) → 0 < m → ((k : ℕ) → i ≤ k → k < i + n → f k < m) → Below m (map f (range i n))
+below-map m f i zero l h k = l
+below-map m f i (suc n) l h zero = h i (omega arith) (omega arith)
+below-map m f i (suc n) l h (suc k) = below-map m f (suc i) n l (λ j a b. h j (omega arith) (omega arith)) k
+
+pub below-concat : (m : ℕ) (f : ℕ → List ℕ) (i n : ℕ) → 0 < m → ((k : ℕ) → i ≤ k → k < i + n → Below m (f k)) → Below m (concatMap f (range i n))
+unfolding concatMap
+below-concat m f i zero l h = λ k. l
+below-concat m f i (suc n) l h = below-append m (f i) (concatMap f (range (suc i) n)) (h i (omega arith) (omega arith)) (below-concat m f (suc i) n l (λ j a b. h j (omega arith) (omega arith)))
+
+-- ---- one more at the far end
+pub concat-range-snoc : {B : Type 0} (f : ℕ → List B) (i n : ℕ) → concatMap f (range i (suc n)) ≡ concatMap f (range i n) ++ f (i + n)
+concat-range-snoc f i n =
+    ap (concatMap f) (range-snoc i n) ∙ concat-append f (range i n) ((i + n) ∷ [])
+    ∙ ap (λ ys. concatMap f (range i n) ++ ys) (concat-cons f (i + n) [] ∙ (unfold concatMap in append-nil (f (i + n))))

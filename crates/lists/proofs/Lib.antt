@@ -1,0 +1,6 @@
+pub mod Tests
+pub mod Searches
+pub mod Counts
+pub mod Ranges
+pub mod Joins
+pub mod Written

@@ -1,0 +1,128 @@
+-- Laws of the lowest number that passes a test, of whether any does, and of the highest value.
+use mathlib.Core.Path.{_≡_, refl, sym, _∙_, ap, ap₂}
+use mathlib.Core.Logic.{_⊎_, inl, inr, ⊎-elim}
+use mathlib.Core.Bool.{Bool, true, false, _||_}
+use Prim.Native.Nat.{ℕ, zero, suc, _+_, _-_, _≤_, _<_, max}
+use native.Mathlib.Nat.{eq-or-lt-of-le, sub-zero}
+use native.Mathlib.Numerals.{add-one}
+use native.Mathlib.Omega.{arith}
+use Rattle.lists.specs.Numbers.{lowest, any, sum, highest}
+use Rattle.lists.proofs.Tests.{no-both, or-l, or-r, or-cases}
+
+-- ---- the lowest that passes
+pub lowest-hit : (p : ℕ → Bool) (i n : ℕ) → lowest p i n < i + n → p (lowest p i n) ≡ true
+unfolding lowest
+lowest-hit p i zero l = absurd (omega arith)
+lowest-hit p i (suc n) l = go (p i) refl l (lowest-hit p (suc i) n)
+  where
+    go : (b : Bool) → p i ≡ b → lowest p i (suc n) < i + suc n → (lowest p (suc i) n < suc i + n → p (lowest p (suc i) n) ≡ true) → p (lowest p i (suc n)) ≡ true
+    go true e l ih = rw (lowest, e) e
+    go false e l ih = rw (lowest, e) (ih (omega (arith, rw (lowest, e) at l)))
+
+-- nothing is found, so none passes
+pub lowest-past : (p : ℕ → Bool) (i n : ℕ) → i + n ≤ lowest p i n → (k : ℕ) → i ≤ k → k < i + n → p k ≡ false
+unfolding lowest
+lowest-past p i zero l k a b = absurd (omega arith)
+lowest-past p i (suc n) l k a b = go (p i) refl l (lowest-past p (suc i) n)
+  where
+    go : (b : Bool) → p i ≡ b → i + suc n ≤ lowest p i (suc n) → (suc i + n ≤ lowest p (suc i) n → (k : ℕ) → suc i ≤ k → k < suc i + n → p k ≡ false) → p k ≡ false
+    go true e l ih = absurd (omega (arith, rw (lowest, e) at l))
+    go false e l ih = ⊎-elim (λ (q : i ≡ k). ap p (sym q) ∙ e) (λ (q : i < k). ih (omega (arith, rw (lowest, e) at l)) k q (omega arith)) (eq-or-lt-of-le a)
+
+pub lowest-none : (p : ℕ → Bool) (i n : ℕ) → ((k : ℕ) → k < n → p (i + k) ≡ false) → lowest p i n ≡ i + n
+unfolding lowest
+lowest-none p i zero h = omega arith
+lowest-none p i (suc n) h =
+    let e : p i ≡ false = ap p (omega arith) ∙ h 0 (omega arith) in
+    rw (lowest, e) (lowest-none p (suc i) n (λ k l. ap p (omega arith) ∙ h (suc k) (omega arith)) ∙ omega arith)
+
+pub lowest-above : (p : ℕ → Bool) (i n : ℕ) → i ≤ lowest p i n
+unfolding lowest
+lowest-above p i zero = omega arith
+lowest-above p i (suc n) = go (lowest-above p (suc i) n) (p i) refl
+  where
+    go : suc i ≤ lowest p (suc i) n → (b : Bool) → p i ≡ b → i ≤ lowest p i (suc n)
+    go ih true e = rw (lowest, e) (omega arith)
+    go ih false e = rw (lowest, e) (omega arith)
+
+-- ---- any
+pub any-false : (p : ℕ → Bool) (i n : ℕ) → any p i n ≡ false → (k : ℕ) → i ≤ k → k < i + n → p k ≡ false
+unfolding any
+any-false p i zero e k a b = absurd (omega arith)
+any-false p i (suc n) e k a b =
+    ⊎-elim (λ (q : i ≡ k). ap p (sym q) ∙ or-l (p i) (any p (suc i) n) e)
+    (λ (q : i < k). any-false p (suc i) n (or-r (p i) (any p (suc i) n) e) k q (omega arith))
+    (eq-or-lt-of-le a)
+
+pub any-true : (p : ℕ → Bool) (i n k : ℕ) → i ≤ k → k < i + n → p k ≡ true → any p i n ≡ true
+any-true p i n k a b t = go (any p i n) refl
+  where
+    go : (x : Bool) → any p i n ≡ x → any p i n ≡ true
+    go true e = e
+    go false e = no-both (p k) t (any-false p i n e k a b)
+
+pub any-none : (p : ℕ → Bool) (i n : ℕ) → ((k : ℕ) → k < n → p (i + k) ≡ false) → any p i n ≡ false
+unfolding any
+any-none p i zero h = refl
+any-none p i (suc n) h =
+    ap₂ _||_ (ap p (omega arith) ∙ h 0 (omega arith)) (any-none p (suc i) n (λ k l. ap p (omega arith) ∙ h (suc k) (omega arith)))
+
+-- ---- the largest value
+pub highest-ge : (f : ℕ → ℕ) (i n k : ℕ) → i ≤ k → k < i + n → f k ≤ highest f i n
+unfolding highest
+highest-ge f i zero k a b = absurd (omega arith)
+highest-ge f i (suc n) k a b =
+    ⊎-elim (λ (q : i ≡ k). let z : f i ≡ f k = ap f q in omega arith)
+    (λ (q : i < k). omega (arith, highest-ge f (suc i) n k q (omega arith)))
+    (eq-or-lt-of-le a)
+
+pub highest-le : (f : ℕ → ℕ) (m i n : ℕ) → ((k : ℕ) → i ≤ k → k < i + n → f k ≤ m) → highest f i n ≤ m
+unfolding highest
+highest-le f m i zero h = omega arith
+highest-le f m i (suc n) h = omega (arith, h i (omega arith) (omega arith), highest-le f m (suc i) n (λ k a b. h k (omega arith) (omega arith)))
+
+-- ---- a loop from i up to n: what is left of the search
+left-more : (n i : ℕ) → i < n → n - i ≡ suc (n - (i + 1))
+left-more n i h = omega arith
+
+left-none : (n i : ℕ) → n ≤ i → n - i ≡ zero
+left-none n i h = omega arith
+
+module _ (p : ℕ → Bool) (n i : ℕ) where
+  pub lowest-here : i < n → p i ≡ true → lowest p i (n - i) ≡ i
+  unfolding lowest
+  lowest-here h t = rw (left-more n i h, lowest, t)
+
+  pub lowest-on : i < n → p i ≡ false → lowest p i (n - i) ≡ lowest p (i + 1) (n - (i + 1))
+  unfolding lowest
+  lowest-on h t = rw (left-more n i h, lowest, t, add-one)
+
+  pub lowest-over : n ≤ i → lowest p i (n - i) ≡ i
+  unfolding lowest
+  lowest-over h = rw (left-none n i h)
+
+  pub any-here : i < n → p i ≡ true → any p i (n - i) ≡ true
+  unfolding any
+  any-here h t = rw (left-more n i h, any, t)
+
+  pub any-on : i < n → p i ≡ false → any p i (n - i) ≡ any p (i + 1) (n - (i + 1))
+  unfolding any
+  any-on h t = rw (left-more n i h, any, t, add-one)
+
+  pub any-over : n ≤ i → any p i (n - i) ≡ false
+  unfolding any
+  any-over h = rw (left-none n i h)
+
+pub lowest-start : (p : ℕ → Bool) (n : ℕ) → lowest p 0 (n - 0) ≡ lowest p 0 n
+lowest-start p n = rw (sub-zero n)
+
+-- ---- a loop that adds or compares one more at the far end
+pub sum-snoc : (f : ℕ → ℕ) (i n : ℕ) → sum f i (suc n) ≡ sum f i n + f (i + n)
+unfolding sum
+sum-snoc f i zero = let e : f i ≡ f (i + 0) = ap f (omega arith) in omega arith
+sum-snoc f i (suc n) = let e : f (suc i + n) ≡ f (i + suc n) = ap f (omega arith) in omega (arith, sum-snoc f (suc i) n)
+
+pub highest-snoc : (f : ℕ → ℕ) (i n : ℕ) → highest f i (suc n) ≡ max (highest f i n) (f (i + n))
+unfolding highest
+highest-snoc f i zero = let e : f i ≡ f (i + 0) = ap f (omega arith) in omega arith
+highest-snoc f i (suc n) = let e : f (suc i + n) ≡ f (i + suc n) = ap f (omega arith) in omega (arith, highest-snoc f (suc i) n)
