@@ -1,5 +1,5 @@
 -- What an accepted chart gives, test by test.
-use mathlib.Core.Path.{_≡_, subst, sym}
+use mathlib.Core.Path.{_≡_}
 use mathlib.Core.Bool.{false}
 use mathlib.Core.List.{List}
 use Prim.Native.Nat.{ℕ, _*_, _%_, _≤_, _<_}
@@ -11,7 +11,7 @@ use Rattle.frames.specs.Frame.{contents, frameCount, size}
 use Rattle.frames.specs.Verdict.{Verdict, fine, next, when, atLowest}
 use Rattle.frames.specs.Check.{badLength, textVerdict}
 use Rattle.frames.proofs.Verdicts.{next-first, next-rest, when-fine, at-lowest-fine}
-use Rattle.frames.proofs.Passed.{GoodLength, good-length, Passed, passed, length-contents, size-contents, bytes-contents}
+use Rattle.frames.proofs.Contents.{Length, length-told, Clean, text-told, any-contents-length, contents-bytes}
 use Rattle.charts.specs.Chart.{Chart, schemes}
 use Rattle.charts.specs.Check.{badField, badScheme, badArc, badCall, onCircle, cutOff, chartVerdict}
 use Rattle.charts.specs.Entry.{readVerdict, writeVerdict}
@@ -62,36 +62,36 @@ sound c e =
     }
 
 -- ---- by the reader: the chart of an accepted text, whose bytes are bytes
-pub read-text : (t : List ℕ) → readVerdict t ≡ fine → Passed 5888 t
+pub read-text : (t : List ℕ) → readVerdict t ≡ fine → Clean 5888 t
 unfolding readVerdict
-read-text t e = passed 5888 t (next-first (textVerdict 5888 t) (λ _. chartVerdict (contents t)) e)
+read-text t e = text-told 5888 t (next-first (textVerdict 5888 t) (λ _. chartVerdict (contents t)) e)
 
 pub accepted : (t : List ℕ) → readVerdict t ≡ fine → Accepted (contents t)
 unfolding readVerdict
 accepted t e =
-    let n : GoodLength 23 5888 (length t) = read-text t e .long in
-    let s : size (contents t) ≡ frameCount t = size-contents t in
+    let n : Length 23 5888 (length t) = read-text t e .length in
+    let s : length (contents t) ≡ 10 * frameCount t = any-contents-length t in
     let z : length t ≡ 0 → ⊥ = n .some in
     let w : length t % 23 ≡ 0 = n .whole in
-    let f : length t ≤ 5888 = n .few in
+    let f : length t ≤ 5888 = n .fits in
     record {
-      whole = omega (arith, length-contents t);
+      whole = omega arith;
       some = omega arith;
       few = omega arith;
       sound = sound (contents t) (next-rest (textVerdict 5888 t) (λ _. chartVerdict (contents t)) e);
     }
 
 pub accepted-bytes : (t : List ℕ) → readVerdict t ≡ fine → (k : ℕ) → getD (contents t) k 0 < 256
-accepted-bytes t e = bytes-contents t (read-text t e .forms)
+accepted-bytes t e = contents-bytes t (read-text t e .forms)
 
 -- ---- by the writer
 pub accepted-records : (c : Chart) → writeVerdict c ≡ fine → Accepted c
 unfolding writeVerdict
 accepted-records c e =
-    let n : GoodLength 10 2560 (length c) = good-length 10 2560 (length c) (when-fine 1 (badLength 10 2560 (length c)) (next-first (when 1 (badLength 10 2560 (length c))) (λ _. chartVerdict c) e)) in
+    let n : Length 10 2560 (length c) = length-told 10 2560 (length c) (when-fine 1 (badLength 10 2560 (length c)) (next-first (when 1 (badLength 10 2560 (length c))) (λ _. chartVerdict c) e)) in
     let z : length c ≡ 0 → ⊥ = n .some in
     let w : length c % 10 ≡ 0 = n .whole in
-    let f : length c ≤ 2560 = n .few in
+    let f : length c ≤ 2560 = n .fits in
     record {
       whole = omega arith;
       some = omega arith;

@@ -2,4 +2,4 @@ pub mod Verdicts
 pub mod Digits
 pub mod Frames
 pub mod Texts
-pub mod Passed
+pub mod Contents
