@@ -1,1 +1,4 @@
 pub mod Verdicts
+pub mod Digits
+pub mod Frames
+pub mod Texts
