@@ -2,3 +2,4 @@ pub mod Verdicts
 pub mod Digits
 pub mod Frames
 pub mod Texts
+pub mod Contents
