@@ -1,1 +1,2 @@
 pub mod TableFacts
+pub mod BenchSheet
