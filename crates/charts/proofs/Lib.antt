@@ -1,1 +1,4 @@
 pub mod Accepted
+pub mod Nodes
+pub mod Meaning
+pub mod Rank
