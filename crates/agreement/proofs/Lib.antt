@@ -1,1 +1,4 @@
 pub mod TableFacts
+pub mod StopLabels
+pub mod Places
+pub mod Simulation
