@@ -2,3 +2,5 @@ pub mod TableFacts
 pub mod StopLabels
 pub mod Places
 pub mod Simulation
+pub mod Bounds
+pub mod Ticks
