@@ -4,3 +4,4 @@ pub mod Places
 pub mod Simulation
 pub mod Bounds
 pub mod Ticks
+pub mod BenchSheet
