@@ -2,3 +2,4 @@ pub mod Accepted
 pub mod Nodes
 pub mod Meaning
 pub mod Rank
+pub mod RoundTrips
