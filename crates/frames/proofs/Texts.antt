@@ -1,81 +1,78 @@
--- The loops over a text: each frame's form, its contents decoded, the text of contents written.
-use mathlib.Core.Path.{_≡_, sym, _∙_, ap}
-use mathlib.Core.Bool.{Bool, true, false, not, _||_}
-use mathlib.Core.List.{List, map}
-use Prim.Native.Nat.{ℕ, _+_, _-_, _*_, _≤_, _<_}
+-- A text of frames: its length, its bytes, that it passes refusals 1 to 3, and its contents.
+use Prim.Native.Nat.{ℕ, _+_, _*_, _%_, _≤_, _<_}
+use mathlib.Core.Bool.{Bool, false}
+use mathlib.Core.Path.{_≡_, sym, _∙_, ap, ap₂}
+use mathlib.Core.List.{List, [], map}
 use native.Mathlib.Omega.{arith}
-use lib.Dec.{leb, eqb}
-use lib.ListN.{length, getD, take, drop, length-take, length-drop}
-use lib.Seq.{getD-take, getD-drop}
-use borrow.Author.Tests.{le-leb, lt-leb}
-use Rattle.lists.specs.Numbers.{any, range}
-use Rattle.lists.specs.Sequences.{concatMap, over, written}
-use Rattle.lists.proofs.Tests.{or-true-l}
-use Rattle.lists.proofs.Searches.{any-here, any-on, any-over}
-use Rattle.lists.proofs.Joins.{concat-map}
-use Rattle.lists.proofs.Ranges.{map-count, length-map-range}
-use Rattle.lists.proofs.Written.{written-front}
-use Rattle.lists.proofs.Fills.{Pieces, pieces-turn, pieces-all}
-use Rattle.frames.specs.Digit.{digitOf}
-use Rattle.frames.specs.Frame.{byteAt, frameCount, contents, size, field, tenAt, frameText, textOf}
-use Rattle.frames.specs.Check.{badForm}
-use Rattle.frames.proofs.Bytes.{length-frame}
+use lib.ListN.{length, getD}
+use borrow.Author.Tests.{le-ltb, eq-eqb, ne-eqb}
+use Rattle.lists.specs.Numbers.{range}
+use Rattle.lists.specs.Sequences.{concatMap}
+use Rattle.lists.proofs.Ranges.{map-count}
+use Rattle.lists.proofs.Joins.{All, all-at, all-of, length-concat, getD-concat, concat-places}
+use Rattle.frames.specs.Frame.{byteAt, frameCount, contents, field, frameText, framesText}
+use Rattle.frames.specs.Verdict.{Verdict, fine, next, when, atLowest}
+use Rattle.frames.specs.Check.{badLength, badForm, badSum, textVerdict}
+use Rattle.frames.proofs.Verdicts.{at-none}
+use Rattle.frames.proofs.Frames.{Frame, frame-length, eleven-at, byte-is, good-form, good-sum}
 
--- ---- place k of frame f is no digit
-abbrev pub noDigit : List ℕ → ℕ → ℕ → Bool
-noDigit t f k = leb 16 (digitOf (getD t (23 * f + k) 0))
+abbrev same : List ℕ → List ℕ
+same bs = bs
 
-module _ (t : List ℕ) (f k d : ℕ) (left : any (noDigit t f) k (22 - k) ≡ any (noDigit t f) 0 22) where
-  pub form-bad : k < 22 → d ≡ digitOf (getD t (23 * f + k) 0) → 16 ≤ d → true ≡ badForm t f
-  unfolding badForm
-  form-bad h e l =
-      sym (or-true-l (any (noDigit t f) 0 22) (not (eqb (getD t (23 * f + 22) 0) 10))
-      (sym left ∙ any-here (noDigit t f) 22 k h (le-leb 16 (digitOf (getD t (23 * f + k) 0)) (omega arith))))
+pub length-good : (unit most n : ℕ) → (n ≡ 0 → ⊥) → n % unit ≡ 0 → n ≤ most → badLength unit most n ≡ false
+length-good unit most n some whole fits = simp (ne-eqb n 0 some, eq-eqb (n % unit) 0 whole, le-ltb most n fits)
 
-  pub form-on : k < 22 → d ≡ digitOf (getD t (23 * f + k) 0) → d < 16 → any (noDigit t f) (k + 1) (22 - (k + 1)) ≡ any (noDigit t f) 0 22
-  form-on h e l = sym (any-on (noDigit t f) 22 k h (lt-leb 16 (digitOf (getD t (23 * f + k) 0)) (omega arith))) ∙ left
+module _ (fs : List (List ℕ)) (F : All Frame fs) where
+  lengths : All (λ bs. length (frameText bs) ≡ 23) fs
+  lengths = all-of Frame (λ bs. length (frameText bs) ≡ 23) frame-length fs F
 
-pub form-end : (t : List ℕ) (f k : ℕ) → any (noDigit t f) k (22 - k) ≡ any (noDigit t f) 0 22 → 22 ≤ k → not (eqb (getD t (23 * f + 22) 0) 10) ≡ badForm t f
-unfolding badForm
-form-end t f k left h =
-    let none : any (noDigit t f) 0 22 ≡ false = sym left ∙ any-over (noDigit t f) 22 k h in
-    sym (ap (λ (b : Bool). b || not (eqb (getD t (23 * f + 22) 0) 10)) none)
+  tens : All (λ bs. length bs ≡ 10) fs
+  tens = all-of Frame (λ bs. length bs ≡ 10) (λ bs f. f .ten) fs F
 
--- ---- decoding: the ten bytes of each frame
-abbrev pub bytesOf : List ℕ → ℕ → List ℕ
-bytesOf t f = map (byteAt t f) (range 0 10)
+  pub text-length : length (framesText fs) ≡ 23 * length fs
+  text-length = length-concat frameText 23 fs lengths
 
-module _ (t out₀ out : List ℕ) (n f : ℕ) (done : Pieces (bytesOf t) 10 out₀ out 0 n f) where
-  pub decode-turn : (out′ : List ℕ) → 10 * n ≤ length out₀ → f < n → length out′ ≡ length out → out′ ≡ written out (10 * f) (bytesOf t f) → Pieces (bytesOf t) 10 out₀ out′ 0 n (f + 1)
-  decode-turn out′ room h s e = pieces-turn (bytesOf t) 10 out₀ 0 n (λ k. length-map-range (byteAt t k) 0 10) out out′ f (10 * f) done h (omega arith) (omega arith) s e
+  pub text-count : frameCount (framesText fs) ≡ length fs
+  text-count = omega (arith, text-length)
 
-  pub decode-end : n ≡ frameCount t → n ≤ f → out ≡ over (contents t) out₀
+  frame-of : (f : ℕ) → f < length fs → Frame (getD fs f [])
+  frame-of f h = all-at Frame [] fs F f h
+
+  pub text-here : (f : ℕ) → f < length fs → (k : ℕ) → k < 23 → getD (framesText fs) (23 * f + k) 0 ≡ getD (frameText (getD fs f [])) k 0
+  text-here f h k l = getD-concat frameText 23 [] 0 fs lengths f k h l
+
+  pub text-byte : (f k : ℕ) → f < length fs → k < 10 → byteAt (framesText fs) f k ≡ getD (getD fs f []) k 0
+  text-byte f k h l =
+      byte-is (getD fs f []) (frame-of f h) (framesText fs) f (text-here f h) k (omega arith) ∙ eleven-at (getD fs f []) (frame-of f h) k l
+
+  pub text-forms : (f : ℕ) → f < length fs → badForm (framesText fs) f ≡ false
+  text-forms f h = good-form (getD fs f []) (frame-of f h) (framesText fs) f (text-here f h)
+
+  pub text-sums : (f : ℕ) → f < length fs → badSum (framesText fs) f ≡ false
+  text-sums f h = good-sum (getD fs f []) (frame-of f h) (framesText fs) f (text-here f h)
+
+  pub text-fine : (most : ℕ) → 1 ≤ length fs → 23 * length fs ≤ most → textVerdict most (framesText fs) ≡ fine
+  unfolding textVerdict
+  text-fine most some fits =
+      let t : List ℕ = framesText fs in
+      ap (λ (b : Bool). next (when 1 b) λ _. next (atLowest 2 (badForm t) (frameCount t)) λ _. atLowest 3 (badSum t) (frameCount t))
+      (length-good 23 most (length t) (λ z. omega (arith, text-length)) (omega (arith, text-length)) (omega (arith, text-length)))
+      ∙ ap (λ (v : Verdict). next v λ _. atLowest 3 (badSum t) (frameCount t))
+      (at-none 2 (badForm t) (frameCount t) (λ f h. text-forms f (omega (arith, text-count))))
+      ∙ at-none 3 (badSum t) (frameCount t) (λ f h. text-sums f (omega (arith, text-count)))
+
+  -- the contents are the frames' bytes, joined
+  pub text-contents : contents (framesText fs) ≡ concatMap same fs
   unfolding contents
-  decode-end e h =
-      pieces-all (bytesOf t) 10 out₀ 0 n out f done h ∙ ap (λ (m : ℕ). written out₀ 0 (concatMap (bytesOf t) (range 0 m))) e
-      ∙ written-front out₀ (contents t)
+  text-contents =
+      let t : List ℕ = framesText fs in
+      ap (λ (n : ℕ). concatMap (λ f. map (byteAt t f) (range 0 10)) (range 0 n)) text-count
+      ∙ concat-places (λ f. map (byteAt t f) (range 0 10)) same [] fs 0 (λ f h.
+      map-count (byteAt t (0 + f)) 0 (getD fs f []) 0 10 (sym (frame-of f h .ten)) (λ k l.
+      ap₂ (byteAt t) (omega arith) (omega arith) ∙ text-byte f k h (omega (arith, frame-of f h .ten))))
 
--- ---- writing: the frame of each ten bytes
--- the part of the contents that is frame f
-pub part-ten : (b : List ℕ) (f : ℕ) → 10 * f + 10 ≤ length b → take (f * 10 + 10 - f * 10) (drop (f * 10) b) ≡ tenAt b f
-part-ten b f room =
-    let xs : List ℕ = take (f * 10 + 10 - f * 10) (drop (f * 10) b) in
-    let n : 10 ≡ length xs = simp (length-take, length-drop) (omega arith) in
-    sym (map-count (field b f) 0 xs 0 10 n
-    (λ i l. ap (λ (j : ℕ). getD b j 0) (omega arith) ∙ sym (getD-drop (f * 10) b i 0) ∙ sym (getD-take (f * 10 + 10 - f * 10) (drop (f * 10) b) i 0 (omega arith))))
+  pub contents-length : length (contents (framesText fs)) ≡ 10 * length fs
+  contents-length = ap length text-contents ∙ length-concat same 10 fs tens
 
-abbrev pub frameOf : List ℕ → ℕ → List ℕ
-frameOf b f = frameText (tenAt b f)
-
-module _ (b out₀ out : List ℕ) (at n f : ℕ) (done : Pieces (frameOf b) 23 out₀ out at n f) where
-  pub text-turn : (out′ : List ℕ) → at + 23 * n ≤ length out₀ → n ≡ size b → f < n → length out′ ≡ length out
-      → out′ ≡ written out (at + f * 23) (frameText (take (f * 10 + 10 - f * 10) (drop (f * 10) b))) → Pieces (frameOf b) 23 out₀ out′ at n (f + 1)
-  text-turn out′ room m h s e =
-      pieces-turn (frameOf b) 23 out₀ at n (λ k. length-frame (tenAt b k) (length-map-range (field b k) 0 10)) out out′ f (at + f * 23) done h (omega arith) (omega arith) s
-      (rw (part-ten b f (omega arith)) at e)
-
-  pub text-end : n ≡ size b → n ≤ f → out ≡ written out₀ at (textOf b)
-  unfolding textOf
-  text-end e h =
-      pieces-all (frameOf b) 23 out₀ at n out f done h
-      ∙ ap (written out₀ at) (ap (λ (m : ℕ). concatMap (frameOf b) (range 0 m)) e ∙ sym (concat-map frameText (tenAt b) (range 0 (size b))))
+  pub contents-at : (f k : ℕ) → f < length fs → k < 10 → field (contents (framesText fs)) f k ≡ getD (getD fs f []) k 0
+  contents-at f k h l = ap (λ (b : List ℕ). field b f k) text-contents ∙ getD-concat same 10 [] 0 fs tens f k h l

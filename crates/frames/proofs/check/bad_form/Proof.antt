@@ -2,7 +2,7 @@
 use mathlib.Core.Path.{_≡_}
 use Prim.Native.Nat.{_-_, _≤_}
 use borrow.Author.Needs.{needs}
-use Rattle.frames.proofs.Texts.{noDigit, form-bad, form-on, form-end}
+use Rattle.frames.proofs.TextLoops.{noDigit, form-bad, form-on, form-end}
 use Rattle.lists.specs.Numbers.{any}
 use Rattle.frames.proofs.check.bad_form.Statement.{statement}
 use Rattle.frames.proofs.check.bad_form.Tie as tie

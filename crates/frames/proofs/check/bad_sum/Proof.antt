@@ -3,7 +3,7 @@ use mathlib.Core.Path.{_≡_, refl}
 use Prim.Native.Nat.{_*_, _-_, _≤_}
 use native.Mathlib.Omega.{arith}
 use borrow.Author.Needs.{needs}
-use Rattle.frames.proofs.Bytes.{sum-turn, sum-end}
+use Rattle.frames.proofs.FrameLoops.{sum-turn, sum-end}
 use Rattle.lists.specs.Numbers.{sum}
 use Rattle.frames.specs.Frame.{byteAt}
 use Rattle.frames.proofs.check.bad_sum.Statement.{statement}

@@ -4,7 +4,7 @@ use Prim.Native.Nat.{_-_}
 use native.Mathlib.Omega.{arith}
 use borrow.Author.Needs.{needs}
 use Rattle.lists.proofs.Fills.{Pieces, pieces-none}
-use Rattle.frames.proofs.Texts.{bytesOf, decode-turn, decode-end}
+use Rattle.frames.proofs.TextLoops.{bytesOf, decode-turn, decode-end}
 use Rattle.frames.proofs.contents.decode.Statement.{statement}
 use Rattle.frames.proofs.contents.decode.Tie as tie
 

@@ -4,7 +4,7 @@ use native.Mathlib.Omega.{arith}
 use borrow.Author.Needs.{needs}
 use Rattle.lists.proofs.Fills.{Values, values-none, values-turn, values-all}
 use Rattle.frames.specs.Frame.{byteAt}
-use Rattle.frames.proofs.Bytes.{good-byte}
+use Rattle.frames.proofs.FrameLoops.{good-byte}
 use Rattle.frames.proofs.contents.decode_frame.Statement.{statement}
 use Rattle.frames.proofs.contents.decode_frame.Tie as tie
 

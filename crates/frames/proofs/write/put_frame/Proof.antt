@@ -3,7 +3,7 @@ use Prim.Native.Nat.{_-_}
 use native.Mathlib.Omega.{arith}
 use lib.ListN.{length-set}
 use borrow.Author.Needs.{needs}
-use Rattle.frames.proofs.Bytes.{Digits, digits-none, digits-turn, digits-end}
+use Rattle.frames.proofs.FrameLoops.{Digits, digits-none, digits-turn, digits-end}
 use Rattle.frames.proofs.write.put_frame.Statement.{statement}
 use Rattle.frames.proofs.write.put_frame.Tie as tie
 

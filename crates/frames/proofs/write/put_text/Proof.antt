@@ -5,7 +5,7 @@ use native.Mathlib.Omega.{arith}
 use lib.ListN.{length-take, length-drop}
 use borrow.Author.Needs.{needs}
 use Rattle.lists.proofs.Fills.{Pieces, pieces-none}
-use Rattle.frames.proofs.Texts.{frameOf, text-turn, text-end}
+use Rattle.frames.proofs.TextLoops.{frameOf, text-turn, text-end}
 use Rattle.frames.proofs.write.put_text.Statement.{statement}
 use Rattle.frames.proofs.write.put_text.Tie as tie
 
