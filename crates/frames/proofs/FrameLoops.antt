@@ -1,41 +1,23 @@
 -- The loops over a frame: its digits, its sum, its characters written.
 use mathlib.Core.Path.{_≡_, refl, sym, _∙_, ap}
-use mathlib.Core.Bool.{Bool, false, not}
+use mathlib.Core.Bool.{not}
 use mathlib.Core.List.{List, [], _∷_, _++_, append-assoc}
 use Prim.Native.Nat.{ℕ, suc, _+_, _-_, _*_, _%_, _≤_, _<_}
 use native.Mathlib.Numerals.{add-one}
 use native.Mathlib.Omega.{arith}
-use lib.Dec.{leb, eqb}
+use lib.Dec.{eqb}
 use lib.ListN.{length, set, getD, length-append}
-use borrow.Author.Tests.{leb-false}
-use Rattle.lists.specs.Numbers.{any, sum, range}
+use Rattle.lists.specs.Numbers.{sum, range}
 use Rattle.lists.specs.Sequences.{concatMap, written}
-use Rattle.lists.proofs.Tests.{or-l}
-use Rattle.lists.proofs.Searches.{any-false, sum-snoc}
+use Rattle.lists.proofs.Searches.{sum-snoc}
 use Rattle.lists.proofs.Joins.{concat-places, length-concat, all-every}
 use Rattle.lists.proofs.Written.{written-more, written-snoc}
 use Rattle.lists.proofs.Fills.{Pieces, pieces-none, pieces-turn, pieces-all}
-use Rattle.frames.specs.Digit.{digitOf}
 use Rattle.frames.specs.Frame.{byteAt, byteText, total, sumByte, frameText}
-use Rattle.frames.specs.Check.{badForm, badSum}
+use Rattle.frames.proofs.Frames.{sum-places}
+use Rattle.frames.specs.Check.{badSum}
 
--- ---- reading
-pub good-digit : (t : List ℕ) (f : ℕ) → badForm t f ≡ false → (k : ℕ) → k < 22 → digitOf (getD t (23 * f + k) 0) < 16
-unfolding badForm
-good-digit t f e k h =
-    let d : ℕ → Bool = λ k. leb 16 (digitOf (getD t (23 * f + k) 0)) in
-    leb-false 16 (digitOf (getD t (23 * f + k) 0)) (any-false d 0 22 (or-l (any d 0 22) (not (eqb (getD t (23 * f + 22) 0) 10)) e) k (omega arith) (omega arith))
-
--- a byte of a frame whose form is good
-pub good-byte : (t : List ℕ) (f : ℕ) → badForm t f ≡ false → (k : ℕ) → k < 11 → byteAt t f k < 256
-good-byte t f e k h =
-    let a : digitOf (getD t (23 * f + 2 * k) 0) < 16 = good-digit′ (23 * f + 2 * k) (2 * k) refl (omega arith) in
-    let b : digitOf (getD t (23 * f + 2 * k + 1) 0) < 16 = good-digit′ (23 * f + 2 * k + 1) (2 * k + 1) (omega arith) (omega arith) in
-    omega arith
-  where
-    good-digit′ : (i j : ℕ) → i ≡ 23 * f + j → j < 22 → digitOf (getD t i 0) < 16
-    good-digit′ i j p l = rw p (good-digit t f e j l)
-
+-- ---- the sum
 -- a turn of the loop that adds
 pub sum-turn : (g : ℕ → ℕ) (s k v : ℕ) → s ≡ sum g 0 k → v ≡ g k → s + v ≡ sum g 0 (k + 1)
 sum-turn g s k v e q =
@@ -49,13 +31,6 @@ sum-end t f s k e a b =
     ap (λ (n : ℕ). not (eqb (n % 256) 0)) (e ∙ ap (sum (byteAt t f) 0) z)
 
 -- ---- writing
-pub total-sum : (bs : List ℕ) (g : ℕ → ℕ) (i : ℕ) → ((k : ℕ) → g (i + k) ≡ getD bs k 0) → sum g i (length bs) ≡ total bs
-unfolding total sum
-total-sum [] g i h = refl
-total-sum (b ∷ bs) g i h =
-    let z : g i ≡ b = ap g (omega arith) ∙ h 0 in
-    omega (arith, total-sum bs g (suc i) (λ k. ap g (omega arith) ∙ h (suc k)))
-
 pub length-frame : (bs : List ℕ) → length bs ≡ 10 → length (frameText bs) ≡ 23
 unfolding frameText
 length-frame bs e =
@@ -85,7 +60,7 @@ module _ (out₀ bs out out′ : List ℕ) (at s k : ℕ) (room : at + 23 ≤ le
   unfolding frameText
   digits-end ten h e =
       let k10 : k ≡ length bs = omega (arith, d .pieces .low) in
-      let t : s ≡ total bs = d .added ∙ ap (sum (λ i. getD bs i 0) 0) k10 ∙ total-sum bs (λ i. getD bs i 0) 0 (λ k. ap (λ (j : ℕ). getD bs j 0) (omega arith)) in
+      let t : s ≡ total bs = d .added ∙ ap (sum (λ i. getD bs i 0) 0) k10 ∙ sum-places (λ i. getD bs i 0) bs 0 (λ k l. ap (λ (j : ℕ). getD bs j 0) (omega arith)) in
       let b : out ≡ written out₀ at (concatMap byteText bs) =
       pieces-all (λ i. byteText (getD bs i 0)) 2 out₀ at 10 out k (d .pieces) h
       ∙ ap (λ (n : ℕ). written out₀ at (concatMap (λ i. byteText (getD bs i 0)) (range 0 n))) (sym ten)

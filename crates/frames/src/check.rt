@@ -1,6 +1,6 @@
 // Refusals 1 to 3 of a text.
 use crate::Answer;
-use crate::digits::digit;
+use crate::characters::digit;
 ghost use mathlib.Core.Path.{_≡_};
 ghost use Prim.Native.Nat.{_+_, _*_, _≤_, _<_};
 ghost use lib.ListN.{length};

@@ -1,14 +1,14 @@
 // Text of frames, 22 hexadecimal characters and a line feed each: checked, decoded, written; the answer that entry points give.
+mod characters;
 mod check;
-mod contents;
-mod digits;
+mod decoding;
 mod write;
 
+pub use characters::character;
+pub use characters::digit;
 pub use check::bad_length;
 pub use check::check_text;
-pub use contents::decode;
-pub use digits::character;
-pub use digits::digit;
+pub use decoding::decode;
 pub use write::put_frame;
 pub use write::put_text;
 

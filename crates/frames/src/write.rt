@@ -1,5 +1,5 @@
 // Frames written into a lent buffer.
-use crate::digits::character;
+use crate::characters::character;
 ghost use mathlib.Core.Path.{_≡_};
 ghost use Prim.Native.Nat.{_+_, _*_, _≤_, _<_};
 ghost use lib.ListN.{length};

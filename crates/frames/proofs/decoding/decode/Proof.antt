@@ -1,12 +1,12 @@
--- `frames::contents::decode` meets its contract: the frames passed stand decoded in the buffer.
+-- `frames::decoding::decode` meets its contract: the frames passed stand decoded in the buffer.
 use mathlib.Core.Path.{refl}
 use Prim.Native.Nat.{_-_}
 use native.Mathlib.Omega.{arith}
 use borrow.Author.Needs.{needs}
 use Rattle.lists.proofs.Fills.{Pieces, pieces-none}
 use Rattle.frames.proofs.TextLoops.{bytesOf, decode-turn, decode-end}
-use Rattle.frames.proofs.contents.decode.Statement.{statement}
-use Rattle.frames.proofs.contents.decode.Tie as tie
+use Rattle.frames.proofs.decoding.decode.Statement.{statement}
+use Rattle.frames.proofs.decoding.decode.Tie as tie
 
 abbrev Inv-loop : tie.InvT-loop
 Inv-loop text out₀ n f₀ out f = Pieces (bytesOf text) 10 out₀ out 0 n f

@@ -1,9 +1,9 @@
--- `frames::digits::character` meets its contract: each branch is a case of the rule.
+-- `frames::characters::character` meets its contract: each branch is a case of the rule.
 use borrow.Author.Tests.{lt-ltb, le-ltb}
 use borrow.Author.Needs.{needs}
 use Rattle.frames.specs.Digit.{charOf}
-use Rattle.frames.proofs.digits.character.Statement.{statement}
-use Rattle.frames.proofs.digits.character.Tie as tie
+use Rattle.frames.proofs.characters.character.Statement.{statement}
+use Rattle.frames.proofs.characters.character.Tie as tie
 
 add-result : tie.Need-add-result
 add-result c = search needs

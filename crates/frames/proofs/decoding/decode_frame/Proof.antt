@@ -1,12 +1,12 @@
--- `frames::contents::decode_frame` meets its contract: the bytes passed stand in the buffer.
+-- `frames::decoding::decode_frame` meets its contract: the bytes passed stand in the buffer.
 use Prim.Native.Nat.{_*_, _-_}
 use native.Mathlib.Omega.{arith}
 use borrow.Author.Needs.{needs}
+use Rattle.frames.proofs.Contents.{byte-small}
 use Rattle.lists.proofs.Fills.{Values, values-none, values-turn, values-all}
 use Rattle.frames.specs.Frame.{byteAt}
-use Rattle.frames.proofs.FrameLoops.{good-byte}
-use Rattle.frames.proofs.contents.decode_frame.Statement.{statement}
-use Rattle.frames.proofs.contents.decode_frame.Tie as tie
+use Rattle.frames.proofs.decoding.decode_frame.Statement.{statement}
+use Rattle.frames.proofs.decoding.decode_frame.Tie as tie
 
 abbrev Inv-loop : tie.InvT-loop
 Inv-loop text f out₀ base k₀ out k = Values (byteAt text f) out₀ out (10 * f) 10 k
@@ -24,7 +24,7 @@ byte-at-requires : tie.Need-byte-at-requires Inv-loop μ-loop
 byte-at-requires c κs = search needs
 
 cast-out : tie.Need-cast-out Inv-loop μ-loop
-cast-out c = omega (arith, c .byte-at .ensures, good-byte _ _ (c .before .before .before .before .before .pre .1 .0) (c .before .before .loop .k) (search needs))
+cast-out c = omega (arith, c .byte-at .ensures, byte-small _ _ (c .before .before .before .before .before .pre .1 .0) (c .before .before .loop .k) (search needs))
 
 add-out : tie.Need-add-out Inv-loop μ-loop
 add-out c = search needs
