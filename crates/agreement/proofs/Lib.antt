@@ -1,4 +1,9 @@
 pub mod TableFacts
+pub mod StopLabels
+pub mod Places
+pub mod Simulation
+pub mod Bounds
+pub mod Ticks
 pub mod BenchSheet
 pub mod Instances
 pub mod Variants

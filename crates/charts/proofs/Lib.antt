@@ -1,0 +1,5 @@
+pub mod Accepted
+pub mod Nodes
+pub mod Meaning
+pub mod Rank
+pub mod RoundTrips
