@@ -10,3 +10,4 @@ pub mod Variants
 pub mod Idlers
 pub mod Slips
 pub mod Images
+pub mod Cases
