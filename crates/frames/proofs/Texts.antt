@@ -1,6 +1,6 @@
 -- A text of frames: its length, its bytes, that it passes refusals 1 to 3, and its contents.
 use Prim.Native.Nat.{ℕ, _+_, _*_, _%_, _≤_, _<_}
-use mathlib.Core.Bool.{Bool, false, _||_, not}
+use mathlib.Core.Bool.{Bool, false}
 use mathlib.Core.Path.{_≡_, sym, _∙_, ap, ap₂}
 use mathlib.Core.List.{List, [], map}
 use native.Mathlib.Omega.{arith}

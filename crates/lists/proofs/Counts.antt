@@ -152,3 +152,7 @@ count-yes p n e = ap (λ (k : ℕ). count p 0 k) (add-one n) ∙ count-snoc p 0 
 
 pub count-pass : (p : ℕ → Bool) (n : ℕ) → p n ≡ false → count p 0 (n + 1) ≡ count p 0 n
 count-pass p n e = ap (λ (k : ℕ). count p 0 k) (add-one n) ∙ count-snoc p 0 n ∙ ap (λ (k : ℕ). count p 0 n + k) (ap (λ (k : ℕ). pick {A = ℕ} (p k) 1 0) (zero-add n) ∙ no-pick (p n) 1 0 e) ∙ add-zero (count p 0 n)
+
+-- where just one passes, two that pass are the same
+pub count-one : (p : ℕ → Bool) (n u v : ℕ) → count p 0 n ≡ 1 → u < n → v < n → p u ≡ true → p v ≡ true → u ≡ v
+count-one p n u v e lu lv a b = count-apart p u v a b (omega (arith, count-below p u n lu a, count-below p v n lv b))

@@ -1,9 +1,9 @@
 -- The walk without recursion: positions of a node, its unfinished callers and the result bits, each word a move to the next one.
 use Prim.Native.Nat.{ℕ, suc, _+_, _≤_, _<_}
 use mathlib.Core.Bool.{Bool, true, false}
-use mathlib.Core.Path.{_≡_, refl, sym, subst}
+use mathlib.Core.Path.{_≡_, refl, ap, sym, subst}
 use mathlib.Core.Logic.{_⊎_, inl, inr}
-use mathlib.Core.List.{List, [], _∷_}
+use mathlib.Core.List.{List, [], _∷_, _++_}
 use lib.ListN.{length}
 use native.Mathlib.Omega.{arith}
 use Rattle.lists.specs.Pick.{pick}
@@ -158,3 +158,18 @@ atHome c = at (end c 1) [] noResults
 pub home-good : (c : Chart) → Facts c → Good c (atHome c)
 home-good c facts = let e = facts .ends 1 (omega arith) (facts .first) in
     good c 1 (end c 1) [] noResults (record { inside = e .0; same = e .2; stopping = end-stops c (end c 1) (e .1) }) refl
+
+-- ---- the trace of joined words
+unfoldable pub reached : Chart → List ℕ → Position → Position
+reached c [] x = x
+reached c (w ∷ ws) x = reached c ws (move c w x)
+
+pub trace-length : (c : Chart) (ws : List ℕ) (x : Position) → length (trace c ws x) ≡ length ws
+unfolding trace
+trace-length c [] x = refl
+trace-length c (w ∷ ws) x = ap suc (trace-length c ws (move c w x))
+
+pub trace-append : (c : Chart) (ws us : List ℕ) (x : Position) → trace c (ws ++ us) x ≡ trace c ws x ++ trace c us (reached c ws x)
+unfolding trace reached
+trace-append c [] us x = refl
+trace-append c (w ∷ ws) us x = ap (λ (ts : List Tick). tickAt c x ∷ ts) (trace-append c ws us (move c w x))
