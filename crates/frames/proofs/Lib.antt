@@ -3,3 +3,4 @@ pub mod Digits
 pub mod Frames
 pub mod Texts
 pub mod Contents
+pub mod Lent

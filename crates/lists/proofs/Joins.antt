@@ -125,3 +125,8 @@ pub concat-range-at : {B : Type 0} (f : ℕ → List B) (m i n : ℕ) (e : B) �
 concat-range-at f m i n e h j k a b =
     getD-concat f m 0 e (range i n) (all-every (λ x. length (f x) ≡ m) h (range i n)) j k (omega (arith, length-range i n)) b
     ∙ ap (λ (x : ℕ). getD (f x) k e) (getD-range i n j 0 a)
+
+-- every place
+pub all-places : {A : Type 0} (P : A → Type 0) (d : A) (xs : List A) → ((i : ℕ) → i < length xs → P (getD xs i d)) → All P xs
+all-places P d [] h = tt
+all-places P d (x ∷ xs) h = (h 0 (omega arith), all-places P d xs (λ i l. h (suc i) (omega arith)))

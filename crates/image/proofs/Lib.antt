@@ -1,0 +1,4 @@
+pub mod Sound
+pub mod Written
+pub mod Decoded
+pub mod Passes
