@@ -1,7 +1,7 @@
 -- What marks mean, with no rounds in it: a node is marked exactly where a path of arcs leads to it.
 use mathlib.Core.Path.{_≡_, sym, _∙_}
 use mathlib.Core.Logic.{_⊎_, inl, inr}
-use mathlib.Core.Bool.{Bool, true}
+use mathlib.Core.Bool.{true}
 use mathlib.Core.List.{List}
 use Prim.Native.Nat.{ℕ, zero, suc, _<_}
 use Rattle.graph.specs.Reach.{member, marked, only, reach, joinedFrom}

@@ -144,3 +144,7 @@ count-apart p u v a b e = go (decLt u v) (decLt v u)
     go (yes h) k = absurd (omega (arith, count-below p u v h a))
     go (no h) (yes k) = absurd (omega (arith, count-below p v u k b))
     go (no h) (no k) = omega arith
+
+-- where just one passes, two that pass are the same
+pub count-one : (p : ℕ → Bool) (n u v : ℕ) → count p 0 n ≡ 1 → u < n → v < n → p u ≡ true → p v ≡ true → u ≡ v
+count-one p n u v e lu lv a b = count-apart p u v a b (omega (arith, count-below p u n lu a, count-below p v n lv b))
