@@ -6,3 +6,7 @@ pub mod Bounds
 pub mod Ticks
 pub mod Expected
 pub mod BenchSheet
+pub mod Instances
+pub mod Variants
+pub mod Idlers
+pub mod Slips
