@@ -10,3 +10,4 @@ pub mod Instances
 pub mod Variants
 pub mod Idlers
 pub mod Slips
+pub mod Cases
