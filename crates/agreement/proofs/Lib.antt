@@ -5,3 +5,7 @@ pub mod Simulation
 pub mod Bounds
 pub mod Ticks
 pub mod BenchSheet
+pub mod Instances
+pub mod Variants
+pub mod Idlers
+pub mod Slips
