@@ -9,3 +9,4 @@ pub mod Instances
 pub mod Variants
 pub mod Idlers
 pub mod Slips
+pub mod Cases
