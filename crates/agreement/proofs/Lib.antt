@@ -9,4 +9,5 @@ pub mod Instances
 pub mod Variants
 pub mod Idlers
 pub mod Slips
+pub mod Images
 pub mod Cases

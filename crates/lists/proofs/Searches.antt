@@ -4,7 +4,7 @@ use mathlib.Core.Logic.{_⊎_, inl, inr, ⊎-elim}
 use mathlib.Core.Bool.{Bool, true, false, _||_}
 use mathlib.Core.List.{List, [], _∷_}
 use Prim.Native.Nat.{ℕ, zero, suc, _+_, _-_, _≤_, _<_, max}
-use native.Mathlib.Nat.{eq-or-lt-of-le, sub-zero}
+use native.Mathlib.Nat.{eq-or-lt-of-le, sub-zero, zero-add}
 use native.Mathlib.Numerals.{add-one}
 use native.Mathlib.Omega.{arith}
 use Rattle.lists.specs.Numbers.{lowest, any, sum, highest}
@@ -150,3 +150,7 @@ some-both p q (x ∷ xs) e f =
     ⊎-elim (λ (t : q x ≡ true). (x, or-l (p x) (some p xs) e, t))
     (λ (t : some q xs ≡ true). some-both p q xs (or-r (p x) (some p xs) e) t)
     (or-cases (q x) (some q xs) f)
+
+-- the same at the loop's next index
+pub highest-next : (f : ℕ → ℕ) (n : ℕ) → highest f 0 (n + 1) ≡ max (highest f 0 n) (f n)
+highest-next f n = ap (λ (k : ℕ). highest f 0 k) (add-one n) ∙ highest-snoc f 0 n ∙ ap (λ (k : ℕ). max (highest f 0 n) (f k)) (zero-add n)
