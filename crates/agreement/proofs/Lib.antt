@@ -4,4 +4,5 @@ pub mod Places
 pub mod Simulation
 pub mod Bounds
 pub mod Ticks
+pub mod Expected
 pub mod Images
