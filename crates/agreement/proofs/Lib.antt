@@ -12,3 +12,6 @@ pub mod Idlers
 pub mod Slips
 pub mod Images
 pub mod Cases
+pub mod Joins
+pub mod Chain
+pub mod Demand
