@@ -23,7 +23,7 @@ use Rattle.image.specs.Image.{Image}
 use Rattle.image.specs.Decode.{decoded}
 use Rattle.image.specs.Check.{imageVerdict}
 use Rattle.image.proofs.Sound.{Sound}
-use Rattle.image.proofs.Accepted.{accepted-sound}
+use Rattle.image.proofs.Accepted.{image-sound}
 use Rattle.translator.specs.Table.{table}
 use Rattle.machine.specs.declared.State.{State}
 use Rattle.machine.specs.State.{fresh, noState, Made, freshState}
@@ -79,7 +79,7 @@ home-is c facts n = let e = facts .ends 1 (omega arith) (facts .first) in
 module _ (c : Chart) (facts : Facts c) (tableFacts : TableFacts c) (text : List ℕ) (passes : imageVerdict text ≡ fine)
     (decodes : decoded (contents text) ≡ table c) (n : ℕ) (n≤ : n ≤ 32) where
   sound : Sound (table c)
-  sound = subst Sound decodes (accepted-sound text passes)
+  sound = subst Sound decodes (image-sound text passes)
 
   abbrev Standing : Position → Type 0
   Standing = Stands c n n≤ facts tableFacts

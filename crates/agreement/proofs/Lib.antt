@@ -5,13 +5,7 @@ pub mod Simulation
 pub mod Bounds
 pub mod Ticks
 pub mod Expected
-pub mod BenchSheet
-pub mod Instances
-pub mod Variants
-pub mod Idlers
-pub mod Slips
 pub mod Images
-pub mod Cases
 pub mod Joins
 pub mod Chain
 pub mod Demand

@@ -1,237 +1,274 @@
--- What acceptance of an image's text gives: the image that it decodes to is sound. (The text of a sound image is accepted: Passes.)
-use Prim.Native.Nat.{ℕ, zero, suc, _+_, _*_, _-_, _≤_, _<_}
+-- What it gives that the image check accepts: the counts of the header hold, and the image that the contents hold is sound.
+use Prim.Native.Nat.{ℕ, zero, suc, _+_, _*_, _≤_, _<_}
 use mathlib.Core.Bool.{Bool, true, false, _&&_, _||_, not}
-use mathlib.Core.Path.{_≡_, ap, _∙_, sym, subst}
+use mathlib.Core.Path.{_≡_, refl, sym, _∙_, ap, subst}
 use mathlib.Core.Logic.{_⊎_, inl, inr}
 use mathlib.Core.List.{List}
+use native.Mathlib.Omega.{arith}
+use lib.ListN.{length, getD}
 use lib.Bits.{bitAnd}
 use lib.Dec.{leb, ltb, eqb}
-use lib.ListN.{length, getD}
-use native.Mathlib.Omega.{arith}
-use borrow.Author.Tests.{eqb-true, eqb-false, ne-eqb, lt-ltb, le-ltb, ltb-false, leb-true}
-use Rattle.lists.proofs.Tests.{or-r, or-cases, and-l, and-r, and-false, not-false}
-use Rattle.lists.proofs.TestChains.{none-2, none-4, none-5, none-6, both-5}
+use borrow.Author.Tests.{le-ltb, lt-ltb, eq-eqb, ne-eqb, eqb-true, eqb-false, ltb-false, leb-true}
+use Rattle.lists.specs.Pick.{pick}
+use Rattle.lists.proofs.Tests.{or-l, or-r, or-cases, and-l, and-r, and-false, not-false, yes-pick, no-pick}
 use Rattle.lists.proofs.Ranges.{length-map-range, getD-map-range}
-use Rattle.frames.specs.Frame.{size, field, pairAt, quadAt, contents}
-use Rattle.frames.specs.Verdict.{fine, next, when, atLowest}
+use Rattle.frames.specs.Frame.{size, field, pairAt, contents}
+use Rattle.frames.specs.Verdict.{Verdict, fine, next, when, atLowest}
 use Rattle.frames.specs.Check.{textVerdict}
 use Rattle.frames.proofs.Verdicts.{next-first, next-rest, when-fine, at-lowest-fine}
 use Rattle.frames.proofs.Contents.{text-told, contents-bytes}
-use Rattle.image.specs.Image.{Image, Label, Row}
+use Rattle.image.specs.Image.{Label, Row}
 use Rattle.image.specs.Decode.{schemeCount, lastLabel, rowCount, labelsFrom, rowsFrom, entryIn, labelIn, rowIn, decoded}
-use Rattle.image.specs.Check.{filled, badCounts, badHeader, entryAt, labelAt, rowAt, placeOf, falls, strayFrame, stray, within, badEntry, isLabel, badCalled, badLabel, badBit, badRow, badFrame, badContent, tableVerdict, imageVerdict}
+use Rattle.image.specs.Check.{filled, badCounts, badHeader, entryAt, labelAt, rowAt, placeOf, falls, strayFrame, stray, within, isLabel, badEntry, badCalled, badLabel, badBit, badRow, badFrame, badContent, tableVerdict, imageVerdict}
 use Rattle.image.proofs.Sound.{noLabel, noRow, nthLabel, nthRow, endOf, Reaches, SoundLabel, SoundRow, Sound}
 
-is-label : (k h : ℕ) (x : Label) → isLabel k h x ≡ true → x ≡ record { kind = k; called = 0; owner = h; result = 0; mask = 0 }
-is-label k h x e =
-    let all = both-5 (eqb (x .kind) k) (eqb (x .called) 0) (eqb (x .owner) h) (eqb (x .result) 0) (eqb (x .mask) 0) e in
-    let p₁ : x .kind ≡ k = eqb-true _ _ (all .0) in
-    let p₂ : x .called ≡ 0 = eqb-true _ _ (all .1) in
-    let p₃ : x .owner ≡ h = eqb-true _ _ (all .2) in
-    let p₄ : x .result ≡ 0 = eqb-true _ _ (all .3) in
-    let p₅ : x .mask ≡ 0 = eqb-true _ _ (all .4) in
-    λ j. record { kind = p₁ j; called = p₂ j; owner = p₃ j; result = p₄ j; mask = p₅ j }
-
--- ten bytes a frame, of which 11 to 13 find nothing wrong
-pub record Accepted (b : List ℕ) : Type 0 where
-  pub bytes : (k : ℕ) → getD b k 0 < 256
-  pub header : badHeader b ≡ false
-  pub places : (f : ℕ) → f < size b → stray b f ≡ false
-  pub fields : (f : ℕ) → f < size b → badContent b f ≡ false
-
-pub accepted : (t : List ℕ) → imageVerdict t ≡ fine → Accepted (contents t)
-unfolding imageVerdict tableVerdict
-accepted t e =
-    let b : List ℕ = contents t in
-    let verdict = next-rest (textVerdict 29831 t) (λ _. tableVerdict b) e in
-    let rest = next-rest (when 11 (badHeader b)) (λ _. next (atLowest 12 (stray b) (size b)) λ _. atLowest 13 (badContent b) (size b)) verdict in
-    record {
-      bytes = contents-bytes t (text-told 29831 t (next-first (textVerdict 29831 t) (λ _. tableVerdict b) e) .forms);
-      header = when-fine 11 (badHeader b) (next-first (when 11 (badHeader b)) _ verdict);
-      places = at-lowest-fine 12 (stray b) (size b) (next-first (atLowest 12 (stray b) (size b)) _ rest);
-      fields = at-lowest-fine 13 (badContent b) (size b) (next-rest (atLowest 12 (stray b) (size b)) _ rest);
-    }
-
-module _ (b : List ℕ) (a : Accepted b) where
-  abbrev image : Image
-  image = decoded b
-
-  -- ---- 11
-  header-told : (badCounts b ≡ false) × (size b ≡ rowsFrom b + rowCount b)
-  unfolding badHeader
-  header-told =
-      let none = none-4 (not (eqb (field b 0 0) 15)) (filled b 0 5 5) (badCounts b) (not (eqb (size b) (rowsFrom b + rowCount b))) (a .header) in
-      (none .2, eqb-true (size b) (rowsFrom b + rowCount b) (not-false _ (none .3)))
-
-  count : size b ≡ rowsFrom b + rowCount b
-  count = header-told .1
-
-  counts : (1 ≤ schemeCount b) × (schemeCount b ≤ 16) × (1 ≤ lastLabel b) × (rowCount b ≤ 1024)
-  counts =
-      let none = none-4 (eqb (schemeCount b) 0) (ltb 16 (schemeCount b)) (eqb (lastLabel b) 0) (ltb 1024 (rowCount b)) (header-told .0) in
-      (some (schemeCount b) (none .0), ltb-false 16 (schemeCount b) (none .1), some (lastLabel b) (none .2), ltb-false 1024 (rowCount b) (none .3))
-    where
-      some : (n : ℕ) → eqb n 0 ≡ false → 1 ≤ n
-      some n e = let ne : n ≡ 0 → ⊥ = eqb-false n 0 e in omega arith
-
-  -- ---- the image by its numbers
-  entries-length : length (image .entries) ≡ schemeCount b
+-- ---- what the image that contents hold has at each number
+module _ (b : List ℕ) where
+  pub entries-count : length (decoded b .entries) ≡ schemeCount b
   unfolding decoded
-  entries-length = length-map-range (entryIn b) 1 (schemeCount b)
+  entries-count = length-map-range (entryIn b) 1 (schemeCount b)
 
-  labels-length : length (image .labels) ≡ lastLabel b + 1
+  pub labels-count : length (decoded b .labels) ≡ lastLabel b + 1
   unfolding decoded
-  labels-length = length-map-range (labelIn b) 0 (lastLabel b + 1)
+  labels-count = length-map-range (labelIn b) 0 (lastLabel b + 1)
 
-  rows-length : length (image .rows) ≡ rowCount b
+  pub rows-count : length (decoded b .rows) ≡ rowCount b
   unfolding decoded
-  rows-length = length-map-range (rowIn b) 0 (rowCount b)
+  rows-count = length-map-range (rowIn b) 0 (rowCount b)
 
-  nth-label : (l : ℕ) → l ≤ lastLabel b → nthLabel image l ≡ labelIn b l
+  -- the entry of scheme h + 1
+  pub entry-read : (h : ℕ) → h < schemeCount b → getD (decoded b .entries) h 0 ≡ entryIn b (suc h)
   unfolding decoded
-  nth-label l h = getD-map-range (labelIn b) noLabel 0 (lastLabel b + 1) l (omega arith) ∙ ap (labelIn b) (omega arith)
+  entry-read h l = getD-map-range (entryIn b) 0 1 (schemeCount b) h l ∙ ap (entryIn b) (omega arith)
 
-  nth-row : (k : ℕ) → k < rowCount b → nthRow image k ≡ rowIn b k
+  pub label-read : (l : ℕ) → l ≤ lastLabel b → nthLabel (decoded b) l ≡ labelIn b l
   unfolding decoded
-  nth-row k h = getD-map-range (rowIn b) noRow 0 (rowCount b) k h ∙ ap (rowIn b) (omega arith)
+  label-read l h = getD-map-range (labelIn b) noLabel 0 (lastLabel b + 1) l (omega arith) ∙ ap (labelIn b) (omega arith)
 
-  nth-entry : (h : ℕ) → h < schemeCount b → getD (image .entries) h 0 ≡ entryIn b (suc h)
+  pub row-read : (k : ℕ) → k < rowCount b → nthRow (decoded b) k ≡ rowIn b k
   unfolding decoded
-  nth-entry h l = getD-map-range (entryIn b) 0 1 (schemeCount b) h l ∙ ap (entryIn b) (omega arith)
+  row-read k h = getD-map-range (rowIn b) noRow 0 (rowCount b) k h ∙ ap (rowIn b) (omega arith)
 
   -- ---- the place of each frame
-  place-entry : (h : ℕ) → h < schemeCount b → placeOf b (suc h) ≡ entryAt (suc h)
+  pub place-of-entry : (h : ℕ) → 1 ≤ h → h ≤ schemeCount b → placeOf b h ≡ entryAt h
   unfolding placeOf
-  place-entry h l = rw (ne-eqb (suc h) 0 (λ z. omega arith), lt-ltb (suc h) (labelsFrom b) (omega arith))
+  place-of-entry h l m = rw (ne-eqb h 0 (λ z. omega arith), lt-ltb h (labelsFrom b) (omega arith))
 
-  place-label : (l : ℕ) → l ≤ lastLabel b → placeOf b (labelsFrom b + l) ≡ labelAt l
+  pub place-of-label : (l : ℕ) → l ≤ lastLabel b → placeOf b (labelsFrom b + l) ≡ labelAt l
   unfolding placeOf
-  place-label l h =
+  place-of-label l h =
       rw (ne-eqb (labelsFrom b + l) 0 (λ z. omega arith), le-ltb (labelsFrom b + l) (labelsFrom b) (omega arith), lt-ltb (labelsFrom b + l) (rowsFrom b) (omega arith))
       (ap labelAt (omega arith))
 
-  place-row : (k : ℕ) → placeOf b (rowsFrom b + k) ≡ rowAt k
+  pub place-of-row : (k : ℕ) → placeOf b (rowsFrom b + k) ≡ rowAt k
   unfolding placeOf
-  place-row k =
+  place-of-row k =
       rw (ne-eqb (rowsFrom b + k) 0 (λ z. omega arith), le-ltb (rowsFrom b + k) (labelsFrom b) (omega arith), le-ltb (rowsFrom b + k) (rowsFrom b) (omega arith))
       (ap rowAt (omega arith))
 
-  -- ---- 12
-  rises : (k : ℕ) → suc k < rowCount b → rowIn b k .from ≤ rowIn b (suc k) .from
-  unfolding stray
-  rises k h =
-      let e : (not (eqb (field b (rowsFrom b + suc k) 0) 18) || falls b (suc k)) ≡ false =
-      ap (strayFrame b (rowsFrom b + suc k)) (sym (place-row (suc k))) ∙ a .places (rowsFrom b + suc k) (omega (arith, count)) in
-      ltb-false (rowIn b (suc k) .from) (rowIn b k .from) (or-r (not (eqb (field b (rowsFrom b + suc k) 0) 18)) (falls b (suc k)) e)
+  -- a label that passes for scheme h is one that h reaches
+  pub within-reaches : (h l : ℕ) → within b h l ≡ true → Reaches (decoded b) h l
+  within-reaches h l e =
+      let low : l ≤ lastLabel b = leb-true l (lastLabel b) (and-l (leb l (lastLabel b)) (eqb (labelIn b l .owner) h || eqb l (endOf h)) e) in
+      record {
+        inside = omega (arith, labels-count);
+        belongs = go low (or-cases (eqb (labelIn b l .owner) h) (eqb l (endOf h)) (and-r (leb l (lastLabel b)) (eqb (labelIn b l .owner) h || eqb l (endOf h)) e));
+      }
+    where
+      go : l ≤ lastLabel b → (eqb (labelIn b l .owner) h ≡ true) ⊎ (eqb l (endOf h) ≡ true) → (nthLabel (decoded b) l .owner ≡ h) ⊎ (l ≡ endOf h)
+      go low (inl p) = inl (ap (λ (x : Label). x .owner) (label-read l low) ∙ eqb-true (labelIn b l .owner) h p)
+      go low (inr p) = inr (eqb-true l (endOf h) p)
 
-  -- ---- 13
-  entry-good : (h : ℕ) → h < schemeCount b → badEntry b (suc h) ≡ false
+-- ---- a label whose fields are given, one from 2 up
+label-as : (k h : ℕ) (x : Label) → isLabel k h x ≡ true → x ≡ record { kind = k; called = 0; owner = h; result = 0; mask = 0 }
+label-as k h x e =
+    let a : Bool = eqb (x .kind) k in
+    let c : Bool = eqb (x .called) 0 in
+    let o : Bool = eqb (x .owner) h in
+    let r : Bool = eqb (x .result) 0 in
+    let m : Bool = eqb (x .mask) 0 in
+    let e₁ : (a && c && o && r) ≡ true = and-l (a && c && o && r) m e in
+    let e₂ : (a && c && o) ≡ true = and-l (a && c && o) r e₁ in
+    let e₃ : (a && c) ≡ true = and-l (a && c) o e₂ in
+    let p₁ : x .kind ≡ k = eqb-true (x .kind) k (and-l a c e₃) in
+    let p₂ : x .called ≡ 0 = eqb-true (x .called) 0 (and-r a c e₃) in
+    let p₃ : x .owner ≡ h = eqb-true (x .owner) h (and-r (a && c) o e₂) in
+    let p₄ : x .result ≡ 0 = eqb-true (x .result) 0 (and-r (a && c && o) r e₁) in
+    let p₅ : x .mask ≡ 0 = eqb-true (x .mask) 0 (and-r (a && c && o && r) m e) in
+    λ j. record { kind = p₁ j; called = p₂ j; owner = p₃ j; result = p₄ j; mask = p₅ j }
+
+called-told : (b : List ℕ) (x : Label) → badCalled b x ≡ false → (x .kind ≡ 0 → ⊥) → (2 ≤ x .called) × (x .called ≤ schemeCount b)
+called-told b x e n =
+    let t : (ltb (x .called) 2 || ltb (schemeCount b) (x .called)) ≡ false = sym (no-pick (eqb (x .kind) 0) (not (eqb (x .called) 0)) (ltb (x .called) 2 || ltb (schemeCount b) (x .called)) (ne-eqb (x .kind) 0 n)) ∙ e in
+    (ltb-false (x .called) 2 (or-l (ltb (x .called) 2) (ltb (schemeCount b) (x .called)) t), ltb-false (schemeCount b) (x .called) (or-r (ltb (x .called) 2) (ltb (schemeCount b) (x .called)) t))
+
+plain-told : (b : List ℕ) (x : Label) → badCalled b x ≡ false → x .kind ≡ 0 → x .called ≡ 0
+plain-told b x e k =
+    eqb-true (x .called) 0 (not-false (eqb (x .called) 0)
+    (sym (yes-pick (eqb (x .kind) 0) (not (eqb (x .called) 0)) (ltb (x .called) 2 || ltb (schemeCount b) (x .called)) (eq-eqb (x .kind) 0 k)) ∙ e))
+
+label-told : (b : List ℕ) (l : ℕ) (x : Label) → x .mask < 4294967296 → badLabel b (suc (suc l)) x ≡ false → SoundLabel (schemeCount b) x
+label-told b l x small e =
+    let k : Bool = ltb 2 (x .kind) in
+    let z : Bool = eqb (x .owner) 0 in
+    let o : Bool = ltb (schemeCount b) (x .owner) in
+    let r : Bool = ltb 2 (x .result) in
+    let c : Bool = badCalled b x in
+    let e₁ : (k || z || o || r) ≡ false = or-l (k || z || o || r) c e in
+    let e₂ : (k || z || o) ≡ false = or-l (k || z || o) r e₁ in
+    let e₃ : (k || z) ≡ false = or-l (k || z) o e₂ in
+    let called : c ≡ false = or-r (k || z || o || r) c e in
+    record {
+      kinds = ltb-false 2 (x .kind) (or-l k z e₃);
+      some = omega (arith, eqb-false (x .owner) 0 (or-r k z e₃));
+      most = ltb-false (schemeCount b) (x .owner) (or-r (k || z) o e₂);
+      results = ltb-false 2 (x .result) (or-r (k || z || o) r e₁);
+      masks = small;
+      plain = plain-told b x called;
+      calls = called-told b x called;
+    }
+
+-- ---- a row
+row-told : (b : List ℕ) (f : ℕ) (r : Row) → r .care < 65536 → r .values < 65536 → badRow b f r ≡ false → SoundRow (decoded b) r
+row-told b f r small tiny e =
+    let a₁ : Bool = ltb (r .from) 2 in
+    let a₂ : Bool = ltb (lastLabel b) (r .from) in
+    let a₃ : Bool = not (eqb (bitAnd (r .values) (r .care)) (r .values)) in
+    let a₄ : Bool = badBit b r in
+    let a₅ : Bool = not (within b (labelIn b (r .from) .owner) (r .next)) in
+    let a₆ : Bool = filled b f 8 2 in
+    let e₁ : (a₁ || a₂ || a₃ || a₄ || a₅) ≡ false = or-l (a₁ || a₂ || a₃ || a₄ || a₅) a₆ e in
+    let e₂ : (a₁ || a₂ || a₃ || a₄) ≡ false = or-l (a₁ || a₂ || a₃ || a₄) a₅ e₁ in
+    let e₃ : (a₁ || a₂ || a₃) ≡ false = or-l (a₁ || a₂ || a₃) a₄ e₂ in
+    let e₄ : (a₁ || a₂) ≡ false = or-l (a₁ || a₂) a₃ e₃ in
+    let bit : a₄ ≡ false = or-r (a₁ || a₂ || a₃) a₄ e₂ in
+    let last : r .from ≤ lastLabel b = ltb-false (lastLabel b) (r .from) (or-r a₁ a₂ e₄) in
+    let same : nthLabel (decoded b) (r .from) ≡ labelIn b (r .from) = label-read b (r .from) last in
+    record {
+      low = ltb-false (r .from) 2 (or-l a₁ a₂ e₄);
+      high = omega (arith, labels-count b);
+      cares = small;
+      small = tiny;
+      within = eqb-true (bitAnd (r .values) (r .care)) (r .values) (not-false (eqb (bitAnd (r .values) (r .care)) (r .values)) (or-r (a₁ || a₂) a₃ e₃));
+      bits = ltb-false 2 (r .bit) (or-l (ltb 2 (r .bit)) (ltb (r .bit) 2 && not (eqb (labelIn b (r .from) .kind) 2)) bit);
+      function = λ h.
+          ap (λ (x : Label). x .kind) same
+          ∙ eqb-true (labelIn b (r .from) .kind) 2 (not-false (eqb (labelIn b (r .from) .kind) 2)
+          (and-false (ltb (r .bit) 2) (not (eqb (labelIn b (r .from) .kind) 2))
+          (or-r (ltb 2 (r .bit)) (ltb (r .bit) 2 && not (eqb (labelIn b (r .from) .kind) 2)) bit) (lt-ltb (r .bit) 2 h)));
+      leading = subst (λ (h : ℕ). Reaches (decoded b) h (r .next)) (sym (ap (λ (x : Label). x .owner) same))
+          (within-reaches b (labelIn b (r .from) .owner) (r .next) (not-false (within b (labelIn b (r .from) .owner) (r .next)) (or-r (a₁ || a₂ || a₃ || a₄) a₅ e₁)));
+    }
+
+-- ---- the whole table
+pub record Counted (b : List ℕ) : Type 0 where
+  pub first : 1 ≤ schemeCount b
+  pub most : schemeCount b ≤ 16
+  pub two : 1 ≤ lastLabel b
+  pub few : rowCount b ≤ 1024
+  pub all : size b ≡ rowsFrom b + rowCount b
+
+module _ (b : List ℕ) (ok : tableVerdict b ≡ fine) where
+  header-good : badHeader b ≡ false
+  unfolding tableVerdict
+  header-good = when-fine 11 (badHeader b) (next-first (when 11 (badHeader b)) (λ _. next (atLowest 12 (stray b) (size b)) λ _. atLowest 13 (badContent b) (size b)) ok)
+
+  frames-good : (next (atLowest 12 (stray b) (size b)) λ _. atLowest 13 (badContent b) (size b)) ≡ fine
+  unfolding tableVerdict
+  frames-good = next-rest (when 11 (badHeader b)) (λ _. next (atLowest 12 (stray b) (size b)) λ _. atLowest 13 (badContent b) (size b)) ok
+
+  pub none-stray : (f : ℕ) → f < size b → stray b f ≡ false
+  none-stray = at-lowest-fine 12 (stray b) (size b) (next-first (atLowest 12 (stray b) (size b)) (λ _. atLowest 13 (badContent b) (size b)) frames-good)
+
+  pub none-bad : (f : ℕ) → f < size b → badContent b f ≡ false
+  none-bad = at-lowest-fine 13 (badContent b) (size b) (next-rest (atLowest 12 (stray b) (size b)) (λ _. atLowest 13 (badContent b) (size b)) frames-good)
+
+  pub counted : Counted b
+  unfolding badHeader
+  counted =
+      let k : Bool = not (eqb (field b 0 0) 15) in
+      let n : Bool = not (eqb (size b) (rowsFrom b + rowCount b)) in
+      let h : Bool = eqb (schemeCount b) 0 in
+      let i : Bool = ltb 16 (schemeCount b) in
+      let m : Bool = eqb (lastLabel b) 0 in
+      let r : Bool = ltb 1024 (rowCount b) in
+      let e : badCounts b ≡ false = or-r (k || filled b 0 5 5) (badCounts b) (or-l (k || filled b 0 5 5 || badCounts b) n header-good) in
+      let e₁ : (h || i || m) ≡ false = or-l (h || i || m) r e in
+      let e₂ : (h || i) ≡ false = or-l (h || i) m e₁ in
+      record {
+        first = omega (arith, eqb-false (schemeCount b) 0 (or-l h i e₂));
+        most = ltb-false 16 (schemeCount b) (or-r h i e₂);
+        two = omega (arith, eqb-false (lastLabel b) 0 (or-r (h || i) m e₁));
+        few = ltb-false 1024 (rowCount b) (or-r (h || i || m) r e);
+        all = eqb-true (size b) (rowsFrom b + rowCount b) (not-false (eqb (size b) (rowsFrom b + rowCount b)) (or-r (k || filled b 0 5 5 || badCounts b) n header-good));
+      }
+
+  entry-good : (h : ℕ) → 1 ≤ h → h ≤ schemeCount b → Reaches (decoded b) h (entryIn b h)
   unfolding badContent
-  entry-good h l = ap (badFrame b (suc h)) (sym (place-entry h l)) ∙ a .fields (suc h) (omega (arith, count))
+  entry-good h l m =
+      let e : badEntry b h ≡ false = sym (ap (badFrame b h) (place-of-entry b h l m)) ∙ none-bad h (omega (arith, counted .all)) in
+      within-reaches b h (entryIn b h) (not-false (within b h (entryIn b h)) (or-r (filled b h 3 7) (not (within b h (entryIn b h))) e))
 
   label-good : (l : ℕ) → l ≤ lastLabel b → badLabel b l (labelIn b l) ≡ false
   unfolding badContent
-  label-good l h = ap (badFrame b (labelsFrom b + l)) (sym (place-label l h)) ∙ a .fields (labelsFrom b + l) (omega (arith, count))
+  label-good l h = sym (ap (badFrame b (labelsFrom b + l)) (place-of-label b l h)) ∙ none-bad (labelsFrom b + l) (omega (arith, counted .all))
 
   row-good : (k : ℕ) → k < rowCount b → badRow b (rowsFrom b + k) (rowIn b k) ≡ false
   unfolding badContent
-  row-good k h = ap (badFrame b (rowsFrom b + k)) (sym (place-row k)) ∙ a .fields (rowsFrom b + k) (omega (arith, count))
+  row-good k h = sym (ap (badFrame b (rowsFrom b + k)) (place-of-row b k)) ∙ none-bad (rowsFrom b + k) (omega (arith, counted .all))
 
-  reaches : (h l : ℕ) → within b h l ≡ true → Reaches image h l
-  reaches h l e =
-      let low : l ≤ lastLabel b = leb-true l (lastLabel b) (and-l (leb l (lastLabel b)) owns e) in
-      record {
-        inside = omega (arith, labels-length);
-        belongs = go low (or-cases (eqb (labelIn b l .owner) h) (eqb l (endOf h)) (and-r (leb l (lastLabel b)) owns e));
-      }
-    where
-      owns : Bool
-      owns = eqb (labelIn b l .owner) h || eqb l (endOf h)
+  row-rises : (k : ℕ) → suc k < rowCount b → rowIn b k .from ≤ rowIn b (suc k) .from
+  unfolding stray
+  row-rises k h =
+      let f : ℕ = rowsFrom b + suc k in
+      let e : (not (eqb (field b f 0) 18) || falls b (suc k)) ≡ false = sym (ap (strayFrame b f) (place-of-row b (suc k))) ∙ none-stray f (omega (arith, counted .all)) in
+      ltb-false (rowIn b (suc k) .from) (rowIn b k .from) (or-r (not (eqb (field b f 0) 18)) (falls b (suc k)) e)
 
-      go : l ≤ lastLabel b → (eqb (labelIn b l .owner) h ≡ true) ⊎ (eqb l (endOf h) ≡ true) → (nthLabel image l .owner ≡ h) ⊎ (l ≡ endOf h)
-      go low (inl p) = inl (ap (λ (x : Label). x .owner) (nth-label l low) ∙ eqb-true (labelIn b l .owner) h p)
-      go low (inr p) = inr (eqb-true l (endOf h) p)
+  -- with bytes below 256 the image is sound
+  module _ (bytes : (k : ℕ) → getD b k 0 < 256) where
+    pair-small : (f k : ℕ) → pairAt b f k < 65536
+    pair-small f k = omega (arith, bytes (10 * f + k), bytes (10 * f + (k + 1)))
 
-  pair-small : (f k : ℕ) → pairAt b f k < 65536
-  pair-small f k = omega (arith, a .bytes (10 * f + k), a .bytes (10 * f + (k + 1)))
+    mask-small : (l : ℕ) → labelIn b l .mask < 4294967296
+    mask-small l = omega (arith, pair-small (labelsFrom b + l) 6, pair-small (labelsFrom b + l) 8)
 
-  quad-small : (f k : ℕ) → quadAt b f k < 4294967296
-  quad-small f k = omega (arith, pair-small f k, pair-small f (k + 2))
+    other-good : (l : ℕ) → 2 ≤ l → l ≤ lastLabel b → SoundLabel (schemeCount b) (labelIn b l)
+    other-good zero h m = absurd (omega arith)
+    other-good (suc zero) h m = absurd (omega arith)
+    other-good (suc (suc l)) h m = label-told b l (labelIn b (suc (suc l))) (mask-small (suc (suc l))) (label-good (suc (suc l)) m)
 
-  sound-label : (l : ℕ) → suc (suc l) ≤ lastLabel b → SoundLabel (schemeCount b) (labelIn b (suc (suc l)))
-  sound-label l h =
-      let x : Label = labelIn b (suc (suc l)) in
-      let none = none-5 (ltb 2 (x .kind)) (eqb (x .owner) 0) (ltb (schemeCount b) (x .owner)) (ltb 2 (x .result)) (badCalled b x)
-      (label-good (suc (suc l)) h) in
-      let owned : x .owner ≡ 0 → ⊥ = eqb-false (x .owner) 0 (none .1) in
-      record {
-        kinds = ltb-false 2 (x .kind) (none .0);
-        some = omega arith;
-        most = ltb-false (schemeCount b) (x .owner) (none .2);
-        results = ltb-false 2 (x .result) (none .3);
-        masks = quad-small (labelsFrom b + suc (suc l)) 6;
-        plain = plain x (none .4);
-        calls = calls x (none .4);
-      }
-    where
-      plain : (x : Label) → badCalled b x ≡ false → x .kind ≡ 0 → x .called ≡ 0
-      plain x e z = let q : not (eqb (x .called) 0) ≡ false = rw z at e in eqb-true (x .called) 0 (not-false (eqb (x .called) 0) q)
+    pub accepted-sound : Sound (decoded b)
+    accepted-sound =
+        let n : length (decoded b .entries) ≡ schemeCount b = entries-count b in
+        let m : length (decoded b .labels) ≡ lastLabel b + 1 = labels-count b in
+        let r : length (decoded b .rows) ≡ rowCount b = rows-count b in
+        record {
+          first = omega (arith, counted .first);
+          most = omega (arith, counted .most);
+          two = omega (arith, counted .two);
+          last = omega (arith, bytes 2);
+          few = omega (arith, counted .few);
+          starts = λ h l. subst (λ (e : ℕ). Reaches (decoded b) (suc h) e) (sym (entry-read b h (omega arith))) (entry-good (suc h) (omega arith) (omega arith));
+          home = label-read b 0 (omega arith) ∙ label-as 4 1 (labelIn b 0) (not-false (isLabel 4 1 (labelIn b 0)) (label-good 0 (omega arith)));
+          back = label-read b 1 (counted .two) ∙ label-as 3 0 (labelIn b 1) (not-false (isLabel 3 0 (labelIn b 1)) (label-good 1 (counted .two)));
+          others = λ l h k. subst (λ (x : Label). SoundLabel (length (decoded b .entries)) x) (sym (label-read b l (omega arith)))
+              (subst (λ (c : ℕ). SoundLabel c (labelIn b l)) (sym n) (other-good l h (omega arith)));
+          each = λ k h. subst (λ (x : Row). SoundRow (decoded b) x) (sym (row-read b k (omega arith)))
+              (row-told b (rowsFrom b + k) (rowIn b k) (pair-small (rowsFrom b + k) 2) (pair-small (rowsFrom b + k) 4) (row-good k (omega arith)));
+          rising = λ k h.
+              let p : nthRow (decoded b) k .from ≡ rowIn b k .from = ap (λ (x : Row). x .from) (row-read b k (omega arith)) in
+              let q : nthRow (decoded b) (suc k) .from ≡ rowIn b (suc k) .from = ap (λ (x : Row). x .from) (row-read b (suc k) (omega arith)) in
+              omega (arith, row-rises k (omega arith));
+        }
 
-      calls : (x : Label) → badCalled b x ≡ false → (x .kind ≡ 0 → ⊥) → (2 ≤ x .called) × (x .called ≤ schemeCount b)
-      calls x e z =
-          let q : (ltb (x .called) 2 || ltb (schemeCount b) (x .called)) ≡ false = rw (ne-eqb (x .kind) 0 z) at e in
-          let none = none-2 (ltb (x .called) 2) (ltb (schemeCount b) (x .called)) q in
-          (ltb-false (x .called) 2 (none .0), ltb-false (schemeCount b) (x .called) (none .1))
+-- ---- by the text
+pub image-bytes : (t : List ℕ) → imageVerdict t ≡ fine → (k : ℕ) → getD (contents t) k 0 < 256
+unfolding imageVerdict
+image-bytes t e = contents-bytes t (text-told 29831 t (next-first (textVerdict 29831 t) (λ _. tableVerdict (contents t)) e) .forms)
 
-  sound-row : (k : ℕ) → k < rowCount b → SoundRow image (rowIn b k)
-  sound-row k h =
-      let r : Row = rowIn b k in
-      let x : Label = labelIn b (r .from) in
-      let none = none-6 (ltb (r .from) 2) (ltb (lastLabel b) (r .from)) (not (eqb (bitAnd (r .values) (r .care)) (r .values))) (badBit b r)
-      (not (within b (x .owner) (r .next))) (filled b (rowsFrom b + k) 8 2) (row-good k h) in
-      let bits = none-2 (ltb 2 (r .bit)) (ltb (r .bit) 2 && not (eqb (x .kind) 2)) (none .3) in
-      let high : r .from ≤ lastLabel b = ltb-false (lastLabel b) (r .from) (none .1) in
-      let from : nthLabel image (r .from) ≡ x = nth-label (r .from) high in
-      record {
-        low = ltb-false (r .from) 2 (none .0);
-        high = omega (arith, labels-length);
-        cares = pair-small (rowsFrom b + k) 2;
-        small = pair-small (rowsFrom b + k) 4;
-        within = eqb-true (bitAnd (r .values) (r .care)) (r .values) (not-false (eqb (bitAnd (r .values) (r .care)) (r .values)) (none .2));
-        bits = ltb-false 2 (r .bit) (bits .0);
-        function = λ l. ap (λ (y : Label). y .kind) from
-            ∙ eqb-true (x .kind) 2 (not-false (eqb (x .kind) 2) (and-false (ltb (r .bit) 2) (not (eqb (x .kind) 2)) (bits .1) (lt-ltb (r .bit) 2 l)));
-        leading = subst (λ (y : Label). Reaches image (y .owner) (r .next)) (sym from)
-            (reaches (x .owner) (r .next) (not-false (within b (x .owner) (r .next)) (none .4)));
-      }
+pub image-table : (t : List ℕ) → imageVerdict t ≡ fine → tableVerdict (contents t) ≡ fine
+unfolding imageVerdict
+image-table t e = next-rest (textVerdict 29831 t) (λ _. tableVerdict (contents t)) e
 
-  pub decoded-sound : Sound image
-  decoded-sound = record {
-    first = omega (arith, entries-length, counts);
-    most = omega (arith, entries-length, counts);
-    two = omega (arith, labels-length, counts);
-    last = omega (arith, labels-length, a .bytes 2);
-    few = omega (arith, rows-length, counts);
-    starts = λ h l. starts h (subst (λ (n : ℕ). h < n) entries-length l);
-    home = nth-label 0 (omega arith) ∙ is-label 4 1 (labelIn b 0) (not-false (isLabel 4 1 (labelIn b 0)) (label-good 0 (omega arith)));
-    back = nth-label 1 (counts .2) ∙ is-label 3 0 (labelIn b 1) (not-false (isLabel 3 0 (labelIn b 1)) (label-good 1 (counts .2)));
-    others = λ l h m. others l h (omega (arith, labels-length));
-    each = λ k l. let m : k < rowCount b = subst (λ (n : ℕ). k < n) rows-length l in subst (SoundRow image) (sym (nth-row k m)) (sound-row k m);
-    rising = λ k l. rising k (subst (λ (n : ℕ). suc k < n) rows-length l);
-  }
-    where
-      starts : (h : ℕ) → h < schemeCount b → Reaches image (suc h) (getD (image .entries) h 0)
-      starts h l = subst (Reaches image (suc h)) (sym (nth-entry h l)) (reaches (suc h) (entryIn b (suc h))
-          (not-false (within b (suc h) (entryIn b (suc h))) (or-r (filled b (suc h) 3 7) (not (within b (suc h) (entryIn b (suc h)))) (entry-good h l))))
-
-      others : (l : ℕ) → 2 ≤ l → l ≤ lastLabel b → SoundLabel (length (image .entries)) (nthLabel image l)
-      others zero h m = absurd (omega arith)
-      others (suc zero) h m = absurd (omega arith)
-      others (suc (suc l)) h m = rw (entries-length, nth-label (suc (suc l)) m) (sound-label l m)
-
-      rising : (k : ℕ) → suc k < rowCount b → nthRow image k .from ≤ nthRow image (suc k) .from
-      rising k m = rw (nth-row k (omega arith), nth-row (suc k) m) (rises k m)
-
--- a text that the image check accepts decodes to a sound image
-pub accepted-sound : (t : List ℕ) → imageVerdict t ≡ fine → Sound (decoded (contents t))
-accepted-sound t e = decoded-sound (contents t) (accepted t e)
+pub image-sound : (t : List ℕ) → imageVerdict t ≡ fine → Sound (decoded (contents t))
+image-sound t e = accepted-sound (contents t) (image-table t e) (image-bytes t e)

@@ -8,8 +8,7 @@ use lib.ListN.{length}
 use native.Mathlib.Omega.{arith}
 use borrow.Author.Tests.{eqb-true, eqb-false, eq-eqb, ne-eqb, lt-ltb, le-ltb, ltb-true, ltb-false, lt-leb, leb-false}
 use Rattle.lists.specs.Numbers.{any}
-use Rattle.lists.proofs.Tests.{or-cases, or-true-l, or-true-r, or-none, and-l, and-r, and-true, and-false, not-false}
-use Rattle.lists.proofs.TestChains.{none-2, none-4}
+use Rattle.lists.proofs.Tests.{or-r, or-l, or-cases, or-true-l, or-true-r, or-none, and-l, and-r, and-true, and-false, not-false}
 use Rattle.lists.proofs.Searches.{any-false, any-none}
 use Rattle.image.specs.Image.{Image}
 use Rattle.machine.specs.declared.State.{State}
@@ -29,6 +28,13 @@ pub record Fits (i : Image) (s : State) : Type 0 where
   pub carries : (k : ℕ) → k + 1 < s .depth → Carries i (placeAt s k) (placeAt s (k + 1))
   pub bottom : labelAt i (placeAt s 0) .owner ≡ 1
   pub above : (k : ℕ) → s .depth ≤ k → k < 32 → placeAt s k ≡ 0
+
+-- a chain of four tests of which none holds
+none-of : (a b c d : Bool) → (a || b || c || d) ≡ false → (a ≡ false) × (b ≡ false) × (c ≡ false) × (d ≡ false)
+none-of a b c d e =
+    let r = or-l (a || b || c) d e in
+    let q = or-l (a || b) c r in
+    (or-l a b q, or-r a b q, or-r (a || b) c r, or-r (a || b || c) d e)
 
 module _ (i : Image) where
   module _ (l above : ℕ) where
@@ -84,8 +90,8 @@ module _ (i : Image) where
     pub unfits : length (s .places) ≡ 32 → unfit i s ≡ false → Fits i s
     unfolding unfit
     unfits w e =
-        let none = none-4 (badDepth s) (any (unfitPlace i s) 0 (s .depth)) (not (eqb (labelAt i (placeAt s 0) .owner) 1)) (any filledAt (s .depth) (32 - s .depth)) e in
-        let sizes = none-4 (eqb (s .size) 0) (ltb 32 (s .size)) (eqb (s .depth) 0) (ltb (s .size) (s .depth)) (none .0) in
+        let none = none-of (badDepth s) (any (unfitPlace i s) 0 (s .depth)) (not (eqb (labelAt i (placeAt s 0) .owner) 1)) (any filledAt (s .depth) (32 - s .depth)) e in
+        let sizes = none-of (eqb (s .size) 0) (ltb 32 (s .size)) (eqb (s .depth) 0) (ltb (s .size) (s .depth)) (none .0) in
         let some : s .depth ≡ 0 → ⊥ = eqb-false (s .depth) 0 (sizes .2) in
         record {
           whole = w;
@@ -99,4 +105,6 @@ module _ (i : Image) where
         }
       where
         place : any (unfitPlace i s) 0 (s .depth) ≡ false → (k : ℕ) → k < s .depth → (leb (length (i .labels)) (placeAt s k) ≡ false) × (strays k ≡ false)
-        place q k l = none-2 (leb (length (i .labels)) (placeAt s k)) (strays k) (any-false (unfitPlace i s) 0 (s .depth) q k (omega arith) (omega arith))
+        place q k l =
+            let p : unfitPlace i s k ≡ false = any-false (unfitPlace i s) 0 (s .depth) q k (omega arith) (omega arith) in
+            (or-l (leb (length (i .labels)) (placeAt s k)) (strays k) p, or-r (leb (length (i .labels)) (placeAt s k)) (strays k) p)

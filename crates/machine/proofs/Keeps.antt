@@ -18,7 +18,7 @@ use Rattle.image.specs.Image.{Image, Label, Row}
 use Rattle.image.specs.Decode.{decoded}
 use Rattle.image.specs.Check.{imageVerdict}
 use Rattle.image.proofs.Sound.{noRow, nthRow, endOf, Reaches, Sound}
-use Rattle.image.proofs.Accepted.{accepted-sound}
+use Rattle.image.proofs.Accepted.{image-sound}
 use Rattle.machine.specs.declared.State.{State}
 use Rattle.machine.specs.State.{fresh, labelAt, entryAt, placeAt, isCall, unfit}
 use Rattle.machine.specs.Tick.{matches, Found, found, missing, firstRow, rowOf, Ticked, ticked, stopped, moved, pushed, tickBy, tick}
@@ -340,7 +340,7 @@ module _ (text : List ℕ) (passes : imageVerdict text ≡ fine) (s : State) (wh
 
   pub tick-fits : (w m code : ℕ) (t : State) → tick image s w ≡ ticked m code t → unfit image t ≡ false
   tick-fits w m code t e = fits image t
-      (subst (Keeps image (accepted-sound text passes)) e (tick-keeps image (accepted-sound text passes) s (unfits image s whole fit) w))
+      (subst (Keeps image (image-sound text passes)) e (tick-keeps image (image-sound text passes) s (unfits image s whole fit) w))
 
   pub ticks-fit : (ws : List ℕ) → unfit image (ticks image s ws .state) ≡ false
-  ticks-fit ws = fits image (ticks image s ws .state) (ticks-keep image (accepted-sound text passes) ws s (unfits image s whole fit))
+  ticks-fit ws = fits image (ticks image s ws .state) (ticks-keep image (image-sound text passes) ws s (unfits image s whole fit))
