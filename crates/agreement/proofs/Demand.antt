@@ -1,4 +1,4 @@
--- Demand 3 holds: the runs on a translated chart agree with its walk.
+-- Demand 3, with nothing assumed: the runs on the image of any translated chart agree with its walk.
 use Prim.Native.Nat.{ℕ}
 use mathlib.Core.Path.{_≡_, ap, _∙_}
 use mathlib.Core.List.{List}
@@ -14,16 +14,16 @@ use Rattle.translator.proofs.Translated.{translated-read, translated-fine, tran
 use Rattle.machine.specs.State.{freshState}
 use Rattle.machine.specs.Run.{run}
 use Rattle.agreement.specs.Agreement.{chain, Agreement}
-use Rattle.agreement.proofs.TableFacts.{TableFacts}
+use Rattle.agreement.proofs.TableFactsHold.{table-facts}
 use Rattle.agreement.proofs.Images.{translated-passes, translated-decoded}
 use Rattle.agreement.proofs.Chain.{runs-agree}
 
-pub agreement : ((t : List ℕ) → readVerdict t ≡ fine → TableFacts (contents t)) → Agreement translate freshState run
+pub theorem : Agreement translate freshState run
 unfolding Agreement
-agreement tableFacts text out n done size some most asked =
+theorem text out n done size some most asked =
     let ok : translateVerdict text ≡ fine = translated-fine text out n done in
     let read : readVerdict text ≡ fine = translated-read text ok in
     let f : Facts (contents text) = facts text read in
     ap (λ (image : List ℕ). chain run image (freshState size .state) asked) (translated-image text out n done)
-    ∙ runs-agree (contents text) f (tableFacts text read) (imageText (table (contents text)))
+    ∙ runs-agree (contents text) f (table-facts text read) (imageText (table (contents text)))
     (translated-passes text ok f) (translated-decoded text ok f) size most some asked

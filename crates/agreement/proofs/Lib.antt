@@ -8,4 +8,5 @@ pub mod Expected
 pub mod Images
 pub mod Joins
 pub mod Chain
+pub mod TableFactsHold
 pub mod Demand
