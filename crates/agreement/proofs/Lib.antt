@@ -4,10 +4,9 @@ pub mod Places
 pub mod Simulation
 pub mod Bounds
 pub mod Ticks
-pub mod BenchSheet
-pub mod Instances
-pub mod Variants
-pub mod Idlers
-pub mod Slips
+pub mod Expected
 pub mod Images
-pub mod Cases
+pub mod Joins
+pub mod Chain
+pub mod TableFactsHold
+pub mod Demand

@@ -5,8 +5,8 @@ use mathlib.Core.Path.{_≡_, refl, sym, _∙_, ap, ap₂, subst}
 use mathlib.Core.Logic.{⊎-elim}
 use mathlib.Core.List.{List, [], _∷_, _++_, map}
 use native.Mathlib.Omega.{arith}
-use lib.ListN.{length, getD, List·getD-eq-default, List·getD-append}
-use lib.Seq.{ext-getD}
+use lib.ListN.{length, getD, length-append, List·getD-eq-default, List·getD-append}
+use lib.Seq.{ext-getD, getD-append-add}
 use lib.Dec.{leb, ltb, eqb}
 use borrow.Author.Tests.{ltb-false, leb-false, eqb-true, eqb-false}
 use Rattle.lists.specs.Numbers.{range, any, sum}
@@ -160,13 +160,13 @@ module _ (t : List ℕ) (f : ℕ) (form : badForm t f ≡ false) where
     sum-back =
         let x : ℕ = byteAt t f 10 in
         let s : ℕ = sum (byteAt t f) 0 11 in
-        let m : length (bs ++ (x ∷ [])) ≡ 11 = lib.ListN.length-append bs (x ∷ []) ∙ omega (arith, F .ten) in
+        let m : length (bs ++ (x ∷ [])) ≡ 11 = length-append bs (x ∷ []) ∙ omega (arith, F .ten) in
         let e : sum (byteAt t f) 0 (length (bs ++ (x ∷ []))) ≡ total (bs ++ (x ∷ [])) = sum-places (byteAt t f) (bs ++ (x ∷ [])) 0 (λ i l.
         ⊎-elim (λ (h : i < 10). ap (byteAt t f) (omega arith) ∙ sym (List·getD-append bs (x ∷ []) 0 i (omega (arith, F .ten)) ∙ same i h))
         (λ (h : 10 ≤ i).
         let j : i ≡ length bs + 0 = omega (arith, l, m, F .ten) in
         let o : 0 + i ≡ 10 = omega (arith, F .ten) in
-        ap (byteAt t f) o ∙ sym (ap (λ (k : ℕ). getD (bs ++ (x ∷ [])) k 0) j ∙ lib.Seq.getD-append-add bs (x ∷ []) 0 0))
+        ap (byteAt t f) o ∙ sym (ap (λ (k : ℕ). getD (bs ++ (x ∷ [])) k 0) j ∙ getD-append-add bs (x ∷ []) 0 0))
         (split i 10)) in
         let z : s % 256 ≡ 0 = eqb-true (s % 256) 0 (not-false (eqb (s % 256) 0) good) in
         let q : sum (byteAt t f) 0 (length (bs ++ (x ∷ []))) ≡ s = ap (sum (byteAt t f) 0) m in

@@ -2,3 +2,4 @@ pub mod Sound
 pub mod Written
 pub mod Decoded
 pub mod Passes
+pub mod Accepted

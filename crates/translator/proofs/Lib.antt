@@ -2,3 +2,5 @@ pub mod LabelLaws
 pub mod SoundRows
 pub mod SoundTable
 pub mod Translated
+pub mod Matching
+pub mod RowLaws

@@ -7,6 +7,7 @@ pub mod check;
 pub mod compare;
 pub mod entry;
 pub mod expectation;
+pub mod fast;
 pub mod frames;
 pub mod generate;
 pub mod image;

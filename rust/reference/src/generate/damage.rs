@@ -51,8 +51,8 @@ fn record_fault(random: &mut Random, records: &mut Vec<Frame>) {
         0 => records[at][random.below(10)] = random.byte(),
         1 => records[at][random.below(10)] ^= 1 << random.below(8),
         2 => records[at][0] = random.below(6) as u8,
-        3 => records[at][1] = random.pick(&[0, 1, schemes, schemes + 1, 16, 17]),
-        4 | 5 => records[at][2] = random.pick(&[0, 1, schemes, schemes + 1, 15, 16, 17]),
+        3 => records[at][1] = random.pick(&[0, 1, schemes, schemes.wrapping_add(1), 16, 17]),
+        4 | 5 => records[at][2] = random.pick(&[0, 1, schemes, schemes.wrapping_add(1), 15, 16, 17]),
         6 => records[at][random.within(3, 4)] = random.pick(&[at, other, count, count - 1]) as u8,
         7 | 8 => redirect(random, records, at),
         9 | 10 => circle(random, records),
@@ -114,7 +114,7 @@ fn image_fault(random: &mut Random, frames: &mut Vec<Frame>) {
     let row = (schemes + 2 + usize::from(last)).min(count - 1);
     let row = random.within(row, count - 1);
     let any = random.below(count);
-    let number = random.pick(&[0, 1, 2, 3, last, last.wrapping_add(1), schemes as u8, schemes as u8 + 1]);
+    let number = random.pick(&[0, 1, 2, 3, last, last.wrapping_add(1), schemes as u8, (schemes + 1) as u8]);
     match random.below(16) {
         0 => frames[0][random.below(10)] = number,
         1 => frames[0][random.below(5)] = random.byte(),
