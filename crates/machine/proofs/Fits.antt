@@ -1,7 +1,7 @@
 -- A state that fits an image, in plain facts: what it gives that a state is not refused with 15, and back; fresh states fit.
 use Prim.Native.Nat.{ℕ, zero, suc, _+_, _-_, _≤_, _<_}
 use mathlib.Core.Bool.{Bool, true, false, _&&_, _||_, not}
-use mathlib.Core.Path.{_≡_, refl, _∙_, ap, ap₂}
+use mathlib.Core.Path.{_≡_, ap, ap₂}
 use mathlib.Core.Logic.{_⊎_, inl, inr, ⊎-elim}
 use native.Mathlib.Omega.{arith}
 use lib.ListN.{length, getD-replicate}
@@ -39,13 +39,13 @@ module _ (i : Image) (l above : ℕ) where
   pub carries-told : mayCarry i l above ≡ true → Carries i l above
   carries-told e = record {
     calls =
-      ⊎-elim (λ (t : eqb (labelAt i l .kind) 1 ≡ true). inl (eqb-true (labelAt i l .kind) 1 t))
-      (λ (t : eqb (labelAt i l .kind) 2 ≡ true). inr (eqb-true (labelAt i l .kind) 2 t))
-      (or-cases (eqb (labelAt i l .kind) 1) (eqb (labelAt i l .kind) 2) (and-l (isCall (labelAt i l)) test e));
+        ⊎-elim (λ (t : eqb (labelAt i l .kind) 1 ≡ true). inl (eqb-true (labelAt i l .kind) 1 t))
+        (λ (t : eqb (labelAt i l .kind) 2 ≡ true). inr (eqb-true (labelAt i l .kind) 2 t))
+        (or-cases (eqb (labelAt i l .kind) 1) (eqb (labelAt i l .kind) 2) (and-l (isCall (labelAt i l)) test e));
     belongs =
-      ⊎-elim (λ (t : eqb above 1 ≡ true). inl (eqb-true above 1 t))
-      (λ (t : eqb (labelAt i above .owner) (labelAt i l .called) ≡ true). inr (eqb-true (labelAt i above .owner) (labelAt i l .called) t))
-      (or-cases (eqb above 1) (eqb (labelAt i above .owner) (labelAt i l .called)) (and-r (isCall (labelAt i l)) test e));
+        ⊎-elim (λ (t : eqb above 1 ≡ true). inl (eqb-true above 1 t))
+        (λ (t : eqb (labelAt i above .owner) (labelAt i l .called) ≡ true). inr (eqb-true (labelAt i above .owner) (labelAt i l .called) t))
+        (or-cases (eqb above 1) (eqb (labelAt i above .owner) (labelAt i l .called)) (and-r (isCall (labelAt i l)) test e));
   }
 
   pub carries-true : Carries i l above → mayCarry i l above ≡ true
@@ -87,9 +87,9 @@ module _ (i : Image) (s : State) where
         labels = λ k h. leb-false (length (i .labels)) (placeAt s k) (or-l (leb (length (i .labels)) (placeAt s k)) (ltb (k + 1) (s .depth) && loose k) (place k h));
         bottom = eqb-true (labelAt i (placeAt s 0) .owner) 1 (not-false (eqb (labelAt i (placeAt s 0) .owner) 1) (or-r (badDepth s || a) foreign e₁));
         kept = λ k h. carries-told i (placeAt s k) (placeAt s (k + 1)) (not-false (mayCarry i (placeAt s k) (placeAt s (k + 1)))
-          (and-false (ltb (k + 1) (s .depth)) (loose k) (or-r (leb (length (i .labels)) (placeAt s k)) (ltb (k + 1) (s .depth) && loose k) (place k (omega arith))) (lt-ltb (k + 1) (s .depth) h)));
+            (and-false (ltb (k + 1) (s .depth)) (loose k) (or-r (leb (length (i .labels)) (placeAt s k)) (ltb (k + 1) (s .depth) && loose k) (place k (omega arith))) (lt-ltb (k + 1) (s .depth) h)));
         above = λ k h m. eqb-true (placeAt s k) 0 (not-false (eqb (placeAt s k) 0)
-          (any-false filledAt (s .depth) (32 - s .depth) (or-r (badDepth s || a || foreign) f e) k h (omega arith)));
+            (any-false filledAt (s .depth) (32 - s .depth) (or-r (badDepth s || a || foreign) f e) k h (omega arith)));
       }
 
   fit-place : Fits i s → (k : ℕ) → k < s .depth → unfitPlace i s k ≡ false
