@@ -1,1 +1,13 @@
 pub mod TableFacts
+pub mod StopLabels
+pub mod Places
+pub mod Simulation
+pub mod Bounds
+pub mod Ticks
+pub mod BenchSheet
+pub mod Instances
+pub mod Variants
+pub mod Idlers
+pub mod Slips
+pub mod Images
+pub mod Cases

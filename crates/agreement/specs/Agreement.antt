@@ -10,6 +10,7 @@ use Rattle.lists.specs.Sequences.{concatMap, over}
 use Rattle.frames.specs.Frame.{contents}
 use Rattle.frames.specs.Answer.{Reply, success, refusal, Lent}
 use Rattle.walk.specs.Walk.{Tick, walk}
+use Rattle.translator.specs.Entry.{translate}
 use Rattle.machine.specs.declared.State.{State}
 use Rattle.machine.specs.State.{Made}
 use Rattle.machine.specs.Run.{Run, noRoom}
@@ -88,8 +89,12 @@ expectedAll b ts p (a ∷ rest) = elim (short a) [
 -- ---- the demand
 -- For every text that translates, with n characters written to a buffer, every stack size of 1 to 32 and every list of runs.
 unfoldable pub Agreement : Translator → Maker → Runner → Type 0
-Agreement translate fresh run =
-    (text out : List ℕ) (n : ℕ) → translate text out .reply ≡ success n
+Agreement translator fresh run =
+    (text out : List ℕ) (n : ℕ) → translator text out .reply ≡ success n
     → (size : ℕ) → 1 ≤ size → size ≤ 32 → (asked : List Asked)
     → let ticks = walk (contents text) (joined asked) in
-    chain run (take n (translate text out .buffer)) (fresh size .state) asked ≡ expectedAll (bound size ticks) ticks 0 asked
+    chain run (take n (translator text out .buffer)) (fresh size .state) asked ≡ expectedAll (bound size ticks) ticks 0 asked
+
+-- ---- demand 2, of the translator: it is the definition's, answer and buffer
+abbrev pub Translates : Translator → Type 0
+Translates f = (text out : List ℕ) → f text out ≡ translate text out

@@ -1,5 +1,80 @@
--- The bench sheet, B1 to B8 and B10, about the definitions. (B9 is run by a program.)
+-- The bench sheet: its charts, words and answers, B1 to B8 and B10, said about the definitions. (B9 is run by a program.)
 use Prim.Native.Nat.{ℕ}
+use Prim.Native.Char.{code}
+use Prim.Native.String.{String, [] as none, _∷_ as more}
 use mathlib.Core.Path.{_≡_}
 use mathlib.Core.List.{List, [], _∷_, _++_, map}
-use Rattle.frames.specs.Answer.{Reply, success, refusal}
+use lib.ListN.{length, replicate}
+use Rattle.frames.specs.Verdict.{fine}
+use Rattle.frames.specs.Answer.{success, refusal, lent}
+use Rattle.lists.specs.Sequences.{concatMap}
+use Rattle.frames.specs.Frame.{contents}
+use Rattle.walk.specs.Walk.{walk}
+use Rattle.translator.specs.Entry.{translate}
+use Rattle.machine.specs.State.{freshState}
+use Rattle.machine.specs.Run.{Run, run}
+
+unfoldable pub characters : String → List ℕ
+characters none = []
+characters (more c s) = code c ∷ characters s
+
+-- a text by its lines
+abbrev pub lines : List String → List ℕ
+lines = concatMap (λ s. characters s ++ (10 ∷ []))
+
+unfoldable pub chartP : List ℕ
+chartP = lines (
+    "00010001000000000000FE" ∷ "02010202000000000001F8" ∷ "01010000000000000000FE" ∷ "00020004000000000000FA"
+    ∷ "03020005060000000000F0" ∷ "01020000000000000000FD" ∷ "02020205000000000002F3" ∷ [])
+
+unfoldable pub imageP : List ℕ
+imageP = lines (
+    "0F020400040000000000E7" ∷ "10010200000000000000ED" ∷ "10020300000000000000EB" ∷ "11000400010000000000EA"
+    ∷ "11010300000000000000EB" ∷ "11020102010000000001E8" ∷ "11030000020000000000EA" ∷ "11040102020000000002E4"
+    ∷ "12020000000002000000EA" ∷ "12030001000002010000E7" ∷ "12030001000102040000E3" ∷ "12040000000002010000E7" ∷ [])
+
+unfoldable pub words : List ℕ
+words = 0 ∷ 0 ∷ 1 ∷ 0 ∷ 0 ∷ 0 ∷ 0 ∷ 0 ∷ []
+
+-- Begin to End alone
+unfoldable pub chartHome : List ℕ
+chartHome = lines ("00010001000000000000FE" ∷ "01010000000000000000FE" ∷ [])
+
+-- the same with the first sum in small letters
+unfoldable pub chartSmall : List ℕ
+chartSmall = lines ("00010001000000000000fe" ∷ "01010000000000000000FE" ∷ [])
+
+-- Begin, a condition with both arcs to itself, End
+unfoldable pub chartCircle : List ℕ
+chartCircle = lines ("00010001000000000000FE" ∷ "03010001010000000000FA" ∷ "01010000000000000000FE" ∷ [])
+
+-- Begin, function 2 (on 0 End, on 1 mask 1 and then End); scheme 2: one operation that writes 1
+unfoldable pub chartFunction : List ℕ
+chartFunction = lines (
+    "00010001000000000000FE" ∷ "04010203020000000000F4" ∷ "02010003000000000001F9" ∷ "01010000000000000000FE"
+    ∷ "00020005000000000000F9" ∷ "02020006000200000000F4" ∷ "01020000000000000000FD" ∷ [])
+
+-- what the translator writes to a buffer of that many characters
+abbrev pub imageOf : ℕ → List ℕ → List ℕ
+imageOf n text = translate text (replicate n 0) .buffer
+
+-- a run on an image from a fresh state, with room for just its words
+abbrev pub freshRun : List ℕ → ℕ → List ℕ → Run
+freshRun image size words = run image (freshState size .state) words (replicate (length words) 0) (replicate (length words) 0)
+
+pub record BenchSheet : Type 0 where
+  -- chart P gives its image, whatever buffer is lent
+  pub b1 : (out : List ℕ) → translate chartP out ≡ lent fine 1 (λ _. imageP) out
+  pub b2 : (freshRun imageP 3 words .reply ≡ success 8)
+      × (freshRun imageP 3 words .codes ≡ 4 ∷ 18 ∷ 0 ∷ 18 ∷ 0 ∷ 3 ∷ 3 ∷ 4 ∷ [])
+      × (freshRun imageP 3 words .masks ≡ 0 ∷ 1 ∷ 0 ∷ 2 ∷ 0 ∷ 0 ∷ 0 ∷ 0 ∷ [])
+  pub b3 : freshRun imageP 2 words .reply ≡ refusal 17 0 3
+  pub b4 : freshRun imageP 1 words .reply ≡ refusal 17 0 1
+  pub b5 : freshRun imageP 3 [] .reply ≡ success 0
+  -- every tick of the walk and of the machine is a home tick, whatever the words
+  pub b6-walk : (ws : List ℕ) → walk (contents chartHome) ws ≡ map (λ w. record { mask = 0; code = 4; opened = 1 }) ws
+  pub b6-run : (ws : List ℕ) → freshRun (imageOf 92 chartHome) 1 ws .codes ≡ map (λ w. 4) ws
+  pub b7-empty : (out : List ℕ) → translate [] out .reply ≡ refusal 1 0 0
+  pub b7-small : (out : List ℕ) → translate chartSmall out .reply ≡ refusal 2 0 0
+  pub b8 : (out : List ℕ) → translate chartCircle out .reply ≡ refusal 8 1 0
+  pub b10 : freshRun (imageOf 276 chartFunction) 2 (replicate 6 0) .codes ≡ 4 ∷ 66 ∷ 0 ∷ 3 ∷ 0 ∷ 4 ∷ []

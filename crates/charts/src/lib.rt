@@ -1,1 +1,4 @@
 // Charts as node records of ten bytes: their checks, reading and writing.
+mod arcs;
+mod fields;
+mod schemes;

@@ -1,1 +1,10 @@
+pub mod Table
 pub mod Verdicts
+pub mod Chains
+pub mod Digits
+pub mod Frames
+pub mod Texts
+pub mod Contents
+pub mod Lent
+pub mod FrameLoops
+pub mod TextLoops

@@ -3,7 +3,8 @@ use mathlib.Core.Path.{_≡_, refl, sym, _∙_, ap}
 use mathlib.Core.Logic.{⊎-elim}
 use mathlib.Core.Bool.{Bool, true, false, not}
 use Prim.Native.Nat.{ℕ, zero, suc, _+_, _-_, _≤_, _<_}
-use native.Mathlib.Nat.{eq-or-lt-of-le}
+use native.Mathlib.Nat.{eq-or-lt-of-le, zero-add, add-zero}
+use native.Mathlib.Numerals.{add-one}
 use native.Mathlib.Decide.{decLt}
 use native.Mathlib.Omega.{arith}
 use lib.Dec.{eqb}
@@ -144,3 +145,14 @@ count-apart p u v a b e = go (decLt u v) (decLt v u)
     go (yes h) k = absurd (omega (arith, count-below p u v h a))
     go (no h) (yes k) = absurd (omega (arith, count-below p v u k b))
     go (no h) (no k) = omega arith
+
+-- one more at a loop's index that passes, or not
+pub count-yes : (p : ℕ → Bool) (n : ℕ) → p n ≡ true → count p 0 (n + 1) ≡ count p 0 n + 1
+count-yes p n e = ap (λ (k : ℕ). count p 0 k) (add-one n) ∙ count-snoc p 0 n ∙ ap (λ (k : ℕ). count p 0 n + k) (ap (λ (k : ℕ). pick {A = ℕ} (p k) 1 0) (zero-add n) ∙ yes-pick (p n) 1 0 e)
+
+pub count-pass : (p : ℕ → Bool) (n : ℕ) → p n ≡ false → count p 0 (n + 1) ≡ count p 0 n
+count-pass p n e = ap (λ (k : ℕ). count p 0 k) (add-one n) ∙ count-snoc p 0 n ∙ ap (λ (k : ℕ). count p 0 n + k) (ap (λ (k : ℕ). pick {A = ℕ} (p k) 1 0) (zero-add n) ∙ no-pick (p n) 1 0 e) ∙ add-zero (count p 0 n)
+
+-- where just one passes, two that pass are the same
+pub count-one : (p : ℕ → Bool) (n u v : ℕ) → count p 0 n ≡ 1 → u < n → v < n → p u ≡ true → p v ≡ true → u ≡ v
+count-one p n u v e lu lv a b = count-apart p u v a b (omega (arith, count-below p u n lu a, count-below p v n lv b))

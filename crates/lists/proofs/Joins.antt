@@ -1,5 +1,6 @@
 -- Laws of joined lists, and of what holds of every element.
 use mathlib.Core.Path.{_≡_, refl, sym, _∙_, ap, ap₂, subst}
+use mathlib.Core.Bool.{Bool, true, false}
 use mathlib.Core.List.{List, [], _∷_, _++_, map, append-assoc, append-nil}
 use Prim.Native.Nat.{ℕ, zero, suc, _+_, _*_, _≤_, _<_}
 use native.Mathlib.Nat.{mul-suc, mul-zero}
@@ -7,8 +8,8 @@ use native.Mathlib.Omega.{arith}
 use lib.ListN.{length, getD, length-append, List·getD-append}
 use lib.Seq.{getD-append-add}
 use Rattle.lists.specs.Numbers.{range}
-use Rattle.lists.specs.Sequences.{concatMap}
-use Rattle.lists.proofs.Ranges.{range-snoc}
+use Rattle.lists.specs.Sequences.{filter, concatMap}
+use Rattle.lists.proofs.Ranges.{length-range, getD-range, range-snoc}
 
 -- every element
 abbrev pub All : {A : Type 0} → (A → Type 0) → List A → Type 0
@@ -118,3 +119,24 @@ pub concat-range-snoc : {B : Type 0} (f : ℕ → List B) (i n : ℕ) → concat
 concat-range-snoc f i n =
     ap (concatMap f) (range-snoc i n) ∙ concat-append f (range i n) ((i + n) ∷ [])
     ∙ ap (λ ys. concatMap f (range i n) ++ ys) (concat-cons f (i + n) [] ∙ (unfold concatMap in append-nil (f (i + n))))
+
+-- lists of m elements each, one a number
+pub concat-range-at : {B : Type 0} (f : ℕ → List B) (m i n : ℕ) (e : B) → ((k : ℕ) → length (f k) ≡ m) → (j k : ℕ) → j < n → k < m
+    → getD (concatMap f (range i n)) (m * j + k) e ≡ getD (f (i + j)) k e
+concat-range-at f m i n e h j k a b =
+    getD-concat f m 0 e (range i n) (all-every (λ x. length (f x) ≡ m) h (range i n)) j k (omega (arith, length-range i n)) b
+    ∙ ap (λ (x : ℕ). getD (f x) k e) (getD-range i n j 0 a)
+
+-- every place
+pub all-places : {A : Type 0} (P : A → Type 0) (d : A) (xs : List A) → ((i : ℕ) → i < length xs → P (getD xs i d)) → All P xs
+all-places P d [] h = tt
+all-places P d (x ∷ xs) h = (h 0 (omega arith), all-places P d xs (λ i l. h (suc i) (omega arith)))
+
+pub all-filter : {A : Type 0} (P : A → Type 0) (p : A → Bool) (xs : List A) → All P xs → All (λ x. P x × (p x ≡ true)) (filter p xs)
+unfolding filter
+all-filter P p [] a = tt
+all-filter P p (x ∷ xs) a = go (all-filter P p xs (a .1)) (p x) refl
+  where
+    go : All (λ x. P x × (p x ≡ true)) (filter p xs) → (b : Bool) → p x ≡ b → All (λ x. P x × (p x ≡ true)) (filter p (x ∷ xs))
+    go ih true e = rw (filter, e) ((a .0, e), ih)
+    go ih false e = rw (filter, e) ih

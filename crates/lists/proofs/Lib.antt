@@ -4,3 +4,4 @@ pub mod Counts
 pub mod Ranges
 pub mod Joins
 pub mod Written
+pub mod Fills

@@ -1,12 +1,12 @@
 -- Laws of ranges of numbers, what a map puts at each place, and filters.
-use mathlib.Core.Path.{_≡_, refl, sym, _∙_, ap, ap₂}
+use mathlib.Core.Path.{_≡_, refl, _∙_, ap, ap₂}
 use mathlib.Core.Bool.{Bool, true, false}
 use mathlib.Core.List.{List, [], _∷_, _++_, map}
-use Prim.Native.Nat.{ℕ, zero, suc, _+_, _≤_, _<_}
+use Prim.Native.Nat.{ℕ, zero, suc, _+_, _<_}
 use native.Mathlib.Omega.{arith}
 use lib.ListN.{length, getD, length-map}
 use Rattle.lists.specs.Numbers.{range, count}
-use Rattle.lists.specs.Sequences.{filter}
+use Rattle.lists.specs.Sequences.{filter, mapFrom}
 use Rattle.lists.proofs.Counts.{count-suc}
 
 pub length-range : (a n : ℕ) → length (range a n) ≡ n
@@ -92,3 +92,16 @@ map-append f (x ∷ xs) ys = ap (λ zs. f x ∷ zs) (map-append f xs ys)
 
 pub map-range-snoc : {B : Type 0} (f : ℕ → B) (i n : ℕ) → map f (range i (suc n)) ≡ map f (range i n) ++ (f (i + n) ∷ [])
 map-range-snoc f i n = ap (map f) (range-snoc i n) ∙ map-append f (range i n) ((i + n) ∷ [])
+
+-- ---- numbered elements
+pub length-mapFrom : {A B : Type 0} (f : ℕ → A → B) (i : ℕ) (xs : List A) → length (mapFrom f i xs) ≡ length xs
+unfolding mapFrom
+length-mapFrom f i [] = refl
+length-mapFrom f i (x ∷ xs) = ap suc (length-mapFrom f (suc i) xs)
+
+pub getD-mapFrom : {A B : Type 0} (f : ℕ → A → B) (i : ℕ) (xs : List A) (d : A) (e : B) (k : ℕ) → k < length xs
+    → getD (mapFrom f i xs) k e ≡ f (i + k) (getD xs k d)
+unfolding mapFrom
+getD-mapFrom f i [] d e k h = absurd (omega arith)
+getD-mapFrom f i (x ∷ xs) d e zero h = ap (λ (j : ℕ). f j x) (omega arith)
+getD-mapFrom f i (x ∷ xs) d e (suc k) h = getD-mapFrom f (suc i) xs d e k (omega arith) ∙ ap (λ (j : ℕ). f j (getD xs k d)) (omega arith)

@@ -1,12 +1,14 @@
--- Laws of the lowest number that passes a test, of whether any does, and of the highest value.
+-- Laws of the lowest number that passes a test, of whether any does, and of the highest value; of an element that passes.
 use mathlib.Core.Path.{_≡_, refl, sym, _∙_, ap, ap₂}
 use mathlib.Core.Logic.{_⊎_, inl, inr, ⊎-elim}
 use mathlib.Core.Bool.{Bool, true, false, _||_}
+use mathlib.Core.List.{List, [], _∷_}
 use Prim.Native.Nat.{ℕ, zero, suc, _+_, _-_, _≤_, _<_, max}
-use native.Mathlib.Nat.{eq-or-lt-of-le, sub-zero}
+use native.Mathlib.Nat.{eq-or-lt-of-le, sub-zero, zero-add}
 use native.Mathlib.Numerals.{add-one}
 use native.Mathlib.Omega.{arith}
 use Rattle.lists.specs.Numbers.{lowest, any, sum, highest}
+use Rattle.lists.specs.Sequences.{some}
 use Rattle.lists.proofs.Tests.{no-both, or-l, or-r, or-cases}
 
 -- ---- the lowest that passes
@@ -126,3 +128,29 @@ pub highest-snoc : (f : ℕ → ℕ) (i n : ℕ) → highest f i (suc n) ≡ max
 unfolding highest
 highest-snoc f i zero = let e : f i ≡ f (i + 0) = ap f (omega arith) in omega arith
 highest-snoc f i (suc n) = let e : f (suc i + n) ≡ f (i + suc n) = ap f (omega arith) in omega (arith, highest-snoc f (suc i) n)
+
+-- ---- a number or an element that passes
+pub any-some : (p : ℕ → Bool) (i n : ℕ) → any p i n ≡ true → (k : ℕ) × (i ≤ k) × (k < i + n) × (p k ≡ true)
+unfolding any
+any-some p i zero e = no-both false e refl
+any-some p i (suc n) e =
+    ⊎-elim (λ (t : p i ≡ true). (i, omega arith, omega arith, t))
+    (λ (t : any p (suc i) n ≡ true). let r = any-some p (suc i) n t in (r .0, omega (arith, r .1), omega (arith, r .2), r .3))
+    (or-cases (p i) (any p (suc i) n) e)
+
+pub some-cons : {A : Type 0} (p : A → Bool) (x : A) (xs : List A) → some p (x ∷ xs) ≡ (p x || some p xs)
+unfolding some
+some-cons p x xs = refl
+
+-- a list on which one test fails throughout and another holds somewhere
+pub some-both : {A : Type 0} (p q : A → Bool) (xs : List A) → some p xs ≡ false → some q xs ≡ true → (x : A) × (p x ≡ false) × (q x ≡ true)
+unfolding some
+some-both p q [] e f = no-both false f refl
+some-both p q (x ∷ xs) e f =
+    ⊎-elim (λ (t : q x ≡ true). (x, or-l (p x) (some p xs) e, t))
+    (λ (t : some q xs ≡ true). some-both p q xs (or-r (p x) (some p xs) e) t)
+    (or-cases (q x) (some q xs) f)
+
+-- the same at the loop's next index
+pub highest-next : (f : ℕ → ℕ) (n : ℕ) → highest f 0 (n + 1) ≡ max (highest f 0 n) (f n)
+highest-next f n = ap (λ (k : ℕ). highest f 0 k) (add-one n) ∙ highest-snoc f 0 n ∙ ap (λ (k : ℕ). max (highest f 0 n) (f k)) (zero-add n)

@@ -1,1 +1,4 @@
 pub mod Facts
+pub mod Views
+pub mod Trace
+pub mod Recursion

@@ -1,0 +1,48 @@
+-- A run on the image that the translator wrote is a run on the chart's table.
+use Prim.Native.Nat.{ℕ}
+use mathlib.Core.Path.{_≡_, _∙_, ap, ap₂}
+use mathlib.Core.List.{List}
+use lib.ListN.{take}
+use Rattle.frames.specs.Frame.{contents}
+use Rattle.frames.specs.Verdict.{Verdict, fine, next, when}
+use Rattle.frames.specs.Answer.{success}
+use Rattle.walk.proofs.Facts.{Facts}
+use Rattle.image.specs.Image.{Image, imageText}
+use Rattle.image.specs.Decode.{decoded}
+use Rattle.image.specs.Check.{imageVerdict}
+use Rattle.translator.specs.Table.{table}
+use Rattle.translator.specs.Entry.{translateVerdict, translate}
+use Rattle.translator.proofs.SoundTable.{table-fine, table-decoded}
+use Rattle.translator.proofs.Translated.{translated-few, translated-fine, translated-image}
+use Rattle.machine.specs.declared.State.{State}
+use Rattle.machine.specs.State.{unfit}
+use Rattle.machine.specs.Run.{Run, noRoom, ticks, runOn, runVerdict, run}
+
+-- refusals 15 and 16, and the ticks, on an image that is given as such
+abbrev pub stateVerdict : Image → State → List ℕ → List ℕ → List ℕ → Verdict
+stateVerdict i s words masks codes = next (when 15 (unfit i s)) λ _. when 16 (noRoom words masks codes)
+
+abbrev pub runImage : Image → State → List ℕ → List ℕ → List ℕ → Run
+runImage i s words masks codes = runOn (stateVerdict i s words masks codes) (λ _. ticks i s words) s masks codes
+
+pub run-image : (t : List ℕ) (i : Image) → imageVerdict t ≡ fine → decoded (contents t) ≡ i → (s : State) (words masks codes : List ℕ)
+    → run t s words masks codes ≡ runImage i s words masks codes
+unfolding run runVerdict
+run-image t i ok e s words masks codes =
+    ap₂ (λ (v : Verdict) (j : Image). runOn (next v λ _. stateVerdict j s words masks codes) (λ _. ticks j s words) s masks codes) ok e
+
+-- ---- the image of a chart
+module _ (t : List ℕ) (ok : translateVerdict t ≡ fine) (facts : Facts (contents t)) where
+  pub translated-passes : imageVerdict (imageText (table (contents t))) ≡ fine
+  translated-passes = table-fine (contents t) facts (translated-few t ok)
+
+  pub translated-decoded : decoded (contents (imageText (table (contents t)))) ≡ table (contents t)
+  translated-decoded = table-decoded (contents t) facts (translated-few t ok)
+
+-- n characters were written, and a run is handed these
+pub run-translated : (t out : List ℕ) (n : ℕ) → translate t out .reply ≡ success n → Facts (contents t) → (s : State) (words masks codes : List ℕ)
+    → run (take n (translate t out .buffer)) s words masks codes ≡ runImage (table (contents t)) s words masks codes
+run-translated t out n done facts s words masks codes =
+    let ok : translateVerdict t ≡ fine = translated-fine t out n done in
+    ap (λ (x : List ℕ). run x s words masks codes) (translated-image t out n done)
+    ∙ run-image (imageText (table (contents t))) (table (contents t)) (translated-passes t ok facts) (translated-decoded t ok facts) s words masks codes

@@ -1,0 +1,133 @@
+-- One tick of the machine on the table of a chart is one tick of the walk, but for a call at a full stack, which stops it with 17.
+use Prim.Native.Nat.{ℕ, suc, _+_, _-_, _≤_, _<_}
+use mathlib.Core.Bool.{Bool, true, false, _&&_}
+use mathlib.Core.Path.{_≡_, refl, ap, _∙_, sym}
+use mathlib.Core.Logic.{_⊎_, inl, inr}
+use mathlib.Core.List.{List, [], _∷_}
+use lib.Dec.{leb}
+use lib.ListN.{length, set}
+use native.Mathlib.Omega.{arith}
+use borrow.Author.Tests.{eq-eqb, ne-eqb, le-leb, leb-true, leb-false}
+use Rattle.lists.specs.Pick.{pick}
+use Rattle.bits.specs.Results.{Results, resultOf, withResult}
+use Rattle.charts.specs.Chart.{Chart, kind, scheme, argument, next0, mask}
+use Rattle.walk.specs.Stops.{start, byArc, byWord, Stop}
+use Rattle.walk.specs.Walk.{Tick}
+use Rattle.walk.proofs.Facts.{Facts}
+use Rattle.walk.proofs.Views.{View, a-plain, a-call, a-function, a-home, a-back, a-begin, a-condition, stop-call, stop-function}
+use Rattle.walk.proofs.Trace.{Position, at, one, tickOf, resumedBy, resumed, returned, movedBy, tickAt, move, Caller, Good, caller-stop, view-of}
+use Rattle.image.specs.Image.{Image, Label}
+use Rattle.translator.specs.Labels.{label}
+use Rattle.translator.specs.Rows.{rows}
+use Rattle.translator.specs.Table.{table}
+use Rattle.machine.specs.declared.State.{State}
+use Rattle.machine.specs.State.{labelAt, entryAt, placeAt}
+use Rattle.machine.specs.Tick.{Found, found, firstRow, rowOf, Ticked, ticked, stopped, moved, pushed, tickBy, tick}
+use Rattle.agreement.specs.Agreement.{isFullCall}
+use Rattle.agreement.proofs.TableFacts.{TableFacts}
+use Rattle.agreement.proofs.StopLabels.{heldBy, held}
+use Rattle.agreement.proofs.Places.{below, zerosOver, stateOf, get-top, get-under, set-top, set-push, set-drop}
+
+-- what the machine answers for a tick of the walk that leads to state s
+abbrev pub answer : ℕ → Tick → State → Ticked
+answer n t s = pick (isFullCall n t) (stopped 17) (ticked (t .mask) (t .code) s)
+
+-- the tick of a label x that is known
+tick-at : (i : Image) (s : State) (w l : ℕ) (x : Label) → placeAt s (s .depth - 1) ≡ l → labelAt i l ≡ x
+    → tick i s w ≡ tickBy i s w l x (withResult (x .result) (x .owner) (s .bits)) (x .kind)
+unfolding tick
+tick-at i s w l x e f =
+    ap (λ (k : ℕ). let y = labelAt i k in tickBy i s w k y (withResult (y .result) (y .owner) (s .bits)) (y .kind)) e
+    ∙ ap (λ (y : Label). tickBy i s w l y (withResult (y .result) (y .owner) (s .bits)) (y .kind)) f
+
+module _ (c : Chart) (n : ℕ) (n≤ : n ≤ 32) where
+  abbrev state : ℕ → List ℕ → Results → State
+  state v ks b = stateOf c n (at v ks b)
+
+  -- ---- what each kind of tick makes of the state of a position
+  to-top : (m code v u : ℕ) (ks : List ℕ) (b d : Results) (f : Found) → f ≡ found (label c u)
+      → let s = state v ks b in moved m code s (s .depth - 1) (s .depth) (s .places) d f ≡ ticked m code (state u ks d)
+  to-top m code v u ks b d f e =
+      let s = state v ks b in
+      ap (moved m code s (s .depth - 1) (s .depth) (s .places) d) e
+      ∙ ap (λ (ps : List ℕ). ticked m code (record { size = n; depth = suc (length ks); places = ps; bits = d }))
+      (set-top c ks (label c v) (zerosOver ks) (label c u))
+
+  to-push : (m code h v u : ℕ) (ks : List ℕ) (b d : Results) → 16 ≤ code → length ks < n → entryAt (table c) h ≡ label c u
+      → pushed (table c) (state v ks b) m code h d (leb n (suc (length ks))) ≡ answer n (one m code (suc (length ks))) (state u (v ∷ ks) d)
+  to-push m code h v u ks b d l low e = go (leb n (suc (length ks))) refl
+    where
+      no : (t : Bool) → (t && false) ≡ false
+      no true = refl
+      no false = refl
+
+      go : (t : Bool) → leb n (suc (length ks)) ≡ t
+          → pushed (table c) (state v ks b) m code h d t ≡ answer n (one m code (suc (length ks))) (state u (v ∷ ks) d)
+      go true t = rw (le-leb 16 code l, eq-eqb (suc (length ks)) n (omega (arith, leb-true n (suc (length ks)) t)))
+      go false t =
+          ap (λ (ps : List ℕ). ticked m code (record { size = n; depth = suc (suc (length ks)); places = ps; bits = d }))
+          (ap (λ (j : ℕ). set (below c ks (label c v ∷ zerosOver ks)) (suc (length ks)) j) e
+          ∙ set-push c v ks (label c u) (omega (arith, leb-false n (suc (length ks)) t)))
+          ∙ sym (ap (λ (r : Bool). pick r (stopped 17) (ticked m code (state u (v ∷ ks) d)))
+          (ap (λ (r : Bool). leb 16 code && r) (ne-eqb (suc (length ks)) n (λ q. omega (arith, leb-false n (suc (length ks)) t))) ∙ no (leb 16 code)))
+
+  to-under : (m code v u k : ℕ) (ks : List ℕ) (b d : Results) (f : Found) → length ks < 31 → f ≡ found (label c u)
+      → let s = state v (k ∷ ks) b in
+      moved m code s (s .depth - 2) (s .depth - 1) (set (s .places) (s .depth - 1) 0) d f ≡ ticked m code (state u ks d)
+  to-under m code v u k ks b d f l e =
+      let s = state v (k ∷ ks) b in
+      let q : suc (suc (length ks)) - 1 ≡ suc (length ks) = omega arith in
+      ap (moved m code s (s .depth - 2) (s .depth - 1) (set (s .places) (s .depth - 1) 0) d) e
+      ∙ ap (λ (ps : List ℕ). ticked m code (record { size = n; depth = s .depth - 1; places = ps; bits = d }))
+      (set-drop c k ks (label c v) (label c u) l)
+      ∙ ap (λ (o : ℕ). ticked m code (record { size = n; depth = o; places = below c ks (label c u ∷ zerosOver ks); bits = d })) q
+
+  module _ (facts : Facts c) (tableFacts : TableFacts c) where
+    -- the row that a caller takes when its call has ended
+    resumed-row : (h k w : ℕ) (b : Results) → Caller c h k → rowOf (table c) b (label c k) w ≡ found (label c (resumed c k w b))
+    unfolding table
+    resumed-row h k w b caller = go (caller .calls)
+      where
+        go : (kind c k ≡ 2) ⊎ (kind c k ≡ 4) → rowOf (table c) b (label c k) w ≡ found (label c (resumed c k w b))
+        go (inl e) = tableFacts .rowPlain k w _ (caller .inside) e
+            ∙ ap (λ (s : Stop). found (label c (resumedBy c k w b s))) (sym (stop-call c k e (λ p. omega (arith, caller .called, caller .deep))))
+        go (inr e) = ap (λ (x : Label). firstRow (label c k) w (pick (resultOf (x .called) b) 1 0) (rows c))
+            (held c k tableFacts (caller-stop c h k caller) (a-function e))
+            ∙ tableFacts .rowFunction k w (resultOf (argument c k) b) (caller .inside) e
+            ∙ ap (λ (s : Stop). found (label c (resumedBy c k w b s))) (sym (stop-function c k e))
+
+    tick-back : (v : ℕ) (ks : List ℕ) (b : Results) (w : ℕ) → length ks < n → Good c (at v ks b) → (scheme c v ≡ 1 → ⊥)
+        → let s = state v ks b in
+        moved 0 3 s (s .depth - 2) (s .depth - 1) (set (s .places) (s .depth - 1) 0) b (rowOf (table c) b (placeAt s (s .depth - 2)) w)
+        ≡ ticked 0 3 (stateOf c n (returned c ks w b))
+    tick-back v [] b w low g s = absurd (s (g .under))
+    tick-back v (k ∷ ks) b w low g s = to-under 0 3 v (resumed c k w b) k ks b b _ (omega arith)
+        (ap (λ (l : ℕ). rowOf (table c) b l w) (get-under c k ks (label c v) (zerosOver (k ∷ ks))) ∙ resumed-row (scheme c v) k w b (g .under .0))
+
+    -- with the label that the table holds for the stop
+    tick-by : (v : ℕ) (ks : List ℕ) (b : Results) (w : ℕ) → length ks < n → Good c (at v ks b) → {s : Stop} → View c v s
+        → let x = heldBy c v s in
+        tickBy (table c) (state v ks b) w (label c v) x (withResult (x .result) (x .owner) b) (x .kind)
+        ≡ answer n (tickOf (suc (length ks)) s) (stateOf c n (movedBy c v ks w b s))
+    unfolding table
+    tick-by v ks b w low g (a-plain e a) =
+        to-top (mask c v) 0 v (byArc c w (next0 c v)) ks b _ _ (tableFacts .rowPlain v w _ (g .top .inside) e)
+    tick-by v ks b w low g (a-call e a) = let l = facts .calls v (g .top .inside) e a in
+        to-push (mask c v) (16 + argument c v) (argument c v) v (start c (argument c v)) ks b _ (omega arith) low
+        (tableFacts .entries (argument c v) (omega (arith, l)) (l .1))
+    tick-by v ks b w low g (a-function e) = let l = facts .functions v (g .top .inside) e in
+        to-push 0 (64 + argument c v) (argument c v) v (start c (argument c v)) ks b b (omega arith) low
+        (tableFacts .entries (argument c v) (omega (arith, l)) (l .1))
+    tick-by v ks b w low g (a-home e s) = to-top 0 4 v (start c 1) ks b b _ (ap found (tableFacts .entries 1 (omega arith) (facts .first)))
+    tick-by v ks b w low g (a-back e s) = tick-back v ks b w low g s
+    tick-by v ks b w low g (a-begin e) =
+        to-top 0 0 v (byWord c w (next0 c v)) ks b b _ (tableFacts .rowBegin v w _ (g .top .inside) e (g .top .stopping))
+    tick-by v ks b w low g (a-condition e) =
+        to-top 0 0 v (byWord c w v) ks b b _ (tableFacts .rowCondition v w _ (g .top .inside) e (g .top .stopping))
+
+    pub tick-is : (w : ℕ) (x : Position) → length (x .callers) < n → Good c x
+        → tick (table c) (stateOf c n x) w ≡ answer n (tickAt c x) (stateOf c n (move c w x))
+    tick-is w x low g = let v = view-of c facts x g in
+        tick-at (table c) (stateOf c n x) w (label c (x .node)) _ (get-top c (x .callers) (label c (x .node)) (zerosOver (x .callers)))
+        (held c (x .node) tableFacts (g .top) v)
+        ∙ tick-by (x .node) (x .callers) (x .results) w low g v

@@ -1,0 +1,132 @@
+-- The six slips of the bench sheet: the machine, or the table, with one of them is shown not to meet its statement.
+use mathlib.Core.Path.{_≡_, ap}
+use mathlib.Core.Bool.{Bool, true, false, _&&_}
+use mathlib.Core.List.{List, [], _∷_}
+use Prim.Native.Nat.{ℕ, zero, suc, _-_}
+use native.Mathlib.Omega.{arith}
+use lib.Dec.{leb, eqb}
+use lib.ListN.{getD, set, replicate}
+use Rattle.lists.specs.Pick.{pick}
+use Rattle.lists.specs.Numbers.{lowest, any, count, sum, highest}
+use Rattle.lists.specs.Sequences.{some, filter, concatMap, mapFrom}
+use Rattle.bits.specs.Word.{bit}
+use Rattle.bits.specs.Results.{Results, resultOf}
+use Rattle.graph.specs.Reach.{reach}
+use Rattle.frames.specs.Digit.{digitOf, charOf}
+use Rattle.frames.specs.Frame.{contents, total, frameText}
+use Rattle.frames.specs.Check.{badForm, badSum, textVerdict}
+use Rattle.frames.specs.Answer.{Lent, lent, count as replyCount}
+use Rattle.charts.specs.Chart.{nodeOf}
+use Rattle.charts.specs.Check.{badField, chartVerdict}
+use Rattle.charts.specs.Entry.{readVerdict}
+use Rattle.walk.specs.Stops.{stops, start}
+use Rattle.image.specs.Image.{Image, Row, imageFrames, imageText}
+use Rattle.image.specs.Decode.{decoded}
+use Rattle.image.specs.Check.{badHeader, placeOf, stray, badContent, tableVerdict, imageVerdict}
+use Rattle.translator.specs.Labels.{label}
+use Rattle.translator.specs.Rows.{paths, rowsOf, rows}
+use Rattle.translator.specs.Table.{table}
+use Rattle.translator.specs.Entry.{translateVerdict, translate}
+use Rattle.machine.specs.declared.State.{State}
+use Rattle.machine.specs.State.{labelAt, placeAt, freshState, unfit}
+use Rattle.machine.specs.Tick.{Ticked, ticked, stopped, Found, moved, rowOf, firstRow, tick}
+use Rattle.machine.specs.Run.{runVerdict}
+use Rattle.agreement.specs.Agreement.{Translator, Agreement, Translates}
+use Rattle.agreement.specs.Bench.{characters, lines, imageP, words}
+use Rattle.agreement.proofs.Instances.{imageHome, imageFunction, imageChoice, at-home, at-deep, at-shallow, at-function, at-choice}
+use Rattle.agreement.proofs.Variants.{Step, ticksBy, runBy, codeAt}
+
+-- the label at the top, its tick kind, the scheme it calls
+abbrev top : State → ℕ
+top s = placeAt s (s .depth - 1)
+
+abbrev kindOf : Image → State → ℕ
+kindOf i s = labelAt i (top s) .kind
+
+abbrev beneath : State → ℕ
+beneath s = placeAt s (s .depth - 2)
+
+abbrev dropped : State → State
+dropped s = record { size = s .size; depth = s .depth - 1; places = set (s .places) (s .depth - 1) 0; bits = s .bits }
+
+-- ---- the call issued again on return: the label beneath stays and calls once more
+abbrev pub callsAgain : Step
+callsAgain i s w = pick (eqb (kindOf i s) 3) (ticked 0 3 (dropped s)) (tick i s w)
+
+pub calls-again-fails : Agreement translate freshState (runBy callsAgain) → ⊥
+unfolding ticksBy imageP words lowest any count sum highest some filter concatMap mapFrom reach digitOf charOf contents total frameText badForm badSum textVerdict nodeOf badField chartVerdict readVerdict stops start label paths rowsOf rows table imageFrames imageText translateVerdict translate characters badHeader placeOf stray badContent tableVerdict imageVerdict decoded unfit firstRow tick runVerdict
+calls-again-fails claim = let z : _≡_ {A = ℕ} 18 3 = ap (codeAt 6) (at-deep (runBy callsAgain) claim) in omega arith
+
+-- ---- what a call saw is kept in a result bit that the chart has no scheme for, and the return goes by it
+abbrev remember : ℕ → Bool → Ticked → Ticked
+remember k x (ticked m c t) = ticked m c (record { size = t .size; depth = t .depth; places = t .places; bits = set (t .bits) k x })
+remember k x (stopped n) = stopped n
+
+abbrev returnBy : Image → State → Found → Ticked
+returnBy i s found = moved 0 3 s (s .depth - 2) (s .depth - 1) (set (s .places) (s .depth - 1) 0) (s .bits) found
+
+abbrev isCallKind : ℕ → Bool
+isCallKind zero = false
+isCallKind (suc k) = leb k 1
+
+-- ---- the result bit read at the call
+abbrev pub readsAtCall : Step
+readsAtCall i s w = pick (eqb (kindOf i s) 3)
+    (returnBy i s (firstRow (beneath s) w (pick (getD (s .bits) 15 false) 1 0) (i .rows)))
+    (pick (eqb (kindOf i s) 2) (remember 15 (resultOf (labelAt i (top s) .called) (s .bits)) (tick i s w)) (tick i s w))
+
+pub reads-at-call-fails : Agreement translate freshState (runBy readsAtCall) → ⊥
+unfolding ticksBy imageFunction lowest any count sum highest some filter concatMap mapFrom reach digitOf charOf contents total frameText badForm badSum textVerdict nodeOf badField chartVerdict readVerdict stops start label paths rowsOf rows table imageFrames imageText translateVerdict translate characters badHeader placeOf stray badContent tableVerdict imageVerdict decoded unfit firstRow tick runVerdict
+reads-at-call-fails claim = let z : _≡_ {A = ℕ} 4 0 = ap (codeAt 4) (at-function (runBy readsAtCall) claim) in omega arith
+
+-- ---- after a return the choice by the call's word
+abbrev pub choosesByCall : Step
+choosesByCall i s w = pick (eqb (kindOf i s) 3)
+    (returnBy i s (rowOf i (s .bits) (beneath s) (pick (getD (s .bits) 15 false) 1 0)))
+    (pick (isCallKind (kindOf i s)) (remember 15 (eqb (bit w 0) 1) (tick i s w)) (tick i s w))
+
+pub chooses-by-call-fails : Agreement translate freshState (runBy choosesByCall) → ⊥
+unfolding ticksBy imageChoice lowest any count sum highest some filter concatMap mapFrom reach digitOf charOf contents total frameText badForm badSum textVerdict nodeOf badField chartVerdict readVerdict stops start label paths rowsOf rows table imageFrames imageText translateVerdict translate characters badHeader placeOf stray badContent tableVerdict imageVerdict decoded unfit firstRow tick runVerdict
+chooses-by-call-fails claim = let z : _≡_ {A = ℕ} 4 0 = ap (codeAt 4) (at-choice (runBy choosesByCall) claim) in omega arith
+
+-- ---- a return from scheme 1
+abbrev pub returnsHome : Step
+returnsHome i s w = pick (eqb (kindOf i s) 4) (ticked 0 3 (dropped s)) (tick i s w)
+
+pub returns-home-fails : Agreement translate freshState (runBy returnsHome) → ⊥
+unfolding ticksBy imageHome lowest any count sum highest some filter concatMap mapFrom reach digitOf charOf contents total frameText badForm badSum textVerdict nodeOf badField chartVerdict readVerdict stops start label paths rowsOf rows table imageFrames imageText translateVerdict translate characters badHeader placeOf stray badContent tableVerdict imageVerdict decoded unfit firstRow tick runVerdict
+returns-home-fails claim = let z : _≡_ {A = ℕ} 3 4 = ap (codeAt 0) (at-home (runBy returnsHome) claim) in omega arith
+
+-- ---- a call at depth Σ - 1 refused
+abbrev pub refusesEarly : Step
+refusesEarly i s w = pick (isCallKind (kindOf i s) && leb (s .size - 1) (s .depth)) (stopped 17) (tick i s w)
+
+pub refuses-early-fails : Agreement translate freshState (runBy refusesEarly) → ⊥
+unfolding ticksBy imageP words lowest any count sum highest some filter concatMap mapFrom reach digitOf charOf contents total frameText badForm badSum textVerdict nodeOf badField chartVerdict readVerdict stops start label paths rowsOf rows table imageFrames imageText translateVerdict translate characters badHeader placeOf stray badContent tableVerdict imageVerdict decoded unfit firstRow tick runVerdict
+refuses-early-fails claim = let z : _≡_ {A = ℕ} 0 18 = ap (codeAt 1) (at-shallow (runBy refusesEarly) claim) in omega arith
+
+-- ---- rows with equal targets joined: two neighbours of one label, bit and next label become one that cares for nothing
+abbrev alike : Row → Row → Bool
+alike r q = eqb (r .from) (q .from) && eqb (r .bit) (q .bit) && eqb (r .next) (q .next)
+
+unfoldable pub joinedRows : List Row → List Row
+joinedRows [] = []
+joinedRows (r ∷ []) = r ∷ []
+joinedRows (r ∷ q ∷ rs) = elim (alike r q) [
+  | true ↦ record { from = r .from; care = 0; values = 0; bit = r .bit; next = r .next } ∷ joinedRows rs
+  | false ↦ r ∷ joinedRows (q ∷ rs)
+]
+
+abbrev joinedTable : Image → Image
+joinedTable i = record { entries = i .entries; labels = i .labels; rows = joinedRows (i .rows) }
+
+abbrev pub joinsRows : Translator
+joinsRows text out = lent (translateVerdict text) 1 (λ _. imageText (joinedTable (table (contents text)))) out
+
+-- an operation, then a condition with both arcs to the End
+unfoldable chartBoth : List ℕ
+chartBoth = lines ("00010001000000000000FE" ∷ "02010002000000000000FB" ∷ "03010003030000000000F6" ∷ "01010000000000000000FE" ∷ [])
+
+pub joins-rows-fails : Translates joinsRows → ⊥
+unfolding joinedRows chartBoth lowest any count sum highest some filter concatMap mapFrom reach digitOf charOf contents total frameText badForm badSum textVerdict nodeOf badField chartVerdict readVerdict stops start label paths rowsOf rows table imageFrames imageText translateVerdict translate characters
+joins-rows-fails claim = let z : _≡_ {A = ℕ} 138 161 = ap (λ (l : Lent). replyCount (l .reply)) (claim chartBoth (replicate 161 0)) in omega arith

@@ -1,0 +1,122 @@
+-- Many ticks of the machine are those of the trace up to its bound.
+use Prim.Native.Nat.{ℕ, suc, _+_, _≤_, _<_}
+use mathlib.Core.Bool.{Bool, true, false, _&&_}
+use mathlib.Core.Path.{_≡_, refl, ap, _∙_, sym, subst}
+use mathlib.Core.List.{List, [], _∷_, map}
+use lib.Dec.{leb, ltb, eqb, leb·suc-suc}
+use lib.ListN.{length, take}
+use native.Mathlib.Omega.{arith}
+use borrow.Author.Tests.{eqb-false, lt-ltb, le-leb}
+use Rattle.lists.specs.Pick.{pick}
+use Rattle.lists.proofs.Tests.{and-false}
+use Rattle.bits.specs.Results.{Results}
+use Rattle.frames.specs.Verdict.{Verdict, fine, refused}
+use Rattle.charts.specs.Chart.{Chart, argument}
+use Rattle.walk.specs.Stops.{Stop}
+use Rattle.walk.specs.Walk.{Tick}
+use Rattle.walk.proofs.Facts.{Facts}
+use Rattle.walk.proofs.Views.{View, a-plain, a-call, a-function, a-home, a-back, a-begin, a-condition}
+use Rattle.walk.proofs.Trace.{Position, tickOf, returned, movedBy, tickAt, move, trace, Good, view-of, moves}
+use Rattle.translator.specs.Table.{table}
+use Rattle.machine.specs.declared.State.{State}
+use Rattle.machine.specs.Tick.{ticked, stopped}
+use Rattle.machine.specs.Run.{Ran, then, ticks}
+use Rattle.agreement.specs.Agreement.{isFullCall, bound}
+use Rattle.agreement.proofs.TableFacts.{TableFacts}
+use Rattle.agreement.proofs.Places.{stateOf}
+use Rattle.agreement.proofs.Simulation.{answer, tick-is}
+use Rattle.agreement.proofs.Bounds.{bound-stop, bound-go, stand, stand-stop, stand-go}
+
+-- what is run when b of the ticks ts of m words are made, and the walk stands at y
+abbrev pub ranBy : Chart → ℕ → ℕ → List Tick → Position → ℕ → Ran
+ranBy c n b ts y m = record {
+  masks = map (λ (t : Tick). t .mask) (take b ts);
+  codes = map (λ (t : Tick). t .code) (take b ts);
+  state = stateOf c n y;
+  verdict = pick (ltb b m) (refused 17 0) fine;
+}
+
+-- what is run of all the words, from x on
+abbrev pub ranFrom : Chart → ℕ → List ℕ → Position → Ran
+ranFrom c n ws x = ranBy c n (bound n (trace c ws x)) (trace c ws x) (stand c n ws x) (length ws)
+
+abbrev ran : List ℕ → List ℕ → State → Verdict → Ran
+ran ms ks s v = record { masks = ms; codes = ks; state = s; verdict = v }
+
+module _ (c : Chart) (n : ℕ) where
+  -- ---- a tick that is no call at a full stack leaves room for the node's label
+  deeper : (code k : ℕ) → 16 ≤ code → k < n → (leb 16 code && eqb (suc k) n) ≡ false → suc k < n
+  deeper code k l low q =
+      let e : suc k ≡ n → ⊥ = eqb-false (suc k) n (and-false (leb 16 code) (eqb (suc k) n) q (le-leb 16 code l)) in omega arith
+
+  deep-back : (ks : List ℕ) (w : ℕ) (b : Results) → length ks < n → length (returned c ks w b .callers) < n
+  deep-back [] w b low = low
+  deep-back (k ∷ ks) w b low = omega arith
+
+  deep-by : (v : ℕ) (ks : List ℕ) (b : Results) (w : ℕ) → length ks < n → {s : Stop} → View c v s
+      → isFullCall n (tickOf (suc (length ks)) s) ≡ false → length (movedBy c v ks w b s .callers) < n
+  deep-by v ks b w low (a-plain e a) q = low
+  deep-by v ks b w low (a-call e a) q = deeper (16 + argument c v) (length ks) (omega arith) low q
+  deep-by v ks b w low (a-function e) q = deeper (64 + argument c v) (length ks) (omega arith) low q
+  deep-by v ks b w low (a-home e s) q = low
+  deep-by v ks b w low (a-back e s) q = deep-back ks w b low
+  deep-by v ks b w low (a-begin e) q = low
+  deep-by v ks b w low (a-condition e) q = low
+
+  -- ---- the first tick, and then the others
+  abbrev first : ℕ → List ℕ → Position → Ran
+  first w ws x = then (stateOf c n x) (λ s. ticks (table c) s ws) (answer n (tickAt c x) (stateOf c n (move c w x)))
+
+  first-stops : (w : ℕ) (ws : List ℕ) (x : Position) → isFullCall n (tickAt c x) ≡ true → first w ws x ≡ ranFrom c n (w ∷ ws) x
+  unfolding trace
+  first-stops w ws x e =
+      let t = tickAt c x in let ts = trace c ws (move c w x) in
+      ap (λ (r : Bool). then (stateOf c n x) (λ s. ticks (table c) s ws) (pick r (stopped 17) (ticked (t .mask) (t .code) (stateOf c n (move c w x))))) e
+      ∙ ap (λ (r : Bool). ran [] [] (stateOf c n x) (pick r (refused 17 0) fine)) (sym (lt-ltb 0 (suc (length ws)) (omega arith)))
+      ∙ ap (λ (y : Position). ranBy c n 0 (t ∷ ts) y (suc (length ws))) (sym (stand-stop c n w ws x e))
+      ∙ ap (λ (b : ℕ). ranBy c n b (t ∷ ts) (stand c n (w ∷ ws) x) (suc (length ws))) (sym (bound-stop n t ts e))
+
+  first-goes : (w : ℕ) (ws : List ℕ) (x : Position) → isFullCall n (tickAt c x) ≡ false
+      → ticks (table c) (stateOf c n (move c w x)) ws ≡ ranFrom c n ws (move c w x) → first w ws x ≡ ranFrom c n (w ∷ ws) x
+  unfolding trace
+  first-goes w ws x e ih =
+      let t = tickAt c x in let ts = trace c ws (move c w x) in let b = bound n ts in
+      ap (λ (r : Bool). then (stateOf c n x) (λ s. ticks (table c) s ws) (pick r (stopped 17) (ticked (t .mask) (t .code) (stateOf c n (move c w x))))) e
+      ∙ ap (λ (r : Ran). ran (t .mask ∷ r .masks) (t .code ∷ r .codes) (r .state) (r .verdict)) ih
+      ∙ ap (λ (r : Bool). ran (map (λ (u : Tick). u .mask) (take (suc b) (t ∷ ts))) (map (λ (u : Tick). u .code) (take (suc b) (t ∷ ts)))
+      (stateOf c n (stand c n ws (move c w x))) (pick r (refused 17 0) fine)) (sym (leb·suc-suc (suc b) (length ws)))
+      ∙ ap (λ (y : Position). ranBy c n (suc b) (t ∷ ts) y (suc (length ws))) (sym (stand-go c n w ws x e))
+      ∙ ap (λ (k : ℕ). ranBy c n k (t ∷ ts) (stand c n (w ∷ ws) x) (suc (length ws))) (sym (bound-go n t ts e))
+
+  module _ (n≤ : n ≤ 32) (facts : Facts c) (tableFacts : TableFacts c) where
+    -- the walk stands at a good position, with room for its node
+    pub record Stands (x : Position) : Type 0 where
+      pub low : length (x .callers) < n
+      pub good : Good c x
+
+    moves-on : (w : ℕ) (x : Position) → Stands x → isFullCall n (tickAt c x) ≡ false → Stands (move c w x)
+    moves-on w x s e = record {
+      low = deep-by (x .node) (x .callers) (x .results) w (s .low) (view-of c facts x (s .good)) e;
+      good = moves c facts w x (s .good);
+    }
+
+    pub stand-stands : (ws : List ℕ) (x : Position) → Stands x → Stands (stand c n ws x)
+    unfolding stand
+    stand-stands [] x s = s
+    stand-stands (w ∷ ws) x s = go (stand-stands ws (move c w x)) (isFullCall n (tickAt c x)) refl
+      where
+        go : (Stands (move c w x) → Stands (stand c n ws (move c w x))) → (r : Bool) → isFullCall n (tickAt c x) ≡ r → Stands (stand c n (w ∷ ws) x)
+        go ih true e = subst Stands (sym (stand-stop c n w ws x e)) s
+        go ih false e = subst Stands (sym (stand-go c n w ws x e)) (ih (moves-on w x s e))
+
+    pub ticks-are : (ws : List ℕ) (x : Position) → Stands x → ticks (table c) (stateOf c n x) ws ≡ ranFrom c n ws x
+    unfolding ticks trace bound stand
+    ticks-are [] x s = refl
+    ticks-are (w ∷ ws) x s =
+        ap (then (stateOf c n x) (λ t. ticks (table c) t ws)) (tick-is c n n≤ facts tableFacts w x (s .low) (s .good))
+        ∙ go (ticks-are ws (move c w x)) (isFullCall n (tickAt c x)) refl
+      where
+        go : (Stands (move c w x) → ticks (table c) (stateOf c n (move c w x)) ws ≡ ranFrom c n ws (move c w x))
+            → (r : Bool) → isFullCall n (tickAt c x) ≡ r → first w ws x ≡ ranFrom c n (w ∷ ws) x
+        go ih true e = first-stops w ws x e
+        go ih false e = first-goes w ws x e (ih (moves-on w x s e))

@@ -1,0 +1,103 @@
+// Refusals 6 and 7: where arcs lead, and which schemes are called.
+use crate::fields::field;
+ghost use mathlib.Core.Path.{_≡_};
+ghost use mathlib.Core.Bool.{_||_};
+ghost use Prim.Native.Nat.{_+_, _*_, _≤_, _<_};
+ghost use lib.ListN.{length};
+ghost use Rattle.lists.specs.Numbers.{lowest};
+ghost use Rattle.frames.specs.Frame.{size};
+ghost use Rattle.charts.specs.Chart.{next0, next1, schemes};
+ghost use Rattle.charts.specs.Check.{badEnd, badArc, badCall};
+
+// An arc of node v to u leads to no node, to another scheme or to a Begin.
+fn bad_end(records: &[u8], v: usize, u: usize) -> bool
+    requires { ⌜ 10 * v + 10 ≤ length (now records) ⌝ }
+    ensures { λ r. ⌜ r ≡ badEnd (now (records .entry)) v u ⌝ }
+{
+    if records.len() / 10 <= u {
+        return true;
+    }
+    if field(records, u, 1) != field(records, v, 1) {
+        return true;
+    }
+    field(records, u, 0) == 0
+}
+
+// One of the two arcs of node v leads where none may.
+fn bad_pair(records: &[u8], v: usize) -> bool
+    requires { ⌜ 10 * v + 10 ≤ length (now records) ⌝ }
+    ensures { λ r. ⌜ r ≡ (badEnd (now (records .entry)) v (next0 (now (records .entry)) v) || badEnd (now (records .entry)) v (next1 (now (records .entry)) v)) ⌝ }
+{
+    if bad_end(records, v, field(records, v, 3) as usize) {
+        return true;
+    }
+    bad_end(records, v, field(records, v, 4) as usize)
+}
+
+// 6: an arc of node v leads where none may. An End has none, a condition and a function have two.
+fn bad_arc(records: &[u8], v: usize) -> bool
+    requires { ⌜ 10 * v + 10 ≤ length (now records) ⌝ }
+    ensures { λ r. ⌜ r ≡ badArc (now (records .entry)) v ⌝ }
+{
+    match field(records, v, 0) {
+        1 => false,
+        3 => bad_pair(records, v),
+        4 => bad_pair(records, v),
+        _ => bad_end(records, v, field(records, v, 3) as usize),
+    }
+}
+
+// The lowest node that 6 turns back, or the number of nodes.
+pub fn lowest_arc(records: &[u8]) -> usize
+    ensures { λ r. ⌜ r ≡ lowest (badArc (now (records .entry))) 0 (size (now (records .entry))) ⌝ }
+{
+    let n = records.len() / 10;
+    let mut v: usize = 0;
+    while v < n {
+        if bad_arc(records, v) {
+            return v;
+        }
+        v += 1;
+    }
+    v
+}
+
+// 7: node v calls scheme 1 or one above the highest, or is a function that calls 0.
+fn bad_call(records: &[u8], highest: u8, v: usize) -> bool
+    requires { ⌜ 10 * v + 10 ≤ length (now records) ⌝ }
+    requires { ⌜ highest ≡ schemes (now records) ⌝ }
+    ensures { λ r. ⌜ r ≡ badCall (now (records .entry)) v ⌝ }
+{
+    let called = field(records, v, 2);
+    match field(records, v, 0) {
+        2 => {
+            if called == 1 {
+                return true;
+            }
+            highest < called
+        }
+        4 => {
+            if called <= 1 {
+                return true;
+            }
+            highest < called
+        }
+        _ => false,
+    }
+}
+
+// The lowest node that 7 turns back, or the number of nodes.
+pub fn lowest_call(records: &[u8], highest: u8) -> usize
+    requires { ⌜ highest ≡ schemes (now records) ⌝ }
+    ensures { λ r. ⌜ r ≡ lowest (badCall (now (records .entry))) 0 (size (now (records .entry))) ⌝ }
+{
+    let n = records.len() / 10;
+    let mut v: usize = 0;
+    while v < n {
+        if bad_call(records, highest, v) {
+            return v;
+        }
+        v += 1;
+    }
+    v
+}

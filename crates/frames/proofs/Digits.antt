@@ -1,0 +1,66 @@
+-- Digits and characters: each of the sixteen digits has one character, and a byte is read back from its two.
+use Prim.Native.Nat.{ℕ, zero, suc, _+_, _*_, _-_, _/_, _%_, _≤_, _<_}
+use mathlib.Core.Path.{_≡_, _∙_, ap}
+use mathlib.Core.Logic.{⊎-elim, _⊎_, inl, inr}
+use native.Mathlib.Omega.{arith}
+use lib.ListN.{getD}
+use borrow.Author.Tests.{le-ltb, lt-ltb, le-leb, lt-leb}
+use Rattle.lists.proofs.Tests.{split}
+use Rattle.frames.specs.Digit.{digitOf, charOf}
+use Rattle.frames.specs.Frame.{byteText}
+
+pub digit-low : (c : ℕ) → 48 ≤ c → c ≤ 57 → digitOf c ≡ c - 48
+unfolding digitOf
+digit-low c h l = simp (le-leb 48 c h, le-leb c 57 l)
+
+pub digit-high : (c : ℕ) → 65 ≤ c → c ≤ 70 → digitOf c ≡ c - 55
+unfolding digitOf
+digit-high c h l = simp (lt-leb c 57 (omega arith), le-leb 48 c (omega arith), le-leb 65 c h, le-leb c 70 l)
+
+-- below 0, between 9 and A, above F
+pub digit-none : (c : ℕ) → (c < 48) ⊎ ((57 < c) × (c < 65)) ⊎ (70 < c) → digitOf c ≡ 255
+unfolding digitOf
+digit-none c (inl h) = simp (lt-leb 48 c h, lt-leb 65 c (omega arith))
+digit-none c (inr (inl h)) = simp (lt-leb c 57 (h .0), le-leb 48 c (omega arith), lt-leb 65 c (h .1))
+digit-none c (inr (inr h)) = simp (lt-leb c 57 (omega arith), le-leb 48 c (omega arith), le-leb 65 c (omega arith), lt-leb c 70 h)
+
+pub char-low : (d : ℕ) → d < 10 → charOf d ≡ 48 + d
+unfolding charOf
+char-low d h = simp (lt-ltb d 10 h)
+
+pub char-high : (d : ℕ) → 10 ≤ d → charOf d ≡ 55 + d
+unfolding charOf
+char-high d h = simp (le-ltb d 10 h)
+
+pub digit-char : (d : ℕ) → d < 16 → digitOf (charOf d) ≡ d
+digit-char d h =
+    ⊎-elim (λ (l : d < 10). ap digitOf (char-low d l) ∙ digit-low (48 + d) (omega arith) (omega arith) ∙ omega arith)
+    (λ (l : 10 ≤ d). ap digitOf (char-high d l) ∙ digit-high (55 + d) (omega arith) (omega arith) ∙ omega arith)
+    (split d 10)
+
+pub char-digit : (c : ℕ) → digitOf c < 16 → charOf (digitOf c) ≡ c
+char-digit c h =
+    ⊎-elim (λ (a : c < 48). none (inl a))
+    (λ (a : 48 ≤ c).
+    ⊎-elim (λ (b : c < 58). ap charOf (digit-low c a (omega arith)) ∙ char-low (c - 48) (omega arith) ∙ omega arith)
+    (λ (b : 58 ≤ c).
+    ⊎-elim (λ (e : c < 65). none (inr (inl (omega arith, e))))
+    (λ (e : 65 ≤ c).
+    ⊎-elim (λ (g : c < 71). ap charOf (digit-high c e (omega arith)) ∙ char-high (c - 55) (omega arith) ∙ omega arith)
+    (λ (g : 71 ≤ c). none (inr (inr (omega arith))))
+    (split c 71))
+    (split c 65))
+    (split c 58))
+    (split c 48)
+  where
+    none : (c < 48) ⊎ ((57 < c) × (c < 65)) ⊎ (70 < c) → charOf (digitOf c) ≡ c
+    none o = absurd (omega (arith, digit-none c o))
+
+-- the two characters of a byte
+pub pair-digit : (b t : ℕ) → b < 256 → t < 2 → digitOf (getD (byteText b) t 0) < 16
+pair-digit b zero h l = omega (arith, digit-char (b / 16) (omega arith))
+pair-digit b (suc zero) h l = omega (arith, digit-char (b % 16) (omega arith))
+pair-digit b (suc (suc t)) h l = absurd (omega arith)
+
+pub pair-byte : (b : ℕ) → b < 256 → 16 * digitOf (getD (byteText b) 0 0) + digitOf (getD (byteText b) 1 0) ≡ b
+pair-byte b h = omega (arith, digit-char (b / 16) (omega arith), digit-char (b % 16) (omega arith))

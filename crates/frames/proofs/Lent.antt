@@ -1,0 +1,43 @@
+-- What success of an entry point tells about the buffer lent to it, and what it is where there is room.
+use Prim.Native.Nat.{ℕ, _/_, _≤_}
+use mathlib.Core.Bool.{Bool, true, false}
+use mathlib.Core.Path.{_≡_, refl, sym, ap}
+use mathlib.Core.List.{List}
+use native.Mathlib.Omega.{arith}
+use lib.ListN.{length, take, drop}
+use lib.Seq.{take-at}
+use lib.Dec.{ltb}
+use borrow.Author.Tests.{le-ltb, ltb-false}
+use Rattle.lists.specs.Pick.{pick}
+use Rattle.lists.specs.Sequences.{over}
+use Rattle.frames.specs.Verdict.{Verdict, fine, refused}
+use Rattle.frames.specs.Answer.{success, refusal, Lent, lent}
+
+-- all of xs stands at the front, counted by units
+abbrev pub filledWith : ℕ → List ℕ → List ℕ → Lent
+filledWith unit xs old = record { reply = success (length xs / unit); buffer = over xs old }
+
+pub lent-fits : (unit : ℕ) (new : Unit {0} → List ℕ) (old : List ℕ) → length (new tt) ≤ length old → lent fine unit new old ≡ filledWith unit (new tt) old
+lent-fits unit new old h =
+    ap (λ (b : Bool). pick b (record { reply = refusal 16 0 0; buffer = old }) (filledWith unit (new tt) old)) (le-ltb (length old) (length (new tt)) h)
+
+pub record Success (v : Verdict) (unit : ℕ) (xs old : List ℕ) (n : ℕ) (r : Lent) : Type 0 where
+  pub accepted : v ≡ fine
+  pub fits : length xs ≤ length old
+  pub count : n ≡ length xs / unit
+  pub buffer : r .buffer ≡ over xs old
+
+pub lent-told : (v : Verdict) (unit : ℕ) (new : Unit {0} → List ℕ) (old : List ℕ) (n : ℕ) → lent v unit new old .reply ≡ success n
+    → Success v unit (new tt) old n (lent v unit new old)
+lent-told (refused k i) unit new old n e = absurd (let z : _≡_ {A = ℕ} 0 1 = cc in omega arith)
+lent-told fine unit new old n e = go (ltb (length old) (length (new tt))) refl e
+  where
+    made : Bool → Lent
+    made b = pick b (record { reply = refusal 16 0 0; buffer = old }) (filledWith unit (new tt) old)
+
+    go : (b : Bool) → ltb (length old) (length (new tt)) ≡ b → made b .reply ≡ success n → Success fine unit (new tt) old n (made b)
+    go true q z = absurd (let y : _≡_ {A = ℕ} 0 1 = cc in omega arith)
+    go false q z = record { accepted = refl; fits = ltb-false (length old) (length (new tt)) q; count = cc; buffer = refl }
+
+pub front : (n : ℕ) (xs old : List ℕ) → n ≡ length xs → take n (over xs old) ≡ xs
+front n xs old e = take-at xs (drop (length xs) old) n (sym e)

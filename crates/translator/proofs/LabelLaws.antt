@@ -1,0 +1,91 @@
+-- The labels of a chart's table: 0 and 1, one from 2 on for each numbered stop, and the entries.
+use mathlib.Core.Path.{_≡_, refl, _∙_, ap}
+use mathlib.Core.Bool.{Bool, true, false, _&&_, not}
+use Prim.Native.Nat.{ℕ, suc, _+_, _≤_, _<_}
+use native.Mathlib.Nat.{zero-add}
+use native.Mathlib.Omega.{arith}
+use lib.ListN.{length, getD, length-map}
+use lib.Dec.{eqb}
+use borrow.Author.Tests.{eq-eqb, ne-eqb}
+use Rattle.lists.specs.Pick.{pick}
+use Rattle.lists.specs.Numbers.{count}
+use Rattle.lists.proofs.Tests.{yes-pick}
+use Rattle.lists.proofs.Counts.{count-below, count-apart, count-miss2}
+use Rattle.lists.proofs.Ranges.{length-map-range, getD-map-range, length-filter, getD-filter}
+use Rattle.frames.specs.Frame.{size}
+use Rattle.charts.specs.Chart.{Chart, kind, scheme, is, schemes, begin, end}
+use Rattle.walk.specs.Stops.{stops}
+use Rattle.walk.proofs.Facts.{Facts}
+use Rattle.image.proofs.Sound.{noLabel, nthLabel}
+use Rattle.translator.specs.Labels.{numbered, numberedNodes, label, entry, homeLabel, returnLabel, labelOf}
+use Rattle.translator.specs.Rows.{rows}
+use Rattle.translator.specs.Table.{table}
+
+module _ (c : Chart) where
+  pub label-is : (v : ℕ) → numbered c v ≡ true → label c v ≡ suc (suc (count (numbered c) 0 v))
+  unfolding label
+  label-is v e = yes-pick (numbered c v) (2 + count (numbered c) 0 v) (pick (eqb (scheme c v) 1) 0 1) e ∙ omega arith
+
+  pub length-labels : length (table c .labels) ≡ suc (suc (count (numbered c) 0 (size c)))
+  unfolding table
+  length-labels = ap (λ (n : ℕ). suc (suc n)) (length-map (numberedNodes c) (labelOf c) ∙ length-filter (numbered c) 0 (size c))
+
+  pub label-low : (v : ℕ) → numbered c v ≡ true → 2 ≤ label c v
+  label-low v e = omega (arith, label-is v e)
+
+  pub label-inside : (v : ℕ) → v < size c → numbered c v ≡ true → label c v < length (table c .labels)
+  label-inside v l e = omega (arith, label-is v e, length-labels, count-below (numbered c) v (size c) l e)
+
+  pub label-holds : (v : ℕ) → v < size c → numbered c v ≡ true → nthLabel (table c) (label c v) ≡ labelOf c v
+  label-holds v l e = ap (nthLabel (table c)) (label-is v e) ∙ at
+    where
+      at : nthLabel (table c) (suc (suc (count (numbered c) 0 v))) ≡ labelOf c v
+      at = unfold table in
+          getD-filter (labelOf c) noLabel (numbered c) 0 (size c) v l (ap (numbered c) (zero-add v) ∙ e) ∙ ap (labelOf c) (zero-add v)
+
+  pub labels-apart : (u v : ℕ) → numbered c u ≡ true → numbered c v ≡ true → label c u ≡ label c v → u ≡ v
+  labels-apart u v a b e = count-apart (numbered c) u v a b (omega (arith, label-is u a, label-is v b, e))
+
+  pub label-home : nthLabel (table c) 0 ≡ homeLabel
+  unfolding table
+  label-home = refl
+
+  pub label-return : nthLabel (table c) 1 ≡ returnLabel
+  unfolding table
+  label-return = refl
+
+  pub labels-two : 2 ≤ length (table c .labels)
+  labels-two = omega (arith, length-labels)
+
+  -- the Begin and the End of scheme 1 have no label of their own, so a byte holds every label
+  and-none-r : (a b : Bool) → b ≡ false → (a && b) ≡ false
+  and-none-r true b e = e
+  and-none-r false b e = refl
+
+  first-unnumbered : (v : ℕ) → kind c v ≡ 0 → scheme c v ≡ 1 → numbered c v ≡ false
+  first-unnumbered v k s =
+      unfold stops in rw (stops, ne-eqb (kind c v) 3 (λ e. omega arith), eq-eqb (kind c v) 0 k, eq-eqb (scheme c v) 1 s)
+
+  end-unnumbered : (v : ℕ) → kind c v ≡ 1 → numbered c v ≡ false
+  end-unnumbered v k = and-none-r (stops c v) (not (is c 1 v)) (ap not (eq-eqb (kind c v) 1 k))
+
+  pub labels-few : Facts c → length (table c .labels) ≤ 256
+  labels-few F =
+      let b = F .begins 1 (omega arith) (F .first) in
+      let e = F .ends 1 (omega arith) (F .first) in
+      let m : count (numbered c) 0 (size c) + 2 ≤ size c = count-miss2 (numbered c) (size c) (begin c 1) (end c 1) (b .0) (e .0)
+      (λ q. omega (arith, ap (kind c) q, b .1, e .1)) (first-unnumbered (begin c 1) (b .1) (b .2)) (end-unnumbered (end c 1) (e .1)) in
+      omega (arith, length-labels, F .few)
+
+  -- entries
+  pub length-entries : length (table c .entries) ≡ schemes c
+  unfolding table
+  length-entries = length-map-range (entry c) 1 (schemes c)
+
+  pub entry-holds : (h : ℕ) → h < schemes c → getD (table c .entries) h 0 ≡ entry c (suc h)
+  unfolding table
+  entry-holds h l = getD-map-range (entry c) 0 1 (schemes c) h l ∙ ap (entry c) (omega arith)
+
+  pub rows-are : table c .rows ≡ rows c
+  unfolding table
+  rows-are = refl

@@ -1,0 +1,4 @@
+pub mod LabelLaws
+pub mod SoundRows
+pub mod SoundTable
+pub mod Translated

@@ -1,0 +1,43 @@
+-- What success of the translator tells: the chart was accepted, its rows are few, and the buffer holds the text of its table.
+use Prim.Native.Nat.{ℕ, _≤_}
+use mathlib.Core.Path.{_≡_, _∙_, ap}
+use mathlib.Core.List.{List}
+use native.Mathlib.Omega.{arith}
+use lib.Dec.{ltb}
+use lib.ListN.{length, take}
+use borrow.Author.Tests.{ltb-false}
+use Rattle.frames.specs.Frame.{contents}
+use Rattle.frames.specs.Verdict.{fine, when}
+use Rattle.frames.specs.Answer.{success}
+use Rattle.frames.proofs.Verdicts.{next-first, next-rest, when-fine}
+use Rattle.frames.proofs.Lent.{Success, lent-told, front}
+use Rattle.charts.specs.Entry.{readVerdict}
+use Rattle.image.specs.Image.{imageText}
+use Rattle.translator.specs.Rows.{rows}
+use Rattle.translator.specs.Table.{table}
+use Rattle.translator.specs.Entry.{translateVerdict, translate}
+
+module _ (t : List ℕ) (ok : translateVerdict t ≡ fine) where
+  pub translated-read : readVerdict t ≡ fine
+  unfolding translateVerdict
+  translated-read = next-first (readVerdict t) (λ _. when 10 (ltb 1024 (length (rows (contents t))))) ok
+
+  pub translated-few : length (rows (contents t)) ≤ 1024
+  unfolding translateVerdict
+  translated-few =
+      let n : ℕ = length (rows (contents t)) in
+      ltb-false 1024 n (when-fine 10 (ltb 1024 n) (next-rest (readVerdict t) (λ _. when 10 (ltb 1024 n)) ok))
+
+-- n characters were written
+module _ (t out : List ℕ) (n : ℕ) (done : translate t out .reply ≡ success n) where
+  translate-told : Success (translateVerdict t) 1 (imageText (table (contents t))) out n (translate t out)
+  unfolding translate
+  translate-told = lent-told (translateVerdict t) 1 (λ _. imageText (table (contents t))) out n done
+
+  pub translated-fine : translateVerdict t ≡ fine
+  translated-fine = translate-told .accepted
+
+  pub translated-image : take n (translate t out .buffer) ≡ imageText (table (contents t))
+  translated-image =
+      let s : Success (translateVerdict t) 1 (imageText (table (contents t))) out n (translate t out) = translate-told in
+      ap (take n) (s .buffer) ∙ front n (imageText (table (contents t))) out (s .count ∙ omega arith)

@@ -1,0 +1,175 @@
+-- The walk without recursion: positions of a node, its unfinished callers and the result bits, each word a move to the next one.
+use Prim.Native.Nat.{ℕ, suc, _+_, _≤_, _<_}
+use mathlib.Core.Bool.{Bool, true, false}
+use mathlib.Core.Path.{_≡_, refl, ap, sym, subst}
+use mathlib.Core.Logic.{_⊎_, inl, inr}
+use mathlib.Core.List.{List, [], _∷_, _++_}
+use lib.ListN.{length}
+use native.Mathlib.Omega.{arith}
+use Rattle.lists.specs.Pick.{pick}
+use Rattle.bits.specs.Results.{Results, noResults, resultOf, withResult}
+use Rattle.frames.specs.Frame.{size}
+use Rattle.charts.specs.Chart.{Chart, kind, scheme, argument, next0, next1, schemes, end}
+use Rattle.walk.specs.Stops.{stops, start, byArc, byWord, Stop, plain, call, function, test, home, back, stopAt}
+use Rattle.walk.specs.Walk.{Tick}
+use Rattle.walk.proofs.Facts.{Target, StopOf, Facts}
+use Rattle.walk.proofs.Views.{View, a-plain, a-call, a-function, a-home, a-back, a-begin, a-condition, view, stop-call, stop-function, begin-leads, end-stops}
+
+-- the callers of unfinished calls, the last one first
+pub record Position : Type 0 where
+  pub node : ℕ
+  pub callers : List ℕ
+  pub results : Results
+
+abbrev pub at : ℕ → List ℕ → Results → Position
+at v ks b = record { node = v; callers = ks; results = b }
+
+abbrev pub one : ℕ → ℕ → ℕ → Tick
+one m k o = record { mask = m; code = k; opened = o }
+
+-- the tick of a stop with o schemes open
+abbrev pub tickOf : ℕ → Stop → Tick
+tickOf o (plain m r u) = one m 0 o
+tickOf o (call m r h u) = one m (16 + h) o
+tickOf o (function h u₀ u₁) = one 0 (64 + h) o
+tickOf o (test u) = one 0 0 o
+tickOf o home = one 0 4 o
+tickOf o back = one 0 3 o
+
+-- where caller k goes on when its call has ended
+abbrev pub resumedBy : Chart → ℕ → ℕ → Results → Stop → ℕ
+resumedBy c k w b (plain m r u) = k
+resumedBy c k w b (call m r h u) = byArc c w u
+resumedBy c k w b (function h u₀ u₁) = byArc c w (pick (resultOf h b) u₁ u₀)
+resumedBy c k w b (test u) = k
+resumedBy c k w b home = k
+resumedBy c k w b back = k
+
+abbrev pub resumed : Chart → ℕ → ℕ → Results → ℕ
+resumed c k w b = resumedBy c k w b (stopAt c k)
+
+-- with no caller left there is nothing to go back to, and a walk never comes there
+abbrev pub returned : Chart → List ℕ → ℕ → Results → Position
+returned c [] w b = at 0 [] b
+returned c (k ∷ ks) w b = at (resumed c k w b) ks b
+
+abbrev pub movedBy : Chart → ℕ → List ℕ → ℕ → Results → Stop → Position
+movedBy c v ks w b (plain m r u) = at (byArc c w u) ks (withResult r (scheme c v) b)
+movedBy c v ks w b (call m r h u) = at (start c h) (v ∷ ks) (withResult r (scheme c v) b)
+movedBy c v ks w b (function h u₀ u₁) = at (start c h) (v ∷ ks) b
+movedBy c v ks w b (test u) = at (byWord c w u) ks b
+movedBy c v ks w b home = at (start c 1) ks b
+movedBy c v ks w b back = returned c ks w b
+
+-- the tick that is made at a position, and the position after it
+abbrev pub tickAt : Chart → Position → Tick
+tickAt c x = tickOf (suc (length (x .callers))) (stopAt c (x .node))
+
+abbrev pub move : Chart → ℕ → Position → Position
+move c w x = movedBy c (x .node) (x .callers) w (x .results) (stopAt c (x .node))
+
+unfoldable pub trace : Chart → List ℕ → Position → List Tick
+trace c [] x = []
+trace c (w ∷ ws) x = tickAt c x ∷ trace c ws (move c w x)
+
+-- ---- positions that a walk can come to
+-- node k waits for the end of scheme h, which it called
+pub record Caller (c : Chart) (h k : ℕ) : Type 0 where
+  pub inside : k < size c
+  pub calls : (kind c k ≡ 2) ⊎ (kind c k ≡ 4)
+  pub called : argument c k ≡ h
+  pub deep : 2 ≤ h
+  pub stopping : stops c k ≡ true
+
+-- each caller called the scheme above it, and the last one is of scheme 1
+abbrev pub Under : Chart → ℕ → List ℕ → Type 0
+Under c h [] = h ≡ 1
+Under c h (k ∷ ks) = Caller c h k × Under c (scheme c k) ks
+
+pub record Good (c : Chart) (x : Position) : Type 0 where
+  pub top : StopOf c (scheme c (x .node)) (x .node)
+  pub under : Under c (scheme c (x .node)) (x .callers)
+
+good : (c : Chart) (h u : ℕ) (ks : List ℕ) (b : Results) → StopOf c h u → Under c h ks → Good c (at u ks b)
+good c h u ks b s under = record {
+  top = record { inside = s .inside; same = refl; stopping = s .stopping };
+  under = subst (λ (g : ℕ). Under c g ks) (sym (s .same)) under;
+}
+
+-- a caller is itself a stop
+pub caller-stop : (c : Chart) (h k : ℕ) → Caller c h k → StopOf c (scheme c k) k
+caller-stop c h k caller = record { inside = caller .inside; same = refl; stopping = caller .stopping }
+
+module _ (c : Chart) (facts : Facts c) where
+  arc-to : (v w : ℕ) → v < size c → (kind c v ≡ 1 → ⊥) → StopOf c (scheme c v) (byArc c w (next0 c v))
+  arc-to v w l e = facts .follows (scheme c v) (next0 c v) w (facts .arc0 v l e)
+
+  function-to : (v w : ℕ) (t : Bool) → v < size c → kind c v ≡ 4 → StopOf c (scheme c v) (byArc c w (pick t (next1 c v) (next0 c v)))
+  function-to v w true l e = facts .follows (scheme c v) (next1 c v) w (facts .arc1 v l (omega arith))
+  function-to v w false l e = arc-to v w l (λ p. omega arith)
+
+  resumes-to : (h k w : ℕ) (b : Results) → Caller c h k → StopOf c (scheme c k) (resumed c k w b)
+  resumes-to h k w b caller = go (caller .calls)
+    where
+      go : (kind c k ≡ 2) ⊎ (kind c k ≡ 4) → StopOf c (scheme c k) (resumed c k w b)
+      go (inl e) = rw (stop-call c k e (λ p. omega (arith, caller .called, caller .deep))) (arc-to k w (caller .inside) (λ p. omega arith))
+      go (inr e) = rw (stop-function c k e) (function-to k w (resultOf (argument c k) b) (caller .inside) e)
+
+  -- a good position stays good: below a caller, in a called scheme, and after any move
+  pub resumed-good : (h k w : ℕ) (ks : List ℕ) (b : Results) → Under c h (k ∷ ks) → Good c (at (resumed c k w b) ks b)
+  resumed-good h k w ks b under = good c (scheme c k) (resumed c k w b) ks b (resumes-to h k w b (under .0)) (under .1)
+
+  pub calling : (v : ℕ) (ks : List ℕ) (b : Results) → Good c (at v ks b) → (kind c v ≡ 2) ⊎ (kind c v ≡ 4) → 2 ≤ argument c v
+      → Under c (argument c v) (v ∷ ks)
+  calling v ks b g e l = (record { inside = g .top .inside; calls = e; called = refl; deep = l; stopping = g .top .stopping }, g .under)
+
+  called-good : (v : ℕ) (ks : List ℕ) (b d : Results) → Good c (at v ks b) → (kind c v ≡ 2) ⊎ (kind c v ≡ 4)
+      → (2 ≤ argument c v) × (argument c v ≤ schemes c) → Good c (at (start c (argument c v)) (v ∷ ks) d)
+  called-good v ks b d g e l =
+      good c (argument c v) (start c (argument c v)) (v ∷ ks) d (facts .starts (argument c v) (omega arith) (l .1)) (calling v ks b g e (l .0))
+
+  returned-good : (v : ℕ) (ks : List ℕ) (b : Results) (w : ℕ) → Good c (at v ks b) → (scheme c v ≡ 1 → ⊥) → Good c (returned c ks w b)
+  returned-good v [] b w g s = absurd (s (g .under))
+  returned-good v (k ∷ ks) b w g s = resumed-good (scheme c v) k w ks b (g .under)
+
+  pub moved-good : (v : ℕ) (ks : List ℕ) (b : Results) (w : ℕ) → Good c (at v ks b) → {s : Stop} → View c v s → Good c (movedBy c v ks w b s)
+  moved-good v ks b w g (a-plain e a) = good c (scheme c v) _ ks _ (arc-to v w (g .top .inside) (λ p. omega arith)) (g .under)
+  moved-good v ks b w g (a-call e a) = called-good v ks b _ g (inl e) (facts .calls v (g .top .inside) e a)
+  moved-good v ks b w g (a-function e) = called-good v ks b _ g (inr e) (facts .functions v (g .top .inside) e)
+  moved-good v ks b w g (a-home e s) =
+      good c 1 (start c 1) ks b (facts .starts 1 (omega arith) (facts .first)) (subst (λ (h : ℕ). Under c h ks) s (g .under))
+  moved-good v ks b w g (a-back e s) = returned-good v ks b w g s
+  moved-good v ks b w g (a-begin e) =
+      let t : Target c (scheme c v) (next0 c v) = facts .arc0 v (g .top .inside) (λ p. omega arith) in
+      good c (scheme c (next0 c v)) _ ks b (facts .tests (next0 c v) w (t .inside) (begin-leads c v e (g .top .stopping)))
+      (subst (λ (h : ℕ). Under c h ks) (sym (t .same)) (g .under))
+  moved-good v ks b w g (a-condition e) = good c (scheme c v) _ ks b (facts .tests v w (g .top .inside) e) (g .under)
+
+  pub view-of : (x : Position) → Good c x → View c (x .node) (stopAt c (x .node))
+  view-of x g = view c (x .node) (facts .kinds (x .node) (g .top .inside))
+
+  pub moves : (w : ℕ) (x : Position) → Good c x → Good c (move c w x)
+  moves w x g = moved-good (x .node) (x .callers) (x .results) w g (view-of x g)
+
+-- where a walk begins
+abbrev pub atHome : Chart → Position
+atHome c = at (end c 1) [] noResults
+
+pub home-good : (c : Chart) → Facts c → Good c (atHome c)
+home-good c facts = let e = facts .ends 1 (omega arith) (facts .first) in
+    good c 1 (end c 1) [] noResults (record { inside = e .0; same = e .2; stopping = end-stops c (end c 1) (e .1) }) refl
+
+-- ---- the trace of joined words
+unfoldable pub reached : Chart → List ℕ → Position → Position
+reached c [] x = x
+reached c (w ∷ ws) x = reached c ws (move c w x)
+
+pub trace-length : (c : Chart) (ws : List ℕ) (x : Position) → length (trace c ws x) ≡ length ws
+unfolding trace
+trace-length c [] x = refl
+trace-length c (w ∷ ws) x = ap suc (trace-length c ws (move c w x))
+
+pub trace-append : (c : Chart) (ws us : List ℕ) (x : Position) → trace c (ws ++ us) x ≡ trace c ws x ++ trace c us (reached c ws x)
+unfolding trace reached
+trace-append c [] us x = refl
+trace-append c (w ∷ ws) us x = ap (λ (ts : List Tick). tickAt c x ∷ ts) (trace-append c ws us (move c w x))

@@ -1,0 +1,146 @@
+//! The entry points: which refusals each tries, in order, and what it writes.
+
+use crate::answer::{refuse_if, Answer, Refusal};
+use crate::chart::Chart;
+use crate::check::chart_of;
+use crate::frames::{frames_of, text_of, Frame, CHART_TEXT, IMAGE_TEXT};
+use crate::image::{self, Image};
+use crate::library::Ticked;
+use crate::machine;
+use crate::state::State;
+use crate::translator;
+
+/// Writes all of it, or refuses with 16 and writes nothing.
+fn put(bytes: &[u8], out: &mut [u8]) -> Result<(), Refusal> {
+    refuse_if(16, out.len() < bytes.len())?;
+    out[..bytes.len()].copy_from_slice(bytes);
+    Ok(())
+}
+
+fn answer(counted: Result<usize, Refusal>) -> Answer {
+    counted.map_or_else(Answer::from, Answer::Done)
+}
+
+/// The chart of a text, with its records: refusals 1 to 9.
+fn chart_and_records(text: &[u8]) -> Result<(Chart, Vec<Frame>), Refusal> {
+    let records = frames_of(text, CHART_TEXT)?;
+    Ok((chart_of(&records)?, records))
+}
+
+/// The chart of a text: refusals 1 to 9.
+pub fn chart_from_text(text: &[u8]) -> Result<Chart, Refusal> {
+    Ok(chart_and_records(text)?.0)
+}
+
+/// The image of an image text: refusals 1 to 3 and 11 to 13.
+pub fn image_from_text(text: &[u8]) -> Result<Image, Refusal> {
+    image::image_of(&frames_of(text, IMAGE_TEXT)?)
+}
+
+/// Refusals 1 to 9 and 16; counts records.
+pub fn read_chart(text: &[u8], out: &mut [u8]) -> Answer {
+    answer(chart_and_records(text).and_then(|(_, records)| {
+        put(&records.concat(), out)?;
+        Ok(records.len())
+    }))
+}
+
+/// The records of their bytes, or refusal 1.
+fn records_of(bytes: &[u8]) -> Result<Vec<Frame>, Refusal> {
+    let length = bytes.len();
+    refuse_if(1, length == 0 || !length.is_multiple_of(10) || length > 2_560)?;
+    let record = |r: &[u8]| Frame::try_from(r).expect("ten bytes");
+    Ok(bytes.chunks(10).map(record).collect())
+}
+
+/// Refusals 1, 4 to 9 and 16; counts characters.
+pub fn write_chart(bytes: &[u8], out: &mut [u8]) -> Answer {
+    answer(records_of(bytes).and_then(|records| {
+        chart_of(&records)?;
+        let text = text_of(&records);
+        put(&text, out)?;
+        Ok(text.len())
+    }))
+}
+
+/// The image text of a chart text: refusals 1 to 10.
+pub fn translated(text: &[u8]) -> Result<Vec<u8>, Refusal> {
+    let image = translator::image_of(&chart_from_text(text)?)?;
+    Ok(text_of(&image.frames()))
+}
+
+/// Refusals 1 to 10 and 16; counts characters.
+pub fn translate(text: &[u8], out: &mut [u8]) -> Answer {
+    answer(translated(text).and_then(|image| {
+        put(&image, out)?;
+        Ok(image.len())
+    }))
+}
+
+/// Refusals 1 to 3 and 11 to 13.
+pub fn check_image(text: &[u8]) -> Answer {
+    answer(image_from_text(text).map(|_| 0))
+}
+
+/// Refusal 14.
+pub fn fresh(size: usize) -> (Answer, State) {
+    match State::fresh(size) {
+        Some(state) => (Answer::Done(0), state),
+        None => (Refusal { number: 14, index: 0 }.into(), State::NONE),
+    }
+}
+
+/// The image, if it is accepted and the state fits: refusals 1 to 3, 11 to 13 and 15.
+fn image_for(text: &[u8], state: &State) -> Result<Image, Refusal> {
+    let image = image_from_text(text)?;
+    refuse_if(15, !machine::fits(&image, state))?;
+    Ok(image)
+}
+
+/// What the image check tries, then 15 to 18; counts ticks.
+pub fn run(
+    image: &[u8],
+    state: &State,
+    words: &[u16],
+    masks: &mut [u32],
+    codes: &mut [u8],
+) -> (Answer, State) {
+    let roomy = masks.len() >= words.len() && codes.len() >= words.len();
+    let ready = image_for(image, state).and_then(|image| {
+        refuse_if(16, !roomy)?;
+        Ok(image)
+    });
+    match ready {
+        Ok(image) => run_ticks(&image, *state, words, masks, codes),
+        Err(refusal) => (refusal.into(), *state),
+    }
+}
+
+fn run_ticks(
+    image: &Image,
+    start: State,
+    words: &[u16],
+    masks: &mut [u32],
+    codes: &mut [u8],
+) -> (Answer, State) {
+    let mut state = start;
+    for (count, word) in words.iter().enumerate() {
+        match machine::tick(image, &state, *word) {
+            Ok(advanced) => {
+                masks[count] = advanced.mask;
+                codes[count] = advanced.code;
+                state = advanced.state;
+            }
+            Err(number) => return (Answer::Refused { number, index: 0, count }, state),
+        }
+    }
+    (Answer::Done(words.len()), state)
+}
+
+/// One tick of a lent state: what a run of one word does. A refused tick emits nothing: mask and code 0.
+pub fn tick(image: &[u8], state: &mut State, word: u16) -> Ticked {
+    let (mut masks, mut codes) = ([0], [0]);
+    let (answer, after) = run(image, state, &[word], &mut masks, &mut codes);
+    *state = after;
+    Ticked { answer, mask: masks[0], code: codes[0] }
+}

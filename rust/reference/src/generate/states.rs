@@ -1,0 +1,60 @@
+//! States that fit an image, and states that hardly do.
+
+use super::images::owned;
+use super::Random;
+use crate::image::Image;
+use crate::state::State;
+
+/// A state for this image, fitting or not.
+pub fn state(random: &mut Random, image: &Image) -> State {
+    let mut state = fitting(random, image);
+    if random.once_in(3) {
+        for _ in 0..random.within(1, 2) {
+            spoil(random, image, &mut state);
+        }
+    }
+    state
+}
+
+/// A stack that a fitting state may hold, each label above a call belonging to the scheme called.
+pub fn fitting(random: &mut Random, image: &Image) -> State {
+    let mut state = State { size: random.within(1, 32) as u8, depth: 1, ..State::NONE };
+    state.bits = std::array::from_fn(|_| random.once_in(2));
+    let mut scheme = 1;
+    loop {
+        let label = wanted(random, image, scheme);
+        state.places[usize::from(state.depth) - 1] = label;
+        let label = image.labels[usize::from(label)];
+        if !label.calls() || state.depth == state.size || random.once_in(8) {
+            return state;
+        }
+        scheme = label.called;
+        state.depth += 1;
+    }
+}
+
+/// A label of the scheme, a call rather than another.
+fn wanted(random: &mut Random, image: &Image, scheme: u8) -> u8 {
+    for _ in 0..random.below(4) {
+        let label = owned(random, &image.labels, scheme);
+        if image.labels[usize::from(label)].calls() {
+            return label;
+        }
+    }
+    owned(random, &image.labels, scheme)
+}
+
+fn spoil(random: &mut Random, image: &Image, state: &mut State) {
+    let last = (image.labels.len() - 1) as u8;
+    let depth = state.depth;
+    let at = random.below(usize::from(depth).clamp(1, 32));
+    match random.below(8) {
+        0 => state.size = random.pick(&[0, 1, 32, 33, 255, depth.wrapping_sub(1)]),
+        1 => state.depth = random.pick(&[0, 1, 32, 33, 255, state.size.wrapping_add(1)]),
+        2 => state.depth = random.pick(&[depth.wrapping_add(1), depth.wrapping_sub(1)]),
+        3 => state.places[random.below(32)] = random.byte(),
+        4 => state.places[at] = last.wrapping_add(1),
+        5 => state.places[at] = random.pick(&[0, 1]),
+        _ => state.places[at] = random.below(usize::from(last) + 1) as u8,
+    }
+}

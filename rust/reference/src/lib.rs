@@ -1,0 +1,24 @@
+//! A plain implementation of paper 01, for tests only. It was written from the paper, not from the
+//! proved library, so that the two can be compared. It prefers the obvious way over the fast one.
+
+pub mod answer;
+pub mod chart;
+pub mod check;
+pub mod compare;
+pub mod entry;
+pub mod expectation;
+pub mod fast;
+pub mod frames;
+pub mod generate;
+pub mod image;
+pub mod library;
+pub mod machine;
+pub mod programs;
+pub mod show;
+pub mod state;
+pub mod translator;
+pub mod walk;
+
+pub use answer::Answer;
+pub use library::{Library, Reference, Ticked};
+pub use state::State;

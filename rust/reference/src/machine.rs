@@ -1,0 +1,91 @@
+//! The stack machine over a decoded image: fitness (15), one tick, and the refusals 17 and 18 of a tick.
+
+use crate::image::{Image, Label, FUNCTION_CALL, HOME, OPERATION_CALL, RETURN};
+use crate::state::State;
+
+/// What one finished tick emits and the state after it.
+pub struct Advanced {
+    pub mask: u32,
+    pub code: u8,
+    pub state: State,
+}
+
+/// Whether a state fits an image (15).
+pub fn fits(image: &Image, state: &State) -> bool {
+    let size = usize::from(state.size);
+    let depth = usize::from(state.depth);
+    if !(1..=32).contains(&size) || !(1..=size).contains(&depth) {
+        return false;
+    }
+    let (filled, above) = state.places.split_at(depth);
+    filled.iter().all(|l| usize::from(*l) < image.labels.len())
+        && above.iter().all(|l| *l == 0)
+        && label(image, filled[0]).owner == 1
+        && filled.windows(2).all(|pair| stands_above(image, pair[0], pair[1]))
+}
+
+/// Whether the kept label is a call and the one above it belongs to the scheme called.
+fn stands_above(image: &Image, kept: u8, above: u8) -> bool {
+    let kept = label(image, kept);
+    kept.calls() && (above == 1 || label(image, above).owner == kept.called)
+}
+
+fn label(image: &Image, number: u8) -> &Label {
+    &image.labels[usize::from(number)]
+}
+
+fn entry(image: &Image, scheme: u8) -> u8 {
+    image.entries[usize::from(scheme) - 1]
+}
+
+/// The label that the first matching row of a label leads to.
+fn next_label(image: &Image, bits: &[bool; 16], from: u8, word: u16) -> Option<u8> {
+    let called = label(image, from).called;
+    let bit_agrees = |bit: u8| bit == 2 || bits[usize::from(called) - 1] == (bit == 1);
+    let mut rows = image.rows.iter().filter(|row| row.from == from);
+    let matching = rows.find(|row| word & row.care == row.values && bit_agrees(row.function_bit));
+    matching.map(|row| row.next)
+}
+
+/// One tick of a fitting state, or 17 or 18.
+pub fn tick(image: &Image, state: &State, word: u16) -> Result<Advanced, u8> {
+    let top = usize::from(state.depth) - 1;
+    let at = state.places[top];
+    let here = *label(image, at);
+    let mut after = *state;
+    write_result(&mut after, &here);
+    let code = match here.kind {
+        HOME => {
+            after.places[top] = entry(image, 1);
+            0x04
+        }
+        RETURN => {
+            let beneath = state.places[top - 1];
+            let next = next_label(image, &state.bits, beneath, word).ok_or(18)?;
+            after.places[top] = 0;
+            after.places[top - 1] = next;
+            after.depth -= 1;
+            0x03
+        }
+        OPERATION_CALL | FUNCTION_CALL => {
+            if state.depth == state.size {
+                return Err(17);
+            }
+            after.places[top + 1] = entry(image, here.called);
+            after.depth += 1;
+            let base = if here.kind == OPERATION_CALL { 0x10 } else { 0x40 };
+            base + here.called
+        }
+        _ => {
+            after.places[top] = next_label(image, &state.bits, at, word).ok_or(18)?;
+            0x00
+        }
+    };
+    Ok(Advanced { mask: here.mask, code, state: after })
+}
+
+fn write_result(state: &mut State, here: &Label) {
+    if here.result != 0 {
+        state.bits[usize::from(here.owner) - 1] = here.result == 2;
+    }
+}

@@ -1,0 +1,168 @@
+//! The bench sheet, B1 to B10, run on the reference.
+
+use reference::frames::{text_of, Frame};
+use reference::{entry, programs, walk, Answer, State};
+
+const CHART_P: &str = "\
+00010001000000000000FE
+02010202000000000001F8
+01010000000000000000FE
+00020004000000000000FA
+03020005060000000000F0
+01020000000000000000FD
+02020205000000000002F3
+";
+
+const IMAGE_P: &str = "\
+0F020400040000000000E7
+10010200000000000000ED
+10020300000000000000EB
+11000400010000000000EA
+11010300000000000000EB
+11020102010000000001E8
+11030000020000000000EA
+11040102020000000002E4
+12020000000002000000EA
+12030001000002010000E7
+12030001000102040000E3
+12040000000002010000E7
+";
+
+const W: [u16; 8] = [0, 0, 1, 0, 0, 0, 0, 0];
+
+fn refused(number: u8, index: usize, count: usize) -> Answer {
+    Answer::Refused { number, index, count }
+}
+
+/// Answer, masks and codes of a run from a fresh state.
+fn run(image: &[u8], size: usize, words: &[u16]) -> (Answer, Vec<u32>, Vec<u8>) {
+    let state = State::fresh(size).unwrap();
+    let (mut masks, mut codes) = (vec![99; words.len()], vec![99; words.len()]);
+    let (answer, _) = entry::run(image, &state, words, &mut masks, &mut codes);
+    (answer, masks, codes)
+}
+
+fn chart(records: &[Frame]) -> Vec<u8> {
+    text_of(records)
+}
+
+fn translate(text: &[u8]) -> Answer {
+    entry::translate(text, &mut [0; 29_831])
+}
+
+const BEGIN: Frame = [0, 1, 0, 1, 0, 0, 0, 0, 0, 0];
+const END: Frame = [1, 1, 0, 0, 0, 0, 0, 0, 0, 0];
+
+#[test]
+fn b1_p_gives_its_image() {
+    assert_eq!(programs::translate(CHART_P.as_bytes()), IMAGE_P.as_bytes());
+}
+
+#[test]
+fn b2_three_places() {
+    let (answer, masks, codes) = run(IMAGE_P.as_bytes(), 3, &W);
+    assert_eq!(answer, Answer::Done(8));
+    assert_eq!(codes, [0x04, 0x12, 0x00, 0x12, 0x00, 0x03, 0x03, 0x04]);
+    assert_eq!(masks, [0, 1, 0, 2, 0, 0, 0, 0]);
+}
+
+#[test]
+fn b2_by_the_walk() {
+    let chart = entry::chart_from_text(CHART_P.as_bytes()).unwrap();
+    let ticks = walk::walk(&chart, &W);
+    let codes: Vec<u8> = ticks.iter().map(|t| t.code).collect();
+    let masks: Vec<u32> = ticks.iter().map(|t| t.mask).collect();
+    let open: Vec<usize> = ticks.iter().map(|t| t.open).collect();
+    assert_eq!(codes, [0x04, 0x12, 0x00, 0x12, 0x00, 0x03, 0x03, 0x04]);
+    assert_eq!(masks, [0, 1, 0, 2, 0, 0, 0, 0]);
+    assert_eq!(open, [1, 1, 2, 2, 3, 3, 2, 1]);
+}
+
+#[test]
+fn b3_two_places() {
+    let (answer, masks, codes) = run(IMAGE_P.as_bytes(), 2, &W);
+    assert_eq!(answer, refused(17, 0, 3));
+    assert_eq!(codes, [0x04, 0x12, 0x00, 99, 99, 99, 99, 99]);
+    assert_eq!(masks, [0, 1, 0, 99, 99, 99, 99, 99]);
+}
+
+#[test]
+fn b4_one_place() {
+    assert_eq!(run(IMAGE_P.as_bytes(), 1, &W).0, refused(17, 0, 1));
+}
+
+#[test]
+fn b5_no_words() {
+    for size in 1..=32 {
+        assert_eq!(run(IMAGE_P.as_bytes(), size, &[]).0, Answer::Done(0));
+    }
+}
+
+#[test]
+fn b6_begin_to_end() {
+    let image = entry::translated(&chart(&[BEGIN, END])).unwrap();
+    let (answer, masks, codes) = run(&image, 1, &[0xFFFF; 20]);
+    assert_eq!(answer, Answer::Done(20));
+    assert_eq!(codes, [0x04; 20]);
+    assert_eq!(masks, [0; 20]);
+}
+
+#[test]
+fn b7_empty_and_lower_case() {
+    assert_eq!(translate(b""), refused(1, 0, 0));
+    assert_eq!(translate(CHART_P.to_lowercase().as_bytes()), refused(2, 0, 0));
+}
+
+#[test]
+fn b8_a_circle_before_what_is_cut_off() {
+    let condition = [3, 1, 0, 1, 1, 0, 0, 0, 0, 0];
+    assert_eq!(translate(&chart(&[BEGIN, condition, END])), refused(8, 1, 0));
+}
+
+/// Begin, so many plain operations, ten different conditions with both arcs to the next, End.
+fn ladder(operations: u8) -> Vec<u8> {
+    let mut records = vec![BEGIN];
+    for _ in 0..operations {
+        records.push([2, 1, 0, records.len() as u8 + 1, 0, 0, 0, 0, 0, 0]);
+    }
+    for number in 0..10 {
+        let next = records.len() as u8 + 1;
+        records.push([3, 1, number, next, next, 0, 0, 0, 0, 0]);
+    }
+    records.push(END);
+    chart(&records)
+}
+
+#[test]
+fn b9_the_most_rows() {
+    let image = entry::image_from_text(&entry::translated(&ladder(1)).unwrap()).unwrap();
+    assert_eq!(image.rows.len(), 1_024);
+    assert_eq!(translate(&ladder(2)), refused(10, 0, 0));
+}
+
+#[test]
+fn b10_a_function() {
+    let text = chart(&[
+        BEGIN,
+        [4, 1, 2, 3, 2, 0, 0, 0, 0, 0],
+        [2, 1, 0, 3, 0, 0, 0, 0, 0, 1],
+        END,
+        [0, 2, 0, 5, 0, 0, 0, 0, 0, 0],
+        [2, 2, 0, 6, 0, 2, 0, 0, 0, 0],
+        [1, 2, 0, 0, 0, 0, 0, 0, 0, 0],
+    ]);
+    let image = entry::translated(&text).unwrap();
+    for words in [[0; 6], [0xFFFF; 6]] {
+        let (answer, masks, codes) = run(&image, 2, &words);
+        assert_eq!(answer, Answer::Done(6));
+        assert_eq!(codes, [0x04, 0x42, 0x00, 0x03, 0x00, 0x04]);
+        assert_eq!(masks, [0, 0, 0, 0, 1, 0]);
+    }
+}
+
+#[test]
+fn programs_print_refusals() {
+    assert_eq!(programs::translate(b""), b"FF01000000000000000000\n");
+    let printed = String::from_utf8(programs::run(IMAGE_P.as_bytes())).unwrap();
+    assert!(printed.starts_with("04\n12\n00\n03\n04\n12\n00\n03\n04\n"), "{printed}");
+}

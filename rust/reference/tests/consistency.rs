@@ -1,0 +1,125 @@
+//! The reference against itself on random inputs: round trips, and the machine against the walk.
+
+use reference::check::chart_of;
+use reference::expectation::{expected, Outcome};
+use reference::frames::{frames_of, text_of, CHART_TEXT, IMAGE_TEXT};
+use reference::generate::{charts, images, ladders, runs, states, Random};
+use reference::{entry, image, machine, translator, Answer, State};
+
+const CASES: u64 = 3_000;
+
+#[test]
+fn generated_charts_are_valid() {
+    for seed in 0..CASES {
+        let records = charts::chart(&mut Random::new(seed));
+        assert!(records.len() <= 256);
+        assert!(chart_of(&records).is_ok(), "seed {seed}");
+    }
+}
+
+#[test]
+fn records_and_text_turn_into_each_other() {
+    for seed in 0..CASES {
+        let records = charts::chart(&mut Random::new(seed));
+        let text = text_of(&records);
+        assert_eq!(frames_of(&text, CHART_TEXT).unwrap(), records);
+        let mut read = vec![0; 10 * records.len()];
+        assert_eq!(entry::read_chart(&text, &mut read), Answer::Done(records.len()));
+        assert_eq!(read, records.concat());
+        let mut written = vec![0; text.len()];
+        assert_eq!(entry::write_chart(&read, &mut written), Answer::Done(text.len()));
+        assert_eq!(written, text);
+    }
+}
+
+#[test]
+fn ladders_have_the_rows_asked_for() {
+    for rows in (1..=1_024).step_by(31).chain([1_023, 1_024]) {
+        let records = ladders::with_rows(&mut Random::new(rows as u64), rows);
+        assert_eq!(translator::row_count(&chart_of(&records).unwrap()), rows);
+    }
+    let records = ladders::with_rows(&mut Random::new(1), 1_025);
+    let refusal = translator::image_of(&chart_of(&records).unwrap()).unwrap_err();
+    assert_eq!((refusal.number, refusal.index), (10, 0));
+}
+
+#[test]
+fn translated_images_are_accepted_and_decode() {
+    for seed in 0..CASES {
+        let (_, image) = images::translated(&mut Random::new(seed));
+        let text = text_of(&image.frames());
+        assert!(text.len() <= IMAGE_TEXT);
+        assert_eq!(entry::image_from_text(&text).unwrap(), image, "seed {seed}");
+    }
+}
+
+#[test]
+fn invented_states_fit() {
+    for seed in 0..CASES {
+        let mut random = Random::new(seed);
+        let image = images::accepted(&mut random);
+        let state = states::fitting(&mut random, &image);
+        assert!(machine::fits(&image, &state), "seed {seed}");
+    }
+}
+
+#[test]
+fn a_tick_keeps_a_fitting_state_fitting() {
+    for seed in 0..CASES {
+        let mut random = Random::new(seed);
+        let image = images::accepted(&mut random);
+        if image::image_of(&image.frames()).is_err() {
+            continue;
+        }
+        let mut state = states::fitting(&mut random, &image);
+        for word in runs::words(&mut random, 100) {
+            let Ok(advanced) = machine::tick(&image, &state, word) else {
+                break;
+            };
+            state = advanced.state;
+            assert!(machine::fits(&image, &state), "seed {seed}");
+        }
+    }
+}
+
+#[test]
+fn exactly_one_row_of_a_translated_image_matches() {
+    for seed in 0..CASES {
+        let mut random = Random::new(seed);
+        let (_, image) = images::translated(&mut random);
+        for label in 2..image.labels.len() {
+            let bits: &[u8] = if image.labels[label].kind == 2 { &[0, 1] } else { &[2] };
+            let word = random.number() as u16;
+            for bit in bits {
+                let matching = image.rows.iter().filter(|row| {
+                    usize::from(row.from) == label
+                        && word & row.care == row.values
+                        && row.function_bit == *bit
+                });
+                assert_eq!(matching.count(), 1, "seed {seed}");
+            }
+        }
+    }
+}
+
+#[test]
+fn lists_of_runs_tick_as_the_walk_does() {
+    let mut full = 0;
+    for seed in 0..CASES {
+        let mut random = Random::new(seed);
+        let (records, image) = images::translated(&mut random);
+        let text = text_of(&image.frames());
+        let size = random.pick(&[1, 2, 3, 5, 32]);
+        let list = runs::list(&mut random);
+        let wanted = expected(&chart_of(&records).unwrap(), size, &list);
+        let mut state = State::fresh(size).unwrap();
+        for (run, wanted) in list.iter().zip(&wanted) {
+            let (mut masks, mut codes) = (run.masks.clone(), run.codes.clone());
+            let (answer, after) = entry::run(&text, &state, &run.words, &mut masks, &mut codes);
+            state = after;
+            assert_eq!(&Outcome { answer, masks, codes }, wanted, "seed {seed}");
+            full += usize::from(answer.number() == 17);
+        }
+    }
+    assert!(full > 100, "too few runs met a full stack: {full}");
+}
