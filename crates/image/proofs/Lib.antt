@@ -5,3 +5,4 @@ pub mod Passes
 pub mod PlaceCases
 pub mod FieldCases
 pub mod TableCases
+pub mod ReadCases
