@@ -4,6 +4,7 @@ pub mod Places
 pub mod Simulation
 pub mod Bounds
 pub mod Ticks
+pub mod Expected
 pub mod BenchSheet
 pub mod Instances
 pub mod Variants

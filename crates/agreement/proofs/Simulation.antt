@@ -1,14 +1,15 @@
 -- One tick of the machine on the table of a chart is one tick of the walk, but for a call at a full stack, which stops it with 17.
 use Prim.Native.Nat.{ℕ, suc, _+_, _-_, _≤_, _<_}
-use mathlib.Core.Bool.{Bool, true, false, _&&_}
+use mathlib.Core.Bool.{Bool, true, false}
 use mathlib.Core.Path.{_≡_, refl, ap, _∙_, sym}
 use mathlib.Core.Logic.{_⊎_, inl, inr}
 use mathlib.Core.List.{List, [], _∷_}
-use lib.Dec.{leb}
+use lib.Dec.{leb, eqb}
 use lib.ListN.{length, set}
 use native.Mathlib.Omega.{arith}
 use borrow.Author.Tests.{eq-eqb, ne-eqb, le-leb, leb-true, leb-false}
 use Rattle.lists.specs.Pick.{pick}
+use Rattle.lists.proofs.Tests.{and-no}
 use Rattle.bits.specs.Results.{Results, resultOf, withResult}
 use Rattle.charts.specs.Chart.{Chart, kind, scheme, argument, next0, mask}
 use Rattle.walk.specs.Stops.{start, byArc, byWord, Stop}
@@ -57,10 +58,6 @@ module _ (c : Chart) (n : ℕ) (n≤ : n ≤ 32) where
       → pushed (table c) (state v ks b) m code h d (leb n (suc (length ks))) ≡ answer n (one m code (suc (length ks))) (state u (v ∷ ks) d)
   to-push m code h v u ks b d l low e = go (leb n (suc (length ks))) refl
     where
-      no : (t : Bool) → (t && false) ≡ false
-      no true = refl
-      no false = refl
-
       go : (t : Bool) → leb n (suc (length ks)) ≡ t
           → pushed (table c) (state v ks b) m code h d t ≡ answer n (one m code (suc (length ks))) (state u (v ∷ ks) d)
       go true t = rw (le-leb 16 code l, eq-eqb (suc (length ks)) n (omega (arith, leb-true n (suc (length ks)) t)))
@@ -69,7 +66,7 @@ module _ (c : Chart) (n : ℕ) (n≤ : n ≤ 32) where
           (ap (λ (j : ℕ). set (below c ks (label c v ∷ zerosOver ks)) (suc (length ks)) j) e
           ∙ set-push c v ks (label c u) (omega (arith, leb-false n (suc (length ks)) t)))
           ∙ sym (ap (λ (r : Bool). pick r (stopped 17) (ticked m code (state u (v ∷ ks) d)))
-          (ap (λ (r : Bool). leb 16 code && r) (ne-eqb (suc (length ks)) n (λ q. omega (arith, leb-false n (suc (length ks)) t))) ∙ no (leb 16 code)))
+          (and-no (leb 16 code) (eqb (suc (length ks)) n) (ne-eqb (suc (length ks)) n (λ q. omega (arith, leb-false n (suc (length ks)) t)))))
 
   to-under : (m code v u k : ℕ) (ks : List ℕ) (b d : Results) (f : Found) → length ks < 31 → f ≡ found (label c u)
       → let s = state v (k ∷ ks) b in

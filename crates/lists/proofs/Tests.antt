@@ -1,10 +1,12 @@
 -- Laws of tests and of a choice by a test.
-use mathlib.Core.Path.{_≡_, refl, sym}
+use mathlib.Core.Path.{_≡_, refl, sym, _∙_}
 use mathlib.Core.Logic.{_⊎_, inl, inr}
 use mathlib.Core.Bool.{Bool, true, false, _&&_, _||_, not}
 use Prim.Native.Nat.{ℕ, _≤_, _<_}
 use native.Mathlib.Decide.{decLt}
 use native.Mathlib.Omega.{arith}
+use lib.Dec.{ltb}
+use borrow.Author.Tests.{lt-ltb, le-ltb}
 use Rattle.lists.specs.Pick.{pick}
 
 pub no-both {ℓ} : {A : Type ℓ} (b : Bool) → b ≡ true → b ≡ false → A
@@ -73,3 +75,19 @@ split a b = go (decLt a b)
     go : Dec (a < b) → (a < b) ⊎ (b ≤ a)
     go (yes h) = inl h
     go (no h) = inr (omega arith)
+
+pub and-no : (a b : Bool) → b ≡ false → (a && b) ≡ false
+and-no true b e = e
+and-no false b e = refl
+
+-- two comparisons that hold together
+pub same-ltb : (a b c d : ℕ) → (a < b → c < d) → (c < d → a < b) → ltb a b ≡ ltb c d
+same-ltb a b c d f g = go (split a b)
+  where
+    go : (a < b) ⊎ (b ≤ a) → ltb a b ≡ ltb c d
+    go (inl h) = lt-ltb a b h ∙ sym (lt-ltb c d (f h))
+    go (inr h) = le-ltb a b h ∙ sym (le-ltb c d (below (split c d)))
+      where
+        below : (c < d) ⊎ (d ≤ c) → d ≤ c
+        below (inl p) = absurd (let q : a < b = g p in omega arith)
+        below (inr p) = p

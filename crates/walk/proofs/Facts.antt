@@ -5,13 +5,8 @@ use mathlib.Core.Path.{_≡_}
 use lib.ListN.{length, getD}
 use Rattle.frames.specs.Frame.{size}
 use Rattle.charts.specs.Chart.{Chart, kind, scheme, argument, next0, next1, result, schemes, begin, end}
+pub use Rattle.charts.proofs.Nodes.{Target}
 use Rattle.walk.specs.Stops.{stops, start, byArc, byWord}
-
--- node u may be an arc's end in scheme h
-pub record Target (c : Chart) (h u : ℕ) : Type 0 where
-  pub inside : u < size c
-  pub same : scheme c u ≡ h
-  pub entered : kind c u ≡ 0 → ⊥
 
 -- node u is a stop of scheme h
 pub record StopOf (c : Chart) (h u : ℕ) : Type 0 where

@@ -2,3 +2,5 @@ pub mod Facts
 pub mod Views
 pub mod Trace
 pub mod Recursion
+pub mod Follow
+pub mod FactsHold
