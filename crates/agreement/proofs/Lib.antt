@@ -5,10 +5,4 @@ pub mod Simulation
 pub mod Bounds
 pub mod Ticks
 pub mod Expected
-pub mod BenchSheet
-pub mod Instances
-pub mod Variants
-pub mod Idlers
-pub mod Slips
 pub mod Images
-pub mod Cases

@@ -1,3 +1,1 @@
 pub mod Agreement
-pub mod Bench
-pub mod Cases

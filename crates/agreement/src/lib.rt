@@ -1,1 +1,1 @@
-// Demand 3 as one statement, and the bench sheet; definitions and theorems, no function.
+// Demand 3 as one statement, and its proof; definitions and theorems, no function.

@@ -164,3 +164,6 @@ module _ (care values i : ℕ) (free : bit care i ≡ 0) (m : Mask care values) 
   -- the side that the word does not take
   pub clash-here-0 : (w : ℕ) → bit w i ≡ 1 → Clash w (care + 2 ^ i) values
   clash-here-0 w o = record { place = i; cares = bit-add-same care i free; differs = λ e. omega (arith, m .within i free) }
+
+  pub clash-here-1 : (w : ℕ) → bit w i ≡ 0 → Clash w (care + 2 ^ i) (values + 2 ^ i)
+  clash-here-1 w z = record { place = i; cares = bit-add-same care i free; differs = λ e. omega (arith, bit-add-same values i (m .within i free)) }

@@ -5,3 +5,4 @@ pub mod Ranges
 pub mod Joins
 pub mod Written
 pub mod Fills
+pub mod Filters

@@ -2,3 +2,4 @@ pub mod LabelLaws
 pub mod SoundRows
 pub mod SoundTable
 pub mod Translated
+pub mod Matching

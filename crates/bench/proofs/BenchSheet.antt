@@ -30,7 +30,7 @@ use Rattle.translator.specs.Entry.{translateVerdict, translate}
 use Rattle.machine.specs.State.{fresh, freshState, unfit}
 use Rattle.machine.specs.Tick.{firstRow, tick}
 use Rattle.machine.specs.Run.{ticks, noRoom, runVerdict, runOn, run}
-use Rattle.agreement.specs.Bench.{BenchSheet, chartP, imageP, words, chartHome, chartSmall, chartCircle, chartFunction, characters, freshRun, imageOf}
+use Rattle.bench.specs.Bench.{BenchSheet, chartP, imageP, words, chartHome, chartSmall, chartCircle, chartFunction, characters, freshRun, imageOf}
 
 -- ---- computed
 texts : (out : List ℕ) → (translate chartP out ≡ lent fine 1 (λ _. imageP) out)

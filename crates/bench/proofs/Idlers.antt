@@ -28,10 +28,10 @@ use Rattle.machine.specs.declared.State.{State}
 use Rattle.machine.specs.State.{freshState, unfit}
 use Rattle.machine.specs.Tick.{Ticked, ticked, firstRow, tick}
 use Rattle.machine.specs.Run.{ticks, runVerdict, run}
 use Rattle.agreement.specs.Agreement.{Runner, Translator, Told, Agreement, Translates}
-use Rattle.agreement.specs.Bench.{characters, imageP, words, chartHome}
-use Rattle.agreement.proofs.Instances.{imageHome, at-home, at-deep}
-use Rattle.agreement.proofs.Variants.{Step, ticksBy, runBy, codeAt}
+use Rattle.bench.specs.Bench.{characters, imageP, words, chartHome}
+use Rattle.bench.proofs.Instances.{imageHome, at-home, at-deep}
+use Rattle.bench.proofs.Variants.{Step, ticksBy, runBy, codeAt}
 
 -- ---- translators
 -- every chart is turned back

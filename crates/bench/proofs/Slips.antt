@@ -31,10 +31,10 @@ use Rattle.machine.specs.declared.State.{State}
 use Rattle.machine.specs.State.{labelAt, placeAt, freshState, unfit}
 use Rattle.machine.specs.Tick.{Ticked, ticked, stopped, Found, moved, rowOf, firstRow, tick}
 use Rattle.machine.specs.Run.{runVerdict}
 use Rattle.agreement.specs.Agreement.{Translator, Agreement, Translates}
-use Rattle.agreement.specs.Bench.{characters, lines, imageP, words}
-use Rattle.agreement.proofs.Instances.{imageHome, imageFunction, imageChoice, at-home, at-deep, at-shallow, at-function, at-choice}
-use Rattle.agreement.proofs.Variants.{Step, ticksBy, runBy, codeAt}
+use Rattle.bench.specs.Bench.{characters, lines, imageP, words}
+use Rattle.bench.proofs.Instances.{imageHome, imageFunction, imageChoice, at-home, at-deep, at-shallow, at-function, at-choice}
+use Rattle.bench.proofs.Variants.{Step, ticksBy, runBy, codeAt}
 
 -- the label at the top, its tick kind, the scheme it calls
 abbrev top : State → ℕ

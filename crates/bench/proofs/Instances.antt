@@ -22,8 +22,8 @@ use Rattle.translator.specs.Rows.{paths, rowsOf, rows}
 use Rattle.translator.specs.Table.{table}
 use Rattle.translator.specs.Entry.{translateVerdict, translate}
 use Rattle.machine.specs.State.{fresh, freshState}
 use Rattle.agreement.specs.Agreement.{Runner, Asked, Told, told, chain, bound, expectedAll, Agreement}
-use Rattle.agreement.specs.Bench.{characters, lines, chartP, imageP, words, chartHome, chartFunction}
+use Rattle.bench.specs.Bench.{characters, lines, chartP, imageP, words, chartHome, chartFunction}
 
 -- one run with just room for its words
 abbrev pub alone : List ℕ → Asked

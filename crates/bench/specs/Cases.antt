@@ -17,7 +17,7 @@ use Rattle.image.specs.Check.{imageVerdict}
 use Rattle.machine.specs.declared.State.{State}
 use Rattle.machine.specs.State.{freshState, fresh, noState}
 use Rattle.machine.specs.Run.{Run, run}
-use Rattle.agreement.specs.Bench.{chartP, imageP, words, freshRun}
+use Rattle.bench.specs.Bench.{chartP, imageP, words, freshRun}
 
 -- ---- node records by kind, with the fields that the kind uses
 abbrev pub begins : ℕ → ℕ → List ℕ

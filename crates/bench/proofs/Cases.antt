@@ -20,8 +20,8 @@ use Rattle.translator.specs.Entry.{translateVerdict, translate}
 use Rattle.machine.specs.State.{freshState, unfit}
 use Rattle.machine.specs.Tick.{firstRow, tick}
 use Rattle.machine.specs.Run.{ticks, runVerdict, run}
-use Rattle.agreement.specs.Bench.{characters, chartP, imageP, words}
-use Rattle.agreement.specs.Cases.{RefusalCases}
+use Rattle.bench.specs.Bench.{characters, chartP, imageP, words}
+use Rattle.bench.specs.Cases.{RefusalCases}
 
 pub refusal-cases : RefusalCases
 unfolding lowest any count sum highest some filter concatMap mapFrom reach digitOf charOf contents total frameText badForm badSum textVerdict nodeOf badField chartVerdict readVerdict stops start label paths rowsOf rows table imageFrames imageText translateVerdict translate characters textOf readChart writeVerdict badHeader placeOf stray badContent tableVerdict imageVerdict decoded freshState unfit firstRow tick ticks runVerdict run chartP imageP words

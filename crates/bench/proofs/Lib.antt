@@ -1,0 +1,6 @@
+pub mod BenchSheet
+pub mod Cases
+pub mod Instances
+pub mod Variants
+pub mod Idlers
+pub mod Slips
