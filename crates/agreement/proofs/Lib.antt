@@ -6,3 +6,4 @@ pub mod Bounds
 pub mod Ticks
 pub mod Expected
 pub mod Images
+pub mod TableFactsHold

@@ -12,7 +12,7 @@ use Rattle.lists.specs.Numbers.{any, range}
 use Rattle.lists.specs.Sequences.{concatMap, over, written}
 use Rattle.lists.proofs.Tests.{or-true-l}
 use Rattle.lists.proofs.Searches.{any-here, any-on, any-over}
-use Rattle.lists.proofs.Joins.{concat-map}
+use Rattle.lists.proofs.Joins.{concat-map, length-concat-range}
 use Rattle.lists.proofs.Ranges.{map-count, length-map-range}
 use Rattle.lists.proofs.Written.{written-front}
 use Rattle.lists.proofs.Fills.{Pieces, pieces-turn, pieces-all}
@@ -79,3 +79,9 @@ module _ (b out₀ out : List ℕ) (at n f : ℕ) (done : Pieces (frameOf b) 23 
   text-end e h =
       pieces-all (frameOf b) 23 out₀ at n out f done h
       ∙ ap (written out₀ at) (ap (λ (m : ℕ). concatMap (frameOf b) (range 0 m)) e ∙ sym (concat-map frameText (tenAt b) (range 0 (size b))))
+
+pub length-text : (b : List ℕ) → length (textOf b) ≡ 23 * size b
+unfolding textOf
+length-text b =
+    ap length (concat-map frameText (tenAt b) (range 0 (size b)))
+    ∙ length-concat-range (frameOf b) 23 0 (size b) (λ k. length-frame (tenAt b k) (length-map-range (field b k) 0 10))

@@ -9,6 +9,7 @@ pub use characters::digit;
 pub use check::bad_length;
 pub use check::check_text;
 pub use decoding::decode;
+pub use write::put_bytes;
 pub use write::put_frame;
 pub use write::put_text;
 

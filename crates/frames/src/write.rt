@@ -1,10 +1,23 @@
-// Frames written into a lent buffer.
+// Bytes and frames written into a lent buffer.
 use crate::characters::character;
 ghost use mathlib.Core.Path.{_≡_};
 ghost use Prim.Native.Nat.{_+_, _*_, _≤_, _<_};
 ghost use lib.ListN.{length};
 ghost use Rattle.lists.specs.Sequences.{written};
 ghost use Rattle.frames.specs.Frame.{byteText, frameText, textOf, size};
+
+// Bytes as they are, at a place.
+pub fn put_bytes(out: &mut [u8], at: usize, bytes: &[u8])
+    requires { ⌜ at + length (now bytes) ≤ length (now out) ⌝ }
+    ensures { λ _. ⌜ now (out .exit) ≡ written (now (out .entry)) at (now (bytes .entry)) ⌝ }
+{
+    let n = bytes.len();
+    let mut k: usize = 0;
+    while k < n {
+        out[at + k] = bytes[k];
+        k += 1;
+    }
+}
 
 // The two characters of a byte, at a place.
 fn put_byte(out: &mut [u8], at: usize, b: u8)

@@ -6,3 +6,4 @@ pub mod PlaceCases
 pub mod FieldCases
 pub mod TableCases
 pub mod ReadCases
+pub mod Accepted

@@ -4,11 +4,11 @@ use mathlib.Core.List.{List, [], _∷_, _++_, map}
 use Prim.Native.Nat.{ℕ, _+_, _*_, _≤_, _<_}
 use native.Mathlib.Numerals.{add-one}
 use native.Mathlib.Omega.{arith}
-use lib.ListN.{length, set, length-set}
+use lib.ListN.{length, set, getD, length-set}
 use Rattle.lists.specs.Numbers.{range}
 use Rattle.lists.specs.Sequences.{concatMap, written}
 use Rattle.lists.proofs.Joins.{concat-range-snoc, length-concat-range}
-use Rattle.lists.proofs.Ranges.{map-range-snoc, length-map-range}
+use Rattle.lists.proofs.Ranges.{map-range-snoc, length-map-range, map-places}
 use Rattle.lists.proofs.Written.{written-none, written-snoc, written-more}
 
 -- the values of f at 0 to k - 1, of n in all, stand from `at` on
@@ -65,3 +65,9 @@ module _ (f : ℕ → List ℕ) (m : ℕ) (out₀ : List ℕ) (at n : ℕ) where
 
   pub pieces-all : (out : List ℕ) (k : ℕ) → Pieces f m out₀ out at n k → n ≤ k → out ≡ written out₀ at (concatMap f (range 0 n))
   pieces-all out k w h = let e : k ≡ n = omega arith in w .buffer ∙ ap (λ (j : ℕ). written out₀ at (concatMap f (range 0 j))) e
+
+-- the values are those of a list
+pub values-list : (xs out₀ out : List ℕ) (at k : ℕ) → Values (λ i. getD xs i 0) out₀ out at (length xs) k → length xs ≤ k → out ≡ written out₀ at xs
+values-list xs out₀ out at k w h =
+    values-all (λ i. getD xs i 0) out₀ at (length xs) out k w h
+    ∙ ap (written out₀ at) (map-places (λ i. getD xs i 0) 0 xs 0 (λ i l. ap (λ (j : ℕ). getD xs j 0) (omega arith)))

@@ -1,6 +1,8 @@
 // The stack machine: its state, one tick, and a run of ticks over an image.
 use frames::Answer;
 
+mod fresh;
+
 // Places hold labels, the bottom first, up to the depth, and 0 above it; scheme h's result bit stands at h - 1.
 pub struct State {
     pub size: u8,
@@ -21,4 +23,6 @@ impl State {
     pub const LABELS: usize = 256;
 
     pub const ROWS: usize = 1024;
+
+    pub const SCHEMES: usize = 16;
 }

@@ -3,3 +3,4 @@ pub mod SoundRows
 pub mod SoundTable
 pub mod Translated
 pub mod Matching
+pub mod RowLaws
