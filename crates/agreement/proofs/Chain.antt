@@ -81,15 +81,12 @@ module _ (c : Chart) (facts : Facts c) (tableFacts : TableFacts c) (text : List 
   sound : Sound (table c)
   sound = subst Sound decodes (image-sound text passes)
 
-  abbrev Standing : Position → Type 0
-  Standing = Stands c n n≤ facts tableFacts
-
-  chain-is : (asked : List Asked) (x : Position) → Standing x → Fits (table c) (stateOf c n x) → chain run text (stateOf c n x) asked ≡ Due c n x asked
+  chain-is : (asked : List Asked) (x : Position) → Stands c n x → Fits (table c) (stateOf c n x) → chain run text (stateOf c n x) asked ≡ Due c n x asked
   unfolding chain expectedAll
   chain-is [] x s f = refl
   chain-is (a ∷ rest) x s f = go (chain-is rest) (short a) refl
     where
-      go : ((y : Position) → Standing y → Fits (table c) (stateOf c n y) → chain run text (stateOf c n y) rest ≡ Due c n y rest)
+      go : ((y : Position) → Stands c n y → Fits (table c) (stateOf c n y) → chain run text (stateOf c n y) rest ≡ Due c n y rest)
           → (t : Bool) → short a ≡ t → chain run text (stateOf c n x) (a ∷ rest) ≡ Due c n x (a ∷ rest)
       go ih true e = chain-short text (table c) passes decodes (stateOf c n x) a rest f e
           ∙ ap (λ (l : List Told). refusedShort a ∷ l) (ih x s f)
@@ -99,7 +96,7 @@ module _ (c : Chart) (facts : Facts c) (tableFacts : TableFacts c) (text : List 
           let ts : List Tick = trace c (a .words) x in
           let b : ℕ = bound n ts in
           let y : Position = stand c n (a .words) x in
-          let made : ticks (table c) (stateOf c n x) (a .words) ≡ ranFrom c n (a .words) x = ticks-are c n n≤ facts tableFacts (a .words) x s in
+          let made : ticks (table c) (stateOf c n x) (a .words) ≡ ranFrom c n (a .words) x = ticks-are c n facts n≤ tableFacts (a .words) x s in
           let kept : Fits (table c) (stateOf c n y) = subst (λ (r : Ran). Fits (table c) (r .state)) made (ticks-keep (table c) sound (a .words) (stateOf c n x) f) in
           chain-long text (table c) passes decodes (stateOf c n x) a rest f e made
           ∙ ap₂ (λ (r : Reply) (l : List Told). record {
@@ -108,7 +105,7 @@ module _ (c : Chart) (facts : Facts c) (tableFacts : TableFacts c) (text : List 
             codes = over (map (λ (t : Tick). t .code) (take b ts)) (a .codes);
           } ∷ l)
           (replied-by (ltb b (length (a .words))) (length (map (λ (t : Tick). t .code) (take b ts))))
-          (ih y (stand-stands c n n≤ facts tableFacts (a .words) x s) kept)
+          (ih y (stand-stands c n facts (a .words) x s) kept)
           ∙ joins c n a rest x e
           ∙ sym (ap (λ (js : List ℕ). let us = trace c js x in expectedAll (bound n us) us 0 (a ∷ rest)) (joined-long a rest e))
 

@@ -60,7 +60,7 @@ module _ (i : Image) where
         go (inr p) = inr (eqb-true (labelAt i above .owner) (labelAt i l .called) p)
 
   module _ (s : State) where
-    -- whether places are left without their caller, and whether something stands above the depth
+    -- place k may not carry the one above it; place k is not 0
     abbrev strays : ℕ → Bool
     strays k = ltb (k + 1) (s .depth) && not (mayCarry i (placeAt s k) (placeAt s (k + 1)))
 
