@@ -6,4 +6,7 @@ pub mod Bounds
 pub mod Ticks
 pub mod Expected
 pub mod Images
+pub mod Joins
+pub mod Chain
 pub mod TableFactsHold
+pub mod Demand

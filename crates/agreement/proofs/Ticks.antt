@@ -88,12 +88,12 @@ module _ (c : Chart) (n : ℕ) where
       ∙ ap (λ (y : Position). ranBy c n (suc b) (t ∷ ts) y (suc (length ws))) (sym (stand-go c n w ws x e))
       ∙ ap (λ (k : ℕ). ranBy c n k (t ∷ ts) (stand c n (w ∷ ws) x) (suc (length ws))) (sym (bound-go n t ts e))
 
-  module _ (n≤ : n ≤ 32) (facts : Facts c) (tableFacts : TableFacts c) where
-    -- the walk stands at a good position, with room for its node
-    pub record Stands (x : Position) : Type 0 where
-      pub low : length (x .callers) < n
-      pub good : Good c x
+  -- the walk stands at a good position, with room for its node
+  pub record Stands (x : Position) : Type 0 where
+    pub low : length (x .callers) < n
+    pub good : Good c x
 
+  module _ (facts : Facts c) where
     moves-on : (w : ℕ) (x : Position) → Stands x → isFullCall n (tickAt c x) ≡ false → Stands (move c w x)
     moves-on w x s e = record {
       low = deep-by (x .node) (x .callers) (x .results) w (s .low) (view-of c facts x (s .good)) e;
@@ -109,12 +109,12 @@ module _ (c : Chart) (n : ℕ) where
         go ih true e = subst Stands (sym (stand-stop c n w ws x e)) s
         go ih false e = subst Stands (sym (stand-go c n w ws x e)) (ih (moves-on w x s e))
 
-    pub ticks-are : (ws : List ℕ) (x : Position) → Stands x → ticks (table c) (stateOf c n x) ws ≡ ranFrom c n ws x
+    pub ticks-are : n ≤ 32 → TableFacts c → (ws : List ℕ) (x : Position) → Stands x → ticks (table c) (stateOf c n x) ws ≡ ranFrom c n ws x
     unfolding ticks trace bound stand
-    ticks-are [] x s = refl
-    ticks-are (w ∷ ws) x s =
+    ticks-are n≤ tableFacts [] x s = refl
+    ticks-are n≤ tableFacts (w ∷ ws) x s =
         ap (then (stateOf c n x) (λ t. ticks (table c) t ws)) (tick-is c n n≤ facts tableFacts w x (s .low) (s .good))
-        ∙ go (ticks-are ws (move c w x)) (isFullCall n (tickAt c x)) refl
+        ∙ go (ticks-are n≤ tableFacts ws (move c w x)) (isFullCall n (tickAt c x)) refl
       where
         go : (Stands (move c w x) → ticks (table c) (stateOf c n (move c w x)) ws ≡ ranFrom c n ws (move c w x))
             → (r : Bool) → isFullCall n (tickAt c x) ≡ r → first w ws x ≡ ranFrom c n (w ∷ ws) x

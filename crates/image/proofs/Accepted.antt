@@ -1,7 +1,7 @@
 -- What it gives that the image check accepts: the counts of the header hold, and the image that the contents hold is sound.
 use Prim.Native.Nat.{ℕ, zero, suc, _+_, _*_, _≤_, _<_}
 use mathlib.Core.Bool.{Bool, true, false, _&&_, _||_, not}
-use mathlib.Core.Path.{_≡_, refl, sym, _∙_, ap, subst}
+use mathlib.Core.Path.{_≡_, sym, _∙_, ap, subst}
 use mathlib.Core.Logic.{_⊎_, inl, inr}
 use mathlib.Core.List.{List}
 use native.Mathlib.Omega.{arith}
@@ -9,11 +9,10 @@ use lib.ListN.{length, getD}
 use lib.Bits.{bitAnd}
 use lib.Dec.{leb, ltb, eqb}
 use borrow.Author.Tests.{le-ltb, lt-ltb, eq-eqb, ne-eqb, eqb-true, eqb-false, ltb-false, leb-true}
-use Rattle.lists.specs.Pick.{pick}
 use Rattle.lists.proofs.Tests.{or-l, or-r, or-cases, and-l, and-r, and-false, not-false, yes-pick, no-pick}
 use Rattle.lists.proofs.Ranges.{length-map-range, getD-map-range}
 use Rattle.frames.specs.Frame.{size, field, pairAt, contents}
-use Rattle.frames.specs.Verdict.{Verdict, fine, next, when, atLowest}
+use Rattle.frames.specs.Verdict.{fine, next, when, atLowest}
 use Rattle.frames.specs.Check.{textVerdict}
 use Rattle.frames.proofs.Verdicts.{next-first, next-rest, when-fine, at-lowest-fine}
 use Rattle.frames.proofs.Contents.{text-told, contents-bytes}

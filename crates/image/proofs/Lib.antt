@@ -2,4 +2,8 @@ pub mod Sound
 pub mod Written
 pub mod Decoded
 pub mod Passes
+pub mod PlaceCases
+pub mod FieldCases
+pub mod TableCases
+pub mod ReadCases
 pub mod Accepted

@@ -1,3 +1,4 @@
 pub mod Image
 pub mod Decode
 pub mod Check
+pub mod Parts

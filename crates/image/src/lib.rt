@@ -1,1 +1,16 @@
 // The image: entries, labels and rows as frames, and the check of an image's text.
+mod check;
+mod fields;
+mod places;
+mod read;
+mod table;
+
+pub use check::check_table;
+pub use read::check_image;
+pub use read::read_image;
+pub use table::byte;
+pub use table::label_byte;
+pub use table::label_mask;
+pub use table::labels_from;
+pub use table::pair;
+pub use table::rows_from;

@@ -114,10 +114,10 @@ module _ (c : Chart) (facts : Facts c) where
     same-act v ks w ws b l g (a-plain e a) q = same-after _ ws _ ks _ l (moved-good c facts v ks b w g (a-plain e a))
     same-act v ks w ws b l g (a-call e a) q =
         same-call v ks _ _ (λ x d. sym (ap (resumedBy c v x d) q)) (argument c v)
-        (calling c facts v ks b g (inl e) (facts .calls v (g .top .inside) e a .0)) ws _ _ l (moved-good c facts v ks b w g (a-call e a))
+        (calling c v ks b g (inl e) (facts .calls v (g .top .inside) e a .0)) ws _ _ l (moved-good c facts v ks b w g (a-call e a))
     same-act v ks w ws b l g (a-function e) q =
         same-call v ks _ _ (λ x d. sym (ap (resumedBy c v x d) q)) (argument c v)
-        (calling c facts v ks b g (inr e) (facts .functions v (g .top .inside) e .0)) ws _ b l (moved-good c facts v ks b w g (a-function e))
+        (calling c v ks b g (inr e) (facts .functions v (g .top .inside) e .0)) ws _ b l (moved-good c facts v ks b w g (a-function e))
     same-act v ks w ws b l g (a-home e s) q = same-after _ ws _ ks b l (moved-good c facts v ks b w g (a-home e s))
     same-act v ks w ws b l g (a-back e s) q = same-back v ks w ws b g s
     same-act v ks w ws b l g (a-begin e) q = same-after _ ws _ ks b l (moved-good c facts v ks b w g (a-begin e))

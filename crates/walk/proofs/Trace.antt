@@ -100,6 +100,11 @@ good c h u ks b s under = record {
 pub caller-stop : (c : Chart) (h k : ℕ) → Caller c h k → StopOf c (scheme c k) k
 caller-stop c h k caller = record { inside = caller .inside; same = refl; stopping = caller .stopping }
 
+-- a node that calls waits for the scheme called
+pub calling : (c : Chart) (v : ℕ) (ks : List ℕ) (b : Results) → Good c (at v ks b) → (kind c v ≡ 2) ⊎ (kind c v ≡ 4) → 2 ≤ argument c v
+    → Under c (argument c v) (v ∷ ks)
+calling c v ks b g e l = (record { inside = g .top .inside; calls = e; called = refl; deep = l; stopping = g .top .stopping }, g .under)
+
 module _ (c : Chart) (facts : Facts c) where
   arc-to : (v w : ℕ) → v < size c → (kind c v ≡ 1 → ⊥) → StopOf c (scheme c v) (byArc c w (next0 c v))
   arc-to v w l e = facts .follows (scheme c v) (next0 c v) w (facts .arc0 v l e)
@@ -119,14 +124,10 @@ module _ (c : Chart) (facts : Facts c) where
   pub resumed-good : (h k w : ℕ) (ks : List ℕ) (b : Results) → Under c h (k ∷ ks) → Good c (at (resumed c k w b) ks b)
   resumed-good h k w ks b under = good c (scheme c k) (resumed c k w b) ks b (resumes-to h k w b (under .0)) (under .1)
 
-  pub calling : (v : ℕ) (ks : List ℕ) (b : Results) → Good c (at v ks b) → (kind c v ≡ 2) ⊎ (kind c v ≡ 4) → 2 ≤ argument c v
-      → Under c (argument c v) (v ∷ ks)
-  calling v ks b g e l = (record { inside = g .top .inside; calls = e; called = refl; deep = l; stopping = g .top .stopping }, g .under)
-
   called-good : (v : ℕ) (ks : List ℕ) (b d : Results) → Good c (at v ks b) → (kind c v ≡ 2) ⊎ (kind c v ≡ 4)
       → (2 ≤ argument c v) × (argument c v ≤ schemes c) → Good c (at (start c (argument c v)) (v ∷ ks) d)
   called-good v ks b d g e l =
-      good c (argument c v) (start c (argument c v)) (v ∷ ks) d (facts .starts (argument c v) (omega arith) (l .1)) (calling v ks b g e (l .0))
+      good c (argument c v) (start c (argument c v)) (v ∷ ks) d (facts .starts (argument c v) (omega arith) (l .1)) (calling c v ks b g e (l .0))
 
   returned-good : (v : ℕ) (ks : List ℕ) (b : Results) (w : ℕ) → Good c (at v ks b) → (scheme c v ≡ 1 → ⊥) → Good c (returned c ks w b)
   returned-good v [] b w g s = absurd (s (g .under))

@@ -1,0 +1,157 @@
+-- The cases of refusals 11 and 12, as the code meets them.
+use mathlib.Core.Path.{_≡_, refl, sym, _∙_, ap}
+use mathlib.Core.Bool.{Bool, true, false, _&&_, _||_, not}
+use mathlib.Core.List.{List}
+use Prim.Native.Nat.{ℕ, zero, suc, _+_, _-_, _≤_, _<_}
+use native.Mathlib.Omega.{arith}
+use lib.Dec.{leb, ltb, eqb}
+use borrow.Author.Tests.{eq-eqb, ne-eqb, lt-ltb, le-ltb, ltb-false}
+use Rattle.lists.specs.Pick.{pick}
+use Rattle.lists.proofs.Tests.{or-true-l, or-true-r}
+use Rattle.frames.specs.Frame.{size, field}
+use Rattle.image.specs.Decode.{schemeCount, lastLabel, rowCount, labelsFrom, rowsFrom, rowIn}
+use Rattle.image.specs.Check.{Place, header, entryAt, labelAt, rowAt, filled, badCounts, badHeader, placeOf, falls, strayFrame, stray}
+use Rattle.image.specs.Parts.{kindOf}
+
+pub unequal : (a b : ℕ) → (a ≡ b → ⊥) → not (eqb a b) ≡ true
+unequal a b h = ap not (ne-eqb a b h)
+
+pub equal : (a b : ℕ) → a ≡ b → not (eqb a b) ≡ false
+equal a b h = ap not (eq-eqb a b h)
+
+all-false : (x y z n : Bool) → x ≡ false → y ≡ false → z ≡ false → n ≡ (x || y || z || n)
+all-false x y z n p q r = rw (p, q, r)
+
+-- ---- 11
+module _ (b : List ℕ) where
+  pub counts-none : schemeCount b ≡ 0 → true ≡ badCounts b
+  counts-none h = simp (eq-eqb (schemeCount b) 0 h)
+
+  pub counts-many : 16 < schemeCount b → true ≡ badCounts b
+  counts-many h = simp (ne-eqb (schemeCount b) 0 (λ e. omega arith), lt-ltb 16 (schemeCount b) h)
+
+  pub counts-label : (schemeCount b ≡ 0 → ⊥) → schemeCount b ≤ 16 → lastLabel b ≡ 0 → true ≡ badCounts b
+  counts-label n h l = simp (ne-eqb (schemeCount b) 0 n, le-ltb 16 (schemeCount b) h, eq-eqb (lastLabel b) 0 l)
+
+  pub counts-rows : (schemeCount b ≡ 0 → ⊥) → schemeCount b ≤ 16 → (lastLabel b ≡ 0 → ⊥) → ltb 1024 (rowCount b) ≡ badCounts b
+  counts-rows n h l = simp (ne-eqb (schemeCount b) 0 n, le-ltb 16 (schemeCount b) h, ne-eqb (lastLabel b) 0 l)
+
+  pub header-kind : (field b 0 0 ≡ 15 → ⊥) → true ≡ badHeader b
+  unfolding badHeader
+  header-kind h = simp (ne-eqb (field b 0 0) 15 h)
+
+  pub header-filled : field b 0 0 ≡ 15 → filled b 0 5 5 ≡ true → true ≡ badHeader b
+  unfolding badHeader
+  header-filled k h = simp (eq-eqb (field b 0 0) 15 k, h)
+
+  pub header-counts : field b 0 0 ≡ 15 → filled b 0 5 5 ≡ false → badCounts b ≡ true → true ≡ badHeader b
+  unfolding badHeader
+  header-counts k f h =
+      sym (or-true-l _ (not (eqb (size b) (rowsFrom b + rowCount b))) (or-true-r (not (eqb (field b 0 0) 15) || filled b 0 5 5) (badCounts b) h))
+
+  pub header-frames : field b 0 0 ≡ 15 → filled b 0 5 5 ≡ false → badCounts b ≡ false → not (eqb (size b) (rowsFrom b + rowCount b)) ≡ badHeader b
+  unfolding badHeader
+  header-frames k f h = all-false (not (eqb (field b 0 0) 15)) (filled b 0 5 5) (badCounts b) (not (eqb (size b) (rowsFrom b + rowCount b))) (equal (field b 0 0) 15 k) f h
+
+-- ---- a frame by its position
+abbrev placed : Bool → Bool → Bool → List ℕ → ℕ → Place
+placed x y z b f = pick x header (pick y (entryAt f) (pick z (labelAt (f - labelsFrom b)) (rowAt (f - rowsFrom b))))
+
+module _ (b : List ℕ) (f : ℕ) where
+  pub kind-header : f ≡ 0 → 15 ≡ kindOf (placeOf b f)
+  unfolding placeOf
+  kind-header h = simp (eq-eqb f 0 h)
+
+  pub kind-entry : (f ≡ 0 → ⊥) → f < labelsFrom b → 16 ≡ kindOf (placeOf b f)
+  unfolding placeOf
+  kind-entry n h = simp (ne-eqb f 0 n, lt-ltb f (labelsFrom b) h)
+
+  pub kind-label : (f ≡ 0 → ⊥) → labelsFrom b ≤ f → f < rowsFrom b → 17 ≡ kindOf (placeOf b f)
+  unfolding placeOf
+  kind-label n h l = simp (ne-eqb f 0 n, le-ltb f (labelsFrom b) h, lt-ltb f (rowsFrom b) l)
+
+  pub kind-row : (f ≡ 0 → ⊥) → rowsFrom b ≤ f → 18 ≡ kindOf (placeOf b f)
+  unfolding placeOf
+  kind-row n h = simp (ne-eqb f 0 n, le-ltb f (labelsFrom b) (omega arith), le-ltb f (rowsFrom b) h)
+
+  placed-entry : (x y z : Bool) → kindOf (placed x y z b f) ≡ 16 → placed x y z b f ≡ entryAt f
+  placed-entry true y z e = absurd (omega arith)
+  placed-entry false true z e = refl
+  placed-entry false false true e = absurd (omega arith)
+  placed-entry false false false e = absurd (omega arith)
+
+  placed-label : (x y z : Bool) → kindOf (placed x y z b f) ≡ 17 → (placed x y z b f ≡ labelAt (f - labelsFrom b)) × (y ≡ false)
+  placed-label true y z e = absurd (omega arith)
+  placed-label false true z e = absurd (omega arith)
+  placed-label false false true e = (refl, refl)
+  placed-label false false false e = absurd (omega arith)
+
+  placed-row : (x y z : Bool) → kindOf (placed x y z b f) ≡ 18 → (placed x y z b f ≡ rowAt (f - rowsFrom b)) × (z ≡ false)
+  placed-row true y z e = absurd (omega arith)
+  placed-row false true z e = absurd (omega arith)
+  placed-row false false true e = absurd (omega arith)
+  placed-row false false false e = (refl, refl)
+
+  placed-header : (x y z : Bool) → (kindOf (placed x y z b f) ≡ 16 → ⊥) → (kindOf (placed x y z b f) ≡ 17 → ⊥) → (kindOf (placed x y z b f) ≡ 18 → ⊥) → placed x y z b f ≡ header
+  placed-header true y z p q r = refl
+  placed-header false true z p q r = absurd (p refl)
+  placed-header false false true p q r = absurd (q refl)
+  placed-header false false false p q r = absurd (r refl)
+
+  pub place-entry : kindOf (placeOf b f) ≡ 16 → placeOf b f ≡ entryAt f
+  unfolding placeOf
+  place-entry = placed-entry (eqb f 0) (ltb f (labelsFrom b)) (ltb f (rowsFrom b))
+
+  pub place-label : kindOf (placeOf b f) ≡ 17 → placeOf b f ≡ labelAt (f - labelsFrom b)
+  unfolding placeOf
+  place-label e = placed-label (eqb f 0) (ltb f (labelsFrom b)) (ltb f (rowsFrom b)) e .0
+
+  pub label-above : kindOf (placeOf b f) ≡ 17 → labelsFrom b ≤ f
+  unfolding placeOf
+  label-above e = ltb-false f (labelsFrom b) (placed-label (eqb f 0) (ltb f (labelsFrom b)) (ltb f (rowsFrom b)) e .1)
+
+  pub place-row : kindOf (placeOf b f) ≡ 18 → placeOf b f ≡ rowAt (f - rowsFrom b)
+  unfolding placeOf
+  place-row e = placed-row (eqb f 0) (ltb f (labelsFrom b)) (ltb f (rowsFrom b)) e .0
+
+  pub row-above : kindOf (placeOf b f) ≡ 18 → rowsFrom b ≤ f
+  unfolding placeOf
+  row-above e = ltb-false f (rowsFrom b) (placed-row (eqb f 0) (ltb f (labelsFrom b)) (ltb f (rowsFrom b)) e .1)
+
+  pub place-header : (kindOf (placeOf b f) ≡ 16 → ⊥) → (kindOf (placeOf b f) ≡ 17 → ⊥) → (kindOf (placeOf b f) ≡ 18 → ⊥) → placeOf b f ≡ header
+  unfolding placeOf
+  place-header = placed-header (eqb f 0) (ltb f (labelsFrom b)) (ltb f (rowsFrom b))
+
+-- ---- 12
+pub falls-later : (b : List ℕ) (k x y : ℕ) → (k ≡ 0 → ⊥) → x ≡ field b (rowsFrom b + k) 1 → y ≡ field b (rowsFrom b + (k - 1)) 1 → ltb x y ≡ falls b k
+falls-later b zero x y n p q = absurd (n refl)
+falls-later b (suc k) x y n p q = rw (p, q) (ap (λ (j : ℕ). ltb (field b (rowsFrom b + suc k) 1) (field b (rowsFrom b + j) 1)) (omega arith))
+
+module _ (b : List ℕ) (f : ℕ) where
+  pub stray-entry-kind : kindOf (placeOf b f) ≡ 16 → (field b f 0 ≡ 16 → ⊥) → true ≡ stray b f
+  unfolding stray
+  stray-entry-kind e h = sym (ap (strayFrame b f) (place-entry b f e) ∙ simp (ne-eqb (field b f 0) 16 h))
+
+  pub stray-entry : (x : ℕ) → kindOf (placeOf b f) ≡ 16 → field b f 0 ≡ 16 → x ≡ field b f 1 → not (eqb x f) ≡ stray b f
+  unfolding stray
+  stray-entry x e h q = rw q (sym (ap (strayFrame b f) (place-entry b f e) ∙ simp (eq-eqb (field b f 0) 16 h)))
+
+  pub stray-label-kind : kindOf (placeOf b f) ≡ 17 → (field b f 0 ≡ 17 → ⊥) → true ≡ stray b f
+  unfolding stray
+  stray-label-kind e h = sym (ap (strayFrame b f) (place-label b f e) ∙ simp (ne-eqb (field b f 0) 17 h))
+
+  pub stray-label : (x y : ℕ) → kindOf (placeOf b f) ≡ 17 → field b f 0 ≡ 17 → x ≡ field b f 1 → y ≡ labelsFrom b → not (eqb x (f - y)) ≡ stray b f
+  unfolding stray
+  stray-label x y e h q r = rw (q, r) (sym (ap (strayFrame b f) (place-label b f e) ∙ simp (eq-eqb (field b f 0) 17 h)))
+
+  pub stray-row-kind : kindOf (placeOf b f) ≡ 18 → (field b f 0 ≡ 18 → ⊥) → true ≡ stray b f
+  unfolding stray
+  stray-row-kind e h = sym (ap (strayFrame b f) (place-row b f e) ∙ simp (ne-eqb (field b f 0) 18 h))
+
+  pub stray-row : (x : Bool) (y : ℕ) → kindOf (placeOf b f) ≡ 18 → field b f 0 ≡ 18 → y ≡ rowsFrom b → x ≡ falls b (f - y) → x ≡ stray b f
+  unfolding stray
+  stray-row x y e h q r = r ∙ ap (λ (n : ℕ). falls b (f - n)) q ∙ sym (ap (strayFrame b f) (place-row b f e) ∙ simp (eq-eqb (field b f 0) 18 h))
+
+  pub stray-header : (kindOf (placeOf b f) ≡ 16 → ⊥) → (kindOf (placeOf b f) ≡ 17 → ⊥) → (kindOf (placeOf b f) ≡ 18 → ⊥) → false ≡ stray b f
+  unfolding stray
+  stray-header p q r = sym (ap (strayFrame b f) (place-header b f p q r))

@@ -1,0 +1,43 @@
+-- The verdict on a table, as the code comes to it; what acceptance of one gives first.
+use mathlib.Core.Path.{_≡_, refl, sym, _∙_, ap}
+use mathlib.Core.Bool.{Bool, true, false, _||_, not}
+use mathlib.Core.List.{List}
+use Prim.Native.Nat.{ℕ, _+_, _≤_, _<_}
+use native.Mathlib.Omega.{arith}
+use lib.Dec.{eqb}
+use borrow.Author.Tests.{lt-ltb, le-ltb, eqb-true}
+use Rattle.lists.specs.Numbers.{lowest}
+use Rattle.lists.proofs.Tests.{or-r, not-false}
+use Rattle.frames.specs.Frame.{size, field}
+use Rattle.frames.specs.Answer.{Reply, success, refusal, judged}
+use Rattle.image.specs.Decode.{rowCount, rowsFrom}
+use Rattle.image.specs.Check.{filled, badCounts, badHeader, stray, badContent, tableVerdict}
+
+-- a good header tells how many frames there are
+pub header-size : (b : List ℕ) → badHeader b ≡ false → size b ≡ rowsFrom b + rowCount b
+unfolding badHeader
+header-size b e =
+    eqb-true (size b) (rowsFrom b + rowCount b)
+    (not-false (eqb (size b) (rowsFrom b + rowCount b))
+    (or-r (not (eqb (field b 0 0) 15) || filled b 0 5 5 || badCounts b) (not (eqb (size b) (rowsFrom b + rowCount b))) e))
+
+module _ (b : List ℕ) where
+  pub table-header : badHeader b ≡ true → refusal 11 0 0 ≡ judged (tableVerdict b) 0
+  unfolding tableVerdict
+  table-header h = simp h
+
+  module _ (h : badHeader b ≡ false) (s : ℕ) (p : s ≡ lowest (stray b) 0 (size b)) where
+    pub table-stray : s < size b → refusal 12 s 0 ≡ judged (tableVerdict b) 0
+    unfolding tableVerdict
+    table-stray l = ap (λ (n : ℕ). refusal 12 n 0) p ∙ simp (h, lt-ltb (lowest (stray b) 0 (size b)) (size b) (omega arith))
+
+    module _ (l : size b ≤ s) (t : ℕ) (q : t ≡ lowest (badContent b) 0 (size b)) where
+      pub table-bad : t < size b → refusal 13 t 0 ≡ judged (tableVerdict b) 0
+      unfolding tableVerdict
+      table-bad m =
+          ap (λ (n : ℕ). refusal 13 n 0) q
+          ∙ simp (h, le-ltb (lowest (stray b) 0 (size b)) (size b) (omega arith), lt-ltb (lowest (badContent b) 0 (size b)) (size b) (omega arith))
+
+      pub table-good : size b ≤ t → success 0 ≡ judged (tableVerdict b) 0
+      unfolding tableVerdict
+      table-good m = simp (h, le-ltb (lowest (stray b) 0 (size b)) (size b) (omega arith), le-ltb (lowest (badContent b) 0 (size b)) (size b) (omega arith))
