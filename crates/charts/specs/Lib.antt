@@ -1,3 +1,5 @@
 pub mod Chart
 pub mod Check
+pub mod Rank
+pub mod Marks
 pub mod Entry

@@ -1,4 +1,13 @@
 // Charts as node records of ten bytes: their checks, reading and writing.
 mod arcs;
+mod check;
+mod circles;
 mod fields;
+mod joined;
+mod marks;
+mod ranks;
 mod schemes;
+
+pub use check::check_chart;
+pub use fields::field;
+pub use ranks::rank_conditions;

@@ -1,3 +1,4 @@
 pub mod Closure
 pub mod Paths
 pub mod Rank
+pub mod Sweeps

@@ -156,3 +156,25 @@ count-pass p n e = ap (λ (k : ℕ). count p 0 k) (add-one n) ∙ count-snoc p 0
 -- where just one passes, two that pass are the same
 pub count-one : (p : ℕ → Bool) (n u v : ℕ) → count p 0 n ≡ 1 → u < n → v < n → p u ≡ true → p v ≡ true → u ≡ v
 count-one p n u v e lu lv a b = count-apart p u v a b (omega (arith, count-below p u n lu a, count-below p v n lv b))
+
+-- two tests that agree, and two that differ at one number alone
+pub count-alike : (p q : ℕ → Bool) (i n : ℕ) → ((k : ℕ) → i ≤ k → k < i + n → q k ≡ p k) → count q i n ≡ count p i n
+count-alike p q i n h = omega (
+  arith,
+  count-within p q i n (λ k a b t. h k a b ∙ t),
+  count-within q p i n (λ k a b t. sym (h k a b) ∙ t),
+)
+
+pub count-add : (p q : ℕ → Bool) (i n u : ℕ) → i ≤ u → u < i + n → p u ≡ false → q u ≡ true → ((k : ℕ) → (k ≡ u → ⊥) → q k ≡ p k)
+    → count q i n ≡ count p i n + 1
+count-add p q i zero u a b x y h = absurd (omega arith)
+count-add p q i (suc n) u a b x y h =
+    ⊎-elim
+    (λ (e : i ≡ u).
+    let s : pick {A = ℕ} (p i) 1 0 ≡ 0 = no-pick (p i) 1 0 (ap p e ∙ x) in
+    let t : pick {A = ℕ} (q i) 1 0 ≡ 1 = yes-pick (q i) 1 0 (ap q e ∙ y) in
+    omega (arith, s, t, count-suc p i n, count-suc q i n, count-alike p q (suc i) n (λ k c d. h k (λ z. omega arith))))
+    (λ (l : i < u).
+    let s : pick {A = ℕ} (q i) 1 0 ≡ pick (p i) 1 0 = ap (λ b. pick {A = ℕ} b 1 0) (h i (λ z. omega arith)) in
+    omega (arith, s, count-suc p i n, count-suc q i n, count-add p q (suc i) n u l (omega arith) x y h))
+    (eq-or-lt-of-le a)

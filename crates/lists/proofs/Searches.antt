@@ -154,3 +154,13 @@ some-both p q (x ∷ xs) e f =
 -- the same at the loop's next index
 pub highest-next : (f : ℕ → ℕ) (n : ℕ) → highest f 0 (n + 1) ≡ max (highest f 0 n) (f n)
 highest-next f n = ap (λ (k : ℕ). highest f 0 k) (add-one n) ∙ highest-snoc f 0 n ∙ ap (λ (k : ℕ). max (highest f 0 n) (f k)) (zero-add n)
+
+-- two tests that agree
+pub lowest-alike : (p q : ℕ → Bool) (i n : ℕ) → ((k : ℕ) → i ≤ k → k < i + n → p k ≡ q k) → lowest p i n ≡ lowest q i n
+unfolding lowest
+lowest-alike p q i zero h = refl
+lowest-alike p q i (suc n) h = go (q i) (h i (omega arith) (omega arith)) refl (lowest-alike p q (suc i) n (λ k a b. h k (omega arith) (omega arith)))
+  where
+    go : (b : Bool) → p i ≡ q i → q i ≡ b → lowest p (suc i) n ≡ lowest q (suc i) n → lowest p i (suc n) ≡ lowest q i (suc n)
+    go true e t ih = rw (lowest, e ∙ t, lowest, t)
+    go false e t ih = rw (lowest, e ∙ t, lowest, t) ih

@@ -14,6 +14,7 @@ pub mod image;
 pub mod library;
 pub mod machine;
 pub mod programs;
+pub mod samples;
 pub mod show;
 pub mod state;
 pub mod translator;

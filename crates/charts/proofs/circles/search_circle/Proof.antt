@@ -1,0 +1,50 @@
+use borrow.Author.Needs.{needs}
+use Prim.Native.Nat.{_-_, _≤_}
+use mathlib.Core.Path.{_≡_, sym, _∙_}
+use Rattle.lists.specs.Numbers.{lowest}
+use Rattle.lists.proofs.Searches.{lowest-here, lowest-on, lowest-over, lowest-start}
+use Rattle.frames.specs.Frame.{size}
+use Rattle.charts.specs.Check.{onCircle}
+use Rattle.charts.proofs.circles.search_circle.Statement.{statement}
+use Rattle.charts.proofs.circles.search_circle.Tie as tie
+
+abbrev Inv-loop : tie.InvT-loop
+Inv-loop records n v₀ v = (v ≤ n) × (n ≡ size records) × (lowest (onCircle records) v (n - v) ≡ lowest (onCircle records) 0 (size records))
+
+abbrev μ-loop : tie.MeasureT-loop
+μ-loop records n v₀ v = n - v
+
+loop-holds : tie.Need-loop-holds Inv-loop μ-loop
+loop-holds c = (search needs, search needs, lowest-start _ _)
+
+on-circle-requires : tie.Need-on-circle-requires Inv-loop μ-loop
+on-circle-requires c κs = search needs
+
+returns : tie.Need-returns Inv-loop μ-loop
+returns c = sym (lowest-here (onCircle (c .before .before .before .before .before .args .records .now)) _ _ (search needs) (sym (c .before .on-circle .ensures) ∙ c .if1 .taken)) ∙ c .before .before .before .loop .inv .2
+
+add-v : tie.Need-add-v Inv-loop μ-loop
+add-v c = search needs
+
+loop-less : tie.Need-loop-less Inv-loop μ-loop
+loop-less c = search needs
+
+loop-again : tie.Need-loop-again Inv-loop μ-loop
+loop-again c = (search needs, search needs, sym (lowest-on (onCircle (c .before .before .before .before .before .args .records .now)) _ _ (search needs) (sym (c .before .on-circle .ensures) ∙ c .if1 .left)) ∙ c .before .before .before .loop .inv .2)
+
+returns-2 : tie.Need-returns-2 Inv-loop μ-loop
+returns-2 c = sym (lowest-over (onCircle (c .before .before .before .args .records .now)) _ _ (search needs)) ∙ c .before .loop .inv .2
+
+pub search-circle-spec : {M : Type 1} → statement M
+search-circle-spec =
+    tie.close
+    (tie.spec
+    Inv-loop
+    μ-loop
+    loop-holds
+    on-circle-requires
+    returns
+    add-v
+    loop-less
+    loop-again
+    returns-2)

@@ -1,0 +1,25 @@
+use mathlib.Core.Path.{sym, _∙_}
+use mathlib.Core.Bool.{false}
+use Rattle.frames.specs.Frame.{size}
+use Rattle.charts.proofs.MarkCases.{part-long}
+use Rattle.charts.proofs.CutOff.{lowest-apart}
+use borrow.Author.Needs.{needs}
+use Rattle.charts.proofs.joined.lowest_cut_off.Statement.{statement}
+use Rattle.charts.proofs.joined.lowest_cut_off.Tie as tie
+
+array-borrow-prefix-marks : tie.Need-array-borrow-prefix-marks
+array-borrow-prefix-marks c = search needs
+
+slice-aggregate-lowest-apart : tie.Need-slice-aggregate-lowest-apart
+slice-aggregate-lowest-apart c = sym (part-long 256 (size (c .before .before .args .records .now)) false (search needs))
+
+lowest-apart-requires : tie.Need-lowest-apart-requires
+lowest-apart-requires c κs = part-long 256 (size (c .before .before .args .records .now)) false (search needs)
+
+returns : tie.Need-returns
+returns c = c .before .lowest-apart .ensures .1 ∙ lowest-apart (c .before .before .before .before .args .records .now) (c .before .before .before .before .pre .1 .0) (c .before .before .before .before .pre .1 .1 .0) (c .before .before .before .before .pre .1 .1 .1) _ (c .before .lowest-apart .ensures .0)
+
+pub lowest-cut-off-spec : {M : Type 1} → statement M
+lowest-cut-off-spec =
+    tie.close
+    (tie.spec array-borrow-prefix-marks slice-aggregate-lowest-apart lowest-apart-requires returns)

@@ -1,0 +1,68 @@
+use native.Mathlib.Omega.{arith}
+use lib.ListN.{length}
+use Rattle.lists.proofs.Counts.{count-le}
+use Rattle.graph.specs.Reach.{marked}
+use Rattle.charts.proofs.MarkCases.{marked-none, marked-one, marked-two}
+use borrow.Author.Needs.{needs}
+use Rattle.charts.proofs.marks.mark_arcs.Statement.{statement}
+use Rattle.charts.proofs.marks.mark_arcs.Tie as tie
+
+arc-count-requires : tie.Need-arc-count-requires
+arc-count-requires c κs = search needs
+
+returns : tie.Need-returns
+returns c = (marked-none (c .before .before .before .before .args .records .now) (c .before .before .before .before .args .conditions) (c .before .before .before .before .args .v) _ (c .before .arc-count .ensures) (c .before .before .before .before .args .marks .now) (c .if1 .taken), omega arith)
+
+field-requires : tie.Need-field-requires
+field-requires c κs = search needs
+
+cast-mark : tie.Need-cast-mark
+cast-mark c = search needs
+
+mark-requires : tie.Need-mark-requires
+mark-requires c κs = search needs
+
+same-length : tie.Need-same-length
+same-length c = search needs
+
+returns-2 : tie.Need-returns-2
+returns-2 c = (marked-one (c .before .before .before .before .before .before .before .before .before .before .args .records .now) (c .before .before .before .before .before .before .before .before .before .before .args .conditions) (c .before .before .before .before .before .before .before .before .before .before .args .v) _ (c .before .before .before .before .before .before .before .arc-count .ensures) (c .before .before .before .before .before .before .before .before .before .before .args .marks .now) (c .before .before .before .before .before .before .if1 .left) _ _ (c .before .before .before .before .field .ensures) (c .before .before .before .mark .ensures .0) (c .if2 .taken), c .before .before .before .mark .ensures .1)
+
+field-requires-2 : tie.Need-field-requires-2
+field-requires-2 c κs = search needs
+
+cast-mark-2 : tie.Need-cast-mark-2
+cast-mark-2 c = search needs
+
+mark-requires-2 : tie.Need-mark-requires-2
+mark-requires-2 c κs = search needs
+
+add-result : tie.Need-add-result
+add-result c = omega (arith, c .before .before .before .before .before .before .before .before .mark .ensures .1, c .before .before .mark2 .ensures .1, c .before .before .before .before .before .before .before .before .mark .kept .0, c .before .before .mark2 .kept .0, count-le (marked (c .before .before .mark2 .last .0)) 0 (length (c .before .before .mark2 .last .0)))
+
+same-length-2 : tie.Need-same-length-2
+same-length-2 c = search needs
+
+returns-3 : tie.Need-returns-3
+returns-3 c = (
+  marked-two (c .before .before .before .before .before .before .before .before .before .before .before .before .before .before .before .args .records .now) (c .before .before .before .before .before .before .before .before .before .before .before .before .before .before .before .args .conditions) (c .before .before .before .before .before .before .before .before .before .before .before .before .before .before .before .args .v) _ (c .before .before .before .before .before .before .before .before .before .before .before .before .arc-count .ensures) (c .before .before .before .before .before .before .before .before .before .before .before .before .before .before .before .args .marks .now) (c .before .before .before .before .before .before .before .before .before .before .before .if1 .left) _ _ (c .before .before .before .before .before .before .before .before .before .field .ensures) (c .before .before .before .before .before .before .before .before .mark .ensures .0) (c .before .before .before .before .before .if2 .left) _ _ (c .before .before .before .field2 .ensures) (c .before .before .mark2 .ensures .0),
+  omega (arith, c .before .before .before .before .before .before .before .before .mark .ensures .1, c .before .before .mark2 .ensures .1),
+)
+
+pub mark-arcs-spec : {M : Type 1} → statement M
+mark-arcs-spec =
+    tie.close
+    (tie.spec
+    arc-count-requires
+    returns
+    field-requires
+    cast-mark
+    mark-requires
+    same-length
+    returns-2
+    field-requires-2
+    cast-mark-2
+    mark-requires-2
+    add-result
+    same-length-2
+    returns-3)

@@ -1,0 +1,39 @@
+use native.Mathlib.Omega.{arith}
+use Rattle.charts.proofs.Rounds.{within-long}
+use Rattle.charts.proofs.RankCases.{settled-out, settled-other, settled-none, settled-some}
+use borrow.Author.Needs.{needs}
+use Rattle.charts.proofs.ranks.settled.Statement.{statement}
+use Rattle.charts.proofs.ranks.settled.Tie as tie
+
+returns : tie.Need-returns
+returns c = settled-out (c .before .before .before .args .records .now) (c .before .before .before .args .rounds) (c .before .before .before .args .v) _ (c .before .before .before .pre .1) (c .before .before .before .args .u) (c .before .before .before .pre .0 .0) (c .if1 .taken)
+
+field-requires : tie.Need-field-requires
+field-requires c κs = search needs
+
+returns-2 : tie.Need-returns-2
+returns-2 c = settled-other (c .before .before .before .before .before .args .records .now) (c .before .before .before .before .before .args .rounds) (c .before .before .before .before .before .args .v) _ (c .before .before .before .before .before .pre .1) (c .before .before .before .before .before .args .u) _ (c .before .field .ensures) (c .if2 .taken)
+
+shared-slice-read-if3 : tie.Need-shared-slice-read-if3
+shared-slice-read-if3 c = omega (arith, within-long (c .before .before .before .before .before .before .args .records .now) (c .before .before .before .before .before .before .args .rounds) (c .before .before .before .before .before .before .args .v) _ (c .before .before .before .before .before .before .pre .1))
+
+returns-3 : tie.Need-returns-3
+returns-3 c = settled-none (c .before .before .before .before .before .before .before .args .records .now) (c .before .before .before .before .before .before .before .args .rounds) (c .before .before .before .before .before .before .before .args .v) _ (c .before .before .before .before .before .before .before .pre .1) (c .before .before .before .before .before .before .before .args .u) _ (c .before .before .before .field .ensures) (c .before .before .if2 .left) (search needs) (c .if3 .taken)
+
+shared-slice-read-result : tie.Need-shared-slice-read-result
+shared-slice-read-result c = omega (arith, within-long (c .before .before .before .before .before .before .before .before .args .records .now) (c .before .before .before .before .before .before .before .before .args .rounds) (c .before .before .before .before .before .before .before .before .args .v) _ (c .before .before .before .before .before .before .before .before .pre .1))
+
+returns-4 : tie.Need-returns-4
+returns-4 c = settled-some (c .before .before .before .before .before .before .before .before .args .records .now) (c .before .before .before .before .before .before .before .before .args .rounds) (c .before .before .before .before .before .before .before .before .args .v) _ (c .before .before .before .before .before .before .before .before .pre .1) (c .before .before .before .before .before .before .before .before .args .u) _ (c .before .before .before .before .field .ensures) (c .before .before .before .if2 .left) (search needs) (c .before .if3 .left)
+
+pub settled-spec : {M : Type 1} → statement M
+settled-spec =
+    tie.close
+    (tie.spec
+    returns
+    field-requires
+    returns-2
+    shared-slice-read-if3
+    returns-3
+    shared-slice-read-result
+    returns-4)

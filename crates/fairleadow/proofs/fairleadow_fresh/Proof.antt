@@ -1,0 +1,22 @@
+-- `fairleadow::fairleadow_fresh` meets its contract: what the two functions that it calls ensure, put together.
+use borrow.Author.Needs.{needs}
+use mathlib.Core.Path.{ap, _∙_}
+use Rattle.fairleadow.specs.Bytes.{bytesOf}
+use Rattle.fairleadow.proofs.CallLaws.{told-as}
+use Rattle.fairleadow.proofs.fairleadow_fresh.Statement.{statement}
+use Rattle.fairleadow.proofs.fairleadow_fresh.Tie as tie
+
+fresh-requires : tie.Need-fresh-requires
+fresh-requires c κs = search needs
+
+bytes-of-requires : tie.Need-bytes-of-requires
+bytes-of-requires c κs = search needs
+
+tell-requires : tie.Need-tell-requires
+tell-requires c κs = search needs
+
+returns : tie.Need-returns
+returns c = (told-as (c .before .before .before .before .before .fresh .ensures .0) (c .tell .ensures), c .before .before .before .bytes-of .ensures ∙ ap bytesOf (c .before .before .before .before .before .fresh .ensures .1))
+
+pub fairleadow-fresh-spec : {M : Type 1} → statement M
+fairleadow-fresh-spec = tie.close (tie.spec fresh-requires bytes-of-requires tell-requires returns)

@@ -1,0 +1,30 @@
+// The entry points for C, as the header has them: a slice is a pointer and a length, a reference is a pointer, and a state is fifty bytes.
+// `at` and `made` are the header's index and count.
+mod answers;
+mod bytes;
+
+use answers::tell;
+use bytes::bytes_of;
+use machine::State;
+ghost use mathlib.Core.Path.{_≡_};
+ghost use Rattle.machine.specs.State.{freshState};
+ghost use Rattle.fairleadow.specs.Bytes.{bytesOf};
+ghost use Rattle.fairleadow.specs.Calls.{Told};
+
+#[no_mangle]
+pub extern "C" fn fairleadow_fresh(
+    size: usize,
+    state: &mut [u8; 50],
+    at: &mut usize,
+    made: &mut usize,
+) -> u8
+    ensures { λ r. ⌜ Told (freshState size .reply) r (now (at .exit)) (now (made .exit)) ⌝ }
+    ensures { λ _. ⌜ now (state .exit) ≡ bytesOf (freshState size .state) ⌝ }
+{
+    let done = State::fresh(size);
+    let answer = done.answer;
+    let after = done.state;
+    let bytes = bytes_of(after);
+    *state = bytes;
+    tell(answer, at, made)
+}

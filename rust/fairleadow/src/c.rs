@@ -1,0 +1,73 @@
+//! The C functions, as include/fairleadow.h declares them.
+
+/// The state as C keeps it.
+#[repr(C)]
+#[derive(Clone, Copy, Debug, PartialEq, Eq)]
+pub struct State {
+    pub size: u8,
+    pub depth: u8,
+    pub places: [u8; 32],
+    pub results: [u8; 16],
+}
+
+impl State {
+    /// Every number 0.
+    pub const NONE: State = State { size: 0, depth: 0, places: [0; 32], results: [0; 16] };
+}
+
+extern "C" {
+    pub fn fairleadow_read_chart(
+        text: *const u8,
+        text_len: usize,
+        records: *mut u8,
+        records_len: usize,
+        index: *mut usize,
+        count: *mut usize,
+    ) -> u8;
+    pub fn fairleadow_write_chart(
+        records: *const u8,
+        records_len: usize,
+        text: *mut u8,
+        text_len: usize,
+        index: *mut usize,
+        count: *mut usize,
+    ) -> u8;
+    pub fn fairleadow_translate(
+        chart: *const u8,
+        chart_len: usize,
+        image: *mut u8,
+        image_len: usize,
+        index: *mut usize,
+        count: *mut usize,
+    ) -> u8;
+    pub fn fairleadow_check_image(
+        image: *const u8,
+        image_len: usize,
+        index: *mut usize,
+        count: *mut usize,
+    ) -> u8;
+    pub fn fairleadow_fresh(size: usize, state: *mut State, index: *mut usize, count: *mut usize) -> u8;
+    pub fn fairleadow_run(
+        image: *const u8,
+        image_len: usize,
+        state: *mut State,
+        words: *const u16,
+        words_len: usize,
+        masks: *mut u32,
+        masks_len: usize,
+        codes: *mut u8,
+        codes_len: usize,
+        index: *mut usize,
+        count: *mut usize,
+    ) -> u8;
+    pub fn fairleadow_tick(
+        image: *const u8,
+        image_len: usize,
+        state: *mut State,
+        word: u16,
+        mask: *mut u32,
+        code: *mut u8,
+        index: *mut usize,
+        count: *mut usize,
+    ) -> u8;
+}

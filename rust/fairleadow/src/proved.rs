@@ -1,0 +1,114 @@
+//! Safe calls of the C functions. Each borrows its buffers for the call, and slices that are borrowed at once never
+//! overlap, which is all that the header asks.
+
+use reference::{Answer, Library, State, Ticked};
+
+use crate::c;
+
+/// The proved library.
+pub struct Proved;
+
+/// Calls with room for index and count, and puts the answer together.
+fn answered(call: impl FnOnce(*mut usize, *mut usize) -> u8) -> Answer {
+    let (mut index, mut count) = (usize::MAX, usize::MAX);
+    match call(&mut index, &mut count) {
+        0 => Answer::Done(count),
+        number => Answer::Refused { number, index, count },
+    }
+}
+
+fn to_c(state: &State) -> c::State {
+    c::State { size: state.size, depth: state.depth, places: state.places, results: state.bits.map(u8::from) }
+}
+
+fn from_c(state: &c::State) -> State {
+    State {
+        size: state.size,
+        depth: state.depth,
+        places: state.places,
+        bits: state.results.map(|result| result != 0),
+    }
+}
+
+impl Library for Proved {
+    fn read_chart(&self, text: &[u8], out: &mut [u8]) -> Answer {
+        answered(|index, count| unsafe {
+            c::fairleadow_read_chart(text.as_ptr(), text.len(), out.as_mut_ptr(), out.len(), index, count)
+        })
+    }
+
+    fn write_chart(&self, records: &[u8], out: &mut [u8]) -> Answer {
+        answered(|index, count| unsafe {
+            c::fairleadow_write_chart(
+                records.as_ptr(),
+                records.len(),
+                out.as_mut_ptr(),
+                out.len(),
+                index,
+                count,
+            )
+        })
+    }
+
+    fn translate(&self, text: &[u8], out: &mut [u8]) -> Answer {
+        answered(|index, count| unsafe {
+            c::fairleadow_translate(text.as_ptr(), text.len(), out.as_mut_ptr(), out.len(), index, count)
+        })
+    }
+
+    fn check_image(&self, text: &[u8]) -> Answer {
+        answered(|index, count| unsafe { c::fairleadow_check_image(text.as_ptr(), text.len(), index, count) })
+    }
+
+    fn fresh(&self, size: usize) -> (Answer, State) {
+        let mut state = c::State { size: 0xFF, depth: 0xFF, places: [0xFF; 32], results: [0xFF; 16] };
+        let answer = answered(|index, count| unsafe { c::fairleadow_fresh(size, &mut state, index, count) });
+        (answer, from_c(&state))
+    }
+
+    fn run(
+        &self,
+        image: &[u8],
+        state: &State,
+        words: &[u16],
+        masks: &mut [u32],
+        codes: &mut [u8],
+    ) -> (Answer, State) {
+        let mut kept = to_c(state);
+        let answer = answered(|index, count| unsafe {
+            c::fairleadow_run(
+                image.as_ptr(),
+                image.len(),
+                &mut kept,
+                words.as_ptr(),
+                words.len(),
+                masks.as_mut_ptr(),
+                masks.len(),
+                codes.as_mut_ptr(),
+                codes.len(),
+                index,
+                count,
+            )
+        });
+        (answer, from_c(&kept))
+    }
+
+    fn tick(&self, image: &[u8], state: &mut State, word: u16) -> Ticked {
+        let mut kept = to_c(state);
+        let (mut mask, mut code) = (0, 0);
+        let answer = answered(|index, count| unsafe {
+            c::fairleadow_tick(
+                image.as_ptr(),
+                image.len(),
+                &mut kept,
+                word,
+                &mut mask,
+                &mut code,
+                index,
+                count,
+            )
+        });
+        *state = from_c(&kept);
+        Ticked { answer, mask, code }
+    }
+}

@@ -1,0 +1,160 @@
+//! The deepest stack use of the C functions, measured on a stack of our own that is painted first. The lathe has 64
+//! kilobytes: a translation has to leave room for the chart's text and the image's, a run for the image's.
+#![cfg(feature = "linked")]
+
+use std::arch::asm;
+use std::ffi::c_void;
+
+use fairleadow::c;
+use reference::entry::translated;
+use reference::frames::{text_of, Frame, CHART_TEXT, IMAGE_TEXT};
+use reference::generate::{charts, Random};
+use reference::samples::{self, Before};
+
+const MEMORY: usize = 65_536;
+const STACK: usize = 1 << 20;
+const PAINT: u8 = 0xA5;
+
+/// Runs a job on a painted stack and returns how many bytes of it were written to, from the top down.
+fn depth<T>(job: &mut T, run: extern "C" fn(&mut T)) -> usize {
+    let mut stack = vec![PAINT; STACK];
+    let top = (stack.as_mut_ptr() as usize + STACK) & !63;
+    // The job runs to its end on the painted memory, which nothing else uses; then the old stack is back.
+    unsafe {
+        asm!(
+            "mov r12, rsp",
+            "mov rsp, {top}",
+            "call {run}",
+            "mov rsp, r12",
+            top = in(reg) top,
+            run = in(reg) run as *const c_void,
+            in("rdi") std::ptr::from_mut(job),
+            out("r12") _,
+            clobber_abi("C"),
+        );
+    }
+    let untouched = std::hint::black_box(&stack).iter().take_while(|byte| **byte == PAINT).count();
+    top - stack.as_ptr() as usize - untouched
+}
+
+struct Translation {
+    chart: Vec<u8>,
+    image: Vec<u8>,
+    number: u8,
+}
+
+extern "C" fn translate(job: &mut Translation) {
+    let (mut index, mut count) = (0, 0);
+    let (chart, image) = (&job.chart, &mut job.image);
+    job.number = unsafe {
+        c::fairleadow_translate(
+            chart.as_ptr(),
+            chart.len(),
+            image.as_mut_ptr(),
+            image.len(),
+            &mut index,
+            &mut count,
+        )
+    };
+}
+
+struct Ticks {
+    image: Vec<u8>,
+    state: c::State,
+    words: Vec<u16>,
+    masks: Vec<u32>,
+    codes: Vec<u8>,
+    number: u8,
+}
+
+extern "C" fn run(job: &mut Ticks) {
+    let (mut index, mut count) = (0, 0);
+    job.number = unsafe {
+        c::fairleadow_run(
+            job.image.as_ptr(),
+            job.image.len(),
+            &mut job.state,
+            job.words.as_ptr(),
+            job.words.len(),
+            job.masks.as_mut_ptr(),
+            job.masks.len(),
+            job.codes.as_mut_ptr(),
+            job.codes.len(),
+            &mut index,
+            &mut count,
+        )
+    };
+}
+
+extern "C" fn tick(job: &mut Ticks) {
+    let (mut index, mut count) = (0, 0);
+    let image = &job.image;
+    job.number = unsafe {
+        c::fairleadow_tick(
+            image.as_ptr(),
+            image.len(),
+            &mut job.state,
+            job.words[0],
+            &mut job.masks[0],
+            &mut job.codes[0],
+            &mut index,
+            &mut count,
+        )
+    };
+}
+
+/// Large charts, those with the longest paths, and random ones.
+fn worst_charts() -> Vec<Vec<Frame>> {
+    let mut all =
+        vec![samples::operations(254), samples::one_label(), samples::most_rows(), samples::most_schemes()];
+    for before in [Before::Begin, Before::Operation, Before::Function] {
+        for different in [1, 2, 8] {
+            all.push(samples::longest_path(before, different));
+        }
+    }
+    for seed in 0..300 {
+        all.push(charts::chart(&mut Random::new(seed)));
+    }
+    all
+}
+
+fn ticks(image: Vec<u8>) -> Ticks {
+    let (mut index, mut count) = (0, 0);
+    let mut state = c::State::NONE;
+    unsafe { c::fairleadow_fresh(32, &mut state, &mut index, &mut count) };
+    let words = (0..500u16).map(|k| k.wrapping_mul(40_503)).collect();
+    Ticks { image, state, words, masks: vec![0; 500], codes: vec![0; 500], number: 0 }
+}
+
+#[test]
+fn a_translation_fits_beside_both_texts() {
+    let mut deepest = 0;
+    for records in worst_charts() {
+        let mut job = Translation { chart: text_of(&records), image: vec![0; IMAGE_TEXT], number: 0 };
+        deepest = deepest.max(depth(&mut job, translate));
+        assert!(job.number == 0 || job.number == 10);
+    }
+    println!("translate: {deepest} bytes of stack");
+    assert!(CHART_TEXT + IMAGE_TEXT + deepest < MEMORY, "translate takes {deepest} bytes of stack");
+}
+
+#[test]
+fn a_run_and_a_tick_fit_beside_the_image() {
+    let mut images: Vec<Vec<u8>> =
+        worst_charts().iter().filter_map(|records| translated(&text_of(records)).ok()).collect();
+    images.push(text_of(&samples::largest_image()));
+    let (mut deepest_run, mut deepest_tick) = (0, 0);
+    for image in images {
+        let mut job = ticks(image);
+        deepest_run = deepest_run.max(depth(&mut job, run));
+        assert!(matches!(job.number, 0 | 17));
+        let mut job = ticks(job.image);
+        deepest_tick = deepest_tick.max(depth(&mut job, tick));
+        assert_eq!(job.number, 0);
+    }
+    println!("run: {deepest_run} bytes of stack, tick: {deepest_tick}");
+    assert!(
+        IMAGE_TEXT + deepest_run.max(deepest_tick) < MEMORY,
+        "run takes {deepest_run}, tick {deepest_tick}"
+    );
+}

@@ -1,0 +1,96 @@
+//! The fifty bytes by which C keeps a state.
+#![cfg(feature = "linked")]
+
+use fairleadow::c;
+use reference::entry::translated;
+use reference::frames::text_of;
+use reference::samples::chart_p;
+
+fn fresh(size: usize) -> c::State {
+    let (mut index, mut count) = (9, 9);
+    let mut state = c::State::NONE;
+    assert_eq!(unsafe { c::fairleadow_fresh(size, &mut state, &mut index, &mut count) }, 0);
+    assert_eq!((index, count), (0, 0));
+    state
+}
+
+/// The number, and the index and count written.
+fn run(image: &[u8], state: &mut c::State, words: &[u16], room: usize) -> (u8, usize, usize) {
+    let (mut masks, mut codes) = (vec![0u32; room], vec![0u8; room]);
+    let (mut index, mut count) = (9, 9);
+    let number = unsafe {
+        c::fairleadow_run(
+            image.as_ptr(),
+            image.len(),
+            state,
+            words.as_ptr(),
+            words.len(),
+            masks.as_mut_ptr(),
+            room,
+            codes.as_mut_ptr(),
+            room,
+            &mut index,
+            &mut count,
+        )
+    };
+    (number, index, count)
+}
+
+#[test]
+fn a_result_byte_is_true_unless_0_and_comes_back_as_0_or_1() {
+    let image = translated(&text_of(&chart_p())).expect("a valid chart");
+    let mut state = fresh(3);
+    state.results = [0, 1, 2, 255, 0, 0, 0, 0, 0, 0, 0, 0, 0, 0, 0, 7];
+    assert_eq!(run(&image, &mut state, &[0], 1), (0, 0, 1));
+    assert_eq!(state.results, [0, 1, 1, 1, 0, 0, 0, 0, 0, 0, 0, 0, 0, 0, 0, 1]);
+}
+
+#[test]
+fn refusals_up_to_16_leave_every_byte() {
+    let image = translated(&text_of(&chart_p())).expect("a valid chart");
+    let mut state = fresh(3);
+    state.results[4] = 7;
+    let kept = state;
+    assert_eq!(run(&image, &mut state, &[0, 0], 1), (16, 0, 0));
+    assert_eq!(state, kept);
+    assert_eq!(run(&image[1..], &mut state, &[0], 1), (1, 0, 0));
+    assert_eq!(state, kept);
+    state.places[20] = 1;
+    let unfit = state;
+    assert_eq!(run(&image, &mut state, &[0], 1), (15, 0, 0));
+    assert_eq!(state, unfit);
+}
+
+#[test]
+fn a_refused_tick_leaves_the_state_the_mask_and_the_code() {
+    let image = translated(&text_of(&chart_p())).expect("a valid chart");
+    let mut state = fresh(1);
+    assert_eq!(run(&image, &mut state, &[0], 1), (0, 0, 1));
+    state.results[4] = 7;
+    let kept = state;
+    let (mut mask, mut code, mut index, mut count) = (123, 45, 9, 9);
+    let number = unsafe {
+        c::fairleadow_tick(
+            image.as_ptr(),
+            image.len(),
+            &mut state,
+            0,
+            &mut mask,
+            &mut code,
+            &mut index,
+            &mut count,
+        )
+    };
+    assert_eq!((number, index, count, mask, code), (17, 0, 0, 123, 45));
+    assert_eq!(state, kept);
+}
+
+#[test]
+fn a_bad_size_gives_a_state_of_zeros() {
+    for size in [0, 33, 256, usize::MAX] {
+        let (mut index, mut count) = (9, 9);
+        let mut state = c::State { size: 1, depth: 2, places: [3; 32], results: [4; 16] };
+        assert_eq!(unsafe { c::fairleadow_fresh(size, &mut state, &mut index, &mut count) }, 14);
+        assert_eq!((index, count, state), (0, 0, c::State::NONE));
+    }
+}

@@ -1,0 +1,193 @@
+//! Charts and an image of chosen size, for benchmarks and the measure of memory.
+
+use crate::frames::Frame;
+
+/// Chart P of the paper.
+pub fn chart_p() -> Vec<Frame> {
+    vec![
+        [0, 1, 0, 1, 0, 0, 0, 0, 0, 0],
+        [2, 1, 2, 2, 0, 0, 0, 0, 0, 1],
+        [1, 1, 0, 0, 0, 0, 0, 0, 0, 0],
+        [0, 2, 0, 4, 0, 0, 0, 0, 0, 0],
+        [3, 2, 0, 5, 6, 0, 0, 0, 0, 0],
+        [1, 2, 0, 0, 0, 0, 0, 0, 0, 0],
+        [2, 2, 2, 5, 0, 0, 0, 0, 0, 2],
+    ]
+}
+
+fn begin(records: &mut Vec<Frame>, scheme: u8) {
+    let next = records.len() as u8 + 1;
+    records.push([0, scheme, 0, next, 0, 0, 0, 0, 0, 0]);
+}
+
+fn end(records: &mut Vec<Frame>, scheme: u8) {
+    records.push([1, scheme, 0, 0, 0, 0, 0, 0, 0, 0]);
+}
+
+/// An operation that leads to the node after it, with a mask and a result of its own.
+fn operation(records: &mut Vec<Frame>, scheme: u8, called: u8) {
+    let at = records.len() as u8;
+    records.push([2, scheme, called, at + 1, 0, at % 3, 0, 0, 1, at]);
+}
+
+/// A function; both its arcs lead to the node after it.
+fn function(records: &mut Vec<Frame>, scheme: u8, called: u8) {
+    let next = records.len() as u8 + 1;
+    records.push([4, scheme, called, next, next, 0, 0, 0, 0, 0]);
+}
+
+/// Conditions, both arcs of each leading to the node after it.
+fn conditions(records: &mut Vec<Frame>, scheme: u8, numbers: impl Iterator<Item = u8>) {
+    for number in numbers {
+        let next = records.len() as u8 + 1;
+        records.push([3, scheme, number, next, next, 0, 0, 0, 0, 0]);
+    }
+}
+
+/// One scheme of so many operations in a row: two labels more than operations.
+pub fn operations(count: usize) -> Vec<Frame> {
+    let mut records = Vec::new();
+    begin(&mut records, 1);
+    for _ in 0..count {
+        operation(&mut records, 1, 0);
+    }
+    end(&mut records, 1);
+    records
+}
+
+/// B9: one operation before ten different conditions, 1,024 rows of one label.
+pub fn one_label() -> Vec<Frame> {
+    let mut records = Vec::new();
+    begin(&mut records, 1);
+    operation(&mut records, 1, 0);
+    conditions(&mut records, 1, 0..10);
+    end(&mut records, 1);
+    records
+}
+
+/// 229 labels and 1,024 rows.
+pub fn most_rows() -> Vec<Frame> {
+    let mut records = Vec::new();
+    begin(&mut records, 1);
+    for exponent in [9, 8, 5] {
+        operation(&mut records, 1, 0);
+        conditions(&mut records, 1, 0..exponent);
+    }
+    for _ in 0..224 {
+        operation(&mut records, 1, 0);
+    }
+    end(&mut records, 1);
+    records
+}
+
+/// Sixteen schemes and 256 nodes. Each scheme but the last calls the next one as a function and then by an operation.
+pub fn most_schemes() -> Vec<Frame> {
+    let mut records = Vec::new();
+    for scheme in 1..=16 {
+        begin(&mut records, scheme);
+        conditions(&mut records, scheme, 0..2);
+        if scheme < 16 {
+            function(&mut records, scheme, scheme + 1);
+            operation(&mut records, scheme, scheme + 1);
+        }
+        while records.len() % 16 != 15 {
+            operation(&mut records, scheme, 0);
+        }
+        end(&mut records, scheme);
+    }
+    records
+}
+
+/// What stands before the longest row of conditions that a chart can have.
+#[derive(Clone, Copy, Debug)]
+pub enum Before {
+    Begin,
+    Operation,
+    Function,
+}
+
+/// 256 nodes, as many of them conditions in a row as can be, of numbers 0 to `different` - 1 in turn. Such a row is the
+/// longest path that a translator can go down. They stand in scheme 2.
+pub fn longest_path(before: Before, different: u8) -> Vec<Frame> {
+    let mut records = Vec::new();
+    begin(&mut records, 1);
+    operation(&mut records, 1, 2);
+    end(&mut records, 1);
+    begin(&mut records, 2);
+    match before {
+        Before::Begin => {}
+        Before::Operation => operation(&mut records, 2, 2),
+        Before::Function => function(&mut records, 2, 2),
+    }
+    let count = 255 - records.len();
+    conditions(&mut records, 2, (0..different).cycle().take(count));
+    end(&mut records, 2);
+    records
+}
+
+/// The largest image: sixteen schemes, 256 labels, 1,024 rows. Label 2 calls itself through scheme 2 until the stack is
+/// full; the labels after it are plain.
+pub fn largest_image() -> Vec<Frame> {
+    let mut frames = vec![[0x0F, 16, 255, 4, 0, 0, 0, 0, 0, 0]];
+    for scheme in 1..=16 {
+        let entry = match scheme {
+            1 => 2,
+            2 => 3,
+            _ => 1,
+        };
+        frames.push([0x10, scheme, entry, 0, 0, 0, 0, 0, 0, 0]);
+    }
+    frames.push([0x11, 0, 4, 0, 1, 0, 0, 0, 0, 0]);
+    frames.push([0x11, 1, 3, 0, 0, 0, 0, 0, 0, 0]);
+    frames.push([0x11, 2, 1, 2, 1, 0, 0, 0, 0, 1]);
+    for label in 3..=255 {
+        let (kind, called) = if label == 3 { (1, 2) } else { (0, 0) };
+        frames.push([0x11, label, kind, called, 2, 0, 0, 0, 0, label]);
+    }
+    for row in 0..1024 {
+        let from = (2 + row / 4).min(255) as u8;
+        let next = match from {
+            2 => 0,
+            255 => 1,
+            _ => from + 1,
+        };
+        frames.push([0x12, from, 0, 3, 0, row as u8 % 4, 2, next, 0, 0]);
+    }
+    frames
+}
+
+#[cfg(test)]
+mod tests {
+    use super::*;
+    use crate::entry::{image_from_text, translated};
+    use crate::frames::text_of;
+
+    fn frame_count(records: &[Frame]) -> usize {
+        translated(&text_of(records)).expect("a valid chart").len() / 23
+    }
+
+    #[test]
+    fn the_charts_are_valid_and_as_large_as_said() {
+        assert_eq!(frame_count(&chart_p()), 12);
+        assert_eq!(frame_count(&operations(198)), 1 + 1 + 200 + 198);
+        assert_eq!(frame_count(&operations(254)), 1 + 1 + 256 + 254);
+        assert_eq!(frame_count(&one_label()), 1 + 1 + 3 + 1024);
+        assert_eq!(frame_count(&most_rows()), 1 + 1 + 229 + 1024);
+        assert_eq!(most_schemes().len(), 256);
+        assert!(frame_count(&most_schemes()) > 200);
+        for before in [Before::Begin, Before::Operation, Before::Function] {
+            for different in [1, 8] {
+                let records = longest_path(before, different);
+                assert_eq!(records.len(), 256);
+                assert!(frame_count(&records) > 5);
+            }
+        }
+    }
+
+    #[test]
+    fn the_image_is_accepted() {
+        let text = text_of(&largest_image());
+        assert_eq!(text.len(), 29_831);
+        image_from_text(&text).expect("an accepted image");
+    }
+}
