@@ -1,6 +1,7 @@
 // The stack machine: its state, one tick, and a run of ticks over an image.
 use frames::Answer;
 
+mod fit;
 mod fresh;
 
 // Places hold labels, the bottom first, up to the depth, and 0 above it; scheme h's result bit stands at h - 1.
