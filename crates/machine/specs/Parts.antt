@@ -6,16 +6,22 @@ use mathlib.Core.List.{List}
 use lib.Dec.{ltb, eqb}
 use lib.ListN.{length, getD}
 use Rattle.lists.specs.Pick.{pick}
+use Rattle.lists.specs.Sequences.{over}
 use Rattle.bits.specs.Results.{Results}
 use Rattle.frames.specs.Frame.{field, pairAt}
-use Rattle.frames.specs.Verdict.{fine}
+use Rattle.frames.specs.Verdict.{Verdict, fine, refused, next, when}
+use Rattle.frames.specs.Answer.{Reply, success, refusal, reply}
 use Rattle.image.specs.Image.{Image, Row}
 use Rattle.image.specs.Decode.{decoded}
 use Rattle.image.specs.Check.{tableVerdict}
 use Rattle.machine.specs.declared.State.{State}
 use Rattle.machine.specs.declared.Stepped.{Stepped}
+use Rattle.machine.specs.declared.Ended.{Ended}
+use Rattle.machine.specs.declared.Answered.{Answered}
+use Rattle.machine.specs.declared.Advanced.{Advanced}
 use Rattle.machine.specs.State.{unfit}
 use Rattle.machine.specs.Tick.{matches, Found, found, missing, Ticked, ticked, stopped, tick}
+use Rattle.machine.specs.Run.{Run, ticks, noRoom, runOn}
 
 -- the row in frame f of a table, and whether it is the label's and matches
 abbrev pub rowOn : List ℕ → ℕ → Row
@@ -65,3 +71,42 @@ pub record Steps (b : List ℕ) (s : State) (w : ℕ) (r : Stepped) (ps : List �
   pub step : r ≡ stepOf s (tick (decoded b) s w)
   pub places : ps ≡ after s (tick (decoded b) s w) .places
   pub bits : bs ≡ after s (tick (decoded b) s w) .bits
+
+-- the verdict of a list of ticks by the number that ended it, 0 where every word had its tick
+abbrev pub verdictOf : ℕ → Verdict
+verdictOf zero = fine
+verdictOf (suc n) = refused (suc n) 0
+
+-- what the ticks of s over the words answer and leave in the lent places, bits and buffers
+pub record Ends (b : List ℕ) (s : State) (ws ms₀ ks₀ : List ℕ) (r : Ended) (ps : List ℕ) (bs : Results) (ms ks : List ℕ) : Type 0 where
+  pub verdict : verdictOf (r .number) ≡ ticks (decoded b) s ws .verdict
+  pub count : r .count ≡ length (ticks (decoded b) s ws .codes)
+  pub size : s .size ≡ ticks (decoded b) s ws .state .size
+  pub depth : r .depth ≡ ticks (decoded b) s ws .state .depth
+  pub places : ps ≡ ticks (decoded b) s ws .state .places
+  pub bits : bs ≡ ticks (decoded b) s ws .state .bits
+  pub masks : ms ≡ over (ticks (decoded b) s ws .masks) ms₀
+  pub codes : ks ≡ over (ticks (decoded b) s ws .codes) ks₀
+
+-- a run on an accepted table
+unfoldable pub runTable : List ℕ → State → List ℕ → List ℕ → List ℕ → Run
+runTable b s ws ms ks =
+    runOn (next (when 15 (unfit (decoded b) s)) λ _. when 16 (noRoom ws ms ks)) (λ _. ticks (decoded b) s ws) s ms ks
+
+-- an answer with its state and what the two buffers then hold, as a run has them
+pub record Runs (x : Run) (r : Answered) (ms ks : List ℕ) : Type 0 where
+  pub answered : reply (r .answer) ≡ x .reply
+  pub state : r .state ≡ x .state
+  pub masks : ms ≡ x .masks
+  pub codes : ks ≡ x .codes
+
+-- one tick of a state by value
+abbrev pub tickReply : Ticked → Reply
+tickReply (ticked m k t) = success 1
+tickReply (stopped n) = refusal n 0 0
+
+pub record Advances (s : State) (x : Ticked) (r : Advanced) : Type 0 where
+  pub answered : reply (r .answer) ≡ tickReply x
+  pub mask : r .mask ≡ stepOf s x .mask
+  pub code : r .code ≡ stepOf s x .code
+  pub state : r .state ≡ after s x

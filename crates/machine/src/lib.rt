@@ -4,7 +4,11 @@ use frames::Answer;
 mod fit;
 mod fresh;
 mod rows;
+mod runs;
 mod tick;
+mod value;
+
+pub use runs::run;
 
 // Places hold labels, the bottom first, up to the depth, and 0 above it; scheme h's result bit stands at h - 1.
 pub struct State {
@@ -26,6 +30,21 @@ pub struct Stepped {
     pub mask: u32,
     pub code: u8,
     pub depth: u8,
+}
+
+// What the ticks over the words of a run answer: 0, or the number that stopped one, the finished ticks and the depth after them.
+pub struct Ended {
+    pub number: u8,
+    pub count: usize,
+    pub depth: u8,
+}
+
+// What one tick of a state by value gives.
+pub struct Advanced {
+    pub answer: Answer,
+    pub mask: u32,
+    pub code: u8,
+    pub state: State,
 }
 
 impl State {

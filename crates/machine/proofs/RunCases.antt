@@ -1,0 +1,180 @@
+-- The answers of a run and of one tick by value, by what their parts give.
+use mathlib.Core.Path.{_≡_, refl, sym, _∙_, ap, ap₂}
+use mathlib.Core.Bool.{Bool, true, false, _||_}
+use mathlib.Core.List.{List}
+use Prim.Native.Nat.{ℕ, _*_, _≤_, _<_}
+use native.Mathlib.Omega.{arith}
+use lib.Dec.{ltb}
+use lib.ListN.{length, take}
+use borrow.Author.Tests.{lt-ltb, le-ltb}
+use Rattle.lists.specs.Sequences.{over}
+use Rattle.lists.proofs.Tests.{or-true-l, or-true-r, or-none}
+use Rattle.bits.specs.Results.{Results}
+use Rattle.frames.specs.Frame.{frameCount, contents}
+use Rattle.frames.specs.Verdict.{Verdict, fine, refused, next, when}
+use Rattle.frames.specs.Answer.{Reply, success, refusal, reply, replied, judged}
+use Rattle.frames.specs.Check.{textVerdict}
+use Rattle.frames.specs.declared.Answer.{Answer}
+use Rattle.frames.specs.declared.Answer.the-variants.{Done, Refused}
+use Rattle.image.specs.Decode.{decoded}
+use Rattle.frames.proofs.Verdicts.{next-first}
+use Rattle.frames.proofs.Chains.{done-fine, refused-verdict}
+use Rattle.image.specs.Check.{tableVerdict, imageVerdict}
+use Rattle.image.specs.Parts.{tableAfter}
+use Rattle.image.proofs.Accepted.{image-table}
+use Rattle.image.proofs.ReadCases.{good-text, front-contents, front-length}
+use Rattle.machine.specs.declared.State.{State}
+use Rattle.machine.specs.declared.Stepped.{Stepped}
+use Rattle.machine.specs.declared.Ended.{Ended}
+use Rattle.machine.specs.declared.Advanced.{Advanced}
+use Rattle.machine.specs.declared.Answered.{Answered}
+use Rattle.machine.specs.State.{unfit}
+use Rattle.machine.specs.Tick.{Ticked, ticked, stopped, tick}
+use Rattle.machine.specs.Run.{Ran, Run, ticks, noRoom, runVerdict, runOn, run}
+use Rattle.machine.specs.Parts.{stateOf, after, stepOf, Steps, verdictOf, Ends, runTable, Runs, tickReply, Advances}
+use Rattle.machine.proofs.TurnCases.{number-verdict, went, stood}
+
+-- ---- on an accepted table
+module _ (b : List ℕ) (s : State) (ws ms₀ ks₀ : List ℕ) where
+  abbrev given : Run
+  given = runTable b s ws ms₀ ks₀
+
+  abbrev ran : Ran
+  ran = ticks (decoded b) s ws
+
+  abbrev kept : ℕ → Run
+  kept n = record { reply = refusal n 0 0; state = s; masks = ms₀; codes = ks₀ }
+
+  table-unfit : unfit (decoded b) s ≡ true → given ≡ kept 15
+  unfolding runTable
+  table-unfit e = ap (λ (t : Bool). runOn (next (when 15 t) λ _. when 16 (noRoom ws ms₀ ks₀)) (λ _. ran) s ms₀ ks₀) e
+
+  module _ (e : unfit (decoded b) s ≡ false) where
+    table-room : (t : Bool) → noRoom ws ms₀ ks₀ ≡ t → given ≡ runOn (when 16 t) (λ _. ran) s ms₀ ks₀
+    unfolding runTable
+    table-room t r =
+        ap (λ (u : Bool). runOn (next (when 15 u) λ _. when 16 (noRoom ws ms₀ ks₀)) (λ _. ran) s ms₀ ks₀) e
+        ∙ ap (λ (u : Bool). runOn (when 16 u) (λ _. ran) s ms₀ ks₀) r
+
+    pub masks-short : length ms₀ < length ws → Runs given (record { answer = Refused 16 0 0; state = s }) ms₀ ks₀
+    masks-short h =
+        let g : given ≡ kept 16 = table-room true (or-true-l (ltb (length ms₀) (length ws)) (ltb (length ks₀) (length ws)) (lt-ltb (length ms₀) (length ws) h)) in
+        record { answered = sym (ap (λ (x : Run). x .reply) g); state = sym (ap (λ (x : Run). x .state) g); masks = sym (ap (λ (x : Run). x .masks) g); codes = sym (ap (λ (x : Run). x .codes) g) }
+
+    pub codes-short : length ks₀ < length ws → Runs given (record { answer = Refused 16 0 0; state = s }) ms₀ ks₀
+    codes-short h =
+        let g : given ≡ kept 16 = table-room true (or-true-r (ltb (length ms₀) (length ws)) (ltb (length ks₀) (length ws)) (lt-ltb (length ks₀) (length ws) h)) in
+        record { answered = sym (ap (λ (x : Run). x .reply) g); state = sym (ap (λ (x : Run). x .state) g); masks = sym (ap (λ (x : Run). x .masks) g); codes = sym (ap (λ (x : Run). x .codes) g) }
+
+    module _ (p : length ws ≤ length ms₀) (q : length ws ≤ length ks₀) (r : Ended) (ps : List ℕ) (bs : Results) (ms ks : List ℕ) (E : Ends b s ws ms₀ ks₀ r ps bs ms ks) where
+      abbrev done : Run
+      done = record { reply = replied (ran .verdict) (length (ran .codes)); state = ran .state; masks = over (ran .masks) ms₀; codes = over (ran .codes) ks₀ }
+
+      table-done : given ≡ done
+      table-done = table-room false
+          (or-none (ltb (length ms₀) (length ws)) (ltb (length ks₀) (length ws)) (le-ltb (length ms₀) (length ws) p) (le-ltb (length ks₀) (length ws) q))
+
+      after-all : stateOf (s .size) (r .depth) ps bs ≡ given .state
+      after-all =
+          (λ j. record { size = E .size j; depth = E .depth j; places = E .places j; bits = E .bits j }) ∙ sym (ap (λ (x : Run). x .state) table-done)
+
+      ended-runs : (a : Answer) → reply a ≡ replied (verdictOf (r .number)) (r .count) → Runs given (record { answer = a; state = stateOf (s .size) (r .depth) ps bs }) ms ks
+      ended-runs a e = record {
+        answered = e ∙ ap₂ replied (E .verdict) (E .count) ∙ sym (ap (λ (x : Run). x .reply) table-done);
+        state = after-all;
+        masks = E .masks ∙ sym (ap (λ (x : Run). x .masks) table-done);
+        codes = E .codes ∙ sym (ap (λ (x : Run). x .codes) table-done);
+      }
+
+      pub all-done : r .number ≡ 0 → Runs given (record { answer = Done (r .count); state = stateOf (s .size) (r .depth) ps bs }) ms ks
+      all-done z = ended-runs (Done (r .count)) (sym (ap (λ (n : ℕ). replied (verdictOf n) (r .count)) z))
+
+      pub some-done : (r .number ≡ 0 → ⊥) → Runs given (record { answer = Refused (r .number) 0 (r .count); state = stateOf (s .size) (r .depth) ps bs }) ms ks
+      some-done z = ended-runs (Refused (r .number) 0 (r .count)) (sym (ap (λ (v : Verdict). replied v (r .count)) (number-verdict (r .number) z)))
+
+  pub unfit-runs : unfit (decoded b) s ≡ true → Runs given (record { answer = Refused 15 0 0; state = s }) ms₀ ks₀
+  unfit-runs e =
+      let g : given ≡ kept 15 = table-unfit e in
+      record { answered = sym (ap (λ (x : Run). x .reply) g); state = sym (ap (λ (x : Run). x .state) g); masks = sym (ap (λ (x : Run). x .masks) g); codes = sym (ap (λ (x : Run). x .codes) g) }
+
+-- ---- by the image's text
+module _ (t : List ℕ) (s : State) (ws ms ks : List ℕ) where
+  pub run-table : imageVerdict t ≡ fine → run t s ws ms ks ≡ runTable (contents t) s ws ms ks
+  unfolding run runTable runVerdict
+  run-table e =
+      ap (λ (v : Verdict). runOn (next v λ _. next (when 15 (unfit (decoded (contents t)) s)) λ _. when 16 (noRoom ws ms ks)) (λ _. ticks (decoded (contents t)) s ws) s ms ks) e
+
+  pub run-refused : (k i : ℕ) → imageVerdict t ≡ refused k i → run t s ws ms ks ≡ record { reply = refusal k i 0; state = s; masks = ms; codes = ks }
+  unfolding run runVerdict
+  run-refused k i e =
+      ap (λ (v : Verdict). runOn (next v λ _. next (when 15 (unfit (decoded (contents t)) s)) λ _. when 16 (noRoom ws ms ks)) (λ _. ticks (decoded (contents t)) s ws) s ms ks) e
+
+  -- the four things that a run hands back, as the image check's answer decides
+  abbrev Handed : Answered → List ℕ → List ℕ → Type 0
+  Handed r us vs =
+      (reply (r .answer) ≡ run t s ws ms ks .reply) × ((r .state ≡ run t s ws ms ks .state) × ((us ≡ run t s ws ms ks .masks) × (vs ≡ run t s ws ms ks .codes)))
+
+  module _ (a : Answer) (gives : reply a ≡ judged (imageVerdict t) 0) where
+    pub image-refused : (k i m : ℕ) → a ≡ Refused k i m → Handed (record { answer = a; state = s }) ms ks
+    image-refused k i m e =
+        let v : imageVerdict t ≡ refused k i = refused-verdict a (imageVerdict t) 0 gives k i m e .0 in
+        let g : run t s ws ms ks ≡ record { reply = refusal k i 0; state = s; masks = ms; codes = ks } = run-refused k i v in (
+          gives ∙ ap (λ (w : Verdict). judged w 0) v ∙ sym (ap (λ (x : Run). x .reply) g),
+          (sym (ap (λ (x : Run). x .state) g), (sym (ap (λ (x : Run). x .masks) g), sym (ap (λ (x : Run). x .codes) g))),
+        )
+
+    module _ (m : ℕ) (done : a ≡ Done m) (old table : List ℕ) (left : table ≡ tableAfter (textVerdict 29831 t) t old) where
+      accepted : imageVerdict t ≡ fine
+      accepted = done-fine a (imageVerdict t) 0 gives m done .0
+
+      passes : textVerdict 29831 t ≡ fine
+      unfolding imageVerdict
+      passes = next-first (textVerdict 29831 t) (λ _. tableVerdict (contents t)) accepted
+
+      holds : table ≡ over (contents t) old
+      holds = left ∙ ap (λ (v : Verdict). tableAfter v t old) passes
+
+      pub front-is : take (10 * frameCount t) table ≡ contents t
+      front-is = front-contents t old table (frameCount t) (good-text t passes) holds
+
+      pub front-long : 10 * frameCount t ≡ length (take (10 * frameCount t) table)
+      front-long = front-length t old table (frameCount t) (good-text t passes) holds
+
+      pub front-short : 10 * frameCount t ≤ 12970
+      front-short = omega (arith, good-text t passes .most)
+
+      pub front-fine : tableVerdict (take (10 * frameCount t) table) ≡ fine
+      front-fine = ap tableVerdict front-is ∙ image-table t accepted
+
+      pub image-run : (r : Answered) (us vs : List ℕ) → Runs (runTable (take (10 * frameCount t) table) s ws ms ks) r us vs → Handed r us vs
+      image-run r us vs R =
+          let g : runTable (take (10 * frameCount t) table) s ws ms ks ≡ run t s ws ms ks =
+          ap (λ (b : List ℕ). runTable b s ws ms ks) front-is ∙ sym (run-table accepted) in (
+            R .answered ∙ ap (λ (x : Run). x .reply) g,
+            (R .state ∙ ap (λ (x : Run). x .state) g, (R .masks ∙ ap (λ (x : Run). x .masks) g, R .codes ∙ ap (λ (x : Run). x .codes) g)),
+          )
+
+-- ---- one tick by value
+module _ (b : List ℕ) (s : State) (w : ℕ) (r : Stepped) (ps : List ℕ) (bs : Results) (q : Steps b s w r ps bs) where
+  pub value-went : r .number ≡ 0 → Advances s (tick (decoded b) s w) (record { answer = Done 1; mask = r .mask; code = r .code; state = stateOf (s .size) (r .depth) ps bs })
+  value-went z =
+      let e : tick (decoded b) s w ≡ ticked (r .mask) (r .code) (stateOf (s .size) (r .depth) ps bs) = went b s w r ps bs q z in
+      record {
+        answered = sym (ap tickReply e);
+        mask = ap (λ (x : Stepped). x .mask) (q .step);
+        code = ap (λ (x : Stepped). x .code) (q .step);
+        state = sym (ap (after s) e);
+      }
+
+  pub value-stood : (r .number ≡ 0 → ⊥)
+      → Advances s (tick (decoded b) s w) (record { answer = Refused (r .number) 0 0; mask = r .mask; code = r .code; state = stateOf (s .size) (r .depth) ps bs })
+  value-stood z =
+      let S = stood b s w r ps bs q z in
+      record {
+        answered = sym (ap tickReply (S .halts));
+        mask = ap (λ (x : Stepped). x .mask) (q .step);
+        code = ap (λ (x : Stepped). x .code) (q .step);
+        state =
+            let d : r .depth ≡ s .depth = ap (λ (x : Stepped). x .depth) (q .step ∙ ap (stepOf s) (S .halts)) in
+            (λ j. record { size = s .size; depth = d j; places = S .samePlaces j; bits = S .sameBits j }) ∙ sym (ap (after s) (S .halts));
+      }

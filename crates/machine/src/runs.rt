@@ -1,0 +1,147 @@
+// A run of ticks: the image is checked and decoded once, then each word makes one tick on the parts of the state.
+use super::Answered;
+use super::Ended;
+use super::State;
+use crate::fit::is_unfit;
+use crate::tick::tick_parts;
+use frames::Answer;
+use image::read_image;
+ghost use mathlib.Core.Path.{_≡_};
+ghost use Prim.Native.Nat.{_≤_};
+ghost use lib.ListN.{length};
+ghost use Rattle.frames.specs.Answer.{reply};
+ghost use Rattle.frames.specs.Verdict.{fine};
+ghost use Rattle.image.specs.Check.{tableVerdict};
+ghost use Rattle.machine.specs.Run.{run};
+ghost use Rattle.machine.specs.Parts.{stateOf, Ready, Ends, runTable, Runs};
+
+// One tick a word, until one is stopped.
+fn tick_all(
+    b: &[u8],
+    size: u8,
+    start: u8,
+    places: &mut [u8],
+    bits: &mut [bool],
+    words: &[u16],
+    masks: &mut [u32],
+    codes: &mut [u8],
+) -> Ended
+    requires { ⌜ Ready (now b) (stateOf size start (now places) (now bits)) ⌝ }
+    requires { ⌜ (length (now words) ≤ length (now masks)) × (length (now words) ≤ length (now codes)) ⌝ }
+    ensures { λ r. ⌜ Ends (now (b .entry)) (stateOf size start (now (places .entry)) (now (bits .entry))) (now (words .entry)) (now (masks .entry)) (now (codes .entry)) r (now (places .exit)) (now (bits .exit)) (now (masks .exit)) (now (codes .exit)) ⌝ }
+{
+    let mut depth = start;
+    let mut i: usize = 0;
+    while i < words.len() {
+        let done = tick_parts(b, size, depth, places, bits, words[i]);
+        let number = done.number;
+        if number != 0 {
+            return Ended {
+                number,
+                count: i,
+                depth,
+            };
+        }
+        masks[i] = done.mask;
+        codes[i] = done.code;
+        depth = done.depth;
+        i += 1;
+    }
+    Ended {
+        number: 0,
+        count: i,
+        depth,
+    }
+}
+
+// The state taken apart once, and put together after the last tick.
+fn run_ticks(b: &[u8], state: State, words: &[u16], masks: &mut [u32], codes: &mut [u8]) -> Answered
+    requires { ⌜ Ready (now b) state ⌝ }
+    requires { ⌜ (length (now words) ≤ length (now masks)) × (length (now words) ≤ length (now codes)) ⌝ }
+    ensures { λ r. ⌜ Runs (runTable (now (b .entry)) state (now (words .entry)) (now (masks .entry)) (now (codes .entry))) r (now (masks .exit)) (now (codes .exit)) ⌝ }
+{
+    let size = state.size;
+    let depth = state.depth;
+    let mut places = state.places;
+    let mut bits = state.bits;
+    let ended = tick_all(b, size, depth, &mut places, &mut bits, words, masks, codes);
+    let number = ended.number;
+    let count = ended.count;
+    let after = State {
+        size,
+        depth: ended.depth,
+        places,
+        bits,
+    };
+    if number == 0 {
+        return Answered {
+            answer: Answer::Done(count),
+            state: after,
+        };
+    }
+    Answered {
+        answer: Answer::Refused {
+            number,
+            index: 0,
+            count,
+        },
+        state: after,
+    }
+}
+
+// 15 and 16, then the ticks.
+fn run_table(b: &[u8], state: State, words: &[u16], masks: &mut [u32], codes: &mut [u8]) -> Answered
+    requires { ⌜ tableVerdict (now b) ≡ fine ⌝ }
+    ensures { λ r. ⌜ Runs (runTable (now (b .entry)) state (now (words .entry)) (now (masks .entry)) (now (codes .entry))) r (now (masks .exit)) (now (codes .exit)) ⌝ }
+{
+    if is_unfit(b, state) {
+        return Answered {
+            answer: Answer::Refused {
+                number: 15,
+                index: 0,
+                count: 0,
+            },
+            state,
+        };
+    }
+    if masks.len() < words.len() {
+        return Answered {
+            answer: Answer::Refused {
+                number: 16,
+                index: 0,
+                count: 0,
+            },
+            state,
+        };
+    }
+    if codes.len() < words.len() {
+        return Answered {
+            answer: Answer::Refused {
+                number: 16,
+                index: 0,
+                count: 0,
+            },
+            state,
+        };
+    }
+    run_ticks(b, state, words, masks, codes)
+}
+
+// A run: what the image check tries, 15 and 16 before the first tick, 17 and 18 tick by tick.
+pub fn run(
+    image: &[u8],
+    state: State,
+    words: &[u16],
+    masks: &mut [u32],
+    codes: &mut [u8],
+) -> Answered
+    ensures { λ r. ⌜ (reply (r .answer) ≡ run (now (image .entry)) state (now (words .entry)) (now (masks .entry)) (now (codes .entry)) .reply) × ((r .state ≡ run (now (image .entry)) state (now (words .entry)) (now (masks .entry)) (now (codes .entry)) .state) × ((now (masks .exit) ≡ run (now (image .entry)) state (now (words .entry)) (now (masks .entry)) (now (codes .entry)) .masks) × (now (codes .exit) ≡ run (now (image .entry)) state (now (words .entry)) (now (masks .entry)) (now (codes .entry)) .codes))) ⌝ }
+{
+    let mut table = [0u8; 12970];
+    let answer = read_image(image, &mut table);
+    let Answer::Done(_) = answer else {
+        return Answered { answer, state };
+    };
+    let n = 10 * (image.len() / 23);
+    run_table(&table[..n], state, words, masks, codes)
+}
