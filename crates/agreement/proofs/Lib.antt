@@ -10,3 +10,4 @@ pub mod Joins
 pub mod Chain
 pub mod TableFactsHold
 pub mod Demand
+pub mod Delivered

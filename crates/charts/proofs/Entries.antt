@@ -61,10 +61,10 @@ formed-chart t table zeros n F e = ap (take (10 * n)) e ∙ front (10 * n) (cont
 pub chart-length : (t c : List ℕ) (n : ℕ) → Formed t n → c ≡ contents t → length c ≡ 10 * n
 chart-length t c n F e = ap length e ∙ F .records
 
-pub chart-asked : (t c : List ℕ) (n : ℕ) → Formed t n → c ≡ contents t → (length c ≡ 10 * size c) × ((1 ≤ size c) × (size c ≤ 256))
+pub chart-asked : (t c : List ℕ) (n : ℕ) → Formed t n → c ≡ contents t → (length c ≡ 10 * size c) × (size c ≤ 256)
 chart-asked t c n F e =
     let l : length c ≡ 10 * n = chart-length t c n F e in
-    (omega arith, (omega (arith, F .some), omega (arith, F .few)))
+    (omega arith, omega (arith, F .few))
 
 module _ (t out : List ℕ) where
   pub read-unformed : (a : Answer) → reply a ≡ judged (textVerdict 5888 t) (frameCount t) → (k i m : ℕ) → a ≡ Refused k i m
@@ -113,6 +113,9 @@ whole c e =
     go : (m : ℕ) → Length 10 2560 m → 1 ≤ m / 10
     go zero l = absurd (l .some refl)
     go (suc m) l = omega (arith, l .whole)
+
+pub whole-asked : (c : Chart) → Whole c → (length c ≡ 10 * size c) × (size c ≤ 256)
+whole-asked c w = (w .records, w .few)
 
 module _ (c : Chart) (out : List ℕ) where
   pub write-unwhole : badLength 10 2560 (length c) ≡ true → (refusal 1 0 0 ≡ writeChart c out .reply) × (out ≡ writeChart c out .buffer)

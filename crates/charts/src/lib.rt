@@ -2,6 +2,7 @@
 mod arcs;
 mod check;
 mod circles;
+mod entry;
 mod fields;
 mod joined;
 mod marks;
@@ -9,5 +10,7 @@ mod ranks;
 mod schemes;
 
 pub use check::check_chart;
+pub use entry::read_chart;
+pub use entry::write_chart;
 pub use fields::field;
 pub use ranks::rank_conditions;

@@ -1,0 +1,204 @@
+// The chart reader and the chart writer on chart P of standard input: there and back, then one edit of it after the other.
+// Each call prints a frame: 00 for the reader and 01 for the writer, the number or 00, the index, the count, and how many bytes of
+// the lent buffer changed.
+use frames::Answer;
+
+// How many bytes of a buffer are not 170, which no record and no character here is.
+fn changed(out: &[u8]) -> usize {
+    let mut n: usize = 0;
+    let mut i: usize = 0;
+    while i < out.len() {
+        if out[i] != 170 {
+            n += 1;
+        }
+        i += 1;
+    }
+    n
+}
+
+fn print(entry: u8, number: u8, index: usize, count: usize, bytes: usize) {
+    let ten = [
+        entry,
+        number,
+        (index / 256 % 256) as u8,
+        (index % 256) as u8,
+        (count / 256 % 256) as u8,
+        (count % 256) as u8,
+        (bytes / 256 % 256) as u8,
+        (bytes % 256) as u8,
+        0,
+        0,
+    ];
+    let mut line = [0u8; 23];
+    frames::put_frame(&mut line, 0, &ten);
+    io::write_all(1, &line);
+}
+
+fn report(entry: u8, answer: Answer, bytes: usize) {
+    match answer {
+        Answer::Done(count) => print(entry, 0, 0, count, bytes),
+        Answer::Refused {
+            number,
+            index,
+            count,
+        } => print(entry, number, index, count, bytes),
+    }
+}
+
+fn read_into(text: &[u8], out: &mut [u8]) {
+    let answer = charts::read_chart(text, out);
+    report(0, answer, changed(out));
+}
+
+fn write_into(records: &[u8], out: &mut [u8]) {
+    let answer = charts::write_chart(records, out);
+    report(1, answer, changed(out));
+}
+
+fn read(text: &[u8]) {
+    let mut out = [170u8; 2560];
+    read_into(text, &mut out);
+}
+
+fn write(records: &[u8]) {
+    let mut out = [170u8; 5888];
+    write_into(records, &mut out);
+}
+
+fn read_front(text: &[u8], n: usize) {
+    if n <= text.len() {
+        let start = 0;
+        read(&text[start..n]);
+    }
+}
+
+fn write_front(records: &[u8], n: usize) {
+    if n <= records.len() {
+        let start = 0;
+        write(&records[start..n]);
+    }
+}
+
+// Pairs of a place and the byte that is put there.
+fn patch(bytes: &mut [u8], edits: &[u8]) {
+    let mut i: usize = 0;
+    while i + 1 < edits.len() {
+        let at = edits[i] as usize;
+        if at < bytes.len() {
+            bytes[at] = edits[i + 1];
+        }
+        i += 2;
+    }
+}
+
+// The text, edited, is read.
+fn text_case(text: [u8; 161], edits: &[u8]) {
+    let mut edited = text;
+    patch(&mut edited, edits);
+    read(&edited);
+}
+
+// The records, edited, are written, and what their frames are is read.
+fn record_case(records: [u8; 70], edits: &[u8]) {
+    let mut edited = records;
+    patch(&mut edited, edits);
+    write(&edited);
+    let mut text = [0u8; 161];
+    frames::put_text(&mut text, 0, &edited);
+    read(&text);
+}
+
+// 1: nothing, one too few, one frame too many. A frame too few leaves an arc to no node.
+fn lengths(text: &[u8], records: &[u8]) {
+    read_front(text, 0);
+    read_front(text, 160);
+    read_front(text, 138);
+    let many = [48u8; 5911];
+    read(&many);
+    write_front(records, 0);
+    write_front(records, 69);
+    write_front(records, 60);
+    let more = [0u8; 2570];
+    write(&more);
+}
+
+// 16: one byte too few, and just enough.
+fn rooms(text: &[u8], records: &[u8]) {
+    let mut short = [170u8; 69];
+    read_into(text, &mut short);
+    let mut enough = [170u8; 70];
+    read_into(text, &mut enough);
+    let mut brief = [170u8; 160];
+    write_into(records, &mut brief);
+    let mut full = [170u8; 161];
+    write_into(records, &mut full);
+}
+
+// 2 and 3: a digit in lower case, a line feed gone, a wrong sum; two faults at once.
+fn texts(text: [u8; 161]) {
+    text_case(text, &[159, 102]);
+    text_case(text, &[160, 32]);
+    text_case(text, &[0, 71]);
+    text_case(text, &[159, 52]);
+    text_case(text, &[24, 51, 160, 32]);
+    text_case(text, &[47, 97, 116, 97]);
+    text_case(text, &[24, 51, 159, 52]);
+    text_case(text, &[1, 53, 21, 57]);
+    text_case(text, &[1, 53, 21, 57, 159, 52]);
+}
+
+// 4 and 5.
+fn fields(records: [u8; 70]) {
+    record_case(records, &[60, 5]);
+    record_case(records, &[1, 0]);
+    record_case(records, &[61, 17]);
+    record_case(records, &[2, 1]);
+    record_case(records, &[59, 1]);
+    record_case(records, &[42, 16]);
+    record_case(records, &[49, 1]);
+    record_case(records, &[64, 1]);
+    record_case(records, &[65, 3]);
+    record_case(records, &[29, 1, 59, 1]);
+    record_case(records, &[20, 0]);
+    record_case(records, &[51, 3]);
+    record_case(records, &[20, 0, 63, 7]);
+}
+
+// 6 and 7.
+fn arcs(records: [u8; 70]) {
+    record_case(records, &[63, 7]);
+    record_case(records, &[63, 2]);
+    record_case(records, &[13, 0]);
+    record_case(records, &[13, 0, 63, 7]);
+    record_case(records, &[12, 1]);
+    record_case(records, &[62, 3]);
+    record_case(records, &[60, 4, 62, 0, 64, 5, 69, 0]);
+    record_case(records, &[12, 1, 63, 7]);
+}
+
+// 8 and 9, and each beside an earlier one.
+fn paths(records: [u8; 70]) {
+    record_case(records, &[43, 4, 44, 4]);
+    record_case(records, &[60, 3, 62, 0, 63, 6, 64, 6, 69, 0]);
+    record_case(records, &[44, 5]);
+    record_case(records, &[12, 1, 44, 5]);
+    record_case(records, &[43, 4, 44, 4, 62, 3]);
+}
+
+fn main() {
+    let mut text = [0u8; 161];
+    io::read_full(0, &mut text);
+    let mut records = [0u8; 70];
+    let there = charts::read_chart(&text, &mut records);
+    report(0, there, 0);
+    let mut again = [0u8; 161];
+    let back = charts::write_chart(&records, &mut again);
+    report(1, back, 0);
+    io::write_all(1, &again);
+    lengths(&text, &records);
+    rooms(&text, &records);
+    texts(text);
+    fields(records);
+    arcs(records);
+    paths(records);
+}
