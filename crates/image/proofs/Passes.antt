@@ -17,10 +17,11 @@ use Rattle.frames.specs.Frame.{size, field, pair, contents}
 use Rattle.frames.specs.Verdict.{Verdict, fine, next, when, atLowest}
 use Rattle.frames.proofs.Verdicts.{at-none}
 use Rattle.image.specs.Image.{Image, Label, Row, imageText}
-use Rattle.image.specs.Decode.{schemeCount, lastLabel, rowCount, labelsFrom, rowsFrom, labelIn, rowIn}
+use Rattle.image.specs.Decode.{schemeCount, lastLabel, rowCount, rowsFrom, labelIn, rowIn}
 use Rattle.image.specs.Check.{filled, badCounts, badHeader, entryAt, labelAt, rowAt, placeOf, falls, strayFrame, stray, within, badEntry, badCalled, badLabel, badBit, badRow, badFrame, badContent, tableVerdict, imageVerdict}
 use Rattle.image.proofs.Sound.{nthLabel, nthRow, endOf, Reaches, SoundLabel, SoundRow, Sound}
 use Rattle.image.proofs.Written.{Reads, image-reads, image-text-fine}
+use Rattle.image.proofs.Accepted.{place-of-entry, place-of-label, place-of-row}
 use Rattle.image.proofs.Decoded.{schemes-is, last-is, rows-is, label-is, row-is}
 
 not-eq : (a b : ℕ) → a ≡ b → not (eqb a b) ≡ false
@@ -78,20 +79,13 @@ module _ (i : Image) (b : List ℕ) (S : Sound i) (R : Reads i b) where
 
   -- the place of each frame
   place-entry : (h : ℕ) → h < length (i .entries) → placeOf b (suc h) ≡ entryAt (suc h)
-  unfolding placeOf
-  place-entry h l = rw (ne-eqb (suc h) 0 (λ z. omega arith), lt-ltb (suc h) (labelsFrom b) (omega (arith, h-is)))
+  place-entry h l = place-of-entry b (suc h) (omega arith) (omega (arith, h-is))
 
   place-label : (l : ℕ) → l < length (i .labels) → placeOf b (labelFrom l) ≡ labelAt l
-  unfolding placeOf
-  place-label l h =
-      rw (ne-eqb (labelFrom l) 0 (λ z. omega arith), le-ltb (labelFrom l) (labelsFrom b) (omega (arith, h-is)), lt-ltb (labelFrom l) (rowsFrom b) (omega (arith, h-is, m-is, S .two)))
-      (ap labelAt (omega (arith, h-is)))
+  place-label l h = ap (placeOf b) (omega (arith, h-is)) ∙ place-of-label b l (omega (arith, m-is))
 
   place-row : (k : ℕ) → k < length (i .rows) → placeOf b (rowFrom k) ≡ rowAt k
-  unfolding placeOf
-  place-row k h =
-      rw (ne-eqb (rowFrom k) 0 (λ z. omega arith), le-ltb (rowFrom k) (labelsFrom b) (omega (arith, h-is)), le-ltb (rowFrom k) (rowsFrom b) (omega (arith, h-is, m-is, S .two)))
-      (ap rowAt (omega (arith, h-is, m-is, S .two)))
+  place-row k h = ap (placeOf b) (omega (arith, h-is, m-is, S .two)) ∙ place-of-row b k
 
   -- 12
   rows-rise : (k : ℕ) → k < length (i .rows) → falls b k ≡ false

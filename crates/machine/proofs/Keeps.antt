@@ -216,7 +216,7 @@ module _ (i : Image) (sound : Sound i) where
       zero-at k m (inr p) l = other k (λ q. omega arith) ∙ f .above k p m
 
   -- ---- one tick
-  abbrev Keeps : Ticked → Type 0
+  abbrev pub Keeps : Ticked → Type 0
   Keeps (ticked m k t) = Fits i t
   Keeps (stopped n) = Unit {0}
 

@@ -1,3 +1,4 @@
 pub mod State
 pub mod Tick
 pub mod Run
+pub mod Parts

@@ -3,6 +3,8 @@ use frames::Answer;
 
 mod fit;
 mod fresh;
+mod rows;
+mod tick;
 
 // Places hold labels, the bottom first, up to the depth, and 0 above it; scheme h's result bit stands at h - 1.
 pub struct State {
@@ -16,6 +18,14 @@ pub struct State {
 pub struct Answered {
     pub answer: Answer,
     pub state: State,
+}
+
+// What a tick on the lent parts of a state answers: 0, or the number that stops it, and then nothing is changed.
+pub struct Stepped {
+    pub number: u8,
+    pub mask: u32,
+    pub code: u8,
+    pub depth: u8,
 }
 
 impl State {

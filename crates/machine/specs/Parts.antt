@@ -1,0 +1,67 @@
+-- What the functions on a table and on the lent parts of a state promise, in terms of one tick.
+use Prim.Native.Nat.{ℕ, zero, suc, _+_, _<_}
+use mathlib.Core.Bool.{Bool, false, _&&_}
+use mathlib.Core.Path.{_≡_}
+use mathlib.Core.List.{List}
+use lib.Dec.{ltb, eqb}
+use lib.ListN.{length, getD}
+use Rattle.lists.specs.Pick.{pick}
+use Rattle.bits.specs.Results.{Results}
+use Rattle.frames.specs.Frame.{field, pairAt}
+use Rattle.frames.specs.Verdict.{fine}
+use Rattle.image.specs.Image.{Image, Row}
+use Rattle.image.specs.Decode.{decoded}
+use Rattle.image.specs.Check.{tableVerdict}
+use Rattle.machine.specs.declared.State.{State}
+use Rattle.machine.specs.declared.Stepped.{Stepped}
+use Rattle.machine.specs.State.{unfit}
+use Rattle.machine.specs.Tick.{matches, Found, found, missing, Ticked, ticked, stopped, tick}
+
+-- the row in frame f of a table, and whether it is the label's and matches
+abbrev pub rowOn : List ℕ → ℕ → Row
+rowOn b f = record { from = field b f 1; care = pairAt b f 2; values = pairAt b f 4; bit = field b f 6; next = field b f 7 }
+
+abbrev pub fitting : List ℕ → ℕ → ℕ → ℕ → ℕ → Bool
+fitting b l w bit f = eqb (rowOn b f .from) l && matches w bit (rowOn b f)
+
+-- a search among frames up to end that stopped at f
+abbrev pub foundAt : List ℕ → ℕ → ℕ → Found
+foundAt b end f = pick (ltb f end) (found (field b f 7)) missing
+
+-- a label, or 256 for none
+abbrev pub foundAs : ℕ → Found
+foundAs n = pick (ltb n 256) (found n) missing
+
+abbrev pub stateOf : ℕ → ℕ → List ℕ → Results → State
+stateOf n d places bits = record { size = n; depth = d; places = places; bits = bits }
+
+-- a table that the image check accepts and a state that fits it
+pub record Ready (b : List ℕ) (s : State) : Type 0 where
+  pub bytes : (k : ℕ) → getD b k 0 < 256
+  pub accepted : tableVerdict b ≡ fine
+  pub fits : unfit (decoded b) s ≡ false
+  pub places : length (s .places) ≡ 32
+  pub bits : length (s .bits) ≡ 16
+
+-- after a tick of s: the state, and what the function on its lent parts answers
+abbrev pub after : State → Ticked → State
+after s (ticked m k t) = t
+after s (stopped n) = s
+
+abbrev pub stepOf : State → Ticked → Stepped
+stepOf s (ticked m k t) = record { number = 0; mask = m; code = k; depth = t .depth }
+stepOf s (stopped n) = record { number = n; mask = 0; code = 0; depth = s .depth }
+
+-- the code of a tick by its kind and the scheme called
+abbrev pub codeOf : ℕ → ℕ → ℕ
+codeOf zero h = 0
+codeOf (suc zero) h = 16 + h
+codeOf (suc (suc zero)) h = 64 + h
+codeOf (suc (suc (suc zero))) h = 3
+codeOf (suc (suc (suc (suc k)))) h = 4
+
+-- what a tick of s by the word w answers and leaves in the lent places and bits
+pub record Steps (b : List ℕ) (s : State) (w : ℕ) (r : Stepped) (ps : List ℕ) (bs : Results) : Type 0 where
+  pub step : r ≡ stepOf s (tick (decoded b) s w)
+  pub places : ps ≡ after s (tick (decoded b) s w) .places
+  pub bits : bs ≡ after s (tick (decoded b) s w) .bits

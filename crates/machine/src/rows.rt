@@ -1,0 +1,87 @@
+// Which row a label takes, by the word and the result bit of the scheme that the label calls.
+use image::byte;
+use image::label_byte;
+use image::pair;
+use image::rows_from;
+ghost use mathlib.Core.Path.{_≡_};
+ghost use mathlib.Core.List.{map};
+ghost use Prim.Native.Nat.{_-_, _≤_, _<_};
+ghost use lib.ListN.{length};
+ghost use Rattle.lists.specs.Numbers.{range};
+ghost use Rattle.bits.specs.Results.{resultOf};
+ghost use Rattle.frames.specs.Frame.{size};
+ghost use Rattle.frames.specs.Verdict.{fine};
+ghost use Rattle.image.specs.Decode.{lastLabel, labelIn, decoded};
+ghost use Rattle.image.specs.Check.{tableVerdict};
+ghost use Rattle.machine.specs.Tick.{firstRow, rowOf};
+ghost use Rattle.machine.specs.Parts.{rowOn, fitting, foundAt, foundAs};
+
+// Whether the row in frame f leaves the label and matches.
+fn is_fitting(b: &[u8], f: usize, label: u8, word: u16, bit: u8) -> bool
+    requires { ⌜ f < size (now b) ⌝ }
+    ensures { λ r. ⌜ r ≡ fitting (now (b .entry)) label word bit f ⌝ }
+{
+    if byte(b, f, 1) != label {
+        return false;
+    }
+    if word & pair(b, f, 2) != pair(b, f, 4) {
+        return false;
+    }
+    let only = byte(b, f, 6);
+    if only == 2 {
+        return true;
+    }
+    only == bit
+}
+
+// The frame of the label's first matching row among the frames from first up to end, or end.
+fn find_row(b: &[u8], first: usize, end: usize, label: u8, word: u16, bit: u8) -> usize
+    requires { ⌜ (first ≤ end) × (end ≤ size (now b)) ⌝ }
+    ensures { λ r. ⌜ foundAt (now (b .entry)) end r ≡ firstRow label word bit (map (rowOn (now (b .entry))) (range first (end - first))) ⌝ }
+{
+    let mut f = first;
+    while f < end {
+        if is_fitting(b, f, label, word, bit) {
+            return f;
+        }
+        f += 1;
+    }
+    f
+}
+
+// Scheme h's result bit.
+fn result_of(bits: &[bool], h: u8) -> bool
+    requires { ⌜ (h ≤ length (now bits)) × (1 ≤ length (now bits)) ⌝ }
+    ensures { λ r. ⌜ r ≡ resultOf h (now (bits .entry)) ⌝ }
+{
+    if h == 0 {
+        return bits[0];
+    }
+    bits[(h - 1) as usize]
+}
+
+// Where the label's first matching row leads for a given bit, or 256 where none matches.
+fn next_by(b: &[u8], label: u8, word: u16, bit: u8) -> u16
+    requires { ⌜ tableVerdict (now b) ≡ fine ⌝ }
+    ensures { λ r. ⌜ foundAs r ≡ firstRow label word bit (decoded (now (b .entry)) .rows) ⌝ }
+{
+    let end = b.len() / 10;
+    let f = find_row(b, rows_from(b), end, label, word, bit);
+    if f < end {
+        return byte(b, f, 7) as u16;
+    }
+    256
+}
+
+// Where the label's row leads, or 256 where none matches.
+pub fn next_label(b: &[u8], label: u8, word: u16, bits: &[bool]) -> u16
+    requires { ⌜ (tableVerdict (now b) ≡ fine) × (label ≤ lastLabel (now b)) ⌝ }
+    requires { ⌜ (labelIn (now b) label .called ≤ 16) × (length (now bits) ≡ 16) ⌝ }
+    ensures { λ r. ⌜ foundAs r ≡ rowOf (decoded (now (b .entry))) (now (bits .entry)) label word ⌝ }
+{
+    let called = label_byte(b, label as usize, 3);
+    if result_of(bits, called) {
+        return next_by(b, label, word, 1);
+    }
+    next_by(b, label, word, 0)
+}

@@ -1,0 +1,190 @@
+// One tick on the lent parts of a state: places and result bits in place, the rest as numbers.
+use super::Stepped;
+use crate::rows::next_label;
+use image::byte;
+use image::label_byte;
+use image::label_mask;
+ghost use mathlib.Core.Path.{_≡_};
+ghost use Prim.Native.Nat.{_+_, _-_, _≤_, _<_};
+ghost use lib.ListN.{length, getD};
+ghost use Rattle.bits.specs.Results.{withResult};
+ghost use Rattle.image.specs.Decode.{labelIn, decoded};
+ghost use Rattle.machine.specs.Parts.{stateOf, Ready, codeOf, Steps};
+
+// The result of a tick of a scheme: 0 keeps its bit, 1 and 2 write it.
+fn write_result(bits: &mut [bool], result: u8, owner: u8)
+    requires { ⌜ ((result ≡ 0 → ⊥) → (1 ≤ owner) × (owner ≤ length (now bits))) ⌝ }
+    ensures { λ _. ⌜ now (bits .exit) ≡ withResult result owner (now (bits .entry)) ⌝ }
+{
+    if result != 0 {
+        bits[(owner - 1) as usize] = result == 2;
+    }
+}
+
+// The code of a tick, by its kind and the scheme that it calls.
+fn code_of(kind: u8, called: u8) -> u8
+    requires { ⌜ called ≤ 16 ⌝ }
+    ensures { λ r. ⌜ r ≡ codeOf kind called ⌝ }
+{
+    match kind {
+        0 => 0,
+        1 => 16 + called,
+        2 => 64 + called,
+        3 => 3,
+        _ => 4,
+    }
+}
+
+// A plain tick: the top takes its row.
+fn tick_plain(
+    b: &[u8],
+    size: u8,
+    depth: u8,
+    places: &mut [u8],
+    bits: &mut [bool],
+    word: u16,
+) -> Stepped
+    requires { ⌜ Ready (now b) (stateOf size depth (now places) (now bits)) ⌝ }
+    requires { ⌜ labelIn (now b) (getD (now places) (depth - 1) 0) .kind ≡ 0 ⌝ }
+    ensures { λ r. ⌜ Steps (now (b .entry)) (stateOf size depth (now (places .entry)) (now (bits .entry))) word r (now (places .exit)) (now (bits .exit)) ⌝ }
+{
+    let top = (depth - 1) as usize;
+    let label = places[top];
+    let next = next_label(b, label, word, bits);
+    if 256 <= next {
+        return Stepped {
+            number: 18,
+            mask: 0,
+            code: 0,
+            depth,
+        };
+    }
+    let l = label as usize;
+    let mask = label_mask(b, l);
+    let result = label_byte(b, l, 5);
+    let owner = label_byte(b, l, 4);
+    write_result(bits, result, owner);
+    places[top] = next as u8;
+    Stepped {
+        number: 0,
+        mask,
+        code: 0,
+        depth,
+    }
+}
+
+// A call: the entry of the called scheme goes above the top; at a full stack nothing is done.
+fn tick_call(
+    b: &[u8],
+    size: u8,
+    depth: u8,
+    places: &mut [u8],
+    bits: &mut [bool],
+    word: u16,
+) -> Stepped
+    requires { ⌜ Ready (now b) (stateOf size depth (now places) (now bits)) ⌝ }
+    requires { ⌜ (1 ≤ labelIn (now b) (getD (now places) (depth - 1) 0) .kind) × (labelIn (now b) (getD (now places) (depth - 1) 0) .kind ≤ 2) ⌝ }
+    ensures { λ r. ⌜ Steps (now (b .entry)) (stateOf size depth (now (places .entry)) (now (bits .entry))) word r (now (places .exit)) (now (bits .exit)) ⌝ }
+{
+    if size <= depth {
+        return Stepped {
+            number: 17,
+            mask: 0,
+            code: 0,
+            depth,
+        };
+    }
+    let l = places[(depth - 1) as usize] as usize;
+    let mask = label_mask(b, l);
+    let called = label_byte(b, l, 3);
+    let code = code_of(label_byte(b, l, 2), called);
+    let entry = byte(b, called as usize, 2);
+    let result = label_byte(b, l, 5);
+    let owner = label_byte(b, l, 4);
+    write_result(bits, result, owner);
+    places[depth as usize] = entry;
+    Stepped {
+        number: 0,
+        mask,
+        code,
+        depth: depth + 1,
+    }
+}
+
+// A return: the top is dropped, and the label beneath takes its row by this tick's word.
+fn tick_back(
+    b: &[u8],
+    size: u8,
+    depth: u8,
+    places: &mut [u8],
+    bits: &mut [bool],
+    word: u16,
+) -> Stepped
+    requires { ⌜ Ready (now b) (stateOf size depth (now places) (now bits)) ⌝ }
+    requires { ⌜ labelIn (now b) (getD (now places) (depth - 1) 0) .kind ≡ 3 ⌝ }
+    ensures { λ r. ⌜ Steps (now (b .entry)) (stateOf size depth (now (places .entry)) (now (bits .entry))) word r (now (places .exit)) (now (bits .exit)) ⌝ }
+{
+    let under = (depth - 2) as usize;
+    let label = places[under];
+    let next = next_label(b, label, word, bits);
+    if 256 <= next {
+        return Stepped {
+            number: 18,
+            mask: 0,
+            code: 0,
+            depth,
+        };
+    }
+    places[(depth - 1) as usize] = 0;
+    places[under] = next as u8;
+    Stepped {
+        number: 0,
+        mask: 0,
+        code: 3,
+        depth: depth - 1,
+    }
+}
+
+// The home tick: the entry of scheme 1 takes the place of the top.
+fn tick_home(
+    b: &[u8],
+    size: u8,
+    depth: u8,
+    places: &mut [u8],
+    bits: &mut [bool],
+    word: u16,
+) -> Stepped
+    requires { ⌜ Ready (now b) (stateOf size depth (now places) (now bits)) ⌝ }
+    requires { ⌜ 4 ≤ labelIn (now b) (getD (now places) (depth - 1) 0) .kind ⌝ }
+    ensures { λ r. ⌜ Steps (now (b .entry)) (stateOf size depth (now (places .entry)) (now (bits .entry))) word r (now (places .exit)) (now (bits .exit)) ⌝ }
+{
+    places[(depth - 1) as usize] = byte(b, 1, 2);
+    Stepped {
+        number: 0,
+        mask: 0,
+        code: 4,
+        depth,
+    }
+}
+
+// A tick by the kind of the top label.
+pub fn tick_parts(
+    b: &[u8],
+    size: u8,
+    depth: u8,
+    places: &mut [u8],
+    bits: &mut [bool],
+    word: u16,
+) -> Stepped
+    requires { ⌜ Ready (now b) (stateOf size depth (now places) (now bits)) ⌝ }
+    ensures { λ r. ⌜ Steps (now (b .entry)) (stateOf size depth (now (places .entry)) (now (bits .entry))) word r (now (places .exit)) (now (bits .exit)) ⌝ }
+{
+    let l = places[(depth - 1) as usize] as usize;
+    let kind = label_byte(b, l, 2);
+    match kind {
+        0 => tick_plain(b, size, depth, places, bits, word),
+        1 | 2 => tick_call(b, size, depth, places, bits, word),
+        3 => tick_back(b, size, depth, places, bits, word),
+        _ => tick_home(b, size, depth, places, bits, word),
+    }
+}
