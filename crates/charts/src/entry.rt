@@ -22,9 +22,9 @@ pub fn read_chart(text: &[u8], out: &mut [u8]) -> Answer
     decode(text, &mut table);
     let end = 10 * count;
     let records = &table[..end];
-    let meaning = check_chart(records);
-    let Answer::Done(_) = meaning else {
-        return meaning;
+    let chart = check_chart(records);
+    let Answer::Done(_) = chart else {
+        return chart;
     };
     if out.len() < end {
         return Answer::Refused {

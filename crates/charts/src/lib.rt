@@ -14,3 +14,4 @@ pub use entry::read_chart;
 pub use entry::write_chart;
 pub use fields::field;
 pub use ranks::rank_conditions;
+pub use schemes::highest_scheme;

@@ -76,6 +76,13 @@ split a b = go (decLt a b)
     go (yes h) = inl h
     go (no h) = inr (omega arith)
 
+-- a test `a && b` of the code: where a holds it is b, else it is a
+pub and-second : (a b r : Bool) → a ≡ true → r ≡ b → r ≡ (a && b)
+and-second a b r p q = rw p q
+
+pub and-first : (a b r : Bool) → a ≡ false → r ≡ a → r ≡ (a && b)
+and-first a b r p q = rw p (rw p at q)
+
 pub and-no : (a b : Bool) → b ≡ false → (a && b) ≡ false
 and-no true b e = e
 and-no false b e = refl

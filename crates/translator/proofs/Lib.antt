@@ -2,5 +2,13 @@ pub mod LabelLaws
 pub mod SoundRows
 pub mod SoundTable
 pub mod Translated
+pub mod NodeSteps
+pub mod LabelSteps
+pub mod PathSteps
+pub mod PathCases
+pub mod RowSteps
+pub mod PutSteps
+pub mod ImageSteps
 pub mod Matching
 pub mod RowLaws
+pub mod EntrySteps

@@ -1,0 +1,21 @@
+-- `fairleadow::fairleadow_write_chart` meets its contract: what the function that it calls ensures, told.
+use borrow.Author.Needs.{needs}
+use Rattle.fairleadow.proofs.CallLaws.{told-as}
+use Rattle.fairleadow.proofs.fairleadow_write_chart.Statement.{statement}
+use Rattle.fairleadow.proofs.fairleadow_write_chart.Tie as tie
+
+write-chart-requires : tie.Need-write-chart-requires
+write-chart-requires c κs = search needs
+
+tell-requires : tie.Need-tell-requires
+tell-requires c κs = search needs
+
+same-length : tie.Need-same-length
+same-length c = search needs
+
+returns : tie.Need-returns
+returns c = (told-as (c .before .before .before .before .before .write-chart .ensures .0) (c .tell .ensures), c .before .before .before .before .before .write-chart .ensures .1)
+
+pub fairleadow-write-chart-spec : {M : Type 1} → statement M
+fairleadow-write-chart-spec =
+    tie.close (tie.spec write-chart-requires tell-requires same-length returns)

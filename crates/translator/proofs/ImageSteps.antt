@@ -1,0 +1,251 @@
+-- The text of a chart's table in the parts that the functions write, and how long each part is.
+use mathlib.Core.Path.{_≡_, refl, sym, _∙_, ap, ap₂}
+use mathlib.Core.Bool.{Bool, true, false}
+use mathlib.Core.List.{List, [], _∷_, _++_, map, append-assoc}
+use Prim.Native.Nat.{ℕ, zero, suc, _+_, _*_, _/_, _%_, _-_, _≤_, _<_, min}
+use native.Mathlib.Nat.{zero-add, mul-suc}
+use native.Mathlib.Numerals.{add-one}
+use native.Mathlib.Omega.{arith}
+use lib.Dec.{ltb}
+use lib.ListN.{length, replicate, length-append}
+use borrow.Author.Tests.{lt-ltb, le-ltb}
+use Rattle.lists.specs.Pick.{pick}
+use Rattle.lists.specs.Numbers.{range, count}
+use Rattle.lists.specs.Sequences.{concatMap, filter, mapFrom, written}
+use Rattle.lists.proofs.Tests.{yes-pick, no-pick}
+use Rattle.lists.proofs.Counts.{count-suc, count-snoc}
+use Rattle.lists.proofs.Ranges.{filter-yes, filter-no}
+use Rattle.lists.proofs.Joins.{concat-cons, concat-append, length-concat-range}
+use Rattle.lists.proofs.Written.{written-more, written-front}
+use Rattle.frames.specs.Frame.{size, frameText, framesText}
+use Rattle.frames.specs.Verdict.{fine, when}
+use Rattle.frames.specs.Answer.{success, refusal}
+use Rattle.frames.proofs.FrameLoops.{length-frame}
+use Rattle.frames.proofs.Chains.{when-holds, when-fails}
+use Rattle.frames.proofs.Lent.{lent-refused, lent-short, lent-done}
+use Rattle.charts.specs.Chart.{Chart, schemes}
+use Rattle.walk.proofs.Facts.{Facts}
+use Rattle.image.specs.Image.{Row, entryFrame, labelFrame, rowFrame, imageFrames, imageText}
+use Rattle.translator.specs.Labels.{numbered, label, entry, homeLabel, returnLabel, labelOf, numberedNodes}
+use Rattle.translator.specs.Rows.{rows}
+use Rattle.translator.specs.Table.{table}
+use Rattle.translator.specs.Parts.{rowsText, nodeRows, headerText, entryText, fixedText, nodeLabelText, nodeRowsText, upTo, imageLent}
+use Rattle.translator.specs.Ready.{Labelled}
+use Rattle.translator.proofs.LabelLaws.{length-labels, length-entries}
+use Rattle.translator.proofs.LabelSteps.{label-own, labelled}
+use Rattle.translator.proofs.RowSteps.{below-all}
+use Rattle.translator.proofs.PutSteps.{rows-append}
+
+from-cons : {A B : Type 0} (f : ℕ → A → B) (i : ℕ) (x : A) (xs : List A) → mapFrom f i (x ∷ xs) ≡ f i x ∷ mapFrom f (suc i) xs
+unfolding mapFrom
+from-cons f i x xs = refl
+
+from-none : {A B : Type 0} (f : ℕ → A → B) (i : ℕ) → mapFrom f i [] ≡ []
+unfolding mapFrom
+from-none f i = refl
+
+text-none : framesText [] ≡ []
+unfolding concatMap
+text-none = refl
+
+-- ---- entries
+entries-from : (c : Chart) (i n : ℕ) → framesText (mapFrom entryFrame (suc i) (map (entry c) (range (suc i) n))) ≡ concatMap (entryText c) (range i n)
+entries-from c i zero = unfold mapFrom concatMap in refl
+entries-from c i (suc n) =
+    ap framesText (from-cons entryFrame (suc i) (entry c (suc i)) (map (entry c) (range (suc (suc i)) n)))
+    ∙ concat-cons frameText (entryFrame (suc i) (entry c (suc i))) (mapFrom entryFrame (suc (suc i)) (map (entry c) (range (suc (suc i)) n)))
+    ∙ ap₂ (λ (x y : List ℕ). x ++ y) (ap (λ (k : ℕ). frameText (entryFrame k (entry c k))) (sym (add-one i))) (entries-from c (suc i) n)
+    ∙ sym (concat-cons (entryText c) i (range (suc i) n))
+
+-- ---- labels
+module _ (c : Chart) where
+  labels-from : (i n : ℕ) → framesText (mapFrom labelFrame (2 + count (numbered c) 0 i) (map (labelOf c) (filter (numbered c) (range i n)))) ≡ concatMap (nodeLabelText c) (range i n)
+  labels-from i zero = unfold mapFrom concatMap filter in refl
+  labels-from i (suc n) = go (numbered c i) refl (labels-from (suc i) n)
+    where
+      go : (b : Bool) → numbered c i ≡ b
+          → framesText (mapFrom labelFrame (2 + count (numbered c) 0 (suc i)) (map (labelOf c) (filter (numbered c) (range (suc i) n)))) ≡ concatMap (nodeLabelText c) (range (suc i) n)
+          → framesText (mapFrom labelFrame (2 + count (numbered c) 0 i) (map (labelOf c) (filter (numbered c) (range i (suc n))))) ≡ concatMap (nodeLabelText c) (range i (suc n))
+      go true e ih =
+          let p : pick {A = ℕ} (numbered c (0 + i)) 1 0 ≡ 1 = ap (λ (j : ℕ). pick {A = ℕ} (numbered c j) 1 0) (zero-add i) ∙ yes-pick (numbered c i) 1 0 e in
+          let s : suc (2 + count (numbered c) 0 i) ≡ 2 + count (numbered c) 0 (suc i) = omega (arith, count-snoc (numbered c) 0 i, p) in
+          ap (λ (vs : List ℕ). framesText (mapFrom labelFrame (2 + count (numbered c) 0 i) (map (labelOf c) vs))) (filter-yes (numbered c) i (range (suc i) n) e)
+          ∙ ap framesText (from-cons labelFrame (2 + count (numbered c) 0 i) (labelOf c i) (map (labelOf c) (filter (numbered c) (range (suc i) n))))
+          ∙ concat-cons frameText (labelFrame (2 + count (numbered c) 0 i) (labelOf c i)) (mapFrom labelFrame (suc (2 + count (numbered c) 0 i)) (map (labelOf c) (filter (numbered c) (range (suc i) n))))
+          ∙ ap₂ (λ (x y : List ℕ). x ++ y)
+          (ap (λ (l : ℕ). frameText (labelFrame l (labelOf c i))) (sym (label-own c i e)) ∙ sym (yes-pick (numbered c i) (frameText (labelFrame (label c i) (labelOf c i))) [] e))
+          (ap (λ (l : ℕ). framesText (mapFrom labelFrame l (map (labelOf c) (filter (numbered c) (range (suc i) n))))) s ∙ ih)
+          ∙ sym (concat-cons (nodeLabelText c) i (range (suc i) n))
+      go false e ih =
+          let p : pick {A = ℕ} (numbered c (0 + i)) 1 0 ≡ 0 = ap (λ (j : ℕ). pick {A = ℕ} (numbered c j) 1 0) (zero-add i) ∙ no-pick (numbered c i) 1 0 e in
+          let s : 2 + count (numbered c) 0 i ≡ 2 + count (numbered c) 0 (suc i) = omega (arith, count-snoc (numbered c) 0 i, p) in
+          ap (λ (vs : List ℕ). framesText (mapFrom labelFrame (2 + count (numbered c) 0 i) (map (labelOf c) vs))) (filter-no (numbered c) i (range (suc i) n) e)
+          ∙ ap (λ (l : ℕ). framesText (mapFrom labelFrame l (map (labelOf c) (filter (numbered c) (range (suc i) n))))) s ∙ ih
+          ∙ sym (concat-cons (nodeLabelText c) i (range (suc i) n) ∙ ap (λ (x : List ℕ). x ++ concatMap (nodeLabelText c) (range (suc i) n)) (no-pick (numbered c i) (frameText (labelFrame (label c i) (labelOf c i))) [] e))
+
+  none-before : 2 + count (numbered c) 0 0 ≡ 2
+  unfolding count
+  none-before = refl
+
+  labels-text : framesText (mapFrom labelFrame 0 (homeLabel ∷ returnLabel ∷ map (labelOf c) (numberedNodes c))) ≡ fixedText ++ upTo (nodeLabelText c) (size c)
+  labels-text =
+      ap framesText (from-cons labelFrame 0 homeLabel (returnLabel ∷ map (labelOf c) (numberedNodes c)))
+      ∙ concat-cons frameText (labelFrame 0 homeLabel) (mapFrom labelFrame 1 (returnLabel ∷ map (labelOf c) (numberedNodes c)))
+      ∙ ap (λ (x : List ℕ). frameText (labelFrame 0 homeLabel) ++ x)
+      (ap framesText (from-cons labelFrame 1 returnLabel (map (labelOf c) (numberedNodes c)))
+      ∙ concat-cons frameText (labelFrame 1 returnLabel) (mapFrom labelFrame 2 (map (labelOf c) (numberedNodes c)))
+      ∙ ap (λ (x : List ℕ). frameText (labelFrame 1 returnLabel) ++ x)
+      (ap (λ (l : ℕ). framesText (mapFrom labelFrame l (map (labelOf c) (numberedNodes c)))) (sym none-before) ∙ labels-from 0 (size c)))
+      ∙ sym (append-assoc (frameText (labelFrame 0 homeLabel)) (frameText (labelFrame 1 returnLabel)) (upTo (nodeLabelText c) (size c)))
+
+  -- ---- rows
+  rows-each : (xs : List ℕ) → rowsText (concatMap (nodeRows c) xs) ≡ concatMap (nodeRowsText c) xs
+  rows-each [] = unfold concatMap in refl
+  rows-each (x ∷ xs) =
+      ap rowsText (concat-cons (nodeRows c) x xs) ∙ rows-append (nodeRows c x) (concatMap (nodeRows c) xs)
+      ∙ ap (λ (y : List ℕ). nodeRowsText c x ++ y) (rows-each xs) ∙ sym (concat-cons (nodeRowsText c) x xs)
+
+  pub rows-text : rowsText (rows c) ≡ upTo (nodeRowsText c) (size c)
+  rows-text = ap rowsText (sym (below-all c (size c) refl)) ∙ rows-each (range 0 (size c))
+
+  -- ---- the whole
+  abbrev pub parts : ℕ → ℕ → ℕ → List ℕ
+  parts highest last n = headerText highest last n ++ (upTo (entryText c) highest ++ (fixedText ++ (upTo (nodeLabelText c) (size c) ++ upTo (nodeRowsText c) (size c))))
+
+  pub image-parts : (highest own n : ℕ) → highest ≡ schemes c → own ≡ count (numbered c) 0 (size c) → n ≡ length (rows c)
+      → imageText (table c) ≡ parts highest (own + 1) n
+  unfolding imageText imageFrames table
+  image-parts highest own n eh eo en =
+      let h : headerText (length (table c .entries)) (length (table c .labels) - 1) (length (table c .rows)) ≡ headerText highest (own + 1) n =
+      ap (λ (k : ℕ). headerText k (length (table c .labels) - 1) (length (table c .rows))) (length-entries c ∙ sym eh)
+      ∙ ap₂ (λ (k m : ℕ). headerText highest k m) (omega (arith, length-labels c)) (sym en) in
+      concat-cons frameText _ _
+      ∙ ap₂ (λ (x y : List ℕ). x ++ y) h
+      (concat-append frameText (mapFrom entryFrame 1 (map (entry c) (range 1 (schemes c)))) _
+      ∙ ap₂ (λ (x y : List ℕ). x ++ y) (entries-from c 0 (schemes c) ∙ ap (upTo (entryText c)) (sym eh))
+      (concat-append frameText (mapFrom labelFrame 0 (homeLabel ∷ returnLabel ∷ map (labelOf c) (numberedNodes c))) (map rowFrame (rows c))
+      ∙ ap₂ (λ (x y : List ℕ). x ++ y) labels-text rows-text
+      ∙ append-assoc fixedText (upTo (nodeLabelText c) (size c)) (upTo (nodeRowsText c) (size c))))
+
+  -- ---- lengths
+  pub entries-long : (n : ℕ) → length (upTo (entryText c) n) ≡ 23 * n
+  entries-long n = length-concat-range (entryText c) 23 0 n (λ k. length-frame (entryFrame (k + 1) (entry c (k + 1))) refl)
+
+  labels-length : (i n : ℕ) → length (concatMap (nodeLabelText c) (range i n)) ≡ 23 * count (numbered c) i n
+  labels-length i zero = unfold concatMap count in refl
+  labels-length i (suc n) =
+      go (numbered c i) refl (labels-length (suc i) n)
+    where
+      go : (b : Bool) → numbered c i ≡ b → length (concatMap (nodeLabelText c) (range (suc i) n)) ≡ 23 * count (numbered c) (suc i) n
+          → length (concatMap (nodeLabelText c) (range i (suc n))) ≡ 23 * count (numbered c) i (suc n)
+      go true e ih =
+          let p : length (nodeLabelText c i) ≡ 23 = ap (λ (x : List ℕ). length x) (yes-pick (numbered c i) (frameText (labelFrame (label c i) (labelOf c i))) [] e) ∙ length-frame (labelFrame (label c i) (labelOf c i)) refl in
+          let q : pick {A = ℕ} (numbered c i) 1 0 ≡ 1 = yes-pick (numbered c i) 1 0 e in
+          ap (λ (x : List ℕ). length x) (concat-cons (nodeLabelText c) i (range (suc i) n)) ∙ length-append (nodeLabelText c i) (concatMap (nodeLabelText c) (range (suc i) n))
+          ∙ omega (arith, p, q, ih, count-suc (numbered c) i n)
+      go false e ih =
+          let p : length (nodeLabelText c i) ≡ 0 = ap (λ (x : List ℕ). length x) (no-pick (numbered c i) (frameText (labelFrame (label c i) (labelOf c i))) [] e) in
+          let q : pick {A = ℕ} (numbered c i) 1 0 ≡ 0 = no-pick (numbered c i) 1 0 e in
+          ap (λ (x : List ℕ). length x) (concat-cons (nodeLabelText c) i (range (suc i) n)) ∙ length-append (nodeLabelText c i) (concatMap (nodeLabelText c) (range (suc i) n))
+          ∙ omega (arith, p, q, ih, count-suc (numbered c) i n)
+
+  pub labels-long : length (upTo (nodeLabelText c) (size c)) ≡ 23 * count (numbered c) 0 (size c)
+  labels-long = labels-length 0 (size c)
+
+  rows-length : (rs : List Row) → length (rowsText rs) ≡ 23 * length rs
+  rows-length [] = unfold concatMap in refl
+  rows-length (r ∷ rs) =
+      ap (λ (x : List ℕ). length x) (concat-cons frameText (rowFrame r) (map rowFrame rs)) ∙ length-append (frameText (rowFrame r)) (rowsText rs)
+      ∙ omega (arith, length-frame (rowFrame r) refl, rows-length rs, mul-suc 23 (length rs))
+
+  pub rows-long : length (upTo (nodeRowsText c) (size c)) ≡ 23 * length (rows c)
+  rows-long = ap (λ (x : List ℕ). length x) (sym rows-text) ∙ rows-length (rows c)
+
+fixed-long : length fixedText ≡ 46
+fixed-long =
+    length-append (frameText (labelFrame 0 homeLabel)) (frameText (labelFrame 1 returnLabel))
+    ∙ omega (arith, length-frame (labelFrame 0 homeLabel) refl, length-frame (labelFrame 1 returnLabel) refl)
+
+-- five texts, each written where the one before ends
+chain : (out o₁ o₂ o₃ o₄ o₅ a b d e f : List ℕ) (p q r s : ℕ) → p ≡ length a → q ≡ p + length b → r ≡ q + length d → s ≡ r + length e → s + length f ≤ length out
+    → o₁ ≡ written out 0 a → o₂ ≡ written o₁ p b → o₃ ≡ written o₂ q d → o₄ ≡ written o₃ r e → o₅ ≡ written o₄ s f → o₅ ≡ written out 0 (a ++ (b ++ (d ++ (e ++ f))))
+chain out o₁ o₂ o₃ o₄ o₅ a b d e f p q r s ep eq er es room e₁ e₂ e₃ e₄ e₅ =
+    let n₂ : length (a ++ b) ≡ length a + length b = length-append a b in
+    let n₃ : length ((a ++ b) ++ d) ≡ length (a ++ b) + length d = length-append (a ++ b) d in
+    let n₄ : length (((a ++ b) ++ d) ++ e) ≡ length ((a ++ b) ++ d) + length e = length-append ((a ++ b) ++ d) e in
+    let w₂ : o₂ ≡ written out 0 (a ++ b) = written-more out 0 a b o₁ o₂ p (omega arith) (omega arith) e₁ e₂ in
+    let w₃ : o₃ ≡ written out 0 ((a ++ b) ++ d) = written-more out 0 (a ++ b) d o₂ o₃ q (omega arith) (omega arith) w₂ e₃ in
+    let w₄ : o₄ ≡ written out 0 (((a ++ b) ++ d) ++ e) = written-more out 0 ((a ++ b) ++ d) e o₃ o₄ r (omega arith) (omega arith) w₃ e₄ in
+    let w₅ : o₅ ≡ written out 0 ((((a ++ b) ++ d) ++ e) ++ f) = written-more out 0 (((a ++ b) ++ d) ++ e) f o₄ o₅ s (omega arith) (omega arith) w₄ e₅ in
+    let g : (((a ++ b) ++ d) ++ e) ++ f ≡ a ++ (b ++ (d ++ (e ++ f))) = simp append-assoc in
+    w₅ ∙ ap (written out 0) g
+
+-- the record of what the functions that write the image are given
+pub record Sizes (c : Chart) (highest own n : ℕ) : Type 0 where
+  pub schemed : highest ≡ schemes c
+  pub owned : own ≡ count (numbered c) 0 (size c)
+  pub rowed : n ≡ length (rows c)
+
+module _ (c : Chart) (highest own n : ℕ) (s : Sizes c highest own n) where
+  pub image-long : length (imageText (table c)) ≡ 23 * (3 + highest + own + n)
+  image-long =
+      ap (λ (x : List ℕ). length x) (image-parts c highest own n (s .schemed) (s .owned) (s .rowed))
+      ∙ length-append (headerText highest (own + 1) n) (upTo (entryText c) highest ++ (fixedText ++ (upTo (nodeLabelText c) (size c) ++ upTo (nodeRowsText c) (size c))))
+      ∙ omega (
+        arith,
+        length-frame (15 ∷ highest ∷ (own + 1) ∷ n / 256 ∷ n % 256 ∷ 0 ∷ 0 ∷ 0 ∷ 0 ∷ 0 ∷ []) refl,
+        length-append (upTo (entryText c) highest) (fixedText ++ (upTo (nodeLabelText c) (size c) ++ upTo (nodeRowsText c) (size c))),
+        length-append fixedText (upTo (nodeLabelText c) (size c) ++ upTo (nodeRowsText c) (size c)),
+        length-append (upTo (nodeLabelText c) (size c)) (upTo (nodeRowsText c) (size c)),
+        fixed-long,
+        entries-long c highest,
+        labels-long c,
+        rows-long c,
+        s .owned,
+        s .rowed,
+      )
+
+  -- the parts, each written where the one before ends
+  pub image-done : (out o₁ o₂ o₃ o₄ o₅ : List ℕ) → 23 * (3 + highest + own + n) ≤ length out
+      → o₁ ≡ written out 0 (headerText highest (own + 1) n) → o₂ ≡ written o₁ 23 (upTo (entryText c) highest) → o₃ ≡ written o₂ (23 + 23 * highest) fixedText
+      → o₄ ≡ written o₃ (23 + 23 * highest + 46) (upTo (nodeLabelText c) (size c)) → o₅ ≡ written o₄ (23 + 23 * highest + 46 + 23 * own) (upTo (nodeRowsText c) (size c))
+      → o₅ ≡ written out 0 (imageText (table c))
+  image-done out o₁ o₂ o₃ o₄ o₅ room e₁ e₂ e₃ e₄ e₅ =
+      let a : length (headerText highest (own + 1) n) ≡ 23 = length-frame (15 ∷ highest ∷ (own + 1) ∷ n / 256 ∷ n % 256 ∷ 0 ∷ 0 ∷ 0 ∷ 0 ∷ 0 ∷ []) refl in
+      let b : length (upTo (entryText c) highest) ≡ 23 * highest = entries-long c highest in
+      let d : length (upTo (nodeLabelText c) (size c)) ≡ 23 * own = labels-long c ∙ ap (λ (k : ℕ). 23 * k) (sym (s .owned)) in
+      let e : length (upTo (nodeRowsText c) (size c)) ≡ 23 * n = rows-long c ∙ ap (λ (k : ℕ). 23 * k) (sym (s .rowed)) in
+      chain out o₁ o₂ o₃ o₄ o₅ (headerText highest (own + 1) n) (upTo (entryText c) highest) fixedText (upTo (nodeLabelText c) (size c)) (upTo (nodeRowsText c) (size c))
+      23 (23 + 23 * highest) (23 + 23 * highest + 46) (23 + 23 * highest + 46 + 23 * own)
+      (omega arith) (omega arith) (omega (arith, fixed-long)) (omega arith) (omega (arith, fixed-long)) e₁ e₂ e₃ e₄ e₅
+      ∙ ap (written out 0) (sym (image-parts c highest own n (s .schemed) (s .owned) (s .rowed)))
+
+-- ---- 10 and 16
+module _ (c : Chart) (old : List ℕ) (total : ℕ) (counted : total ≡ min 1025 (length (rows c))) where
+  pub image-many : 1024 < total → (refusal 10 0 0 ≡ imageLent c old .reply) × (old ≡ imageLent c old .buffer)
+  image-many h =
+      lent-refused (when 10 (ltb 1024 (length (rows c)))) 1 (λ _. imageText (table c)) old 10 0
+      (when-holds 10 (ltb 1024 (length (rows c))) (lt-ltb 1024 (length (rows c)) (omega arith))) (refusal 10 0 0) refl
+
+  pub image-few : total ≤ 1024 → total ≡ length (rows c)
+  image-few h = omega arith
+
+  module _ (few : total ≤ 1024) (highest own : ℕ) (eh : highest ≡ schemes c) (eo : own ≡ count (numbered c) 0 (size c)) where
+    sizes : Sizes c highest own total
+    sizes = record { schemed = eh; owned = eo; rowed = image-few few }
+
+    allowed : when 10 (ltb 1024 (length (rows c))) ≡ fine
+    allowed = when-fails 10 (ltb 1024 (length (rows c))) (le-ltb 1024 (length (rows c)) (omega arith))
+
+    pub image-short : length old < 23 * (3 + highest + own + total) → (refusal 16 0 0 ≡ imageLent c old .reply) × (old ≡ imageLent c old .buffer)
+    image-short h = lent-short (when 10 (ltb 1024 (length (rows c)))) 1 (λ _. imageText (table c)) old allowed (omega (arith, image-long c highest own total sizes))
+
+    pub image-fits : 23 * (3 + highest + own + total) ≤ length old → (out : List ℕ) → out ≡ written old 0 (imageText (table c))
+        → (success (23 * (3 + highest + own + total)) ≡ imageLent c old .reply) × (out ≡ imageLent c old .buffer)
+    image-fits h out e =
+        let n : length (imageText (table c)) ≡ 23 * (3 + highest + own + total) = image-long c highest own total sizes in
+        lent-done (when 10 (ltb 1024 (length (rows c)))) 1 (λ _. imageText (table c)) old allowed (omega arith) (23 * (3 + highest + own + total)) (omega arith) out
+        (e ∙ written-front old (imageText (table c)))
+
+pub labelled-local : (c : Chart) (labels : List ℕ) → Facts c → labels ≡ written (replicate 256 0) 0 (map (label c) (range 0 (size c))) → Labelled c labels
+labelled-local c labels F e = let n : length (replicate {A = ℕ} 256 0) ≡ 256 = refl in labelled c (replicate 256 0) labels (omega (arith, F .few)) e

@@ -1,0 +1,176 @@
+-- The steps of the functions that follow paths, at plain values: where a path ends, which conditions it has met before,
+-- how the paths from a new condition divide.
+use mathlib.Core.Path.{_≡_, refl, sym, _∙_, ap, ap₂, subst}
+use mathlib.Core.Logic.{⊎-elim}
+use mathlib.Core.Bool.{Bool, true, false, _&&_, not}
+use mathlib.Core.List.{List, [], _∷_, _++_}
+use Prim.Native.Nat.{ℕ, suc, _+_, _-_, _^_, _<_, min}
+use native.Mathlib.Omega.{arith}
+use lib.Bits.{bitAnd, bitOr}
+use lib.Dec.{eqb, leb}
+use lib.ListN.{length, getD, length-append}
+use borrow.Author.Tests.{leb-true, eqb-true, eqb-false, eq-eqb, ne-eqb, le-leb}
+use Rattle.lists.proofs.Tests.{no-both, and-l, and-r, and-false, not-true, yes-pick, no-pick, cases}
+use Rattle.bits.specs.Word.{bit}
+use Rattle.bits.proofs.BitLaws.{add-is-or}
+use Rattle.bits.proofs.MaskLaws.{more-within-0, more-within-1, within-lacks}
+use Rattle.frames.specs.Frame.{size}
+use Rattle.charts.specs.Chart.{Chart, kind, argument, next0, next1, is, taken}
+use Rattle.charts.proofs.Rank.{rank, rank-falls0, rank-falls1}
+use Rattle.walk.specs.Stops.{stops}
+use Rattle.image.specs.Image.{Row}
+use Rattle.translator.specs.Labels.{numbered}
+use Rattle.translator.specs.Rows.{paths}
+use Rattle.translator.specs.Ready.{Ready, Entered, Labelled, Passed, Settled}
+use Rattle.translator.proofs.NodeSteps.{stops-other}
+use Rattle.translator.proofs.LabelSteps.{label-own, own-label}
+use Rattle.translator.proofs.PathSteps.{no-stop, pathRow, entered0, entered1, entered-taken, falls-taken, at-stop, at-known, at-new}
+
+-- ---- where a path ends
+module _ (c : Chart) (labels : List ℕ) (ok : Labelled c labels) (v k : ℕ) (t : Entered c v) (e : k ≡ kind c v) where
+  pub ends-other : (k ≡ 3 → ⊥) → true ≡ stops c v
+  ends-other n = sym (stops-other c v (t .noBegin) (λ q. n (e ∙ q)))
+
+  pub ends-condition : k ≡ 3 → leb 2 (getD labels v 0) ≡ stops c v
+  ends-condition three = go (stops c v) refl
+    where
+      plain : numbered c v ≡ stops c v
+      plain = ap (λ x. stops c v && not x) (ne-eqb (kind c v) 1 (λ q. omega arith)) ∙ unit (stops c v)
+        where
+          unit : (b : Bool) → (b && true) ≡ b
+          unit true = refl
+          unit false = refl
+
+      go : (s : Bool) → stops c v ≡ s → leb 2 (getD labels v 0) ≡ stops c v
+      go true s = le-leb 2 (getD labels v 0) (omega (arith, ok .at v (t .inside), label-own c v (plain ∙ s))) ∙ sym s
+      go false s = ⊎-elim
+          (λ (y : leb 2 (getD labels v 0) ≡ true). no-both (stops c v) (sym plain ∙ own-label c v (omega (arith, ok .at v (t .inside), leb-true 2 (getD labels v 0) y))) s)
+          (λ (y : leb 2 (getD labels v 0) ≡ false). y ∙ sym s) (cases (leb 2 (getD labels v 0)))
+
+-- ---- conditions met before
+pub known-stop : (c : Chart) (v : ℕ) (b : Bool) → stops c v ≡ true → false ≡ (not (stops c v) && b)
+known-stop c v b s = sym (ap (λ x. not x && b) s)
+
+pub known-test : (c : Chart) (v : ℕ) (r b : Bool) → stops c v ≡ false → r ≡ b → r ≡ (not (stops c v) && b)
+known-test c v r b s e = e ∙ sym (ap (λ x. not x && b) s)
+
+module _ (c : Chart) (ready : Ready c) where
+  pub small-number : (v i : ℕ) → v < size c → kind c v ≡ 3 → i ≡ argument c v → i < 16
+  small-number v i l k e = omega (arith, ready .facts .conditions v l k)
+
+  pub small-on-path : (v i : ℕ) → Entered c v → stops c v ≡ false → i ≡ argument c v → i < 16
+  small-on-path v i t s e = small-number v i (t .inside) (no-stop c v (t .noBegin) s) e
+
+  module _ (care values v u : ℕ) (p : Passed c care values v u) (k : (not (stops c u) && eqb (bit care (argument c u)) 1) ≡ true) where
+    goes : stops c u ≡ false
+    goes = not-true (stops c u) (and-l (not (stops c u)) (eqb (bit care (argument c u)) 1) k)
+
+    pub known-condition : kind c u ≡ 3
+    known-condition = no-stop c u (p .entered .noBegin) goes
+
+    pub known-falls : (w : ℕ) → w ≡ taken c values u → rank c w < rank c u
+    known-falls w e = omega (arith, ap (rank c) e, falls-taken c ready values u (p .entered .inside) known-condition)
+
+    pub known-on : (w : ℕ) → w ≡ taken c values u → Passed c care values v w
+    known-on w e = subst (Passed c care values v) (sym e) (record {
+      entered = entered-taken c ready values u (p .entered .inside) known-condition;
+      lower = omega (arith, p .lower, falls-taken c ready values u (p .entered .inside) known-condition);
+      same = λ l f. p .same l f ∙ at-known c ready l f care values u (p .entered) goes
+          (eqb-true (bit care (argument c u)) 1 (and-r (not (stops c u)) (eqb (bit care (argument c u)) 1) k));
+    })
+
+pub passed-start : (c : Chart) (care values v : ℕ) → Entered c v → Passed c care values v v
+passed-start c care values v t = record { entered = t; lower = omega arith; same = λ l f. refl }
+
+-- a new condition: where its two sides go on, with which mask and values
+pub record Fork (c : Chart) (care values v tested valued w0 w1 : ℕ) : Type 0 where
+  pub entered0 : Entered c w0
+  pub entered1 : Entered c w1
+  pub falls0 : rank c w0 < rank c v
+  pub falls1 : rank c w1 < rank c v
+  pub within0 : bitAnd values tested ≡ values
+  pub within1 : bitAnd valued tested ≡ valued
+  pub all : (l f : ℕ) → paths (size c) c l f care values v ≡ paths (size c) c l f tested values w0 ++ paths (size c) c l f tested valued w1
+
+-- ---- the paths from a node that is a stop, or a new condition
+module _ (c : Chart) (ready : Ready c) (care values v u : ℕ) (st : Settled c care values v u) where
+  pub stop-paths : stops c u ≡ true → (l f : ℕ) → paths (size c) c l f care values v ≡ pathRow c l f care values u ∷ []
+  stop-paths s l f = st .passed .same l f ∙ at-stop c ready l f care values u (st .passed .entered) s
+
+  module _ (s : stops c u ≡ false) (within : bitAnd values care ≡ values) where
+    new : bit care (argument c u) ≡ 1 → ⊥
+    new = eqb-false (bit care (argument c u)) 1 (and-false (not (stops c u)) (eqb (bit care (argument c u)) 1) (st .fresh) (ap not s))
+
+    pub fork-number : (i : ℕ) → i ≡ argument c u → i < 16
+    fork-number i e = small-on-path c ready u i (st .passed .entered) s e
+
+    condition : kind c u ≡ 3
+    condition = no-stop c u (st .passed .entered .noBegin) s
+
+    pub fork-inside : u < size c
+    fork-inside = st .passed .entered .inside
+
+    module _ (i tested valued : ℕ) (e : i ≡ argument c u) (et : tested ≡ bitOr care (2 ^ i)) (ev : valued ≡ bitOr values (2 ^ i)) where
+      lacks-care : bit care i ≡ 0
+      lacks-care = let n : bit care i ≡ 1 → ⊥ = λ q. new (ap (bit care) (sym e) ∙ q) in omega arith
+
+      lacks-values : bit values i ≡ 0
+      lacks-values = within-lacks i values care within (λ q. new (ap (bit care) (sym e) ∙ q))
+
+      tested-is : tested ≡ care + 2 ^ i
+      tested-is = et ∙ sym (add-is-or care i lacks-care)
+
+      valued-is : valued ≡ values + 2 ^ i
+      valued-is = ev ∙ sym (add-is-or values i lacks-values)
+
+      fork-within0 : bitAnd values tested ≡ values
+      fork-within0 = ap (bitAnd values) tested-is ∙ more-within-0 i values care (λ q. omega (arith, lacks-care)) within
+
+      fork-within1 : bitAnd valued tested ≡ valued
+      fork-within1 = ap₂ bitAnd valued-is tested-is ∙ more-within-1 i values care (λ q. omega (arith, lacks-care)) within ∙ sym valued-is
+
+      fork-paths : (w0 w1 : ℕ) → w0 ≡ next0 c u → w1 ≡ next1 c u → (l f : ℕ)
+          → paths (size c) c l f care values v ≡ paths (size c) c l f tested values w0 ++ paths (size c) c l f tested valued w1
+      fork-paths w0 w1 e0 e1 l f =
+          let t : care + 2 ^ argument c u ≡ tested = ap (λ (j : ℕ). care + 2 ^ j) (sym e) ∙ sym tested-is in
+          let x : values + 2 ^ argument c u ≡ valued = ap (λ (j : ℕ). values + 2 ^ j) (sym e) ∙ sym valued-is in
+          st .passed .same l f ∙ at-new c ready l f care values u (st .passed .entered) s new
+          ∙ ap₂ (λ (a b : List Row). a ++ b)
+          (ap₂ (λ (a b : ℕ). paths (size c) c l f a values b) t (sym e0))
+          (ap (λ (a : ℕ). paths (size c) c l f a (values + 2 ^ argument c u) (next1 c u)) t ∙ ap₂ (λ (a b : ℕ). paths (size c) c l f tested a b) x (sym e1))
+
+      pub fork : (w0 w1 : ℕ) → w0 ≡ next0 c u → w1 ≡ next1 c u → Fork c care values v tested valued w0 w1
+      fork w0 w1 e0 e1 = record {
+        entered0 = subst (Entered c) (sym e0) (entered0 c ready u fork-inside (λ q. omega (arith, condition)));
+        entered1 = subst (Entered c) (sym e1) (entered1 c ready u fork-inside (omega (arith, condition)));
+        falls0 = omega (arith, ap (rank c) e0, st .passed .lower, rank-falls0 c (ready .sound) u fork-inside condition);
+        falls1 = omega (arith, ap (rank c) e1, st .passed .lower, rank-falls1 c (ready .sound) u fork-inside condition);
+        within0 = fork-within0;
+        within1 = fork-within1;
+        all = fork-paths w0 w1 e0 e1;
+      }
+
+-- ---- how many paths there are, counted up to a limit
+module _ (c : Chart) (care values v most : ℕ) where
+  abbrev P : ℕ → ℕ → ℕ → ℕ → ℕ → List Row
+  P a b u l f = paths (size c) c l f a b u
+
+  pub count-none : most ≡ 0 → (l f : ℕ) → 0 ≡ min most (length (P care values v l f))
+  count-none z l f = omega arith
+
+  pub count-stop : (row : ℕ → ℕ → Row) → (most ≡ 0 → ⊥) → ((l f : ℕ) → P care values v l f ≡ row l f ∷ []) → (l f : ℕ) → 1 ≡ min most (length (P care values v l f))
+  count-stop row n e l f = omega (arith, ap (λ (rs : List Row). length rs) (e l f))
+
+  pub count-fork : (tested valued w0 w1 low high : ℕ) → Fork c care values v tested valued w0 w1
+      → ((l f : ℕ) → low ≡ min most (length (P tested values w0 l f))) → ((l f : ℕ) → high ≡ min (most - low) (length (P tested valued w1 l f)))
+      → (l f : ℕ) → low + high ≡ min most (length (P care values v l f))
+  count-fork tested valued w0 w1 low high k a b l f =
+      omega (arith, a l f, b l f, ap (λ (rs : List Row). length rs) (k .all l f) ∙ length-append (P tested values w0 l f) (P tested valued w1 l f))
+
+-- ---- the arc of a condition
+module _ (c : Chart) (w v i b r : ℕ) (e : i ≡ argument c v) (eb : b ≡ bit w i) where
+  pub taken-zero : b ≡ 0 → r ≡ next0 c v → r ≡ taken c w v
+  taken-zero z q = q ∙ sym (yes-pick (eqb (bit w (argument c v)) 0) (next0 c v) (next1 c v) (eq-eqb (bit w (argument c v)) 0 (ap (bit w) (sym e) ∙ sym eb ∙ z)))
+
+  pub taken-one : (b ≡ 0 → ⊥) → r ≡ next1 c v → r ≡ taken c w v
+  taken-one n q = q ∙ sym (no-pick (eqb (bit w (argument c v)) 0) (next0 c v) (next1 c v) (ne-eqb (bit w (argument c v)) 0 (λ z. n (eb ∙ ap (bit w) e ∙ z))))

@@ -1,0 +1,275 @@
+-- The steps of the functions that write the image's parts, at plain values: pieces of text written one after the other.
+use mathlib.Core.Path.{_≡_, refl, sym, _∙_, ap, ap₂}
+use mathlib.Core.Bool.{Bool, true, false, _&&_, not}
+use mathlib.Core.List.{List, [], _∷_, _++_, map, append-nil}
+use Prim.Native.Nat.{ℕ, zero, suc, _+_, _-_, _*_, _^_, _≤_, _<_}
+use native.Mathlib.Nat.{zero-add, add-zero}
+use native.Mathlib.Numerals.{add-one}
+use native.Mathlib.Omega.{arith}
+use lib.Dec.{eqb}
+use lib.ListN.{length, getD, length-append}
+use borrow.Author.Tests.{eq-eqb, ne-eqb}
+use Rattle.lists.specs.Pick.{pick}
+use Rattle.lists.specs.Sequences.{concatMap, written}
+use Rattle.lists.proofs.Tests.{yes-pick, no-pick}
+use Rattle.lists.proofs.Ranges.{map-append}
+use Rattle.lists.proofs.Joins.{concat-cons, concat-append, concat-range-snoc}
+use Rattle.lists.proofs.Written.{written-none, written-more}
+use Rattle.lists.proofs.Fills.{Pieces, pieces-turn}
+use Rattle.frames.specs.Frame.{size, quad, frameText, framesText}
+use Rattle.frames.proofs.FrameLoops.{length-frame}
+use Rattle.charts.specs.Chart.{Chart, kind, scheme, argument, next0, next1, result, mask, schemes, begin}
+use Rattle.walk.specs.Stops.{stops, start}
+use Rattle.image.specs.Image.{Label, Row, entryFrame, labelFrame, rowFrame}
+use Rattle.translator.specs.Labels.{numbered, label, entry, labelOf}
+use Rattle.translator.specs.Rows.{paths, rowsOf}
+use Rattle.translator.specs.Ready.{Ready, Labelled, Settled}
+use Rattle.translator.specs.Parts.{rowOf, rowsText, sides, nodeRows, entryText, nodeLabelText, nodeRowsText, upTo}
+use Rattle.translator.proofs.RowSteps.{rows-function, rows-condition, rows-other}
+use Rattle.translator.proofs.LabelSteps.{own-label, no-own-label}
+use Rattle.translator.proofs.PathCases.{Fork, stop-paths}
+
+-- ---- a text put after another
+module _ (out out₁ out₂ a b t : List ℕ) (at mid r : ℕ) (e : t ≡ a ++ b) where
+  lengths : length t ≡ length a + length b
+  lengths = ap (λ (x : List ℕ). length x) e ∙ length-append a b
+
+  pub both-first : (n : ℕ) → at + length t ≤ n → at + length a ≤ n
+  both-first n h = omega (arith, lengths)
+
+  pub both-second : (n m : ℕ) → at + length t ≤ n → mid ≡ at + length a → m ≡ n → mid + length b ≤ m
+  both-second n m h p q = omega (arith, lengths)
+
+  pub both-done : at + length t ≤ length out → mid ≡ at + length a → out₁ ≡ written out at a → r ≡ mid + length b → out₂ ≡ written out₁ mid b
+      → (r ≡ at + length t) × (out₂ ≡ written out at t)
+  both-done h p e₁ q e₂ = (omega (arith, lengths), written-more out at a b out₁ out₂ mid p (omega (arith, lengths)) e₁ e₂ ∙ ap (written out at) (sym e))
+
+pub nothing-put : (out t : List ℕ) (at : ℕ) → t ≡ [] → (at ≡ at + length t) × (out ≡ written out at t)
+nothing-put out t at e = (omega (arith, ap (λ (x : List ℕ). length x) e), sym (written-none out at) ∙ ap (written out at) (sym e))
+
+-- ---- rows
+pub rows-append : (a b : List Row) → rowsText (a ++ b) ≡ rowsText a ++ rowsText b
+rows-append a b = ap framesText (map-append rowFrame a b) ∙ concat-append frameText (map rowFrame a) (map rowFrame b)
+
+pub row-alone : (r : Row) → rowsText (r ∷ []) ≡ frameText (rowFrame r)
+row-alone r = concat-cons frameText (rowFrame r) [] ∙ (unfold concatMap in append-nil (frameText (rowFrame r)))
+
+module _ (c : Chart) (ready : Ready c) (labels : List ℕ) (ok : Labelled c labels) (care values v u : ℕ) (st : Settled c care values v u) (s : stops c u ≡ true) (l f : ℕ) where
+  leaf-text : rowsText (paths (size c) c l f care values v) ≡ frameText (rowFrame (rowOf l care values f (label c u)))
+  leaf-text = ap rowsText (stop-paths c ready care values v u st s l f) ∙ row-alone (rowOf l care values f (label c u))
+
+  leaf-length : length (rowsText (paths (size c) c l f care values v)) ≡ 23
+  leaf-length = ap (λ (x : List ℕ). length x) leaf-text ∙ length-frame (rowFrame (rowOf l care values f (label c u))) refl
+
+  pub leaf-room : (at n : ℕ) → at + length (rowsText (paths (size c) c l f care values v)) ≤ n → at + 23 ≤ n
+  leaf-room at n h = omega (arith, leaf-length)
+
+  pub leaf-done : (out out′ : List ℕ) (at : ℕ) → out′ ≡ written out at (frameText (rowFrame (rowOf l care values f (getD labels u 0))))
+      → (at + 23 ≡ at + length (rowsText (paths (size c) c l f care values v))) × (out′ ≡ written out at (rowsText (paths (size c) c l f care values v)))
+  leaf-done out out′ at e = (
+    omega (arith, leaf-length),
+    e ∙ ap (λ (x : ℕ). written out at (frameText (rowFrame (rowOf l care values f x)))) (ok .at u (st .passed .entered .inside)) ∙ ap (written out at) (sym leaf-text),
+  )
+
+module _ (c : Chart) (care values v tested valued w0 w1 : ℕ) (k : Fork c care values v tested valued w0 w1) (l f : ℕ) where
+  pub fork-text : rowsText (paths (size c) c l f care values v) ≡ rowsText (paths (size c) c l f tested values w0) ++ rowsText (paths (size c) c l f tested valued w1)
+  fork-text = ap rowsText (k .all l f) ∙ rows-append (paths (size c) c l f tested values w0) (paths (size c) c l f tested valued w1)
+
+  pub fork-first : (at n : ℕ) → at + length (rowsText (paths (size c) c l f care values v)) ≤ n → at + length (rowsText (paths (size c) c l f tested values w0)) ≤ n
+  fork-first at n h = both-first [] [] [] (rowsText (paths (size c) c l f tested values w0)) (rowsText (paths (size c) c l f tested valued w1)) (rowsText (paths (size c) c l f care values v)) at 0 0 fork-text n h
+
+  pub fork-second : (at mid n m : ℕ) → at + length (rowsText (paths (size c) c l f care values v)) ≤ n → mid ≡ at + length (rowsText (paths (size c) c l f tested values w0)) → m ≡ n
+      → mid + length (rowsText (paths (size c) c l f tested valued w1)) ≤ m
+  fork-second at mid n m h p q = both-second [] [] [] (rowsText (paths (size c) c l f tested values w0)) (rowsText (paths (size c) c l f tested valued w1)) (rowsText (paths (size c) c l f care values v)) at mid 0 fork-text n m h p q
+
+-- ---- pieces of any length, one a node
+pub record Appended (piece : ℕ → List ℕ) (out₀ out : List ℕ) (at place n v : ℕ) : Type 0 where
+  pub within : v ≤ n
+  pub size : length out ≡ length out₀
+  pub here : place ≡ at + length (upTo piece v)
+  pub buffer : out ≡ written out₀ at (upTo piece v)
+
+module _ (piece : ℕ → List ℕ) where
+  up-more : (v : ℕ) → upTo piece (v + 1) ≡ upTo piece v ++ piece v
+  up-more v = ap (upTo piece) (add-one v) ∙ concat-range-snoc piece 0 v ∙ ap (λ (k : ℕ). upTo piece v ++ piece k) (zero-add v)
+
+  up-mono : (u d : ℕ) → length (upTo piece u) ≤ length (upTo piece (u + d))
+  up-mono u zero = omega (arith, ap (λ (k : ℕ). length (upTo piece k)) (add-zero u))
+  up-mono u (suc d) =
+      let n : u + suc d ≡ u + d + 1 = omega arith in
+      let e : upTo piece (u + suc d) ≡ upTo piece (u + d + 1) = ap (upTo piece) n in
+      omega (arith, up-mono u d, ap (λ (x : List ℕ). length x) (e ∙ up-more (u + d)) ∙ length-append (upTo piece (u + d)) (piece (u + d)))
+
+  pub appended-start : (out : List ℕ) (at n : ℕ) → Appended piece out out at at n 0
+  unfolding concatMap
+  appended-start out at n = record { within = omega arith; size = refl; here = omega arith; buffer = sym (written-none out at) }
+
+  module _ (out₀ out : List ℕ) (at place n v : ℕ) (t : Appended piece out₀ out at place n v) where
+    module _ (l : v < n) (room : at + length (upTo piece n) ≤ length out₀) where
+      upper : length (upTo piece v) + length (piece v) ≤ length (upTo piece n)
+      upper =
+          let m : v + 1 + (n - (v + 1)) ≡ n = omega arith in
+          let e : upTo piece (v + 1 + (n - (v + 1))) ≡ upTo piece n = ap (upTo piece) m in
+          omega (arith, up-mono (v + 1) (n - (v + 1)), ap (λ (x : List ℕ). length x) e, ap (λ (x : List ℕ). length x) (up-more v) ∙ length-append (upTo piece v) (piece v))
+
+      pub appended-room : place + length (piece v) ≤ length out
+      appended-room = omega (arith, upper, t .here, t .size)
+
+      pub appended-on : (out′ : List ℕ) (place′ : ℕ) → length out′ ≡ length out → place′ ≡ place + length (piece v) → out′ ≡ written out place (piece v)
+          → Appended piece out₀ out′ at place′ n (v + 1)
+      appended-on out′ place′ k p e =
+          let q = both-done out₀ out out′ (upTo piece v) (piece v) (upTo piece (v + 1)) at place place′ (up-more v)
+          (omega (arith, upper, ap (λ (x : List ℕ). length x) (up-more v) ∙ length-append (upTo piece v) (piece v))) (t .here) (t .buffer) p e in
+          record { within = omega arith; size = k ∙ t .size; here = q .0; buffer = q .1 }
+
+    pub appended-done : n ≤ v → out ≡ written out₀ at (upTo piece n)
+    appended-done h = let e : v ≡ n = omega (arith, t .within) in t .buffer ∙ ap (λ (k : ℕ). written out₀ at (upTo piece k)) e
+
+-- ---- entries
+numbered-stop : (c : Chart) (v : ℕ) → (kind c v ≡ 1 → ⊥) → numbered c v ≡ stops c v
+numbered-stop c v n = ap (λ x. stops c v && not x) (ne-eqb (kind c v) 1 n) ∙ unit (stops c v)
+  where
+    unit : (b : Bool) → (b && true) ≡ b
+    unit true = refl
+    unit false = refl
+
+module _ (c : Chart) (ready : Ready c) (labels : List ℕ) (ok : Labelled c labels) (h v : ℕ) (low : 1 ≤ h) (high : h ≤ schemes c) (e : v ≡ begin c h) where
+  begin-inside : v < size c
+  begin-inside = omega (arith, ready .facts .begins h low high .0)
+
+  begin-kind : kind c v ≡ 0
+  begin-kind = ap (kind c) e ∙ ready .facts .begins h low high .1
+
+  pub entry-read : v < length labels
+  entry-read = omega (arith, ok .long, begin-inside)
+
+  pub entry-field : 10 * v + 3 < length c
+  entry-field = omega (arith, ready .facts .whole, begin-inside)
+
+  pub entry-next : (w : ℕ) → w ≡ next0 c v → w < length labels
+  entry-next w q = omega (arith, ok .long, ready .facts .arc0 v begin-inside (λ z. omega (arith, begin-kind)) .inside)
+
+  starts : (b : Bool) → stops c v ≡ b → start c h ≡ pick b v (next0 c v)
+  unfolding start
+  starts b s = ap (λ (x : ℕ). pick (stops c x) x (next0 c x)) (sym e) ∙ ap (λ y. pick y v (next0 c v)) s
+
+  stop-by : numbered c v ≡ stops c v
+  stop-by = numbered-stop c v (λ z. omega (arith, begin-kind))
+
+  pub entry-own : 2 ≤ getD labels v 0 → getD labels v 0 ≡ entry c h
+  entry-own g =
+      let m : getD labels v 0 ≡ label c v = ok .at v begin-inside in
+      m ∙ ap (label c) (sym (starts true (sym stop-by ∙ own-label c v (omega arith))))
+
+  pub entry-other : getD labels v 0 < 2 → (w : ℕ) → w ≡ next0 c v → getD labels w 0 ≡ entry c h
+  entry-other g w q =
+      let m : getD labels v 0 ≡ label c v = ok .at v begin-inside in
+      let i : next0 c v < size c = ready .facts .arc0 v begin-inside (λ z. omega (arith, begin-kind)) .inside in
+      ap (λ (x : ℕ). getD labels x 0) q ∙ ok .at (next0 c v) i
+      ∙ ap (label c) (sym (starts false (sym stop-by ∙ no-own-label c v (omega arith))))
+
+pub entries-turn : (c : Chart) (out₀ out out′ : List ℕ) (at n k place l : ℕ) → Pieces (entryText c) 23 out₀ out at n k → k < n → place ≡ at + 23 * k → at + 23 * n ≤ length out₀
+    → length out′ ≡ length out → l ≡ entry c (k + 1) → out′ ≡ written out place (frameText (entryFrame (k + 1) l)) → Pieces (entryText c) 23 out₀ out′ at n (k + 1)
+entries-turn c out₀ out out′ at n k place l w h p room s m e =
+    pieces-turn (entryText c) 23 out₀ at n (λ j. length-frame (entryFrame (j + 1) (entry c (j + 1))) refl) out out′ k place w h p (omega arith) s
+    (e ∙ ap (λ (x : ℕ). written out place (frameText (entryFrame (k + 1) x))) m)
+
+-- ---- labels
+pub fixed-done : (out out₁ out₂ a b : List ℕ) (at : ℕ) → length a ≡ 23 → at + 46 ≤ length out → out₁ ≡ written out at a → out₂ ≡ written out₁ (at + 23) b → out₂ ≡ written out at (a ++ b)
+fixed-done out out₁ out₂ a b at n h e₁ e₂ = written-more out at a b out₁ out₂ (at + 23) (omega arith) (omega arith) e₁ e₂
+
+quad-bytes : (a b d e : ℕ) → a < 256 → b < 256 → d < 256 → e < 256 → quad ((a * 256 + b) * 65536 + (d * 256 + e)) ≡ a ∷ b ∷ d ∷ e ∷ []
+quad-bytes a b d e ha hb hd he =
+    ap₂ (λ (x : ℕ) (xs : List ℕ). x ∷ xs) (omega arith) (ap₂ (λ (x : ℕ) (xs : List ℕ). x ∷ xs) (omega arith)
+    (ap₂ (λ (x : ℕ) (xs : List ℕ). x ∷ xs) (omega arith) (ap₂ (λ (x : ℕ) (xs : List ℕ). x ∷ xs) (omega arith) refl)))
+
+abbrev labelWith : ℕ → ℕ → ℕ → ℕ → ℕ → Label
+labelWith k g o r m = record { kind = k; called = g; owner = o; result = r; mask = m }
+
+module _ (c : Chart) (v l : ℕ) where
+  operation-label : kind c v ≡ 2 → labelOf c v ≡ labelWith (pick (not (eqb (argument c v) 0)) 1 0) (argument c v) (scheme c v) (result c v) (mask c v)
+  operation-label k = rw (ne-eqb (kind c v) 4 (λ q. omega arith), eq-eqb (kind c v) 2 k)
+
+  function-label : kind c v ≡ 4 → labelOf c v ≡ labelWith 2 (argument c v) (scheme c v) 0 0
+  function-label k = rw (eq-eqb (kind c v) 4 k, ne-eqb (kind c v) 2 (λ q. omega arith))
+
+  other-label : (kind c v ≡ 2 → ⊥) → (kind c v ≡ 4 → ⊥) → labelOf c v ≡ labelWith 0 0 (scheme c v) 0 0
+  other-label n m = rw (ne-eqb (kind c v) 4 m, ne-eqb (kind c v) 2 n)
+
+  pub operation-bytes : Ready c → kind c v ≡ 2 → (t g o r m0 m1 m2 m3 : ℕ) → t ≡ pick (not (eqb g 0)) 1 0 → g ≡ argument c v → o ≡ scheme c v → r ≡ result c v
+      → m0 ≡ getD c (10 * v + 6) 0 → m1 ≡ getD c (10 * v + 7) 0 → m2 ≡ getD c (10 * v + 8) 0 → m3 ≡ getD c (10 * v + 9) 0
+      → (17 ∷ l ∷ t ∷ g ∷ o ∷ r ∷ m0 ∷ m1 ∷ m2 ∷ m3 ∷ []) ≡ labelFrame l (labelOf c v)
+  operation-bytes ready k t g o r m0 m1 m2 m3 et eg eo er e0 e1 e2 e3 =
+      let B : (j : ℕ) → getD c j 0 < 256 = ready .facts .bytes in
+      let q : quad (mask c v) ≡ m0 ∷ m1 ∷ m2 ∷ m3 ∷ [] =
+      quad-bytes (getD c (10 * v + 6) 0) (getD c (10 * v + 7) 0) (getD c (10 * v + 8) 0) (getD c (10 * v + 9) 0) (B _) (B _) (B _) (B _)
+      ∙ ap₂ (λ (x : ℕ) (xs : List ℕ). x ∷ xs) (sym e0) (ap₂ (λ (x : ℕ) (xs : List ℕ). x ∷ xs) (sym e1) (ap₂ (λ (x y : ℕ). x ∷ y ∷ []) (sym e2) (sym e3))) in
+      let p : t ≡ pick (not (eqb (argument c v) 0)) 1 0 = et ∙ ap (λ (x : ℕ). pick {A = ℕ} (not (eqb x 0)) 1 0) eg in
+      ap (λ (xs : List ℕ). 17 ∷ l ∷ t ∷ g ∷ o ∷ r ∷ xs) (sym q)
+      ∙ ap₂ (λ (x y : ℕ). 17 ∷ l ∷ x ∷ y ∷ o ∷ r ∷ quad (mask c v)) p eg
+      ∙ ap₂ (λ (x y : ℕ). 17 ∷ l ∷ pick (not (eqb (argument c v) 0)) 1 0 ∷ argument c v ∷ x ∷ y ∷ quad (mask c v)) eo er
+      ∙ ap (labelFrame l) (sym (operation-label k))
+
+  pub function-bytes : kind c v ≡ 4 → (g o : ℕ) → g ≡ argument c v → o ≡ scheme c v → (17 ∷ l ∷ 2 ∷ g ∷ o ∷ 0 ∷ 0 ∷ 0 ∷ 0 ∷ 0 ∷ []) ≡ labelFrame l (labelOf c v)
+  function-bytes k g o eg eo = ap₂ (λ (x y : ℕ). 17 ∷ l ∷ 2 ∷ x ∷ y ∷ 0 ∷ 0 ∷ 0 ∷ 0 ∷ 0 ∷ []) eg eo ∙ ap (labelFrame l) (sym (function-label k))
+
+  pub other-bytes : (kind c v ≡ 2 → ⊥) → (kind c v ≡ 4 → ⊥) → (o : ℕ) → o ≡ scheme c v → (17 ∷ l ∷ 0 ∷ 0 ∷ o ∷ 0 ∷ 0 ∷ 0 ∷ 0 ∷ 0 ∷ []) ≡ labelFrame l (labelOf c v)
+  other-bytes n m o eo = ap (λ (x : ℕ). 17 ∷ l ∷ 0 ∷ 0 ∷ x ∷ 0 ∷ 0 ∷ 0 ∷ 0 ∷ 0 ∷ []) eo ∙ ap (labelFrame l) (sym (other-label n m))
+
+module _ (c : Chart) (labels : List ℕ) (ok : Labelled c labels) (v : ℕ) (inside : v < size c) where
+  pub label-none : getD labels v 0 < 2 → nodeLabelText c v ≡ []
+  label-none h = let m : getD labels v 0 ≡ label c v = ok .at v inside in
+      no-pick (numbered c v) (frameText (labelFrame (label c v) (labelOf c v))) [] (no-own-label c v (omega arith))
+
+  label-one : 2 ≤ getD labels v 0 → nodeLabelText c v ≡ frameText (labelFrame (label c v) (labelOf c v))
+  label-one h = let m : getD labels v 0 ≡ label c v = ok .at v inside in
+      yes-pick (numbered c v) (frameText (labelFrame (label c v) (labelOf c v))) [] (own-label c v (omega arith))
+
+  label-long : 2 ≤ getD labels v 0 → length (nodeLabelText c v) ≡ 23
+  label-long h = ap (λ (x : List ℕ). length x) (label-one h) ∙ length-frame (labelFrame (label c v) (labelOf c v)) refl
+
+  pub label-room : 2 ≤ getD labels v 0 → (at n : ℕ) → at + length (nodeLabelText c v) ≤ n → at + 23 ≤ n
+  label-room h at n r = omega (arith, label-long h)
+
+  pub label-done : 2 ≤ getD labels v 0 → (out out′ : List ℕ) (at : ℕ) → out′ ≡ written out at (frameText (labelFrame (getD labels v 0) (labelOf c v)))
+      → (at + 23 ≡ at + length (nodeLabelText c v)) × (out′ ≡ written out at (nodeLabelText c v))
+  label-done h out out′ at e = (
+    omega (arith, label-long h),
+    e ∙ ap (λ (x : ℕ). written out at (frameText (labelFrame x (labelOf c v)))) (ok .at v inside) ∙ ap (written out at) (sym (label-one h)),
+  )
+
+-- ---- a node's rows, by its kind
+pub room-as : (t u : List ℕ) (at n : ℕ) → t ≡ u → at + length t ≤ n → at + length u ≤ n
+room-as t u at n e h = omega (arith, ap (λ (x : List ℕ). length x) e)
+
+pub done-as : (t u out out′ : List ℕ) (at r : ℕ) → t ≡ u → (r ≡ at + length u) × (out′ ≡ written out at u) → (r ≡ at + length t) × (out′ ≡ written out at t)
+done-as t u out out′ at r e q = (omega (arith, ap (λ (x : List ℕ). length x) e, q .0), q .1 ∙ ap (written out at) (sym e))
+
+pub node-none : (c : Chart) (v : ℕ) → nodeRows c v ≡ [] → nodeRowsText c v ≡ []
+node-none c v e = ap rowsText e ∙ (unfold concatMap in refl)
+
+module _ (c : Chart) (v k : ℕ) (ek : k ≡ kind c v) (own : nodeRows c v ≡ rowsOf c v) where
+  pub node-function : k ≡ 4 → nodeRowsText c v ≡ rowsText (sides c (label c v) 0 1 0 0 v)
+  node-function e = ap rowsText (own ∙ rows-function c v k ek e)
+
+  pub node-condition : k ≡ 3 → (o : ℕ) → o ≡ 2 ^ argument c v → nodeRowsText c v ≡ rowsText (sides c (label c v) 2 2 o o v)
+  node-condition e o m = ap rowsText (own ∙ rows-condition c v k ek e ∙ ap (λ (x : ℕ). sides c (label c v) 2 2 x x v) (sym m))
+
+  pub node-other : (k ≡ 4 → ⊥) → (k ≡ 3 → ⊥) → (l w : ℕ) → l ≡ label c v → w ≡ next0 c v → nodeRowsText c v ≡ rowsText (paths (size c) c l 2 0 0 w)
+  node-other n m l w el ew =
+      ap rowsText (own ∙ rows-other c v k ek n m ∙ ap₂ (λ (x y : ℕ). paths (size c) c x 2 0 0 y) (sym el) (sym ew))
+
+module _ (c : Chart) (v f g care values l w0 w1 : ℕ) (el : l ≡ label c v) (e0 : w0 ≡ next0 c v) (e1 : w1 ≡ next1 c v) where
+  pub sides-text : rowsText (sides c (label c v) f g care values v) ≡ rowsText (paths (size c) c l f care 0 w0) ++ rowsText (paths (size c) c l g care values w1)
+  sides-text =
+      rows-append (paths (size c) c (label c v) f care 0 (next0 c v)) (paths (size c) c (label c v) g care values (next1 c v))
+      ∙ ap₂ (λ (x y : List ℕ). x ++ y)
+      (ap₂ (λ (x y : ℕ). rowsText (paths (size c) c x f care 0 y)) (sym el) (sym e0))
+      (ap₂ (λ (x y : ℕ). rowsText (paths (size c) c x g care values y)) (sym el) (sym e1))
+
+  pub sides-first : (at n : ℕ) → at + length (rowsText (sides c (label c v) f g care values v)) ≤ n → at + length (rowsText (paths (size c) c l f care 0 w0)) ≤ n
+  sides-first at n h = both-first [] [] [] (rowsText (paths (size c) c l f care 0 w0)) (rowsText (paths (size c) c l g care values w1)) (rowsText (sides c (label c v) f g care values v)) at 0 0 sides-text n h
+
+  pub sides-second : (at mid n m : ℕ) → at + length (rowsText (sides c (label c v) f g care values v)) ≤ n → mid ≡ at + length (rowsText (paths (size c) c l f care 0 w0)) → m ≡ n
+      → mid + length (rowsText (paths (size c) c l g care values w1)) ≤ m
+  sides-second at mid n m h p q = both-second [] [] [] (rowsText (paths (size c) c l f care 0 w0)) (rowsText (paths (size c) c l g care values w1)) (rowsText (sides c (label c v) f g care values v)) at mid 0 sides-text n m h p q

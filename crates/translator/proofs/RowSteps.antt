@@ -1,0 +1,150 @@
+-- The steps of the functions that count and write the rows of labels, at plain values.
+use mathlib.Core.Path.{_≡_, refl, sym, _∙_, ap, ap₂, subst}
+use mathlib.Core.Bool.{Bool, true, false, not}
+use mathlib.Core.List.{List, [], _∷_, _++_}
+use Prim.Native.Nat.{ℕ, zero, suc, _+_, _-_, _^_, _≤_, _<_, min}
+use native.Mathlib.Nat.{zero-add}
+use native.Mathlib.Numerals.{add-one}
+use native.Mathlib.Omega.{arith}
+use lib.Bits.{bitAnd, bitOr, and-zero-l}
+use lib.ListN.{length, getD, length-append}
+use borrow.Author.Tests.{eqb-false, eq-eqb, ne-eqb}
+use Rattle.lists.specs.Pick.{pick}
+use Rattle.lists.specs.Numbers.{range}
+use Rattle.lists.specs.Sequences.{concatMap, filter}
+use Rattle.lists.proofs.Tests.{and-r, not-true, yes-pick, no-pick}
+use Rattle.lists.proofs.Ranges.{filter-yes, filter-no}
+use Rattle.lists.proofs.Joins.{concat-cons, concat-range-snoc}
+use Rattle.bits.proofs.BitLaws.{add-is-or, bit-none}
+use Rattle.frames.specs.Frame.{size}
+use Rattle.charts.specs.Chart.{Chart, kind, argument, next0, next1, is}
+use Rattle.walk.specs.Stops.{stops}
+use Rattle.image.specs.Image.{Row}
+use Rattle.translator.specs.Labels.{numbered, label}
+use Rattle.translator.specs.Rows.{paths, rowsOf, rows}
+use Rattle.translator.specs.Ready.{Ready, Entered, Labelled}
+use Rattle.translator.specs.Parts.{sides, nodeRows}
+use Rattle.translator.proofs.LabelSteps.{own-label, no-own-label}
+use Rattle.translator.proofs.PathSteps.{entered0, entered1}
+
+-- ---- both arcs of a node
+module _ (c : Chart) (ready : Ready c) (v w0 w1 : ℕ) (l : v < size c) (k : 3 ≤ kind c v) where
+  pub side-entered0 : w0 ≡ next0 c v → Entered c w0
+  side-entered0 e = subst (Entered c) (sym e) (entered0 c ready v l (λ q. omega arith))
+
+  pub side-entered1 : w1 ≡ next1 c v → Entered c w1
+  side-entered1 e = subst (Entered c) (sym e) (entered1 c ready v l k)
+
+pub count-sides : (c : Chart) (v care values most w0 w1 low high : ℕ) → w0 ≡ next0 c v → w1 ≡ next1 c v
+    → ((l f : ℕ) → low ≡ min most (length (paths (size c) c l f care 0 w0))) → ((l f : ℕ) → high ≡ min (most - low) (length (paths (size c) c l f care values w1)))
+    → (l f g : ℕ) → low + high ≡ min most (length (sides c l f g care values v))
+count-sides c v care values most w0 w1 low high e0 e1 a b l f g =
+    let p : paths (size c) c l f care 0 w0 ≡ paths (size c) c l f care 0 (next0 c v) = ap (paths (size c) c l f care 0) e0 in
+    let q : paths (size c) c l g care values w1 ≡ paths (size c) c l g care values (next1 c v) = ap (paths (size c) c l g care values) e1 in
+    omega (
+      arith,
+      a l f,
+      b l g,
+      ap (λ (rs : List Row). length rs) p,
+      ap (λ (rs : List Row). length rs) q,
+      length-append (paths (size c) c l f care 0 (next0 c v)) (paths (size c) c l g care values (next1 c v)),
+    )
+
+pub first-values : (care : ℕ) → bitAnd 0 care ≡ 0
+first-values care = and-zero-l care
+
+-- ---- the rows of one node, by its kind
+module _ (c : Chart) (v k : ℕ) (ek : k ≡ kind c v) where
+  pub rows-function : k ≡ 4 → rowsOf c v ≡ sides c (label c v) 0 1 0 0 v
+  unfolding rowsOf
+  rows-function e = rw (rowsOf, eq-eqb (kind c v) 4 (sym ek ∙ e))
+
+  pub rows-condition : k ≡ 3 → rowsOf c v ≡ sides c (label c v) 2 2 (2 ^ argument c v) (2 ^ argument c v) v
+  unfolding rowsOf
+  rows-condition e = rw (rowsOf, ne-eqb (kind c v) 4 (λ q. omega arith), eq-eqb (kind c v) 3 (sym ek ∙ e))
+
+  pub rows-other : (k ≡ 4 → ⊥) → (k ≡ 3 → ⊥) → rowsOf c v ≡ paths (size c) c (label c v) 2 0 0 (next0 c v)
+  unfolding rowsOf
+  rows-other n m = rw (rowsOf, ne-eqb (kind c v) 4 (λ q. n (ek ∙ q)), ne-eqb (kind c v) 3 (λ q. m (ek ∙ q)))
+
+-- the mask of a stopping condition's own test
+pub own-mask : (c : Chart) (v i own : ℕ) → i ≡ argument c v → own ≡ bitOr 0 (2 ^ i) → own ≡ 2 ^ argument c v
+own-mask c v i own e m = m ∙ sym (add-is-or 0 i (bit-none i)) ∙ zero-add (2 ^ i) ∙ ap (λ (j : ℕ). 2 ^ j) e
+
+pub other-entered : (c : Chart) → Ready c → (v w : ℕ) → v < size c → numbered c v ≡ true → w ≡ next0 c v → Entered c w
+other-entered c ready v w l n e =
+    subst (Entered c) (sym e) (entered0 c ready v l (eqb-false (kind c v) 1 (not-true (is c 1 v) (and-r (stops c v) (not (is c 1 v)) n))))
+
+module _ (c : Chart) (v k most r : ℕ) (ek : k ≡ kind c v) where
+  pub count-function : k ≡ 4 → ((l f g : ℕ) → r ≡ min most (length (sides c l f g 0 0 v))) → r ≡ min most (length (rowsOf c v))
+  count-function e q = q (label c v) 0 1 ∙ ap (λ (rs : List Row). min most (length rs)) (sym (rows-function c v k ek e))
+
+  pub count-condition : k ≡ 3 → (own : ℕ) → own ≡ 2 ^ argument c v → ((l f g : ℕ) → r ≡ min most (length (sides c l f g own own v))) → r ≡ min most (length (rowsOf c v))
+  count-condition e own m q =
+      q (label c v) 2 2 ∙ ap (λ (o : ℕ). min most (length (sides c (label c v) 2 2 o o v))) m
+      ∙ ap (λ (rs : List Row). min most (length rs)) (sym (rows-condition c v k ek e))
+
+  pub count-other : (k ≡ 4 → ⊥) → (k ≡ 3 → ⊥) → (w : ℕ) → w ≡ next0 c v → ((l f : ℕ) → r ≡ min most (length (paths (size c) c l f 0 0 w))) → r ≡ min most (length (rowsOf c v))
+  count-other n m w e q =
+      q (label c v) 2 ∙ ap (λ (u : ℕ). min most (length (paths (size c) c (label c v) 2 0 0 u))) e
+      ∙ ap (λ (rs : List Row). min most (length rs)) (sym (rows-other c v k ek n m))
+
+-- ---- a node without a label of its own, and one with it
+module _ (c : Chart) (labels : List ℕ) (ok : Labelled c labels) (v x : ℕ) (l : v < size c) (e : x ≡ getD labels v 0) where
+  pub own-number : 2 ≤ x → numbered c v ≡ true
+  own-number h = own-label c v (omega (arith, ok .at v l))
+
+  pub no-rows : x < 2 → nodeRows c v ≡ []
+  no-rows h = no-pick (numbered c v) (rowsOf c v) [] (no-own-label c v (omega (arith, ok .at v l)))
+
+  pub own-rows : 2 ≤ x → nodeRows c v ≡ rowsOf c v
+  own-rows h = yes-pick (numbered c v) (rowsOf c v) [] (own-number h)
+
+pub count-nothing : (c : Chart) (v most : ℕ) → nodeRows c v ≡ [] → 0 ≡ min most (length (nodeRows c v))
+count-nothing c v most e = omega (arith, ap (λ (rs : List Row). length rs) e)
+
+pub count-own : (c : Chart) (v most r : ℕ) → nodeRows c v ≡ rowsOf c v → r ≡ min most (length (rowsOf c v)) → r ≡ min most (length (nodeRows c v))
+count-own c v most r e q = q ∙ ap (λ (rs : List Row). min most (length rs)) (sym e)
+
+-- ---- the rows of the nodes below v
+abbrev pub rowsBelow : Chart → ℕ → List Row
+rowsBelow c v = concatMap (nodeRows c) (range 0 v)
+
+pub below-more : (c : Chart) (v : ℕ) → rowsBelow c (v + 1) ≡ rowsBelow c v ++ nodeRows c v
+below-more c v = ap (rowsBelow c) (add-one v) ∙ concat-range-snoc (nodeRows c) 0 v ∙ ap (λ (k : ℕ). rowsBelow c v ++ nodeRows c k) (zero-add v)
+
+-- the nodes without a label add nothing
+picked : {A : Type 0} (p : ℕ → Bool) (f : ℕ → List A) (i n : ℕ) → concatMap (λ v. pick (p v) (f v) []) (range i n) ≡ concatMap f (filter p (range i n))
+picked p f i zero = unfold concatMap filter in refl
+picked {A} p f i (suc n) = go (p i) refl (picked p f (suc i) n)
+  where
+    go : (b : Bool) → p i ≡ b → concatMap (λ v. pick (p v) (f v) []) (range (suc i) n) ≡ concatMap f (filter p (range (suc i) n))
+        → concatMap (λ v. pick (p v) (f v) []) (range i (suc n)) ≡ concatMap f (filter p (range i (suc n)))
+    go true e ih =
+        concat-cons (λ v. pick (p v) (f v) []) i (range (suc i) n) ∙ ap₂ (λ (x y : List A). x ++ y) (yes-pick (p i) (f i) [] e) ih
+        ∙ sym (ap (concatMap f) (filter-yes p i (range (suc i) n) e) ∙ concat-cons f i (filter p (range (suc i) n)))
+    go false e ih =
+        concat-cons (λ v. pick (p v) (f v) []) i (range (suc i) n) ∙ ap₂ (λ (x y : List A). x ++ y) (no-pick (p i) (f i) [] e) ih
+        ∙ sym (ap (concatMap f) (filter-no p i (range (suc i) n) e))
+
+pub below-all : (c : Chart) (v : ℕ) → v ≡ size c → rowsBelow c v ≡ rows c
+unfolding rows
+below-all c v e = ap (rowsBelow c) e ∙ picked (numbered c) (rowsOf c) 0 (size c)
+
+pub record Counting (c : Chart) (most total v : ℕ) : Type 0 where
+  pub within : v ≤ size c
+  pub limited : total ≤ most
+  pub counted : total ≡ min most (length (rowsBelow c v))
+
+pub counting-start : (c : Chart) (most : ℕ) → Counting c most 0 0
+counting-start c most = record { within = omega arith; limited = omega arith; counted = unfold concatMap in omega arith }
+
+pub counting-on : (c : Chart) (most total v more : ℕ) → Counting c most total v → v < size c → more ≡ min (most - total) (length (nodeRows c v)) → Counting c most (total + more) (v + 1)
+counting-on c most total v more t l e = record {
+  within = omega arith;
+  limited = omega (arith, t .limited);
+  counted = omega (arith, t .counted, ap (λ (rs : List Row). length rs) (below-more c v) ∙ length-append (rowsBelow c v) (nodeRows c v));
+}
+
+pub counting-done : (c : Chart) (most total v n : ℕ) → Counting c most total v → n ≡ size c → n ≤ v → total ≡ min most (length (rows c))
+counting-done c most total v n t e h = t .counted ∙ ap (λ (rs : List Row). min most (length rs)) (below-all c v (omega (arith, t .within)))

@@ -1,0 +1,40 @@
+use Rattle.translator.proofs.NodeSteps.{condition-second, condition-first}
+-- `translator::stops`: by kind.
+use mathlib.Core.Path.{sym, _∙_}
+use Rattle.translator.proofs.NodeSteps.{stops-begin, stops-other, begin-asks}
+use borrow.Author.Needs.{needs}
+use Rattle.translator.proofs.nodes.stops.Statement.{statement}
+use Rattle.translator.proofs.nodes.stops.Tie as tie
+
+field-requires : tie.Need-field-requires
+field-requires c κs = search needs
+
+begin-stops-requires : tie.Need-begin-stops-requires
+begin-stops-requires c κs = begin-asks _ (c .before .before .before .pre .0) _ _ (c .before .before .before .pre .1 .1) (c .before .field .ensures) (c .match .keys1)
+
+field-requires-2 : tie.Need-field-requires-2
+field-requires-2 c κs = search needs
+
+returns : tie.Need-returns
+returns c = c .begin-stops .ensures ∙ sym (stops-begin _ _ (sym (c .before .before .field .ensures) ∙ c .before .match .keys1))
+
+returns-2 : tie.Need-returns-2
+returns-2 c = condition-second _ _ _ _ _ (c .before .before .before .field .ensures) (c .before .before .match .keys2) (c .before .field2 .ensures) (c .before .before .before .before .before .pre .1 .0) (c .if1 .taken)
+
+returns-3 : tie.Need-returns-3
+returns-3 c = condition-first _ _ _ _ _ (c .before .before .before .field .ensures) (c .before .before .match .keys2) (c .before .field2 .ensures) (c .before .before .before .before .before .pre .1 .0) (c .if1 .left)
+
+returns-4 : tie.Need-returns-4
+returns-4 c = sym (stops-other _ _ (λ e. c .match .rest .0 .1 (c .before .field .ensures ∙ e)) (λ e. c .match .rest .1 (c .before .field .ensures ∙ e)))
+
+pub stops-spec : {M : Type 1} → statement M
+stops-spec =
+    tie.close
+    (tie.spec
+    field-requires
+    begin-stops-requires
+    field-requires-2
+    returns
+    returns-2
+    returns-3
+    returns-4)

@@ -1,0 +1,29 @@
+use Rattle.translator.proofs.PathCases.{taken-zero, taken-one}
+-- `translator::taken`: the arc on a 0 or on a 1.
+use Rattle.translator.proofs.PathCases.{small-number}
+use borrow.Author.Needs.{needs}
+use Rattle.translator.proofs.paths.taken.Statement.{statement}
+use Rattle.translator.proofs.paths.taken.Tie as tie
+
+field-requires : tie.Need-field-requires
+field-requires c κs = search needs
+
+bit-requires : tie.Need-bit-requires
+bit-requires c κs = small-number _ (c .before .before .pre .0) _ _ (c .before .before .pre .1 .0) (c .before .before .pre .1 .1) (c .field .ensures)
+
+field-requires-2 : tie.Need-field-requires-2
+field-requires-2 c κs = search needs
+
+returns : tie.Need-returns
+returns c = taken-zero (c .before .before .before .before .before .args .records .now) (c .before .before .before .before .before .args .values) (c .before .before .before .before .before .args .node) _ _ _ (c .before .before .before .field .ensures) (c .before .before .bit .ensures) (c .before .if1 .taken) (c .field2 .ensures)
+
+field-requires-3 : tie.Need-field-requires-3
+field-requires-3 c κs = search needs
+
+returns-2 : tie.Need-returns-2
+returns-2 c = taken-one (c .before .before .before .before .before .args .records .now) (c .before .before .before .before .before .args .values) (c .before .before .before .before .before .args .node) _ _ _ (c .before .before .before .field .ensures) (c .before .before .bit .ensures) (c .before .if1 .left) (c .field3 .ensures)
+
+pub taken-spec : {M : Type 1} → statement M
+taken-spec =
+    tie.close
+    (tie.spec field-requires bit-requires field-requires-2 returns field-requires-3 returns-2)

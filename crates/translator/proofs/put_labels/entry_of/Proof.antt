@@ -1,0 +1,38 @@
+-- `translator::entry_of`: a Begin is a stop where its label is its own.
+use Rattle.translator.proofs.PutSteps.{entry-read, entry-field, entry-next, entry-own, entry-other}
+use borrow.Author.Needs.{needs}
+use Rattle.translator.proofs.put_labels.entry_of.Statement.{statement}
+use Rattle.translator.proofs.put_labels.entry_of.Tie as tie
+
+begin-requires : tie.Need-begin-requires
+begin-requires c κs = search needs
+
+shared-slice-read-own : tie.Need-shared-slice-read-own
+shared-slice-read-own c = entry-read _ (c .before .before .before .before .pre .0) _ (c .before .before .before .before .pre .1 .0) _ _ (c .before .before .before .before .pre .1 .1 .0) (c .before .before .before .before .pre .1 .1 .1) (c .before .begin .ensures)
+
+returns : tie.Need-returns
+returns c = entry-own _ (c .before .before .before .before .before .pre .0) _ (c .before .before .before .before .before .pre .1 .0) _ _ (c .before .before .before .before .before .pre .1 .1 .0) (c .before .before .before .before .before .pre .1 .1 .1) (c .before .before .begin .ensures) (c .if1 .taken)
+
+field-requires : tie.Need-field-requires
+field-requires c κs = entry-field _ (c .before .before .before .before .before .pre .0) _ (c .before .before .before .before .before .pre .1 .0) _ _ (c .before .before .before .before .before .pre .1 .1 .0) (c .before .before .before .before .before .pre .1 .1 .1) (c .before .before .begin .ensures)
+
+cast-result : tie.Need-cast-result
+cast-result c = search needs
+
+shared-slice-read-result : tie.Need-shared-slice-read-result
+shared-slice-read-result c = entry-next _ (c .before .before .before .before .before .before .before .pre .0) _ (c .before .before .before .before .before .before .before .pre .1 .0) _ _ (c .before .before .before .before .before .before .before .pre .1 .1 .0) (c .before .before .before .before .before .before .before .pre .1 .1 .1) (c .before .before .before .before .begin .ensures) _ (c .before .field .ensures)
+
+returns-2 : tie.Need-returns-2
+returns-2 c = entry-other _ (c .before .before .before .before .before .before .before .pre .0) _ (c .before .before .before .before .before .before .before .pre .1 .0) _ _ (c .before .before .before .before .before .before .before .pre .1 .1 .0) (c .before .before .before .before .before .before .before .pre .1 .1 .1) (c .before .before .before .before .begin .ensures) (c .before .before .if1 .left) _ (c .before .field .ensures)
+
+pub entry-of-spec : {M : Type 1} → statement M
+entry-of-spec =
+    tie.close
+    (tie.spec
+    begin-requires
+    shared-slice-read-own
+    returns
+    field-requires
+    cast-result
+    shared-slice-read-result
+    returns-2)

@@ -1,0 +1,48 @@
+-- `translator::put_labels`: the labels of the nodes before v stand in the buffer.
+use Prim.Native.Nat.{_-_}
+use Rattle.translator.specs.Parts.{nodeLabelText}
+use Rattle.translator.proofs.PutSteps.{Appended, appended-start, appended-room, appended-on, appended-done}
+use borrow.Author.Needs.{needs}
+use Rattle.translator.proofs.put_labels.put_labels.Statement.{statement}
+use Rattle.translator.proofs.put_labels.put_labels.Tie as tie
+
+abbrev Inv-loop : tie.InvT-loop
+Inv-loop records labels out₀ at n place₀ v₀ out place v = Appended (nodeLabelText records) out₀ out at place n v
+
+abbrev μ-loop : tie.MeasureT-loop
+μ-loop records labels out₀ at n place₀ v₀ out place v = n - v
+
+loop-holds : tie.Need-loop-holds Inv-loop μ-loop
+loop-holds c = appended-start _ _ _ _
+
+put-node-label-requires : tie.Need-put-node-label-requires Inv-loop μ-loop
+put-node-label-requires c κs = (c .before .before .before .before .before .before .pre .0, (c .before .before .before .before .before .before .pre .1 .0, (search needs, appended-room _ _ _ _ _ _ _ (c .before .before .loop .inv) (search needs) (c .before .before .before .before .before .before .pre .1 .1))))
+
+add-v : tie.Need-add-v Inv-loop μ-loop
+add-v c = search needs
+
+loop-less : tie.Need-loop-less Inv-loop μ-loop
+loop-less c = search needs
+
+loop-again : tie.Need-loop-again Inv-loop μ-loop
+loop-again c = appended-on _ _ _ _ _ _ _ (c .before .before .before .before .before .loop .inv) (search needs) (c .before .before .before .before .before .before .before .before .before .pre .1 .1) _ _ (c .before .before .put-node-label .kept .1 .1 .1 .0) (c .before .before .put-node-label .ensures .0) (c .before .before .put-node-label .ensures .1)
+
+same-length : tie.Need-same-length Inv-loop μ-loop
+same-length c = c .before .loop .inv .size
+
+returns : tie.Need-returns Inv-loop μ-loop
+returns c = appended-done _ _ _ _ _ _ _ (c .before .loop .inv) (search needs)
+
+pub put-labels-spec : {M : Type 1} → statement M
+put-labels-spec =
+    tie.close
+    (tie.spec
+    Inv-loop
+    μ-loop
+    loop-holds
+    put-node-label-requires
+    add-v
+    loop-less
+    loop-again
+    same-length
+    returns)

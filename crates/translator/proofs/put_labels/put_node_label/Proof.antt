@@ -1,0 +1,28 @@
+-- `translator::put_node_label`: nothing, or one frame.
+use Rattle.translator.proofs.PutSteps.{nothing-put, label-none, label-room, label-done}
+use borrow.Author.Needs.{needs}
+use Rattle.translator.proofs.put_labels.put_node_label.Statement.{statement}
+use Rattle.translator.proofs.put_labels.put_node_label.Tie as tie
+
+shared-slice-read-label : tie.Need-shared-slice-read-label
+shared-slice-read-label c = search needs
+
+returns : tie.Need-returns
+returns c = nothing-put _ _ _ (label-none _ _ (c .before .before .before .before .before .pre .1 .0) _ (c .before .before .before .before .before .pre .1 .1 .0) (c .if1 .taken))
+
+put-label-requires : tie.Need-put-label-requires
+put-label-requires c κs = (c .before .before .before .before .before .before .pre .0, (c .before .before .before .before .before .before .pre .1 .1 .0, label-room _ _ (c .before .before .before .before .before .before .pre .1 .0) _ (c .before .before .before .before .before .before .pre .1 .1 .0) (c .before .if1 .left) _ _ (c .before .before .before .before .before .before .pre .1 .1 .1)))
+
+add-result : tie.Need-add-result
+add-result c = search needs
+
+same-length : tie.Need-same-length
+same-length c = search needs
+
+returns-2 : tie.Need-returns-2
+returns-2 c = label-done _ _ (c .before .before .before .before .before .before .before .before .before .pre .1 .0) _ (c .before .before .before .before .before .before .before .before .before .pre .1 .1 .0) (c .before .before .before .before .if1 .left) _ _ _ (c .before .before .put-label .ensures)
+
+pub put-node-label-spec : {M : Type 1} → statement M
+put-node-label-spec =
+    tie.close
+    (tie.spec shared-slice-read-label returns put-label-requires add-result same-length returns-2)

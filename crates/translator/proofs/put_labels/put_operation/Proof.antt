@@ -1,0 +1,63 @@
+-- `translator::put_operation`: the frame's bytes are those of the node's record.
+use mathlib.Core.Path.{_∙_, ap}
+use mathlib.Core.List.{List}
+use Prim.Native.Nat.{ℕ}
+use Rattle.lists.specs.Sequences.{written}
+use Rattle.frames.specs.Frame.{frameText}
+use Rattle.translator.proofs.PutSteps.{operation-bytes}
+use borrow.Author.Needs.{needs}
+use Rattle.translator.proofs.put_labels.put_operation.Statement.{statement}
+use Rattle.translator.proofs.put_labels.put_operation.Tie as tie
+
+field-requires : tie.Need-field-requires
+field-requires c κs = search needs
+
+call-kind-requires : tie.Need-call-kind-requires
+call-kind-requires c κs = search needs
+
+field-requires-2 : tie.Need-field-requires-2
+field-requires-2 c κs = search needs
+
+field-requires-3 : tie.Need-field-requires-3
+field-requires-3 c κs = search needs
+
+field-requires-4 : tie.Need-field-requires-4
+field-requires-4 c κs = search needs
+
+field-requires-5 : tie.Need-field-requires-5
+field-requires-5 c κs = search needs
+
+field-requires-6 : tie.Need-field-requires-6
+field-requires-6 c κs = search needs
+
+field-requires-7 : tie.Need-field-requires-7
+field-requires-7 c κs = search needs
+
+slice-aggregate-put-frame : tie.Need-slice-aggregate-put-frame
+slice-aggregate-put-frame c = search needs
+
+put-frame-requires : tie.Need-put-frame-requires
+put-frame-requires c κs = search needs
+
+same-length : tie.Need-same-length
+same-length c = search needs
+
+returns : tie.Need-returns
+returns c = c .before .before .put-frame .ensures ∙ ap (λ (bs : List ℕ). written (c .before .before .before .before .before .before .before .before .before .before .before .before .before .before .before .args .out .now) (c .before .before .before .before .before .before .before .before .before .before .before .before .before .before .before .args .at) (frameText bs)) (operation-bytes (c .before .before .before .before .before .before .before .before .before .before .before .before .before .before .before .args .records .now) (c .before .before .before .before .before .before .before .before .before .before .before .before .before .before .before .args .v) _ (c .before .before .before .before .before .before .before .before .before .before .before .before .before .before .before .pre .0) (c .before .before .before .before .before .before .before .before .before .before .before .before .before .before .before .pre .1 .1 .0) _ _ _ _ _ _ _ _ (c .before .before .before .before .before .before .before .before .before .before .before .call-kind .ensures) (c .before .before .before .before .before .before .before .before .before .before .before .before .field .ensures) (c .before .before .before .before .before .before .before .before .before .before .field2 .ensures) (c .before .before .before .before .before .before .before .before .before .field3 .ensures) (c .before .before .before .before .before .before .before .before .field4 .ensures) (c .before .before .before .before .before .before .before .field5 .ensures) (c .before .before .before .before .before .before .field6 .ensures) (c .before .before .before .before .before .field7 .ensures))
+
+pub put-operation-spec : {M : Type 1} → statement M
+put-operation-spec =
+    tie.close
+    (tie.spec
+    field-requires
+    call-kind-requires
+    field-requires-2
+    field-requires-3
+    field-requires-4
+    field-requires-5
+    field-requires-6
+    field-requires-7
+    slice-aggregate-put-frame
+    put-frame-requires
+    same-length
+    returns)

@@ -1,0 +1,68 @@
+-- `translator::write_image`: 10 by the count, 16 by the size, else the whole image.
+use Rattle.translator.proofs.LabelSteps.{few-numbered}
+use Rattle.translator.proofs.ImageSteps.{image-many, image-few, image-short, image-fits, labelled-local}
+use native.Mathlib.Omega.{arith}
+use borrow.Author.Needs.{needs}
+use Rattle.translator.proofs.table.write_image.Statement.{statement}
+use Rattle.translator.proofs.table.write_image.Tie as tie
+
+slice-aggregate-label-nodes : tie.Need-slice-aggregate-label-nodes
+slice-aggregate-label-nodes c = search needs
+
+label-nodes-requires : tie.Need-label-nodes-requires
+label-nodes-requires c κs = search needs
+
+slice-aggregate-count-rows : tie.Need-slice-aggregate-count-rows
+slice-aggregate-count-rows c = search needs
+
+count-rows-requires : tie.Need-count-rows-requires
+count-rows-requires c κs = (c .before .before .before .before .before .before .pre .0, labelled-local _ _ (c .before .before .before .before .before .before .pre .0 .facts) (c .before .before .label-nodes .ensures .1))
+
+returns : tie.Need-returns
+returns c = image-many _ _ _ (c .before .count-rows .ensures) (c .if1 .taken)
+
+add-need : tie.Need-add-need
+add-need c = search needs
+
+add-need-2 : tie.Need-add-need-2
+add-need-2 c = omega (arith, few-numbered _ (c .before .before .before .before .before .before .before .before .pre .0 .facts), c .before .before .before .before .before .before .before .before .pre .0 .facts .few, c .before .before .before .before .label-nodes .ensures .0, c .if1 .left)
+
+add-need-3 : tie.Need-add-need-3
+add-need-3 c = omega (arith, few-numbered _ (c .before .before .before .before .before .before .before .before .pre .0 .facts), c .before .before .before .before .before .before .before .before .pre .0 .facts .few, c .before .before .before .before .label-nodes .ensures .0, c .if1 .left)
+
+mul-need : tie.Need-mul-need
+mul-need c = omega (arith, few-numbered _ (c .before .before .before .before .before .before .before .before .pre .0 .facts), c .before .before .before .before .before .before .before .before .pre .0 .facts .few, c .before .before .before .before .label-nodes .ensures .0, c .if1 .left)
+
+returns-2 : tie.Need-returns-2
+returns-2 c = image-short _ _ _ (c .before .before .count-rows .ensures) (c .before .if1 .left) _ _ (c .before .before .before .before .before .before .before .before .before .pre .1) (c .before .before .before .before .before .label-nodes .ensures .0) (c .if2 .taken)
+
+slice-aggregate-put-image : tie.Need-slice-aggregate-put-image
+slice-aggregate-put-image c = search needs
+
+put-image-requires : tie.Need-put-image-requires
+put-image-requires c κs = (c .before .before .before .before .before .before .before .before .before .before .before .pre .0, (labelled-local _ _ (c .before .before .before .before .before .before .before .before .before .before .before .pre .0 .facts) (c .before .before .before .before .before .before .before .label-nodes .ensures .1), (c .before .before .before .before .before .before .before .before .before .before .before .pre .1, (c .before .before .before .before .before .before .before .label-nodes .ensures .0, (image-few _ (c .before .before .before .before .before .before .before .before .before .before .before .args .out .now) _ (c .before .before .before .before .count-rows .ensures) (c .before .before .before .if1 .left), (c .before .before .before .if1 .left, c .before .before .if2 .left))))))
+
+same-length : tie.Need-same-length
+same-length c = search needs
+
+returns-3 : tie.Need-returns-3
+returns-3 c = image-fits _ _ _ (c .before .before .before .before .before .before .before .count-rows .ensures) (c .before .before .before .before .before .before .if1 .left) _ _ (c .before .before .before .before .before .before .before .before .before .before .before .before .before .before .pre .1) (c .before .before .before .before .before .before .before .before .before .before .label-nodes .ensures .0) (c .before .before .before .before .before .if2 .left) _ (c .before .before .put-image .ensures)
+
+pub write-image-spec : {M : Type 1} → statement M
+write-image-spec =
+    tie.close
+    (tie.spec
+    slice-aggregate-label-nodes
+    label-nodes-requires
+    slice-aggregate-count-rows
+    count-rows-requires
+    returns
+    add-need
+    add-need-2
+    add-need-3
+    mul-need
+    returns-2
+    slice-aggregate-put-image
+    put-image-requires
+    same-length
+    returns-3)

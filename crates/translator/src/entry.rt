@@ -1,0 +1,23 @@
+// The translator: a chart's text to the text of its image.
+use crate::table::write_image;
+use charts::highest_scheme;
+use charts::read_chart;
+use frames::Answer;
+ghost use mathlib.Core.Path.{_≡_};
+ghost use Rattle.frames.specs.Answer.{reply};
+ghost use Rattle.translator.specs.Entry.{translate};
+
+// Refusals 1 to 10 and 16, else the number of characters. Nothing is written before every refusal is settled.
+pub fn translate(text: &[u8], out: &mut [u8]) -> Answer
+    ensures { λ r. ⌜ (reply r ≡ translate (now (text .entry)) (now (out .entry)) .reply) × (now (out .exit) ≡ translate (now (text .entry)) (now (out .entry)) .buffer) ⌝ }
+{
+    let mut held = [0u8; 2560];
+    let read = read_chart(text, &mut held);
+    let Answer::Done(count) = read else {
+        return read;
+    };
+    let end = 10 * count;
+    let records = &held[..end];
+    let highest = highest_scheme(records);
+    write_image(records, highest, out)
+}

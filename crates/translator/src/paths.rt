@@ -1,0 +1,108 @@
+// The paths on from a node through conditions that take no tick: counted, and written as rows.
+use crate::nodes::field;
+use bits::bit;
+use bits::with_bit;
+ghost use mathlib.Core.Path.{_≡_};
+ghost use mathlib.Core.Bool.{_&&_, not};
+ghost use Prim.Native.Nat.{ℕ, _+_, _≤_, _<_, min};
+ghost use lib.Bits.{bitAnd};
+ghost use lib.Dec.{eqb};
+ghost use lib.ListN.{length};
+ghost use Rattle.bits.specs.Word.{bit};
+ghost use Rattle.frames.specs.Frame.{size};
+ghost use Rattle.charts.specs.Chart.{kind, argument, taken};
+ghost use Rattle.walk.specs.Stops.{stops};
+ghost use Rattle.translator.specs.Rows.{paths};
+ghost use Rattle.translator.specs.Ready.{Ready, Entered, Labelled, Settled};
+
+// Whether a node that an arc leads to ends a path. A condition does where it has a label of its own.
+pub fn ends_path(records: &[u8], labels: &[u8], node: u8) -> bool
+    requires { ⌜ Ready (now records) ⌝ }
+    requires { ⌜ Labelled (now records) (now labels) ⌝ }
+    requires { ⌜ Entered (now records) node ⌝ }
+    ensures { λ r. ⌜ r ≡ stops (now (records .entry)) node ⌝ }
+{
+    let v = node as usize;
+    if field(records, v, 0) != 3 {
+        return true;
+    }
+    labels[v] >= 2
+}
+
+// Whether a path comes to a condition whose number it has met before.
+fn is_known(records: &[u8], labels: &[u8], node: u8, care: u16) -> bool
+    requires { ⌜ Ready (now records) ⌝ }
+    requires { ⌜ Labelled (now records) (now labels) ⌝ }
+    requires { ⌜ Entered (now records) node ⌝ }
+    ensures { λ r. ⌜ r ≡ (not (stops (now (records .entry)) node) && eqb (bit care (argument (now (records .entry)) node)) 1) ⌝ }
+{
+    if ends_path(records, labels, node) {
+        return false;
+    }
+    bit(care, field(records, node as usize, 2)) == 1
+}
+
+// The arc of a condition by the values.
+fn taken(records: &[u8], values: u16, node: u8) -> u8
+    requires { ⌜ Ready (now records) ⌝ }
+    requires { ⌜ node < size (now records) ⌝ }
+    requires { ⌜ kind (now records) node ≡ 3 ⌝ }
+    ensures { λ r. ⌜ r ≡ taken (now (records .entry)) values node ⌝ }
+{
+    let v = node as usize;
+    if bit(values, field(records, v, 2)) == 0 {
+        return field(records, v, 3);
+    }
+    field(records, v, 4)
+}
+
+// Past the conditions that the path has met before, to a stop or to a condition that is new.
+pub fn settle(records: &[u8], labels: &[u8], node: u8, care: u16, values: u16) -> u8
+    requires { ⌜ Ready (now records) ⌝ }
+    requires { ⌜ Labelled (now records) (now labels) ⌝ }
+    requires { ⌜ Entered (now records) node ⌝ }
+    ensures { λ r. ⌜ Settled (now (records .entry)) care values node r ⌝ }
+{
+    let mut at = node;
+    while is_known(records, labels, at, care) {
+        at = taken(records, values, at);
+    }
+    at
+}
+
+// How many paths there are, or `most` where there are more.
+pub fn count_paths(
+    records: &[u8],
+    labels: &[u8],
+    node: u8,
+    care: u16,
+    values: u16,
+    most: usize,
+) -> usize
+    requires { ⌜ Ready (now records) ⌝ }
+    requires { ⌜ Labelled (now records) (now labels) ⌝ }
+    requires { ⌜ Entered (now records) node ⌝ }
+    requires { ⌜ bitAnd values care ≡ values ⌝ }
+    ensures { λ r. ⌜ ((l f : ℕ) → r ≡ min most (length (paths (size (now (records .entry))) (now (records .entry)) l f care values node))) ⌝ }
+{
+    if most == 0 {
+        return 0;
+    }
+    let at = settle(records, labels, node, care, values);
+    if ends_path(records, labels, at) {
+        return 1;
+    }
+    let v = at as usize;
+    let i = field(records, v, 2);
+    let tested = with_bit(care, i);
+    let low = count_paths(records, labels, field(records, v, 3), tested, values, most);
+    low
+        + count_paths(
+            records,
+            labels,
+            field(records, v, 4),
+            tested,
+            with_bit(values, i),
+            most - low,
+        )
+}

@@ -1,0 +1,172 @@
+// Header, entries and labels of the image, written as frames.
+use crate::nodes::begin;
+use crate::nodes::field;
+use frames::put_frame;
+ghost use mathlib.Core.Path.{_≡_};
+ghost use mathlib.Core.Bool.{not};
+ghost use Prim.Native.Nat.{_+_, _*_, _≤_, _<_};
+ghost use lib.Dec.{eqb};
+ghost use lib.ListN.{length};
+ghost use Rattle.lists.specs.Pick.{pick};
+ghost use Rattle.lists.specs.Sequences.{written};
+ghost use Rattle.frames.specs.Frame.{size, frameText};
+ghost use Rattle.charts.specs.Chart.{kind, schemes};
+ghost use Rattle.image.specs.Image.{entryFrame, labelFrame};
+ghost use Rattle.translator.specs.Labels.{entry, labelOf};
+ghost use Rattle.translator.specs.Ready.{Ready, Labelled};
+ghost use Rattle.translator.specs.Parts.{headerText, entryText, fixedText, nodeLabelText, upTo};
+
+pub fn put_header(out: &mut [u8], highest: u8, last: u8, rows: usize)
+    requires { ⌜ 23 ≤ length (now out) ⌝ }
+    requires { ⌜ rows ≤ 1024 ⌝ }
+    ensures { λ _. ⌜ now (out .exit) ≡ written (now (out .entry)) 0 (headerText highest last rows) ⌝ }
+{
+    let rows0 = (rows / 256) as u8;
+    let rows1 = (rows % 256) as u8;
+    let bytes = [15, highest, last, rows0, rows1, 0, 0, 0, 0, 0];
+    put_frame(out, 0, &bytes);
+}
+
+// The label where performing a scheme starts: its Begin's, where that is a stop, else that of the node after it.
+fn entry_of(records: &[u8], labels: &[u8], scheme: u8) -> u8
+    requires { ⌜ Ready (now records) ⌝ }
+    requires { ⌜ Labelled (now records) (now labels) ⌝ }
+    requires { ⌜ 1 ≤ scheme ⌝ }
+    requires { ⌜ scheme ≤ schemes (now records) ⌝ }
+    ensures { λ r. ⌜ r ≡ entry (now (records .entry)) scheme ⌝ }
+{
+    let v = begin(records, scheme);
+    let own = labels[v];
+    if own >= 2 {
+        return own;
+    }
+    labels[field(records, v, 3) as usize]
+}
+
+fn put_entry(out: &mut [u8], at: usize, scheme: u8, label: u8)
+    requires { ⌜ at + 23 ≤ length (now out) ⌝ }
+    ensures { λ _. ⌜ now (out .exit) ≡ written (now (out .entry)) at (frameText (entryFrame scheme label)) ⌝ }
+{
+    let bytes = [16, scheme, label, 0, 0, 0, 0, 0, 0, 0];
+    put_frame(out, at, &bytes);
+}
+
+pub fn put_entries(records: &[u8], labels: &[u8], highest: u8, out: &mut [u8], at: usize)
+    requires { ⌜ Ready (now records) ⌝ }
+    requires { ⌜ Labelled (now records) (now labels) ⌝ }
+    requires { ⌜ highest ≡ schemes (now records) ⌝ }
+    requires { ⌜ at + 23 * highest ≤ length (now out) ⌝ }
+    ensures { λ _. ⌜ now (out .exit) ≡ written (now (out .entry)) at (upTo (entryText (now (records .entry))) highest) ⌝ }
+{
+    let n = highest as usize;
+    let mut k: usize = 0;
+    while k < n {
+        let scheme = (k + 1) as u8;
+        let label = entry_of(records, labels, scheme);
+        put_entry(out, at + 23 * k, scheme, label);
+        k += 1;
+    }
+}
+
+// Labels 0 and 1.
+pub fn put_fixed(out: &mut [u8], at: usize)
+    requires { ⌜ at + 46 ≤ length (now out) ⌝ }
+    ensures { λ _. ⌜ now (out .exit) ≡ written (now (out .entry)) at fixedText ⌝ }
+{
+    let home = [17, 0, 4, 0, 1, 0, 0, 0, 0, 0];
+    put_frame(out, at, &home);
+    let back = [17, 1, 3, 0, 0, 0, 0, 0, 0, 0];
+    put_frame(out, at + 23, &back);
+}
+
+// The label of an operation: with a call its kind is 1.
+fn put_operation(records: &[u8], v: usize, label: u8, out: &mut [u8], at: usize)
+    requires { ⌜ Ready (now records) ⌝ }
+    requires { ⌜ v < size (now records) ⌝ }
+    requires { ⌜ kind (now records) v ≡ 2 ⌝ }
+    requires { ⌜ at + 23 ≤ length (now out) ⌝ }
+    ensures { λ _. ⌜ now (out .exit) ≡ written (now (out .entry)) at (frameText (labelFrame label (labelOf (now (records .entry)) v))) ⌝ }
+{
+    let called = field(records, v, 2);
+    let tick = call_kind(called);
+    let owner = field(records, v, 1);
+    let result = field(records, v, 5);
+    let mask0 = field(records, v, 6);
+    let mask1 = field(records, v, 7);
+    let mask2 = field(records, v, 8);
+    let mask3 = field(records, v, 9);
+    let bytes = [
+        17,
+        label,
+        tick,
+        called,
+        owner,
+        result,
+        mask0,
+        mask1,
+        mask2,
+        mask3,
+    ];
+    put_frame(out, at, &bytes);
+}
+
+// The kind of an operation's tick: 1 with a call, else 0.
+fn call_kind(called: u8) -> u8
+    ensures { λ r. ⌜ r ≡ pick (not (eqb called 0)) 1 0 ⌝ }
+{
+    if called == 0 { 0 } else { 1 }
+}
+
+// The label of a stop: an operation's, a function's, or that of a Begin or a condition.
+fn put_label(records: &[u8], v: usize, label: u8, out: &mut [u8], at: usize)
+    requires { ⌜ Ready (now records) ⌝ }
+    requires { ⌜ v < size (now records) ⌝ }
+    requires { ⌜ at + 23 ≤ length (now out) ⌝ }
+    ensures { λ _. ⌜ now (out .exit) ≡ written (now (out .entry)) at (frameText (labelFrame label (labelOf (now (records .entry)) v))) ⌝ }
+{
+    let owner = field(records, v, 1);
+    match field(records, v, 0) {
+        2 => put_operation(records, v, label, out, at),
+        4 => {
+            let called = field(records, v, 2);
+            let bytes = [17, label, 2, called, owner, 0, 0, 0, 0, 0];
+            put_frame(out, at, &bytes);
+        }
+        _ => {
+            let bytes = [17, label, 0, 0, owner, 0, 0, 0, 0, 0];
+            put_frame(out, at, &bytes);
+        }
+    }
+}
+
+// The label of a node, where it has one of its own; the place after it.
+fn put_node_label(records: &[u8], labels: &[u8], v: usize, out: &mut [u8], at: usize) -> usize
+    requires { ⌜ Ready (now records) ⌝ }
+    requires { ⌜ Labelled (now records) (now labels) ⌝ }
+    requires { ⌜ v < size (now records) ⌝ }
+    requires { ⌜ at + length (nodeLabelText (now records) v) ≤ length (now out) ⌝ }
+    ensures { λ r. ⌜ (r ≡ at + length (nodeLabelText (now (records .entry)) v)) × (now (out .exit) ≡ written (now (out .entry)) at (nodeLabelText (now (records .entry)) v)) ⌝ }
+{
+    let label = labels[v];
+    if label < 2 {
+        return at;
+    }
+    put_label(records, v, label, out, at);
+    at + 23
+}
+
+// The labels of all nodes that have one of their own.
+pub fn put_labels(records: &[u8], labels: &[u8], out: &mut [u8], at: usize)
+    requires { ⌜ Ready (now records) ⌝ }
+    requires { ⌜ Labelled (now records) (now labels) ⌝ }
+    requires { ⌜ at + length (upTo (nodeLabelText (now records)) (size (now records))) ≤ length (now out) ⌝ }
+    ensures { λ _. ⌜ now (out .exit) ≡ written (now (out .entry)) at (upTo (nodeLabelText (now (records .entry))) (size (now (records .entry)))) ⌝ }
+{
+    let n = records.len() / 10;
+    let mut place = at;
+    let mut v: usize = 0;
+    while v < n {
+        place = put_node_label(records, labels, v, out, place);
+        v += 1;
+    }
+}

@@ -1,0 +1,70 @@
+// The image of an accepted chart: 10 and 16 are settled before anything is written.
+use crate::labels::label_nodes;
+use crate::put_labels::put_entries;
+use crate::put_labels::put_fixed;
+use crate::put_labels::put_header;
+use crate::put_labels::put_labels;
+use crate::put_rows::put_rows;
+use crate::rows::count_rows;
+use frames::Answer;
+ghost use mathlib.Core.Path.{_≡_};
+ghost use Prim.Native.Nat.{_+_, _*_, _≤_};
+ghost use lib.ListN.{length};
+ghost use Rattle.lists.specs.Numbers.{count};
+ghost use Rattle.lists.specs.Sequences.{written};
+ghost use Rattle.frames.specs.Frame.{size};
+ghost use Rattle.frames.specs.Answer.{reply};
+ghost use Rattle.charts.specs.Chart.{schemes};
+ghost use Rattle.image.specs.Image.{imageText};
+ghost use Rattle.translator.specs.Labels.{numbered};
+ghost use Rattle.translator.specs.Rows.{rows};
+ghost use Rattle.translator.specs.Table.{table};
+ghost use Rattle.translator.specs.Ready.{Ready, Labelled};
+ghost use Rattle.translator.specs.Parts.{imageLent};
+
+// `own` nodes have a label of their own, and there are `total` rows.
+fn put_image(records: &[u8], labels: &[u8], highest: u8, own: usize, total: usize, out: &mut [u8])
+    requires { ⌜ Ready (now records) ⌝ }
+    requires { ⌜ Labelled (now records) (now labels) ⌝ }
+    requires { ⌜ highest ≡ schemes (now records) ⌝ }
+    requires { ⌜ own ≡ count (numbered (now records)) 0 (size (now records)) ⌝ }
+    requires { ⌜ total ≡ length (rows (now records)) ⌝ }
+    requires { ⌜ total ≤ 1024 ⌝ }
+    requires { ⌜ 23 * (3 + highest + own + total) ≤ length (now out) ⌝ }
+    ensures { λ _. ⌜ now (out .exit) ≡ written (now (out .entry)) 0 (imageText (table (now (records .entry)))) ⌝ }
+{
+    put_header(out, highest, (own + 1) as u8, total);
+    put_entries(records, labels, highest, out, 23);
+    let fixed = 23 + 23 * (highest as usize);
+    put_fixed(out, fixed);
+    let first = fixed + 46;
+    put_labels(records, labels, out, first);
+    put_rows(records, labels, out, first + 23 * own);
+}
+
+pub fn write_image(records: &[u8], highest: u8, out: &mut [u8]) -> Answer
+    requires { ⌜ Ready (now records) ⌝ }
+    requires { ⌜ highest ≡ schemes (now records) ⌝ }
+    ensures { λ r. ⌜ (reply r ≡ imageLent (now (records .entry)) (now (out .entry)) .reply) × (now (out .exit) ≡ imageLent (now (records .entry)) (now (out .entry)) .buffer) ⌝ }
+{
+    let mut labels = [0u8; 256];
+    let own = label_nodes(records, &mut labels);
+    let total = count_rows(records, &labels, 1025);
+    if total > 1024 {
+        return Answer::Refused {
+            number: 10,
+            index: 0,
+            count: 0,
+        };
+    }
+    let need = 23 * (3 + highest as usize + own + total);
+    if out.len() < need {
+        return Answer::Refused {
+            number: 16,
+            index: 0,
+            count: 0,
+        };
+    }
+    put_image(records, &labels, highest, own, total, out);
+    Answer::Done(need)
+}
