@@ -1,18 +1,17 @@
 -- The cases of refusal 13, as the code meets them.
 use mathlib.Core.Path.{_≡_, refl, sym, _∙_, ap}
-use mathlib.Core.Bool.{Bool, true, false, _&&_, _||_, not}
+use mathlib.Core.Bool.{Bool, true, false, _||_, not}
 use mathlib.Core.List.{List}
 use Prim.Native.Nat.{ℕ, zero, suc, _+_, _-_, _≤_, _<_}
 use native.Mathlib.Omega.{arith}
 use lib.Bits.{bitAnd}
-use lib.Dec.{leb, ltb, eqb}
+use lib.Dec.{ltb, eqb}
 use borrow.Author.Tests.{eq-eqb, ne-eqb, lt-ltb, le-ltb, le-leb, lt-leb}
-use Rattle.lists.specs.Pick.{pick}
-use Rattle.lists.proofs.Tests.{or-l, or-r, or-true-l, or-true-r, or-none}
-use Rattle.frames.specs.Frame.{size, field}
+use Rattle.lists.proofs.Tests.{or-l, or-r, or-true-r}
+use Rattle.frames.specs.Frame.{field}
 use Rattle.image.specs.Image.{Label, Row}
 use Rattle.image.specs.Decode.{schemeCount, lastLabel, labelsFrom, rowsFrom, entryIn, labelIn, rowIn}
-use Rattle.image.specs.Check.{Place, header, entryAt, labelAt, rowAt, filled, within, badEntry, isLabel, badCalled, badLabel, badBit, badRow, placeOf, badFrame, badContent}
+use Rattle.image.specs.Check.{filled, within, badEntry, isLabel, badCalled, badLabel, badBit, badRow, placeOf, badFrame, badContent}
 use Rattle.image.specs.Parts.{kindOf, badKind, badTest}
 use Rattle.image.proofs.PlaceCases.{place-entry, place-label, place-row, place-header}
 

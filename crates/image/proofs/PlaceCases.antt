@@ -1,15 +1,15 @@
 -- The cases of refusals 11 and 12, as the code meets them.
 use mathlib.Core.Path.{_≡_, refl, sym, _∙_, ap}
-use mathlib.Core.Bool.{Bool, true, false, _&&_, _||_, not}
+use mathlib.Core.Bool.{Bool, true, false, _||_, not}
 use mathlib.Core.List.{List}
 use Prim.Native.Nat.{ℕ, zero, suc, _+_, _-_, _≤_, _<_}
 use native.Mathlib.Omega.{arith}
-use lib.Dec.{leb, ltb, eqb}
+use lib.Dec.{ltb, eqb}
 use borrow.Author.Tests.{eq-eqb, ne-eqb, lt-ltb, le-ltb, ltb-false}
 use Rattle.lists.specs.Pick.{pick}
 use Rattle.lists.proofs.Tests.{or-true-l, or-true-r}
 use Rattle.frames.specs.Frame.{size, field}
-use Rattle.image.specs.Decode.{schemeCount, lastLabel, rowCount, labelsFrom, rowsFrom, rowIn}
+use Rattle.image.specs.Decode.{schemeCount, lastLabel, rowCount, labelsFrom, rowsFrom}
 use Rattle.image.specs.Check.{Place, header, entryAt, labelAt, rowAt, filled, badCounts, badHeader, placeOf, falls, strayFrame, stray}
 use Rattle.image.specs.Parts.{kindOf}
 

@@ -1,14 +1,14 @@
 -- Reading an image's text into a table: what a good text gives, and the two answers.
 use mathlib.Core.Path.{_≡_, refl, sym, _∙_, ap}
 use mathlib.Core.Bool.{false}
-use mathlib.Core.List.{List, _++_}
-use Prim.Native.Nat.{ℕ, _+_, _*_, _/_, _≤_, _<_}
+use mathlib.Core.List.{List}
+use Prim.Native.Nat.{ℕ, _*_, _/_, _≤_, _<_}
 use native.Mathlib.Omega.{arith}
 use lib.ListN.{length, take, drop}
 use lib.Seq.{take-at}
 use Rattle.lists.specs.Sequences.{over}
 use Rattle.frames.specs.Frame.{size, frameCount, contents}
-use Rattle.frames.specs.Verdict.{Verdict, fine, refused, next}
+use Rattle.frames.specs.Verdict.{fine, refused}
 use Rattle.frames.specs.Check.{badForm, textVerdict}
 use Rattle.frames.specs.Answer.{reply, judged}
 use Rattle.frames.specs.declared.Answer.{Answer}

@@ -1,6 +1,6 @@
 -- The verdict on a table, as the code comes to it; what acceptance of one gives first.
-use mathlib.Core.Path.{_≡_, refl, sym, _∙_, ap}
-use mathlib.Core.Bool.{Bool, true, false, _||_, not}
+use mathlib.Core.Path.{_≡_, _∙_, ap}
+use mathlib.Core.Bool.{true, false, _||_, not}
 use mathlib.Core.List.{List}
 use Prim.Native.Nat.{ℕ, _+_, _≤_, _<_}
 use native.Mathlib.Omega.{arith}
@@ -9,7 +9,7 @@ use borrow.Author.Tests.{lt-ltb, le-ltb, eqb-true}
 use Rattle.lists.specs.Numbers.{lowest}
 use Rattle.lists.proofs.Tests.{or-r, not-false}
 use Rattle.frames.specs.Frame.{size, field}
-use Rattle.frames.specs.Answer.{Reply, success, refusal, judged}
+use Rattle.frames.specs.Answer.{success, refusal, judged}
 use Rattle.image.specs.Decode.{rowCount, rowsFrom}
 use Rattle.image.specs.Check.{filled, badCounts, badHeader, stray, badContent, tableVerdict}
 

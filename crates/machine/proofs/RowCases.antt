@@ -5,7 +5,7 @@ use mathlib.Core.List.{List, [], _∷_, map}
 use Prim.Native.Nat.{ℕ, zero, suc, _+_, _-_, _≤_, _<_}
 use native.Mathlib.Numerals.{add-one}
 use native.Mathlib.Omega.{arith}
-use lib.Dec.{ltb, eqb}
+use lib.Dec.{eqb}
 use lib.ListN.{length, getD}
 use borrow.Author.Tests.{eq-eqb, ne-eqb, lt-ltb, le-ltb, eqb-true}
 use Rattle.lists.specs.Pick.{pick}
@@ -19,7 +19,7 @@ use Rattle.image.specs.Decode.{lastLabel, rowCount, labelsFrom, rowsFrom, label
 use Rattle.image.specs.Check.{tableVerdict}
 use Rattle.image.proofs.Sound.{noRow}
 use Rattle.image.proofs.Accepted.{label-read, counted}
-use Rattle.machine.specs.Tick.{matches, Found, found, missing, firstRow, rowOf}
+use Rattle.machine.specs.Tick.{matches, found, missing, firstRow, rowOf}
 use Rattle.machine.specs.Parts.{rowOn, fitting, foundAt, foundAs}
 
 -- ---- the first row of a list

@@ -1,6 +1,6 @@
 -- The answers of a run and of one tick by value, by what their parts give.
-use mathlib.Core.Path.{_≡_, refl, sym, _∙_, ap, ap₂}
-use mathlib.Core.Bool.{Bool, true, false, _||_}
+use mathlib.Core.Path.{_≡_, sym, _∙_, ap, ap₂}
+use mathlib.Core.Bool.{Bool, true, false}
 use mathlib.Core.List.{List}
 use Prim.Native.Nat.{ℕ, _*_, _≤_, _<_}
 use native.Mathlib.Omega.{arith}
@@ -12,7 +12,7 @@ use Rattle.lists.proofs.Tests.{or-true-l, or-true-r, or-none}
 use Rattle.bits.specs.Results.{Results}
 use Rattle.frames.specs.Frame.{frameCount, contents}
 use Rattle.frames.specs.Verdict.{Verdict, fine, refused, next, when}
-use Rattle.frames.specs.Answer.{Reply, success, refusal, reply, replied, judged}
+use Rattle.frames.specs.Answer.{refusal, reply, replied, judged}
 use Rattle.frames.specs.Check.{textVerdict}
 use Rattle.frames.specs.declared.Answer.{Answer}
 use Rattle.frames.specs.declared.Answer.the-variants.{Done, Refused}
@@ -26,10 +26,9 @@ use Rattle.image.proofs.ReadCases.{good-text, front-contents, front-length}
 use Rattle.machine.specs.declared.State.{State}
 use Rattle.machine.specs.declared.Stepped.{Stepped}
 use Rattle.machine.specs.declared.Ended.{Ended}
-use Rattle.machine.specs.declared.Advanced.{Advanced}
 use Rattle.machine.specs.declared.Answered.{Answered}
 use Rattle.machine.specs.State.{unfit}
-use Rattle.machine.specs.Tick.{Ticked, ticked, stopped, tick}
+use Rattle.machine.specs.Tick.{ticked, tick}
 use Rattle.machine.specs.Run.{Ran, Run, ticks, noRoom, runVerdict, runOn, run}
 use Rattle.machine.specs.Parts.{stateOf, after, stepOf, Steps, verdictOf, Ends, runTable, Runs, tickReply, Advances}
 use Rattle.machine.proofs.TurnCases.{number-verdict, went, stood}

@@ -1,24 +1,23 @@
 -- One tick on an accepted table and a state that fits it: what it is for each kind of the top label.
 use mathlib.Core.Path.{_≡_, refl, sym, _∙_, ap, subst}
-use mathlib.Core.Bool.{Bool, true, false}
+use mathlib.Core.Bool.{Bool}
 use mathlib.Core.List.{List}
 use Prim.Native.Nat.{ℕ, zero, suc, _+_, _-_, _≤_, _<_}
 use native.Mathlib.Numerals.{add-one}
 use native.Mathlib.Omega.{arith}
-use lib.Dec.{leb, ltb}
+use lib.Dec.{leb}
 use lib.ListN.{length, getD, set}
 use borrow.Author.Tests.{lt-ltb, le-ltb, le-leb, lt-leb}
 use Rattle.lists.specs.Pick.{pick}
 use Rattle.bits.specs.Results.{Results, resultOf, withResult}
 use Rattle.frames.specs.Frame.{size, field}
-use Rattle.image.specs.Image.{Image, Label, Row}
+use Rattle.image.specs.Image.{Label}
 use Rattle.image.specs.Decode.{schemeCount, lastLabel, labelsFrom, entryIn, labelIn, decoded}
 use Rattle.image.proofs.Sound.{homeLabel, returnLabel, nthLabel, noRow, SoundLabel, Sound}
 use Rattle.image.proofs.Accepted.{entries-count, labels-count, entry-read, label-read, counted, accepted-sound}
 use Rattle.machine.specs.declared.State.{State}
-use Rattle.machine.specs.declared.Stepped.{Stepped}
 use Rattle.machine.specs.State.{labelAt, entryAt, placeAt}
-use Rattle.machine.specs.Tick.{Found, found, missing, firstRow, rowOf, Ticked, ticked, stopped, moved, pushed, tickBy, tick}
+use Rattle.machine.specs.Tick.{found, missing, firstRow, rowOf, Ticked, ticked, stopped, moved, pushed, tickBy, tick}
 use Rattle.machine.specs.Parts.{foundAs, Ready, after, stepOf, codeOf, Steps}
 use Rattle.machine.proofs.Fitness.{Fits, unfits}
 use Rattle.machine.proofs.RowCases.{any-bit, label-inside}
@@ -49,7 +48,7 @@ module _ (b : List ℕ) (s : State) (w : ℕ) where
   }
 
 -- ---- labels and entries of an accepted table
-module _ (b : List ℕ) (s : State) (y : Ready b s) where
+module _ {b : List ℕ} {s : State} (y : Ready b s) where
   sound : Sound (decoded b)
   sound = accepted-sound b (y .accepted) (y .bytes)
 
@@ -61,6 +60,9 @@ module _ (b : List ℕ) (s : State) (y : Ready b s) where
 
   pub depth-most : s .depth ≤ 32
   depth-most = omega (arith, fit .most, fit .small)
+
+  pub depth-within : s .depth ≤ s .size
+  depth-within = fit .most
 
   pub size-within : s .size ≤ 32
   size-within = fit .small

@@ -13,14 +13,13 @@ use Rattle.lists.specs.Pick.{pick}
 use Rattle.lists.specs.Sequences.{over, written}
 use Rattle.lists.proofs.Written.{written-none, written-snoc, written-front}
 use Rattle.bits.specs.Results.{Results, withResult}
-use Rattle.frames.specs.Verdict.{Verdict, fine, refused}
+use Rattle.frames.specs.Verdict.{fine, refused}
 use Rattle.image.specs.Image.{Image, Label}
 use Rattle.image.specs.Decode.{decoded}
 use Rattle.image.proofs.Sound.{Sound}
 use Rattle.image.proofs.Accepted.{accepted-sound}
 use Rattle.machine.specs.declared.State.{State}
 use Rattle.machine.specs.declared.Stepped.{Stepped}
-use Rattle.machine.specs.declared.Ended.{Ended}
 use Rattle.machine.specs.State.{labelAt, entryAt, placeAt}
 use Rattle.machine.specs.Tick.{Found, found, missing, rowOf, Ticked, ticked, stopped, moved, pushed, tickBy, tick}
 use Rattle.machine.specs.Run.{Ran, then, ticks}
@@ -168,8 +167,8 @@ pub number-verdict : (n : ℕ) → (n ≡ 0 → ⊥) → verdictOf n ≡ refused
 number-verdict zero h = absurd (h refl)
 number-verdict (suc n) h = refl
 
-module _ (b : List ℕ) (s₀ : State) (ws ms₀ ks₀ : List ℕ) (s : State) (ms ks : List ℕ) (i : ℕ) (roomMasks : length ws ≤ length ms₀) (roomCodes : length ws ≤ length ks₀)
-    (t : Turn b s₀ ws ms₀ ks₀ s ms ks i) where
+module _ {b : List ℕ} {s₀ : State} {ws ms₀ ks₀ : List ℕ} {s : State} {ms ks : List ℕ} {i : ℕ} (t : Turn b s₀ ws ms₀ ks₀ s ms ks i)
+    (roomMasks : length ws ≤ length ms₀) (roomCodes : length ws ≤ length ks₀) where
   module _ (h : i < length ws) (r : Stepped) (ps : List ℕ) (bs : Results) (q : Steps b s (getD ws i 0) r ps bs) where
     pub turn-on : r .number ≡ 0 → Turn b s₀ ws ms₀ ks₀ (stateOf (s .size) (r .depth) ps bs) (set ms i (r .mask)) (set ks i (r .code)) (i + 1)
     turn-on z =

@@ -2,3 +2,4 @@ pub mod State
 pub mod Tick
 pub mod Run
 pub mod Parts
+pub mod Advance

@@ -11,7 +11,7 @@ use Rattle.bits.specs.Results.{Results}
 use Rattle.frames.specs.Frame.{field, pairAt}
 use Rattle.frames.specs.Verdict.{Verdict, fine, refused, next, when}
 use Rattle.frames.specs.Answer.{Reply, success, refusal, reply}
-use Rattle.image.specs.Image.{Image, Row}
+use Rattle.image.specs.Image.{Row}
 use Rattle.image.specs.Decode.{decoded}
 use Rattle.image.specs.Check.{tableVerdict}
 use Rattle.machine.specs.declared.State.{State}

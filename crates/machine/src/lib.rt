@@ -1,6 +1,7 @@
 // The stack machine: its state, one tick, and a run of ticks over an image.
 use frames::Answer;
 
+pub mod advance;
 mod fit;
 mod fresh;
 mod rows;
@@ -44,6 +45,19 @@ pub struct Advanced {
     pub answer: Answer,
     pub mask: u32,
     pub code: u8,
+    pub state: State,
+}
+
+// What one tick answers: with a refusal, mask and code are 0.
+pub struct TickReport {
+    pub answer: Answer,
+    pub mask: u32,
+    pub code: u8,
+}
+
+// A tick's report, and the state after it.
+pub struct Reported {
+    pub report: TickReport,
     pub state: State,
 }
 

@@ -8,7 +8,7 @@ ghost use mathlib.Core.Path.{_≡_};
 ghost use Prim.Native.Nat.{_+_, _-_, _≤_, _<_};
 ghost use lib.ListN.{length, getD};
 ghost use Rattle.bits.specs.Results.{withResult};
-ghost use Rattle.image.specs.Decode.{labelIn, decoded};
+ghost use Rattle.image.specs.Decode.{labelIn};
 ghost use Rattle.machine.specs.Parts.{stateOf, Ready, codeOf, Steps};
 
 // The result of a tick of a scheme: 0 keeps its bit, 1 and 2 write it.
@@ -86,7 +86,8 @@ fn tick_call(
     requires { ⌜ (1 ≤ labelIn (now b) (getD (now places) (depth - 1) 0) .kind) × (labelIn (now b) (getD (now places) (depth - 1) 0) .kind ≤ 2) ⌝ }
     ensures { λ r. ⌜ Steps (now (b .entry)) (stateOf size depth (now (places .entry)) (now (bits .entry))) word r (now (places .exit)) (now (bits .exit)) ⌝ }
 {
-    if size <= depth {
+    let free = size - depth;
+    if free < 1 {
         return Stepped {
             number: 17,
             mask: 0,
@@ -125,8 +126,8 @@ fn tick_back(
     ensures { λ r. ⌜ Steps (now (b .entry)) (stateOf size depth (now (places .entry)) (now (bits .entry))) word r (now (places .exit)) (now (bits .exit)) ⌝ }
 {
     let under = (depth - 2) as usize;
-    let label = places[under];
-    let next = next_label(b, label, word, bits);
+    let caller = places[under];
+    let next = next_label(b, caller, word, bits);
     if 256 <= next {
         return Stepped {
             number: 18,

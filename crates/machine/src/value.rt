@@ -3,7 +3,6 @@ use super::Advanced;
 use super::State;
 use crate::tick::tick_parts;
 use frames::Answer;
-ghost use mathlib.Core.Path.{_≡_};
 ghost use Rattle.image.specs.Decode.{decoded};
 ghost use Rattle.machine.specs.Tick.{tick};
 ghost use Rattle.machine.specs.Parts.{Ready, Advances};

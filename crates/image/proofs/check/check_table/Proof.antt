@@ -4,37 +4,25 @@ use Rattle.image.proofs.TableCases.{header-size, table-header, table-st
 use borrow.Author.Needs.{needs}
 use Rattle.image.proofs.check.check_table.Statement.{statement}
 use Rattle.image.proofs.check.check_table.Tie as tie
-use Rattle.image.proofs.check.check_table.Reads as reads
-use Rattle.image.proofs.check.check_table.Lts as lts
-use Rattle.image.proofs.fields.lowest_bad.Reads as lowest-bad-reads
-use Rattle.image.proofs.places.bad_header.Reads as bad-header-reads
-use Rattle.image.proofs.places.lowest_stray.Reads as lowest-stray-reads
 
--- src/check.rt:17:8
 bad-header-requires : tie.Need-bad-header-requires
 bad-header-requires c κs = search needs
 
--- src/check.rt:18:9
 returns : tie.Need-returns
 returns c = table-header _ (sym (c .before .bad-header .ensures) ∙ c .if1 .taken)
 
--- src/check.rt:25:9
 lowest-stray-requires : tie.Need-lowest-stray-requires
 lowest-stray-requires c κs = search needs
 
--- src/check.rt:27:9
 returns-2 : tie.Need-returns-2
 returns-2 c = table-stray (c .before .before .before .before .before .args .b .now) (sym (c .before .before .before .bad-header .ensures) ∙ c .before .before .if1 .left) _ (c .before .lowest-stray .ensures) (search needs)
 
--- src/check.rt:33:9
 lowest-bad-requires : tie.Need-lowest-bad-requires
 lowest-bad-requires c κs = (omega (arith, header-size (c .before .before .before .before .before .args .b .now) (sym (c .before .before .before .bad-header .ensures) ∙ c .before .before .if1 .left)), search needs)
 
--- src/check.rt:35:9
 returns-3 : tie.Need-returns-3
 returns-3 c = table-bad (c .before .before .before .before .before .before .before .args .b .now) (sym (c .before .before .before .before .before .bad-header .ensures) ∙ c .before .before .before .before .if1 .left) _ (c .before .before .before .lowest-stray .ensures) (search needs) _ (c .before .lowest-bad .ensures) (search needs)
 
--- src/check.rt:13:1
 returns-4 : tie.Need-returns-4
 returns-4 c = table-good (c .before .before .before .before .before .before .before .args .b .now) (sym (c .before .before .before .before .before .bad-header .ensures) ∙ c .before .before .before .before .if1 .left) _ (c .before .before .before .lowest-stray .ensures) (search needs) _ (c .before .lowest-bad .ensures) (search needs)
 

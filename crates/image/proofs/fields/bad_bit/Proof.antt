@@ -1,43 +1,32 @@
-use mathlib.Core.Path.{_≡_, sym, _∙_, ap}
-use Prim.Native.Nat.{ℕ, _+_, _-_, _≤_}
-use lib.Dec.{ltb, eqb}
+use mathlib.Core.Path.{_∙_, ap}
+use Prim.Native.Nat.{ℕ, _+_, _-_}
+use lib.Dec.{eqb}
 use mathlib.Core.Bool.{not}
-use Rattle.image.specs.Decode.{labelIn, rowIn, labelsFrom, rowsFrom}
-use Rattle.frames.specs.Frame.{field, pairAt, quadAt}
+use Rattle.image.specs.Decode.{rowIn, labelsFrom}
+use Rattle.frames.specs.Frame.{field}
 use Rattle.image.proofs.FieldCases.{bit-above, bit-none, bit-function}
 use borrow.Author.Needs.{needs}
 use Rattle.image.proofs.fields.bad_bit.Statement.{statement}
 use Rattle.image.proofs.fields.bad_bit.Tie as tie
-use Rattle.image.proofs.fields.bad_bit.Reads as reads
-use Rattle.image.proofs.fields.bad_bit.Lts as lts
-use Rattle.image.proofs.table.label_byte.Reads as label-byte-reads
-use Rattle.image.proofs.table.row_byte.Reads as row-byte-reads
 
--- src/fields.rt:122:9
 row-byte-requires : tie.Need-row-byte-requires
 row-byte-requires c κs = search needs
 
--- src/fields.rt:124:9
 returns : tie.Need-returns
 returns c = bit-above (c .before .before .before .args .b .now) (rowIn (c .before .before .before .args .b .now) (c .before .before .before .args .k)) (search needs)
 
--- src/fields.rt:127:9
 returns-2 : tie.Need-returns-2
 returns-2 c = bit-none (c .before .before .before .before .args .b .now) (rowIn (c .before .before .before .before .args .b .now) (c .before .before .before .before .args .k)) (search needs)
 
--- src/fields.rt:129:16
 row-byte-requires-2 : tie.Need-row-byte-requires-2
 row-byte-requires-2 c κs = search needs
 
--- src/fields.rt:129:16
 cast-from : tie.Need-cast-from
 cast-from c = search needs
 
--- src/fields.rt:130:5
 label-byte-requires : tie.Need-label-byte-requires
 label-byte-requires c κs = search needs
 
--- src/fields.rt:118:1
 returns-3 : tie.Need-returns-3
 returns-3 c = ap (λ (n : ℕ). not (eqb n 2)) (c .label-byte .ensures ∙ ap (λ (n : ℕ). field (c .before .before .before .before .before .before .args .b .now) (labelsFrom (c .before .before .before .before .before .before .args .b .now) + n) 2) (c .before .row-byte2 .ensures)) ∙ bit-function (c .before .before .before .before .before .before .args .b .now) (rowIn (c .before .before .before .before .before .before .args .b .now) (c .before .before .before .before .before .before .args .k)) (search needs) (search needs)
 

@@ -1,36 +1,26 @@
-use mathlib.Core.Path.{_≡_, sym, _∙_, ap}
-use Prim.Native.Nat.{ℕ, _+_, _-_, _≤_}
-use Rattle.image.specs.Decode.{labelIn, rowIn, labelsFrom, rowsFrom}
+use mathlib.Core.Path.{sym, _∙_, ap}
+use Prim.Native.Nat.{ℕ, _-_}
+use Rattle.image.specs.Decode.{labelIn}
 use Rattle.image.specs.Check.{badLabel}
 use borrow.Author.Needs.{needs}
 use Rattle.image.proofs.fields.bad_label.Statement.{statement}
 use Rattle.image.proofs.fields.bad_label.Tie as tie
-use Rattle.image.proofs.fields.bad_label.Reads as reads
-use Rattle.image.proofs.fields.bad_label.Lts as lts
-use Rattle.image.proofs.fields.bad_numbered.Reads as bad-numbered-reads
-use Rattle.image.proofs.fields.unlike.Reads as unlike-reads
 
--- src/fields.rt:111:14
 unlike-requires : tie.Need-unlike-requires
 unlike-requires c κs = search needs
 
--- src/fields.rt:112:14
 unlike-requires-2 : tie.Need-unlike-requires-2
 unlike-requires-2 c κs = search needs
 
--- src/fields.rt:113:14
 bad-numbered-requires : tie.Need-bad-numbered-requires
 bad-numbered-requires c κs = search needs
 
--- src/fields.rt:106:1
 returns : tie.Need-returns
 returns c = c .unlike .ensures ∙ ap (λ (n : ℕ). badLabel (c .before .before .before .args .b .now) n (labelIn (c .before .before .before .args .b .now) n)) (sym (c .before .match .keys1))
 
--- src/fields.rt:106:1
 returns-2 : tie.Need-returns-2
 returns-2 c = c .unlike2 .ensures ∙ ap (λ (n : ℕ). badLabel (c .before .before .before .args .b .now) n (labelIn (c .before .before .before .args .b .now) n)) (sym (c .before .match .keys2))
 
--- src/fields.rt:106:1
 returns-3 : tie.Need-returns-3
 returns-3 c = search needs
 

@@ -1,84 +1,59 @@
 use borrow.Author.Tests.{not-true, not-false}
 use Rattle.image.specs.Check.{filled}
-use mathlib.Core.Path.{_≡_, sym, _∙_, ap}
-use Prim.Native.Nat.{ℕ, _+_, _-_, _≤_}
-use Rattle.image.specs.Decode.{labelIn, rowIn, labelsFrom, rowsFrom}
+use mathlib.Core.Path.{sym, _∙_, ap}
+use Prim.Native.Nat.{ℕ, _+_, _-_}
+use Rattle.image.specs.Decode.{rowIn, rowsFrom}
 use native.Mathlib.Omega.{arith}
 use Rattle.image.proofs.FieldCases.{test-from, row-test, row-bit, row-next, row-filled, row-within}
 use borrow.Author.Needs.{needs}
 use Rattle.image.proofs.fields.bad_row.Statement.{statement}
 use Rattle.image.proofs.fields.bad_row.Tie as tie
-use Rattle.image.proofs.fields.bad_row.Reads as reads
-use Rattle.image.proofs.fields.bad_row.Lts as lts
-use Rattle.image.proofs.fields.bad_bit.Reads as bad-bit-reads
-use Rattle.image.proofs.fields.bad_test.Reads as bad-test-reads
-use Rattle.image.proofs.fields.is_within.Reads as is-within-reads
-use Rattle.image.proofs.table.filled_to.Reads as filled-to-reads
-use Rattle.image.proofs.table.label_byte.Reads as label-byte-reads
-use Rattle.image.proofs.table.row_byte.Reads as row-byte-reads
-use Rattle.image.proofs.table.rows_from.Reads as rows-from-reads
 
--- src/fields.rt:154:8
 bad-test-requires : tie.Need-bad-test-requires
 bad-test-requires c κs = search needs
 
--- src/fields.rt:155:9
 returns : tie.Need-returns
 returns c = row-test (c .before .before .before .args .b .now) (rowIn (c .before .before .before .args .b .now) (c .before .before .before .args .k)) (rowsFrom (c .before .before .before .args .b .now) + (c .before .before .before .args .k)) (cc)
 
--- src/fields.rt:157:8
 bad-bit-requires : tie.Need-bad-bit-requires
 bad-bit-requires c κs = (search needs, test-from (c .before .before .before .args .b .now) (rowIn (c .before .before .before .args .b .now) (c .before .before .before .args .k)) (cc))
 
--- src/fields.rt:158:9
 returns-2 : tie.Need-returns-2
 returns-2 c = row-bit (c .before .before .before .before .before .args .b .now) (rowIn (c .before .before .before .before .before .args .b .now) (c .before .before .before .before .before .args .k)) (rowsFrom (c .before .before .before .before .before .args .b .now) + (c .before .before .before .before .before .args .k)) (cc) (cc)
 
--- src/fields.rt:160:16
 row-byte-requires : tie.Need-row-byte-requires
 row-byte-requires c κs = search needs
 
--- src/fields.rt:160:16
 cast-from : tie.Need-cast-from
 cast-from c = search needs
 
--- src/fields.rt:161:17
 label-byte-requires : tie.Need-label-byte-requires
 label-byte-requires c κs = (omega (arith, test-from (c .before .before .before .before .before .before .args .b .now) (rowIn (c .before .before .before .before .before .before .args .b .now) (c .before .before .before .before .before .before .args .k)) (cc)), search needs)
 
--- src/fields.rt:161:17
 cast-owner : tie.Need-cast-owner
 cast-owner c = search needs
 
--- src/fields.rt:162:29
 row-byte-requires-2 : tie.Need-row-byte-requires-2
 row-byte-requires-2 c κs = search needs
 
--- src/fields.rt:162:29
 cast-is-within : tie.Need-cast-is-within
 cast-is-within c = search needs
 
--- src/fields.rt:162:9
 is-within-requires : tie.Need-is-within-requires
 is-within-requires c κs = search needs
 
--- src/fields.rt:163:9
 returns-3 : tie.Need-returns-3
 returns-3 c = row-next (c .before .before .before .before .before .before .before .before .before .before .args .b .now) (rowIn (c .before .before .before .before .before .before .before .before .before .before .args .b .now) (c .before .before .before .before .before .before .before .before .before .before .args .k)) (rowsFrom (c .before .before .before .before .before .before .before .before .before .before .args .b .now) + (c .before .before .before .before .before .before .before .before .before .before .args .k)) (cc) (cc) (sym (row-within (c .before .before .before .before .before .before .before .before .before .before .args .b .now) (rowIn (c .before .before .before .before .before .before .before .before .before .before .args .b .now) (c .before .before .before .before .before .before .before .before .before .before .args .k)) _ _ _ _ (c .before .before .before .before .row-byte .ensures) (c .before .before .before .label-byte .ensures) (c .before .before .row-byte2 .ensures) (c .before .is-within .ensures)) ∙ not-true _ (c .if3 .taken))
 
--- src/fields.rt:165:18
 rows-from-requires : tie.Need-rows-from-requires
 rows-from-requires c κs = search needs
 
--- src/fields.rt:165:18
 add-filled-to : tie.Need-add-filled-to
 add-filled-to c = search needs
 
--- src/fields.rt:165:5
 filled-to-requires : tie.Need-filled-to-requires
 filled-to-requires c κs = search needs
 
--- src/fields.rt:150:1
 returns-4 : tie.Need-returns-4
 returns-4 c = c .filled-to .ensures ∙ ap (λ (n : ℕ). filled (c .before .before .before .before .before .before .before .before .before .before .before .before .args .b .now) (n + c .before .before .before .before .before .before .before .before .before .before .before .before .args .k) 8 2) (c .before .rows-from .ensures) ∙ row-filled (c .before .before .before .before .before .before .before .before .before .before .before .before .args .b .now) (rowIn (c .before .before .before .before .before .before .before .before .before .before .before .before .args .b .now) (c .before .before .before .before .before .before .before .before .before .before .before .before .args .k)) (rowsFrom (c .before .before .before .before .before .before .before .before .before .before .before .before .args .b .now) + c .before .before .before .before .before .before .before .before .before .before .before .before .args .k) (cc) (cc) (sym (row-within (c .before .before .before .before .before .before .before .before .before .before .before .before .args .b .now) (rowIn (c .before .before .before .before .before .before .before .before .before .before .before .before .args .b .now) (c .before .before .before .before .before .before .before .before .before .before .before .before .args .k)) _ _ _ _ (c .before .before .before .before .before .before .row-byte .ensures) (c .before .before .before .before .before .label-byte .ensures) (c .before .before .before .before .row-byte2 .ensures) (c .before .before .before .is-within .ensures)) ∙ not-false _ (c .before .before .if3 .left))
 

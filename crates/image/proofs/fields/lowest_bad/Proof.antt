@@ -1,14 +1,11 @@
 use borrow.Author.Needs.{needs}
-use mathlib.Core.Path.{_≡_, sym, _∙_, ap}
-use Prim.Native.Nat.{ℕ, _+_, _-_, _≤_}
+use mathlib.Core.Path.{_≡_, sym, _∙_}
+use Prim.Native.Nat.{_-_, _≤_}
 use Rattle.lists.specs.Numbers.{lowest}
 use Rattle.lists.proofs.Searches.{lowest-here, lowest-on, lowest-over, lowest-start}
 use Rattle.image.specs.Check.{badContent}
 use Rattle.image.proofs.fields.lowest_bad.Statement.{statement}
 use Rattle.image.proofs.fields.lowest_bad.Tie as tie
-use Rattle.image.proofs.fields.lowest_bad.Reads as reads
-use Rattle.image.proofs.fields.lowest_bad.Lts as lts
-use Rattle.image.proofs.fields.bad_content.Reads as bad-content-reads
 
 abbrev Inv-loop : tie.InvT-loop
 Inv-loop b n f₀ f = (f ≤ n) × (lowest (badContent b) f (n - f) ≡ lowest (badContent b) 0 n)
@@ -16,31 +13,24 @@ Inv-loop b n f₀ f = (f ≤ n) × (lowest (badContent b) f (n - f) ≡ lowest (
 abbrev μ-loop : tie.MeasureT-loop
 μ-loop b n f₀ f = n - f
 
--- src/fields.rt:188:5
 loop-holds : tie.Need-loop-holds Inv-loop μ-loop
 loop-holds c = (search needs, lowest-start _ _)
 
--- src/fields.rt:189:12
 bad-content-requires : tie.Need-bad-content-requires Inv-loop μ-loop
 bad-content-requires c κs = search needs
 
--- src/fields.rt:190:13
 returns : tie.Need-returns Inv-loop μ-loop
 returns c = sym (lowest-here _ _ _ (search needs) (sym (c .before .bad-content .ensures) ∙ c .if1 .taken)) ∙ c .before .before .before .loop .inv .1
 
--- src/fields.rt:192:9
 add-f : tie.Need-add-f Inv-loop μ-loop
 add-f c = search needs
 
--- src/fields.rt:188:5
 loop-less : tie.Need-loop-less Inv-loop μ-loop
 loop-less c = search needs
 
--- src/fields.rt:188:5
 loop-again : tie.Need-loop-again Inv-loop μ-loop
 loop-again c = (search needs, sym (lowest-on _ _ _ (search needs) (sym (c .before .bad-content .ensures) ∙ c .if1 .left)) ∙ c .before .before .before .loop .inv .1)
 
--- src/fields.rt:183:1
 returns-2 : tie.Need-returns-2 Inv-loop μ-loop
 returns-2 c = sym (lowest-over _ _ _ (search needs)) ∙ c .before .loop .inv .1
 

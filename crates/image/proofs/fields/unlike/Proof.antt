@@ -1,54 +1,40 @@
-use mathlib.Core.Path.{_≡_, sym, _∙_, ap}
-use Prim.Native.Nat.{ℕ, _+_, _-_, _≤_}
-use lib.Dec.{ltb, eqb}
+use mathlib.Core.Path.{_∙_, ap}
+use Prim.Native.Nat.{ℕ, _-_}
+use lib.Dec.{eqb}
 use mathlib.Core.Bool.{not}
-use Rattle.image.specs.Decode.{labelIn, rowIn, labelsFrom, rowsFrom}
+use Rattle.image.specs.Decode.{labelIn}
 use Rattle.image.proofs.FieldCases.{unlike-kind, unlike-called, unlike-owner, unlike-result, unlike-mask}
 use borrow.Author.Needs.{needs}
 use Rattle.image.proofs.fields.unlike.Statement.{statement}
 use Rattle.image.proofs.fields.unlike.Tie as tie
-use Rattle.image.proofs.fields.unlike.Reads as reads
-use Rattle.image.proofs.fields.unlike.Lts as lts
-use Rattle.image.proofs.table.label_byte.Reads as label-byte-reads
-use Rattle.image.proofs.table.label_mask.Reads as label-mask-reads
 
--- src/fields.rt:53:8
 label-byte-requires : tie.Need-label-byte-requires
 label-byte-requires c κs = search needs
 
--- src/fields.rt:54:9
 returns : tie.Need-returns
 returns c = unlike-kind (c .before .before .before .args .kind) (c .before .before .before .args .owner) (labelIn (c .before .before .before .args .b .now) (c .before .before .before .args .l)) (search needs)
 
--- src/fields.rt:56:8
 label-byte-requires-2 : tie.Need-label-byte-requires-2
 label-byte-requires-2 c κs = search needs
 
--- src/fields.rt:57:9
 returns-2 : tie.Need-returns-2
 returns-2 c = unlike-called (c .before .before .before .before .before .args .kind) (c .before .before .before .before .before .args .owner) (labelIn (c .before .before .before .before .before .args .b .now) (c .before .before .before .before .before .args .l)) (search needs) (search needs)
 
--- src/fields.rt:59:8
 label-byte-requires-3 : tie.Need-label-byte-requires-3
 label-byte-requires-3 c κs = search needs
 
--- src/fields.rt:60:9
 returns-3 : tie.Need-returns-3
 returns-3 c = unlike-owner (c .before .before .before .before .before .before .before .args .kind) (c .before .before .before .before .before .before .before .args .owner) (labelIn (c .before .before .before .before .before .before .before .args .b .now) (c .before .before .before .before .before .before .before .args .l)) (search needs) (search needs) (search needs)
 
--- src/fields.rt:62:8
 label-byte-requires-4 : tie.Need-label-byte-requires-4
 label-byte-requires-4 c κs = search needs
 
--- src/fields.rt:63:9
 returns-4 : tie.Need-returns-4
 returns-4 c = unlike-result (c .before .before .before .before .before .before .before .before .before .args .kind) (c .before .before .before .before .before .before .before .before .before .args .owner) (labelIn (c .before .before .before .before .before .before .before .before .before .args .b .now) (c .before .before .before .before .before .before .before .before .before .args .l)) (search needs) (search needs) (search needs) (search needs)
 
--- src/fields.rt:65:5
 label-mask-requires : tie.Need-label-mask-requires
 label-mask-requires c κs = search needs
 
--- src/fields.rt:49:1
 returns-5 : tie.Need-returns-5
 returns-5 c = ap (λ (n : ℕ). not (eqb n 0)) (c .label-mask .ensures) ∙ unlike-mask (c .before .before .before .before .before .before .before .before .before .before .args .kind) (c .before .before .before .before .before .before .before .before .before .before .args .owner) (labelIn (c .before .before .before .before .before .before .before .before .before .before .args .b .now) (c .before .before .before .before .before .before .before .before .before .before .args .l)) (search needs) (search needs) (search needs) (search needs)
 

@@ -1,6 +1,6 @@
-use mathlib.Core.Path.{_≡_, sym, _∙_, ap}
-use Prim.Native.Nat.{ℕ, _+_, _-_, _≤_}
-use lib.Dec.{ltb, eqb}
+use mathlib.Core.Path.{_∙_, ap}
+use Prim.Native.Nat.{ℕ, _-_}
+use lib.Dec.{eqb}
 use mathlib.Core.Bool.{not}
 use native.Mathlib.Omega.{arith}
 use Rattle.frames.specs.Frame.{size}
@@ -8,55 +8,37 @@ use Rattle.image.proofs.PlaceCases.{header-kind, header-filled, header-
 use borrow.Author.Needs.{needs}
 use Rattle.image.proofs.places.bad_header.Statement.{statement}
 use Rattle.image.proofs.places.bad_header.Tie as tie
-use Rattle.image.proofs.places.bad_header.Reads as reads
-use Rattle.image.proofs.places.bad_header.Lts as lts
-use Rattle.image.proofs.places.bad_counts.Reads as bad-counts-reads
-use Rattle.image.proofs.table.byte.Reads as byte-reads
-use Rattle.image.proofs.table.filled_to.Reads as filled-to-reads
-use Rattle.image.proofs.table.pair.Reads as pair-reads
-use Rattle.image.proofs.table.rows_from.Reads as rows-from-reads
 
--- src/places.rt:39:8
 byte-requires : tie.Need-byte-requires
 byte-requires c κs = search needs
 
--- src/places.rt:40:9
 returns : tie.Need-returns
 returns c = header-kind (c .before .before .before .args .b .now) (search needs)
 
--- src/places.rt:42:8
 filled-to-requires : tie.Need-filled-to-requires
 filled-to-requires c κs = search needs
 
--- src/places.rt:43:9
 returns-2 : tie.Need-returns-2
 returns-2 c = header-filled (c .before .before .before .before .before .args .b .now) (search needs) (cc)
 
--- src/places.rt:45:8
 bad-counts-requires : tie.Need-bad-counts-requires
 bad-counts-requires c κs = search needs
 
--- src/places.rt:46:9
 returns-3 : tie.Need-returns-3
 returns-3 c = header-counts (c .before .before .before .before .before .before .before .args .b .now) (search needs) (cc) (cc)
 
--- src/places.rt:48:21
 rows-from-requires : tie.Need-rows-from-requires
 rows-from-requires c κs = search needs
 
--- src/places.rt:48:37
 pair-requires : tie.Need-pair-requires
 pair-requires c κs = search needs
 
--- src/places.rt:48:37
 cast-result : tie.Need-cast-result
 cast-result c = search needs
 
--- src/places.rt:48:21
 add-result : tie.Need-add-result
 add-result c = omega (arith, c .before .before .before .before .before .before .before .before .shared-slice-known .given 1, c .before .before .before .before .before .before .before .before .shared-slice-known .given 2)
 
--- src/places.rt:35:1
 returns-4 : tie.Need-returns-4
 returns-4 c = ap (λ (n : ℕ). not (eqb (size (c .before .before .before .before .before .before .before .before .before .args .b .now)) n)) (cc) ∙ header-frames (c .before .before .before .before .before .before .before .before .before .args .b .now) (search needs) (cc) (cc)
 

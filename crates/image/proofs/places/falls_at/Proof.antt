@@ -2,27 +2,19 @@ use Rattle.image.proofs.PlaceCases.{falls-later}
 use borrow.Author.Needs.{needs}
 use Rattle.image.proofs.places.falls_at.Statement.{statement}
 use Rattle.image.proofs.places.falls_at.Tie as tie
-use Rattle.image.proofs.places.falls_at.Reads as reads
-use Rattle.image.proofs.places.falls_at.Lts as lts
-use Rattle.image.proofs.table.row_byte.Reads as row-byte-reads
 
--- src/places.rt:74:9
 returns : tie.Need-returns
 returns c = search needs
 
--- src/places.rt:76:5
 row-byte-requires : tie.Need-row-byte-requires
 row-byte-requires c κs = search needs
 
--- src/places.rt:76:37
 sub-row-byte : tie.Need-sub-row-byte
 sub-row-byte c = search needs
 
--- src/places.rt:76:25
 row-byte-requires-2 : tie.Need-row-byte-requires-2
 row-byte-requires-2 c κs = search needs
 
--- src/places.rt:69:1
 returns-2 : tie.Need-returns-2
 returns-2 c = falls-later (c .before .before .before .before .args .b .now) (c .before .before .before .before .args .k) _ _ (search needs) (c .before .row-byte .ensures) (c .row-byte2 .ensures)
 

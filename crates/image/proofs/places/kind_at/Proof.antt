@@ -2,32 +2,22 @@ use Rattle.image.proofs.PlaceCases.{kind-header, kind-entry, kind-label
 use borrow.Author.Needs.{needs}
 use Rattle.image.proofs.places.kind_at.Statement.{statement}
 use Rattle.image.proofs.places.kind_at.Tie as tie
-use Rattle.image.proofs.places.kind_at.Reads as reads
-use Rattle.image.proofs.places.kind_at.Lts as lts
-use Rattle.image.proofs.table.labels_from.Reads as labels-from-reads
-use Rattle.image.proofs.table.rows_from.Reads as rows-from-reads
 
--- src/places.rt:56:9
 returns : tie.Need-returns
 returns c = kind-header (c .before .before .args .b .now) (c .before .before .args .f) (search needs)
 
--- src/places.rt:58:12
 labels-from-requires : tie.Need-labels-from-requires
 labels-from-requires c κs = search needs
 
--- src/places.rt:59:9
 returns-2 : tie.Need-returns-2
 returns-2 c = kind-entry (c .before .before .before .before .args .b .now) (c .before .before .before .before .args .f) (search needs) (search needs)
 
--- src/places.rt:61:12
 rows-from-requires : tie.Need-rows-from-requires
 rows-from-requires c κs = search needs
 
--- src/places.rt:62:9
 returns-3 : tie.Need-returns-3
 returns-3 c = kind-label (c .before .before .before .before .before .before .args .b .now) (c .before .before .before .before .before .before .args .f) (search needs) (search needs) (search needs)
 
--- src/places.rt:51:1
 returns-4 : tie.Need-returns-4
 returns-4 c = kind-row (c .before .before .before .before .before .before .args .b .now) (c .before .before .before .before .before .before .args .f) (search needs) (search needs)
 

@@ -1,14 +1,11 @@
 use borrow.Author.Needs.{needs}
-use mathlib.Core.Path.{_≡_, sym, _∙_, ap}
-use Prim.Native.Nat.{ℕ, _+_, _-_, _≤_}
+use mathlib.Core.Path.{_≡_, sym, _∙_}
+use Prim.Native.Nat.{_-_, _≤_}
 use Rattle.lists.specs.Numbers.{lowest}
 use Rattle.lists.proofs.Searches.{lowest-here, lowest-on, lowest-over, lowest-start}
 use Rattle.image.specs.Check.{stray}
 use Rattle.image.proofs.places.lowest_stray.Statement.{statement}
 use Rattle.image.proofs.places.lowest_stray.Tie as tie
-use Rattle.image.proofs.places.lowest_stray.Reads as reads
-use Rattle.image.proofs.places.lowest_stray.Lts as lts
-use Rattle.image.proofs.places.stray_at.Reads as stray-at-reads
 
 abbrev Inv-loop : tie.InvT-loop
 Inv-loop b n f₀ f = (f ≤ n) × (lowest (stray b) f (n - f) ≡ lowest (stray b) 0 n)
@@ -16,31 +13,24 @@ Inv-loop b n f₀ f = (f ≤ n) × (lowest (stray b) f (n - f) ≡ lowest (stray
 abbrev μ-loop : tie.MeasureT-loop
 μ-loop b n f₀ f = n - f
 
--- src/places.rt:115:5
 loop-holds : tie.Need-loop-holds Inv-loop μ-loop
 loop-holds c = (search needs, lowest-start _ _)
 
--- src/places.rt:116:12
 stray-at-requires : tie.Need-stray-at-requires Inv-loop μ-loop
 stray-at-requires c κs = search needs
 
--- src/places.rt:117:13
 returns : tie.Need-returns Inv-loop μ-loop
 returns c = sym (lowest-here _ _ _ (search needs) (sym (c .before .stray-at .ensures) ∙ c .if1 .taken)) ∙ c .before .before .before .loop .inv .1
 
--- src/places.rt:119:9
 add-f : tie.Need-add-f Inv-loop μ-loop
 add-f c = search needs
 
--- src/places.rt:115:5
 loop-less : tie.Need-loop-less Inv-loop μ-loop
 loop-less c = search needs
 
--- src/places.rt:115:5
 loop-again : tie.Need-loop-again Inv-loop μ-loop
 loop-again c = (search needs, sym (lowest-on _ _ _ (search needs) (sym (c .before .stray-at .ensures) ∙ c .if1 .left)) ∙ c .before .before .before .loop .inv .1)
 
--- src/places.rt:110:1
 returns-2 : tie.Need-returns-2 Inv-loop μ-loop
 returns-2 c = sym (lowest-over _ _ _ (search needs)) ∙ c .before .loop .inv .1
 

@@ -1,19 +1,11 @@
 use borrow.Author.Needs.{needs}
 use mathlib.Core.Path.{_≡_, sym, _∙_}
-use mathlib.Core.Bool.{not}
 use Prim.Native.Nat.{_-_, _≤_}
-use lib.Dec.{eqb}
-use native.Mathlib.Omega.{arith}
-use Rattle.lists.specs.Numbers.{any}
 use Rattle.lists.proofs.Searches.{any-here, any-on, any-over}
-use Rattle.frames.specs.Frame.{field}
 use Rattle.image.specs.Check.{filled}
 use Rattle.image.proofs.PlaceCases.{unequal, equal}
 use Rattle.image.proofs.table.filled_to.Statement.{statement}
 use Rattle.image.proofs.table.filled_to.Tie as tie
-use Rattle.image.proofs.table.filled_to.Reads as reads
-use Rattle.image.proofs.table.filled_to.Lts as lts
-use Rattle.image.proofs.table.byte.Reads as byte-reads
 
 abbrev Inv-loop : tie.InvT-loop
 Inv-loop b f k end j₀ j = (j ≤ end) × (filled b f j (end - j) ≡ filled b f k (end - k))

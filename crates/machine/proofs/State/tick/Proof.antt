@@ -2,27 +2,19 @@ use Rattle.machine.proofs.RunCases.{value-went, value-stood}
 use borrow.Author.Needs.{needs}
 use Rattle.machine.proofs.State.tick.Statement.{statement}
 use Rattle.machine.proofs.State.tick.Tie as tie
-use Rattle.machine.proofs.State.tick.Reads as reads
-use Rattle.machine.proofs.State.tick.Lts as lts
-use Rattle.machine.proofs.tick.tick_parts.Reads as tick-parts-reads
 
--- src/value.rt:21:51
 slice-aggregate-tick-parts : tie.Need-slice-aggregate-tick-parts
 slice-aggregate-tick-parts c = search needs
 
--- src/value.rt:21:64
 slice-aggregate-tick-parts-2 : tie.Need-slice-aggregate-tick-parts-2
 slice-aggregate-tick-parts-2 c = search needs
 
--- src/value.rt:21:13
 tick-parts-requires : tie.Need-tick-parts-requires
 tick-parts-requires c κs = search needs
 
--- src/value.rt:37:13
 returns : tie.Need-returns
 returns c = value-stood (c .before .before .before .before .before .before .before .before .before .args .table .now) (c .before .before .before .before .before .before .before .before .before .args .self) (c .before .before .before .before .before .before .before .before .before .args .word) (c .before .before .before .tick-parts .result) _ _ (c .before .before .before .tick-parts .ensures) (c .if1 .taken)
 
--- src/value.rt:13:5
 returns-2 : tie.Need-returns-2
 returns-2 c = value-went (c .before .before .before .before .before .before .before .before .before .args .table .now) (c .before .before .before .before .before .before .before .before .before .args .self) (c .before .before .before .before .before .before .before .before .before .args .word) (c .before .before .before .tick-parts .result) _ _ (c .before .before .before .tick-parts .ensures) (c .if1 .left)
 

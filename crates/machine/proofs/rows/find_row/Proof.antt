@@ -1,13 +1,10 @@
 use borrow.Author.Needs.{needs}
-use mathlib.Core.Path.{_≡_, sym, _∙_, ap}
-use Prim.Native.Nat.{ℕ, _+_, _-_, _≤_}
+use mathlib.Core.Path.{_≡_, sym, _∙_}
+use Prim.Native.Nat.{_-_, _≤_}
 use Rattle.machine.specs.Tick.{firstRow}
 use Rattle.machine.proofs.RowCases.{rowsIn, find-here, find-on, find-over}
 use Rattle.machine.proofs.rows.find_row.Statement.{statement}
 use Rattle.machine.proofs.rows.find_row.Tie as tie
-use Rattle.machine.proofs.rows.find_row.Reads as reads
-use Rattle.machine.proofs.rows.find_row.Lts as lts
-use Rattle.machine.proofs.rows.is_fitting.Reads as is-fitting-reads
 
 abbrev Inv-loop : tie.InvT-loop
 Inv-loop b first end label word bit f₀ f = (f ≤ end) × (firstRow label word bit (rowsIn b f end) ≡ firstRow label word bit (rowsIn b first end))
@@ -15,31 +12,24 @@ Inv-loop b first end label word bit f₀ f = (f ≤ end) × (firstRow label word
 abbrev μ-loop : tie.MeasureT-loop
 μ-loop b first end label word bit f₀ f = end - f
 
--- src/rows.rt:43:5
 loop-holds : tie.Need-loop-holds Inv-loop μ-loop
 loop-holds c = search needs
 
--- src/rows.rt:44:12
 is-fitting-requires : tie.Need-is-fitting-requires Inv-loop μ-loop
 is-fitting-requires c κs = search needs
 
--- src/rows.rt:45:13
 returns : tie.Need-returns Inv-loop μ-loop
 returns c = find-here (c .before .before .before .before .before .args .b .now) (c .before .before .before .before .before .args .label) (c .before .before .before .before .before .args .word) (c .before .before .before .before .before .args .bit) (c .before .before .before .before .before .args .end) (c .before .before .before .loop .f) (search needs) (sym (c .before .is-fitting .ensures) ∙ c .if1 .taken) ∙ c .before .before .before .loop .inv .1
 
--- src/rows.rt:47:9
 add-f : tie.Need-add-f Inv-loop μ-loop
 add-f c = search needs
 
--- src/rows.rt:43:5
 loop-less : tie.Need-loop-less Inv-loop μ-loop
 loop-less c = search needs
 
--- src/rows.rt:43:5
 loop-again : tie.Need-loop-again Inv-loop μ-loop
 loop-again c = (search needs, sym (find-on (c .before .before .before .before .before .args .b .now) (c .before .before .before .before .before .args .label) (c .before .before .before .before .before .args .word) (c .before .before .before .before .before .args .bit) (c .before .before .before .before .before .args .end) (c .before .before .before .loop .f) (search needs) (sym (c .before .is-fitting .ensures) ∙ c .if1 .left)) ∙ c .before .before .before .loop .inv .1)
 
--- src/rows.rt:38:1
 returns-2 : tie.Need-returns-2 Inv-loop μ-loop
 returns-2 c = find-over (c .before .before .before .args .b .now) (c .before .before .before .args .label) (c .before .before .before .args .word) (c .before .before .before .args .bit) (c .before .before .before .args .end) (c .before .loop .f) (search needs) ∙ c .before .loop .inv .1
 

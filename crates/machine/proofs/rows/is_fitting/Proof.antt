@@ -1,5 +1,5 @@
-use mathlib.Core.Path.{_≡_, sym, _∙_, ap}
-use Prim.Native.Nat.{ℕ, _+_, _-_, _≤_}
+use mathlib.Core.Path.{sym, _∙_, ap}
+use Prim.Native.Nat.{ℕ, _-_}
 use borrow.Author.Tests.{eq-eqb, ne-eqb}
 use lib.Bits.{bitAnd}
 use lib.Dec.{eqb}
@@ -7,40 +7,28 @@ use Rattle.machine.proofs.RowCases.{fitting-other, fitting-not, fitting
 use borrow.Author.Needs.{needs}
 use Rattle.machine.proofs.rows.is_fitting.Statement.{statement}
 use Rattle.machine.proofs.rows.is_fitting.Tie as tie
-use Rattle.machine.proofs.rows.is_fitting.Reads as reads
-use Rattle.machine.proofs.rows.is_fitting.Lts as lts
-use Rattle.image.proofs.byte.Reads as byte-reads
-use Rattle.image.proofs.pair.Reads as pair-reads
 
--- src/rows.rt:24:8
 byte-requires : tie.Need-byte-requires
 byte-requires c κs = search needs
 
--- src/rows.rt:25:9
 returns : tie.Need-returns
 returns c = fitting-other (c .before .before .before .args .b .now) (c .before .before .before .args .label) (c .before .before .before .args .word) (c .before .before .before .args .bit) (c .before .before .before .args .f) (search needs)
 
--- src/rows.rt:27:15
 pair-requires : tie.Need-pair-requires
 pair-requires c κs = search needs
 
--- src/rows.rt:27:32
 pair-requires-2 : tie.Need-pair-requires-2
 pair-requires-2 c κs = search needs
 
--- src/rows.rt:28:9
 returns-2 : tie.Need-returns-2
 returns-2 c = fitting-not (c .before .before .before .before .before .before .args .b .now) (c .before .before .before .before .before .before .args .label) (c .before .before .before .before .before .before .args .word) (c .before .before .before .before .before .before .args .bit) (c .before .before .before .before .before .before .args .f) (search needs) (ne-eqb _ _ (λ e. c .if2 .taken (ap (bitAnd (c .before .before .before .before .before .before .args .word)) (c .before .before .pair .ensures) ∙ e ∙ sym (c .before .pair2 .ensures))))
 
--- src/rows.rt:30:9
 byte-requires-2 : tie.Need-byte-requires-2
 byte-requires-2 c κs = search needs
 
--- src/rows.rt:32:9
 returns-3 : tie.Need-returns-3
 returns-3 c = fitting-any (c .before .before .before .before .before .before .before .before .args .b .now) (c .before .before .before .before .before .before .before .before .args .label) (c .before .before .before .before .before .before .before .before .args .word) (c .before .before .before .before .before .before .before .before .args .bit) (c .before .before .before .before .before .before .before .before .args .f) (search needs) (eq-eqb _ _ (sym (ap (bitAnd (c .before .before .before .before .before .before .before .before .args .word)) (c .before .before .before .before .pair .ensures)) ∙ c .before .before .if2 .left ∙ c .before .before .before .pair2 .ensures)) (search needs)
 
--- src/rows.rt:20:1
 returns-4 : tie.Need-returns-4
 returns-4 c = ap (λ (n : ℕ). eqb n (c .before .before .before .before .before .before .before .before .args .bit)) (c .before .byte2 .ensures) ∙ fitting-bit (c .before .before .before .before .before .before .before .before .args .b .now) (c .before .before .before .before .before .before .before .before .args .label) (c .before .before .before .before .before .before .before .before .args .word) (c .before .before .before .before .before .before .before .before .args .bit) (c .before .before .before .before .before .before .before .before .args .f) (search needs) (eq-eqb _ _ (sym (ap (bitAnd (c .before .before .before .before .before .before .before .before .args .word)) (c .before .before .before .before .pair .ensures)) ∙ c .before .before .if2 .left ∙ c .before .before .before .pair2 .ensures)) (search needs)
 

@@ -1,36 +1,24 @@
-use mathlib.Core.Path.{_≡_, refl, sym, _∙_, ap}
 use mathlib.Core.Bool.{true, false}
 use Rattle.machine.proofs.RowCases.{label-inside, chosen}
 use borrow.Author.Needs.{needs}
 use Rattle.machine.proofs.rows.next_label.Statement.{statement}
 use Rattle.machine.proofs.rows.next_label.Tie as tie
-use Rattle.machine.proofs.rows.next_label.Reads as reads
-use Rattle.machine.proofs.rows.next_label.Lts as lts
-use Rattle.image.proofs.label_byte.Reads as label-byte-reads
-use Rattle.machine.proofs.rows.next_by.Reads as next-by-reads
-use Rattle.machine.proofs.rows.result_of.Reads as result-of-reads
 
--- src/rows.rt:82:9
 label-byte-requires : tie.Need-label-byte-requires
 label-byte-requires c κs = (label-inside (c .before .before .args .b .now) (c .before .before .pre .0 .0) (c .before .before .args .label) (c .before .before .pre .0 .1), search needs)
 
--- src/rows.rt:83:8
 result-of-requires : tie.Need-result-of-requires
 result-of-requires c κs = search needs
 
--- src/rows.rt:84:9
 next-by-requires : tie.Need-next-by-requires
 next-by-requires c κs = search needs
 
--- src/rows.rt:84:9
 returns : tie.Need-returns
 returns c = chosen (c .before .before .before .before .before .before .args .b .now) (c .before .before .before .before .before .before .pre .0 .0) (c .before .before .before .before .before .before .args .label) (c .before .before .before .before .before .before .args .word) (c .before .before .before .before .before .before .pre .0 .1) (c .before .before .before .before .before .before .args .bits .now) (c .before .before .before .label-byte .result) (c .before .before .result-of .result) (c .before .before .before .label-byte .ensures) (c .before .before .result-of .ensures) true (c .before .if1 .taken) (c .next-by .result) (c .next-by .ensures)
 
--- src/rows.rt:86:5
 next-by-requires-2 : tie.Need-next-by-requires-2
 next-by-requires-2 c κs = search needs
 
--- src/rows.rt:77:1
 returns-2 : tie.Need-returns-2
 returns-2 c = chosen (c .before .before .before .before .before .before .args .b .now) (c .before .before .before .before .before .before .pre .0 .0) (c .before .before .before .before .before .before .args .label) (c .before .before .before .before .before .before .args .word) (c .before .before .before .before .before .before .pre .0 .1) (c .before .before .before .before .before .before .args .bits .now) (c .before .before .before .label-byte .result) (c .before .before .result-of .result) (c .before .before .before .label-byte .ensures) (c .before .before .result-of .ensures) false (c .before .if1 .left) (c .next-by2 .result) (c .next-by2 .ensures)
 

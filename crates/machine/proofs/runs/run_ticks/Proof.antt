@@ -2,43 +2,31 @@ use Rattle.machine.proofs.RunCases.{all-done, some-done}
 use borrow.Author.Needs.{needs}
 use Rattle.machine.proofs.runs.run_ticks.Statement.{statement}
 use Rattle.machine.proofs.runs.run_ticks.Tie as tie
-use Rattle.machine.proofs.runs.run_ticks.Reads as reads
-use Rattle.machine.proofs.runs.run_ticks.Lts as lts
-use Rattle.machine.proofs.runs.tick_all.Reads as tick-all-reads
 
--- src/runs.rt:58:42
 slice-aggregate-tick-all : tie.Need-slice-aggregate-tick-all
 slice-aggregate-tick-all c = search needs
 
--- src/runs.rt:58:55
 slice-aggregate-tick-all-2 : tie.Need-slice-aggregate-tick-all-2
 slice-aggregate-tick-all-2 c = search needs
 
--- src/runs.rt:58:9
 tick-all-requires : tie.Need-tick-all-requires
 tick-all-requires c κs = search needs
 
--- src/runs.rt:68:9
 same-length : tie.Need-same-length
 same-length c = search needs
 
--- src/runs.rt:68:9
 same-length-2 : tie.Need-same-length-2
 same-length-2 c = search needs
 
--- src/runs.rt:68:9
 returns : tie.Need-returns
 returns c = all-done (c .before .before .before .before .before .before .before .before .before .before .before .before .before .before .before .before .before .before .args .b .now) (c .before .before .before .before .before .before .before .before .before .before .before .before .before .before .before .before .before .before .args .state) (c .before .before .before .before .before .before .before .before .before .before .before .before .before .before .before .before .before .before .args .words .now) (c .before .before .before .before .before .before .before .before .before .before .before .before .before .before .before .before .before .before .args .masks .now) (c .before .before .before .before .before .before .before .before .before .before .before .before .before .before .before .before .before .before .args .codes .now) (c .before .before .before .before .before .before .before .before .before .before .before .before .before .before .before .before .before .before .pre .0 .fits) (c .before .before .before .before .before .before .before .before .before .before .before .before .before .before .before .before .before .before .pre .1 .0) (c .before .before .before .before .before .before .before .before .before .before .before .before .before .before .before .before .before .before .pre .1 .1) (c .before .before .before .before .before .before .before .tick-all .result) _ _ _ _ (c .before .before .before .before .before .before .before .tick-all .ensures) (c .if1 .taken)
 
--- src/runs.rt:49:1
 same-length-3 : tie.Need-same-length-3
 same-length-3 c = search needs
 
--- src/runs.rt:49:1
 same-length-4 : tie.Need-same-length-4
 same-length-4 c = search needs
 
--- src/runs.rt:49:1
 returns-2 : tie.Need-returns-2
 returns-2 c = some-done (c .before .before .before .before .before .before .before .before .before .before .before .before .before .before .before .before .before .before .args .b .now) (c .before .before .before .before .before .before .before .before .before .before .before .before .before .before .before .before .before .before .args .state) (c .before .before .before .before .before .before .before .before .before .before .before .before .before .before .before .before .before .before .args .words .now) (c .before .before .before .before .before .before .before .before .before .before .before .before .before .before .before .before .before .before .args .masks .now) (c .before .before .before .before .before .before .before .before .before .before .before .before .before .before .before .before .before .before .args .codes .now) (c .before .before .before .before .before .before .before .before .before .before .before .before .before .before .before .before .before .before .pre .0 .fits) (c .before .before .before .before .before .before .before .before .before .before .before .before .before .before .before .before .before .before .pre .1 .0) (c .before .before .before .before .before .before .before .before .before .before .before .before .before .before .before .before .before .before .pre .1 .1) (c .before .before .before .before .before .before .before .tick-all .result) _ _ _ _ (c .before .before .before .before .before .before .before .tick-all .ensures) (c .if1 .left)
 

@@ -7,9 +7,6 @@ use Rattle.machine.specs.Parts.{stateOf}
 use Rattle.machine.proofs.TurnCases.{Turn, turn-start, turn-on, turn-stood, turn-over}
 use Rattle.machine.proofs.runs.tick_all.Statement.{statement}
 use Rattle.machine.proofs.runs.tick_all.Tie as tie
-use Rattle.machine.proofs.runs.tick_all.Reads as reads
-use Rattle.machine.proofs.runs.tick_all.Lts as lts
-use Rattle.machine.proofs.tick.tick_parts.Reads as tick-parts-reads
 
 abbrev Inv-loop : tie.InvT-loop
 Inv-loop b size start places₀ bits₀ words masks₀ codes₀ depth₀ i₀ places bits masks codes depth i =
@@ -18,85 +15,65 @@ Inv-loop b size start places₀ bits₀ words masks₀ codes₀ depth₀ i₀ pl
 abbrev μ-loop : tie.MeasureT-loop
 μ-loop b size start places₀ bits₀ words masks₀ codes₀ depth₀ i₀ places bits masks codes depth i = length words - i
 
--- src/runs.rt:26:5
 loop-holds : tie.Need-loop-holds Inv-loop μ-loop
 loop-holds c = turn-start _ _ _ _ _ (c .before .before .before .before .before .before .pre .0)
 
--- src/runs.rt:27:61
 mul-tick-parts : tie.Need-mul-tick-parts Inv-loop μ-loop
 mul-tick-parts c = search needs
 
--- src/runs.rt:27:61
 shared-slice-read-tick-parts : tie.Need-shared-slice-read-tick-parts Inv-loop μ-loop
 shared-slice-read-tick-parts c = search needs
 
--- src/runs.rt:27:13
 tick-parts-requires : tie.Need-tick-parts-requires Inv-loop μ-loop
 tick-parts-requires c κs = (c .before .before .before .before .loop .inv .ready)
 
--- src/runs.rt:30:13
 same-length : tie.Need-same-length Inv-loop μ-loop
 same-length c = (c .before .before .before .before .before .tick-parts .kept .1 .1 .1 .0) ∙ (c .before .before .before .before .before .before .before .before .before .before .loop .inv .ready .places) ∙ sym (c .before .before .before .before .before .before .before .before .before .before .before .before .before .before .before .before .before .pre .0 .places)
 
--- src/runs.rt:30:13
 same-length-2 : tie.Need-same-length-2 Inv-loop μ-loop
 same-length-2 c = (c .before .before .before .before .before .tick-parts .kept .1 .1 .1 .1 .0) ∙ (c .before .before .before .before .before .before .before .before .before .before .loop .inv .ready .bits) ∙ sym (c .before .before .before .before .before .before .before .before .before .before .before .before .before .before .before .before .before .pre .0 .bits)
 
--- src/runs.rt:30:13
 same-length-3 : tie.Need-same-length-3 Inv-loop μ-loop
 same-length-3 c = (c .before .before .before .before .before .before .before .before .before .before .loop .inv .sizeMasks)
 
--- src/runs.rt:30:13
 same-length-4 : tie.Need-same-length-4 Inv-loop μ-loop
 same-length-4 c = (c .before .before .before .before .before .before .before .before .before .before .loop .inv .sizeCodes)
 
--- src/runs.rt:30:13
 returns : tie.Need-returns Inv-loop μ-loop
-returns c = turn-stood (c .before .before .before .before .before .before .before .before .before .before .before .before .before .before .before .before .before .args .b .now) (stateOf (c .before .before .before .before .before .before .before .before .before .before .before .before .before .before .before .before .before .args .size) (c .before .before .before .before .before .before .before .before .before .before .before .before .before .before .before .before .before .args .start) (c .before .before .before .before .before .before .before .before .before .before .before .before .before .before .before .before .before .args .places .now) (c .before .before .before .before .before .before .before .before .before .before .before .before .before .before .before .before .before .args .bits .now)) (c .before .before .before .before .before .before .before .before .before .before .before .before .before .before .before .before .before .args .words .now) (c .before .before .before .before .before .before .before .before .before .before .before .before .before .before .before .before .before .args .masks .now) (c .before .before .before .before .before .before .before .before .before .before .before .before .before .before .before .before .before .args .codes .now) (stateOf (c .before .before .before .before .before .before .before .before .before .before .before .before .before .before .before .before .before .args .size) (c .before .before .before .before .before .before .before .before .before .before .loop .depth) (c .before .before .before .before .before .before .before .before .before .before .loop .places) (c .before .before .before .before .before .before .before .before .before .before .loop .bits)) (c .before .before .before .before .before .before .before .before .before .before .loop .masks) (c .before .before .before .before .before .before .before .before .before .before .loop .codes) (c .before .before .before .before .before .before .before .before .before .before .loop .i) (c .before .before .before .before .before .before .before .before .before .before .before .before .before .before .before .before .before .pre .1 .0) (c .before .before .before .before .before .before .before .before .before .before .before .before .before .before .before .before .before .pre .1 .1) (c .before .before .before .before .before .before .before .before .before .before .loop .inv) (search needs) (c .before .before .before .before .before .tick-parts .result) _ _ (c .before .before .before .before .before .tick-parts .ensures) refl (c .if1 .taken)
+returns c = turn-stood (c .before .before .before .before .before .before .before .before .before .before .loop .inv) (c .before .before .before .before .before .before .before .before .before .before .before .before .before .before .before .before .before .pre .1 .0) (c .before .before .before .before .before .before .before .before .before .before .before .before .before .before .before .before .before .pre .1 .1) (search needs) (c .before .before .before .before .before .tick-parts .result) _ _ (c .before .before .before .before .before .tick-parts .ensures) refl (c .if1 .taken)
 
--- src/runs.rt:36:9
 mul-masks : tie.Need-mul-masks Inv-loop μ-loop
 mul-masks c = search needs
 
--- src/runs.rt:36:9
 slice-write-masks : tie.Need-slice-write-masks Inv-loop μ-loop
 slice-write-masks c = omega (arith, (c .before .before .before .before .before .before .before .before .before .before .loop .inv .sizeMasks), (c .before .before .before .before .before .before .before .before .before .before .before .before .before .before .before .before .before .pre .1 .0))
 
--- src/runs.rt:37:9
 slice-write-codes : tie.Need-slice-write-codes Inv-loop μ-loop
 slice-write-codes c = omega (arith, (c .before .before .before .before .before .before .before .before .before .before .loop .inv .sizeCodes), (c .before .before .before .before .before .before .before .before .before .before .before .before .before .before .before .before .before .pre .1 .1))
 
--- src/runs.rt:39:9
 add-i : tie.Need-add-i Inv-loop μ-loop
 add-i c = search needs
 
--- src/runs.rt:26:5
 loop-less : tie.Need-loop-less Inv-loop μ-loop
 loop-less c = search needs
 
--- src/runs.rt:26:5
 loop-again : tie.Need-loop-again Inv-loop μ-loop
-loop-again c = turn-on (c .before .before .before .before .before .before .before .before .before .before .before .before .before .before .before .before .before .args .b .now) (stateOf (c .before .before .before .before .before .before .before .before .before .before .before .before .before .before .before .before .before .args .size) (c .before .before .before .before .before .before .before .before .before .before .before .before .before .before .before .before .before .args .start) (c .before .before .before .before .before .before .before .before .before .before .before .before .before .before .before .before .before .args .places .now) (c .before .before .before .before .before .before .before .before .before .before .before .before .before .before .before .before .before .args .bits .now)) (c .before .before .before .before .before .before .before .before .before .before .before .before .before .before .before .before .before .args .words .now) (c .before .before .before .before .before .before .before .before .before .before .before .before .before .before .before .before .before .args .masks .now) (c .before .before .before .before .before .before .before .before .before .before .before .before .before .before .before .before .before .args .codes .now) (stateOf (c .before .before .before .before .before .before .before .before .before .before .before .before .before .before .before .before .before .args .size) (c .before .before .before .before .before .before .before .before .before .before .loop .depth) (c .before .before .before .before .before .before .before .before .before .before .loop .places) (c .before .before .before .before .before .before .before .before .before .before .loop .bits)) (c .before .before .before .before .before .before .before .before .before .before .loop .masks) (c .before .before .before .before .before .before .before .before .before .before .loop .codes) (c .before .before .before .before .before .before .before .before .before .before .loop .i) (c .before .before .before .before .before .before .before .before .before .before .before .before .before .before .before .before .before .pre .1 .0) (c .before .before .before .before .before .before .before .before .before .before .before .before .before .before .before .before .before .pre .1 .1) (c .before .before .before .before .before .before .before .before .before .before .loop .inv) (search needs) (c .before .before .before .before .before .tick-parts .result) _ _ (c .before .before .before .before .before .tick-parts .ensures) (c .if1 .left)
+loop-again c = turn-on (c .before .before .before .before .before .before .before .before .before .before .loop .inv) (c .before .before .before .before .before .before .before .before .before .before .before .before .before .before .before .before .before .pre .1 .0) (c .before .before .before .before .before .before .before .before .before .before .before .before .before .before .before .before .before .pre .1 .1) (search needs) (c .before .before .before .before .before .tick-parts .result) _ _ (c .before .before .before .before .before .tick-parts .ensures) (c .if1 .left)
 
--- src/runs.rt:19:1
 same-length-5 : tie.Need-same-length-5 Inv-loop μ-loop
 same-length-5 c = (c .before .loop .inv .ready .places) ∙ sym (c .before .before .before .before .before .before .before .before .pre .0 .places)
 
--- src/runs.rt:19:1
 same-length-6 : tie.Need-same-length-6 Inv-loop μ-loop
 same-length-6 c = (c .before .loop .inv .ready .bits) ∙ sym (c .before .before .before .before .before .before .before .before .pre .0 .bits)
 
--- src/runs.rt:19:1
 same-length-7 : tie.Need-same-length-7 Inv-loop μ-loop
 same-length-7 c = (c .before .loop .inv .sizeMasks)
 
--- src/runs.rt:19:1
 same-length-8 : tie.Need-same-length-8 Inv-loop μ-loop
 same-length-8 c = (c .before .loop .inv .sizeCodes)
 
--- src/runs.rt:19:1
 returns-2 : tie.Need-returns-2 Inv-loop μ-loop
-returns-2 c = turn-over (c .before .before .before .before .before .before .before .before .args .b .now) (stateOf (c .before .before .before .before .before .before .before .before .args .size) (c .before .before .before .before .before .before .before .before .args .start) (c .before .before .before .before .before .before .before .before .args .places .now) (c .before .before .before .before .before .before .before .before .args .bits .now)) (c .before .before .before .before .before .before .before .before .args .words .now) (c .before .before .before .before .before .before .before .before .args .masks .now) (c .before .before .before .before .before .before .before .before .args .codes .now) (stateOf (c .before .before .before .before .before .before .before .before .args .size) (c .before .loop .depth) (c .before .loop .places) (c .before .loop .bits)) (c .before .loop .masks) (c .before .loop .codes) (c .before .loop .i) (c .before .before .before .before .before .before .before .before .pre .1 .0) (c .before .before .before .before .before .before .before .before .pre .1 .1) (c .before .loop .inv) refl (search needs)
+returns-2 c = turn-over (c .before .loop .inv) (c .before .before .before .before .before .before .before .before .pre .1 .0) (c .before .before .before .before .before .before .before .before .pre .1 .1) refl (search needs)
 
 pub tick-all-spec : {M : Type 1} → statement M
 tick-all-spec =

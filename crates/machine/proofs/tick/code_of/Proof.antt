@@ -1,38 +1,29 @@
-use mathlib.Core.Path.{_≡_, sym, _∙_, ap}
-use Prim.Native.Nat.{ℕ, _+_, _-_, _≤_}
+use mathlib.Core.Path.{sym, ap}
+use Prim.Native.Nat.{ℕ, _-_}
 use Rattle.machine.specs.Parts.{codeOf}
 use Rattle.machine.proofs.TickCases.{code-rest}
 use borrow.Author.Needs.{needs}
 use Rattle.machine.proofs.tick.code_of.Statement.{statement}
 use Rattle.machine.proofs.tick.code_of.Tie as tie
-use Rattle.machine.proofs.tick.code_of.Reads as reads
-use Rattle.machine.proofs.tick.code_of.Lts as lts
 
--- src/tick.rt:31:14
 add-result : tie.Need-add-result
 add-result c = search needs
 
--- src/tick.rt:32:14
 add-result-2 : tie.Need-add-result-2
 add-result-2 c = search needs
 
--- src/tick.rt:25:1
 returns : tie.Need-returns
 returns c = search needs
 
--- src/tick.rt:25:1
 returns-2 : tie.Need-returns-2
 returns-2 c = sym (ap (λ (k : ℕ). codeOf k (c .before .args .called)) (c .match .keys2))
 
--- src/tick.rt:25:1
 returns-3 : tie.Need-returns-3
 returns-3 c = sym (ap (λ (k : ℕ). codeOf k (c .before .args .called)) (c .match .keys3))
 
--- src/tick.rt:25:1
 returns-4 : tie.Need-returns-4
 returns-4 c = search needs
 
--- src/tick.rt:25:1
 returns-5 : tie.Need-returns-5
 returns-5 c = code-rest (c .before .args .kind) (c .before .args .called) (search needs) (search needs) (search needs) (search needs)
 

@@ -1,74 +1,55 @@
 use native.Mathlib.Omega.{arith}
-use Prim.Native.Nat.{ℕ, _+_, _-_, _≤_}
-use Rattle.machine.specs.Parts.{stateOf}
+use Prim.Native.Nat.{_-_}
 use lib.ListN.{length-set}
 use Rattle.machine.proofs.TickCases.{depth-some, depth-most, place-low, place-called, back-two, back-stop, back-go}
 use borrow.Author.Needs.{needs}
 use Rattle.machine.proofs.tick.tick_back.Statement.{statement}
 use Rattle.machine.proofs.tick.tick_back.Tie as tie
-use Rattle.machine.proofs.tick.tick_back.Reads as reads
-use Rattle.machine.proofs.tick.tick_back.Lts as lts
-use Rattle.machine.proofs.rows.next_label.Reads as next-label-reads
 
--- src/tick.rt:106:18
 sub-under : tie.Need-sub-under
-sub-under c = back-two (c .before .before .before .args .b .now) (stateOf (c .before .before .before .args .size) (c .before .before .before .args .depth) (c .before .before .before .args .places .now) (c .before .before .before .args .bits .now)) (c .before .before .before .pre .0) (c .before .before .before .pre .1)
+sub-under c = back-two (c .before .before .before .pre .0) (c .before .before .before .pre .1)
 
--- src/tick.rt:106:17
 cast-under : tie.Need-cast-under
 cast-under c = search needs
 
--- src/tick.rt:107:17
-slice-read-label : tie.Need-slice-read-label
-slice-read-label c = omega (arith, depth-some (c .before .before .before .before .args .b .now) (stateOf (c .before .before .before .before .args .size) (c .before .before .before .before .args .depth) (c .before .before .before .before .args .places .now) (c .before .before .before .before .args .bits .now)) (c .before .before .before .before .pre .0), depth-most (c .before .before .before .before .args .b .now) (stateOf (c .before .before .before .before .args .size) (c .before .before .before .before .args .depth) (c .before .before .before .before .args .places .now) (c .before .before .before .before .args .bits .now)) (c .before .before .before .before .pre .0), (c .before .before .before .before .pre .0) .places)
+slice-read-caller : tie.Need-slice-read-caller
+slice-read-caller c = omega (arith, depth-some (c .before .before .before .before .pre .0), depth-most (c .before .before .before .before .pre .0), (c .before .before .before .before .pre .0) .places)
 
--- src/tick.rt:108:9
 next-label-requires : tie.Need-next-label-requires
-next-label-requires c κs = let two = back-two (c .before .before .before .before .before .args .b .now) (stateOf (c .before .before .before .before .before .args .size) (c .before .before .before .before .before .args .depth) (c .before .before .before .before .before .args .places .now) (c .before .before .before .before .before .args .bits .now)) (c .before .before .before .before .before .pre .0) (c .before .before .before .before .before .pre .1) in (((c .before .before .before .before .before .pre .0) .accepted, place-low (c .before .before .before .before .before .args .b .now) (stateOf (c .before .before .before .before .before .args .size) (c .before .before .before .before .before .args .depth) (c .before .before .before .before .before .args .places .now) (c .before .before .before .before .before .args .bits .now)) (c .before .before .before .before .before .pre .0) ((c .before .before .before .before .before .args .depth) - 2) (omega arith)), (place-called (c .before .before .before .before .before .args .b .now) (stateOf (c .before .before .before .before .before .args .size) (c .before .before .before .before .before .args .depth) (c .before .before .before .before .before .args .places .now) (c .before .before .before .before .before .args .bits .now)) (c .before .before .before .before .before .pre .0) ((c .before .before .before .before .before .args .depth) - 2) (omega arith), (c .before .before .before .before .before .pre .0) .bits))
+next-label-requires c κs = let two = back-two (c .before .before .before .before .before .pre .0) (c .before .before .before .before .before .pre .1) in (((c .before .before .before .before .before .pre .0) .accepted, place-low (c .before .before .before .before .before .pre .0) ((c .before .before .before .before .before .args .depth) - 2) (omega arith)), (place-called (c .before .before .before .before .before .pre .0) ((c .before .before .before .before .before .args .depth) - 2) (omega arith), (c .before .before .before .before .before .pre .0) .bits))
 
--- src/tick.rt:110:9
 same-length : tie.Need-same-length
 same-length c = search needs
 
--- src/tick.rt:110:9
 returns : tie.Need-returns
-returns c = back-stop (c .before .before .before .before .before .before .before .args .b .now) (stateOf (c .before .before .before .before .before .before .before .args .size) (c .before .before .before .before .before .before .before .args .depth) (c .before .before .before .before .before .before .before .args .places .now) (c .before .before .before .before .before .before .before .args .bits .now)) (c .before .before .before .before .before .before .before .pre .0) (c .before .before .before .before .before .before .before .args .word) (c .before .before .before .before .before .before .before .pre .1) (c .before .next-label .result) (c .before .next-label .ensures) (search needs)
+returns c = back-stop (c .before .before .before .before .before .before .before .pre .0) (c .before .before .before .before .before .before .before .args .word) (c .before .before .before .before .before .before .before .pre .1) (c .before .next-label .result) (c .before .next-label .ensures) (search needs)
 
--- src/tick.rt:117:13
 sub-places : tie.Need-sub-places
-sub-places c = depth-some (c .before .before .before .before .before .before .before .args .b .now) (stateOf (c .before .before .before .before .before .before .before .args .size) (c .before .before .before .before .before .before .before .args .depth) (c .before .before .before .before .before .before .before .args .places .now) (c .before .before .before .before .before .before .before .args .bits .now)) (c .before .before .before .before .before .before .before .pre .0)
+sub-places c = depth-some (c .before .before .before .before .before .before .before .pre .0)
 
--- src/tick.rt:117:12
 cast-places : tie.Need-cast-places
 cast-places c = search needs
 
--- src/tick.rt:117:5
 slice-write-places : tie.Need-slice-write-places
-slice-write-places c = omega (arith, depth-some (c .before .before .before .before .before .before .before .args .b .now) (stateOf (c .before .before .before .before .before .before .before .args .size) (c .before .before .before .before .before .before .before .args .depth) (c .before .before .before .before .before .before .before .args .places .now) (c .before .before .before .before .before .before .before .args .bits .now)) (c .before .before .before .before .before .before .before .pre .0), depth-most (c .before .before .before .before .before .before .before .args .b .now) (stateOf (c .before .before .before .before .before .before .before .args .size) (c .before .before .before .before .before .before .before .args .depth) (c .before .before .before .before .before .before .before .args .places .now) (c .before .before .before .before .before .before .before .args .bits .now)) (c .before .before .before .before .before .before .before .pre .0), (c .before .before .before .before .before .before .before .pre .0) .places)
+slice-write-places c = omega (arith, depth-some (c .before .before .before .before .before .before .before .pre .0), depth-most (c .before .before .before .before .before .before .before .pre .0), (c .before .before .before .before .before .before .before .pre .0) .places)
 
--- src/tick.rt:118:21
 cast-places-2 : tie.Need-cast-places-2
 cast-places-2 c = search needs
 
--- src/tick.rt:118:5
 slice-write-places-2 : tie.Need-slice-write-places-2
-slice-write-places-2 c = simp length-set (omega (arith, depth-some (c .before .before .before .before .before .before .before .args .b .now) (stateOf (c .before .before .before .before .before .before .before .args .size) (c .before .before .before .before .before .before .before .args .depth) (c .before .before .before .before .before .before .before .args .places .now) (c .before .before .before .before .before .before .before .args .bits .now)) (c .before .before .before .before .before .before .before .pre .0), depth-most (c .before .before .before .before .before .before .before .args .b .now) (stateOf (c .before .before .before .before .before .before .before .args .size) (c .before .before .before .before .before .before .before .args .depth) (c .before .before .before .before .before .before .before .args .places .now) (c .before .before .before .before .before .before .before .args .bits .now)) (c .before .before .before .before .before .before .before .pre .0), (c .before .before .before .before .before .before .before .pre .0) .places))
+slice-write-places-2 c = simp length-set (omega (arith, depth-some (c .before .before .before .before .before .before .before .pre .0), depth-most (c .before .before .before .before .before .before .before .pre .0), (c .before .before .before .before .before .before .before .pre .0) .places))
 
--- src/tick.rt:123:16
 sub-t10 : tie.Need-sub-t10
-sub-t10 c = depth-some (c .before .before .before .before .before .before .before .args .b .now) (stateOf (c .before .before .before .before .before .before .before .args .size) (c .before .before .before .before .before .before .before .args .depth) (c .before .before .before .before .before .before .before .args .places .now) (c .before .before .before .before .before .before .before .args .bits .now)) (c .before .before .before .before .before .before .before .pre .0)
+sub-t10 c = depth-some (c .before .before .before .before .before .before .before .pre .0)
 
--- src/tick.rt:101:1
 same-length-2 : tie.Need-same-length-2
 same-length-2 c = search needs
 
--- src/tick.rt:101:1
 same-length-3 : tie.Need-same-length-3
 same-length-3 c = search needs
 
--- src/tick.rt:101:1
 returns-2 : tie.Need-returns-2
-returns-2 c = back-go (c .before .before .before .before .before .before .before .args .b .now) (stateOf (c .before .before .before .before .before .before .before .args .size) (c .before .before .before .before .before .before .before .args .depth) (c .before .before .before .before .before .before .before .args .places .now) (c .before .before .before .before .before .before .before .args .bits .now)) (c .before .before .before .before .before .before .before .pre .0) (c .before .before .before .before .before .before .before .args .word) (c .before .before .before .before .before .before .before .pre .1) (c .before .next-label .result) (c .before .next-label .ensures) (search needs)
+returns-2 c = back-go (c .before .before .before .before .before .before .before .pre .0) (c .before .before .before .before .before .before .before .args .word) (c .before .before .before .before .before .before .before .pre .1) (c .before .next-label .result) (c .before .next-label .ensures) (search needs)
 
 pub tick-back-spec : {M : Type 1} → statement M
 tick-back-spec =
@@ -76,7 +57,7 @@ tick-back-spec =
     (tie.spec
     sub-under
     cast-under
-    slice-read-label
+    slice-read-caller
     next-label-requires
     same-length
     returns

@@ -1,34 +1,26 @@
-use mathlib.Core.Path.{_≡_, sym, _∙_, ap}
+use mathlib.Core.Path.{sym}
 use native.Mathlib.Omega.{arith}
 use borrow.Author.Tests.{eq-eqb, ne-eqb}
 use Rattle.lists.proofs.Tests.{yes-pick, no-pick}
 use borrow.Author.Needs.{needs}
 use Rattle.machine.proofs.tick.write_result.Statement.{statement}
 use Rattle.machine.proofs.tick.write_result.Tie as tie
-use Rattle.machine.proofs.tick.write_result.Reads as reads
-use Rattle.machine.proofs.tick.write_result.Lts as lts
 
--- src/tick.rt:20:15
 sub-bits : tie.Need-sub-bits
 sub-bits c = c .before .pre (c .if1 .taken) .0
 
--- src/tick.rt:20:14
 cast-bits : tie.Need-cast-bits
 cast-bits c = search needs
 
--- src/tick.rt:20:9
 slice-write-bits : tie.Need-slice-write-bits
 slice-write-bits c = let p = c .before .pre (c .if1 .taken) in omega arith
 
--- src/tick.rt:15:1
 same-length : tie.Need-same-length
 same-length c = search needs
 
--- src/tick.rt:15:1
 returns : tie.Need-returns
 returns c = sym (no-pick _ _ _ (ne-eqb _ _ (c .if1 .taken)))
 
--- src/tick.rt:15:1
 returns-2 : tie.Need-returns-2
 returns-2 c = sym (yes-pick _ _ _ (eq-eqb _ _ (c .if1 .left)))
 

@@ -1,0 +1,24 @@
+-- One tick as a controller calls it: a run of one word, with room for one mask and one code.
+use Prim.Native.Nat.{ℕ}
+use mathlib.Core.Path.{_≡_}
+use mathlib.Core.List.{List, [], _∷_}
+use lib.ListN.{getD}
+use Rattle.frames.specs.Answer.{Reply, reply}
+use Rattle.machine.specs.declared.State.{State}
+use Rattle.machine.specs.declared.TickReport.{TickReport}
+use Rattle.machine.specs.Run.{run}
+
+-- mask and code of the tick, 0 where it is refused, and the state after it
+pub record Advance : Type 0 where
+  pub reply : Reply
+  pub mask : ℕ
+  pub code : ℕ
+  pub state : State
+
+unfoldable pub advance : List ℕ → State → ℕ → Advance
+advance t s w = let r = run t s (w ∷ []) (0 ∷ []) (0 ∷ []) in
+    record { reply = r .reply; mask = getD (r .masks) 0 0; code = getD (r .codes) 0 0; state = r .state }
+
+-- a report says all but the state
+abbrev pub Reports : Advance → TickReport → Type 0
+Reports a r = (reply (r .answer) ≡ a .reply) × ((r .mask ≡ a .mask) × (r .code ≡ a .code))
