@@ -4,15 +4,19 @@ mod answers;
 mod bytes;
 
 use answers::tell;
+use bytes::bytes_after;
 use bytes::bytes_of;
+use bytes::state_of;
 use machine::State;
 ghost use mathlib.Core.Path.{_≡_};
+ghost use lib.ListN.{getD};
 ghost use Rattle.frames.specs.Answer.{judged};
 ghost use Rattle.charts.specs.Entry.{readChart, writeChart};
 ghost use Rattle.image.specs.Check.{imageVerdict};
+ghost use Rattle.translator.specs.Entry.{translate};
 ghost use Rattle.machine.specs.State.{freshState};
 ghost use Rattle.fairleadow.specs.Bytes.{bytesOf};
-ghost use Rattle.fairleadow.specs.Calls.{Told};
+ghost use Rattle.fairleadow.specs.Calls.{Told, runFor, bytesAfter, oneTick, ifTicked};
 
 #[no_mangle]
 pub extern "C" fn fairleadow_read_chart(
@@ -43,6 +47,20 @@ pub extern "C" fn fairleadow_write_chart(
 }
 
 #[no_mangle]
+pub extern "C" fn fairleadow_translate(
+    chart: &[u8],
+    image: &mut [u8],
+    at: &mut usize,
+    made: &mut usize,
+) -> u8
+    ensures { λ r. ⌜ Told (translate (now (chart .entry)) (now (image .entry)) .reply) r (now (at .exit)) (now (made .exit)) ⌝ }
+    ensures { λ _. ⌜ now (image .exit) ≡ translate (now (chart .entry)) (now (image .entry)) .buffer ⌝ }
+{
+    let answer = translator::translate(chart, image);
+    tell(answer, at, made)
+}
+
+#[no_mangle]
 pub extern "C" fn fairleadow_check_image(image: &[u8], at: &mut usize, made: &mut usize) -> u8
     ensures { λ r. ⌜ Told (judged (imageVerdict (now (image .entry))) 0) r (now (at .exit)) (now (made .exit)) ⌝ }
 {
@@ -66,4 +84,63 @@ pub extern "C" fn fairleadow_fresh(
     let bytes = bytes_of(after);
     *state = bytes;
     tell(answer, at, made)
+}
+
+#[no_mangle]
+pub extern "C" fn fairleadow_run(
+    image: &[u8],
+    state: &mut [u8; 50],
+    words: &[u16],
+    masks: &mut [u32],
+    codes: &mut [u8],
+    at: &mut usize,
+    made: &mut usize,
+) -> u8
+    ensures { λ r. ⌜ Told (runFor (now (image .entry)) (now (state .entry)) (now (words .entry)) (now (masks .entry)) (now (codes .entry)) .reply) r (now (at .exit)) (now (made .exit)) ⌝ }
+    ensures { λ _. ⌜ now (state .exit) ≡ bytesAfter (now (state .entry)) (runFor (now (image .entry)) (now (state .entry)) (now (words .entry)) (now (masks .entry)) (now (codes .entry))) ⌝ }
+    ensures { λ _. ⌜ now (masks .exit) ≡ runFor (now (image .entry)) (now (state .entry)) (now (words .entry)) (now (masks .entry)) (now (codes .entry)) .masks ⌝ }
+    ensures { λ _. ⌜ now (codes .exit) ≡ runFor (now (image .entry)) (now (state .entry)) (now (words .entry)) (now (masks .entry)) (now (codes .entry)) .codes ⌝ }
+{
+    let old = *state;
+    let done = machine::run(image, state_of(old), words, masks, codes);
+    let answer = done.answer;
+    let after = done.state;
+    let number = tell(answer, at, made);
+    let bytes = bytes_after(number, old, after);
+    *state = bytes;
+    number
+}
+
+// A run of one word.
+#[no_mangle]
+pub extern "C" fn fairleadow_tick(
+    image: &[u8],
+    state: &mut [u8; 50],
+    word: u16,
+    mask: &mut u32,
+    code: &mut u8,
+    at: &mut usize,
+    made: &mut usize,
+) -> u8
+    ensures { λ r. ⌜ Told (oneTick (now (image .entry)) (now (state .entry)) word .reply) r (now (at .exit)) (now (made .exit)) ⌝ }
+    ensures { λ _. ⌜ now (state .exit) ≡ ifTicked (oneTick (now (image .entry)) (now (state .entry)) word) (bytesOf (oneTick (now (image .entry)) (now (state .entry)) word .state)) (now (state .entry)) ⌝ }
+    ensures { λ _. ⌜ now (mask .exit) ≡ ifTicked (oneTick (now (image .entry)) (now (state .entry)) word) (getD (oneTick (now (image .entry)) (now (state .entry)) word .masks) 0 0) (now (mask .entry)) ⌝ }
+    ensures { λ _. ⌜ now (code .exit) ≡ ifTicked (oneTick (now (image .entry)) (now (state .entry)) word) (getD (oneTick (now (image .entry)) (now (state .entry)) word .codes) 0 0) (now (code .entry)) ⌝ }
+{
+    let old = *state;
+    let words = [word];
+    let mut masks = [0u32];
+    let mut codes = [0u8];
+    let done = machine::run(image, state_of(old), &words, &mut masks, &mut codes);
+    let answer = done.answer;
+    let after = done.state;
+    let number = tell(answer, at, made);
+    if number != 0 {
+        return number;
+    }
+    *mask = masks[0];
+    *code = codes[0];
+    let bytes = bytes_of(after);
+    *state = bytes;
+    number
 }
