@@ -1,14 +1,16 @@
 -- What success of the translator tells: the chart was accepted, its rows are few, and the buffer holds the text of its table.
 use Prim.Native.Nat.{ℕ, _≤_}
-use mathlib.Core.Path.{_≡_, _∙_, ap}
+use mathlib.Core.Path.{_≡_, sym, _∙_, ap}
 use mathlib.Core.List.{List}
 use native.Mathlib.Omega.{arith}
 use lib.Dec.{ltb}
-use lib.ListN.{length, take}
+use lib.ListN.{length, take, length-take}
 use borrow.Author.Tests.{ltb-false}
 use Rattle.frames.specs.Frame.{contents}
 use Rattle.frames.specs.Verdict.{fine, when}
-use Rattle.frames.specs.Answer.{success}
+use Rattle.frames.specs.Answer.{success, reply}
+use Rattle.frames.specs.declared.Answer.{Answer}
+use Rattle.frames.specs.declared.Answer.the-variants.{Done}
 use Rattle.frames.proofs.Verdicts.{next-first, next-rest, when-fine}
 use Rattle.frames.proofs.Lent.{Success, lent-told, front}
 use Rattle.charts.specs.Entry.{readVerdict}
@@ -41,3 +43,17 @@ module _ (t out : List ℕ) (n : ℕ) (done : translate t out .reply ≡ success
   translated-image =
       let s : Success (translateVerdict t) 1 (imageText (table (contents t))) out n (translate t out) = translate-told in
       ap (take n) (s .buffer) ∙ front n (imageText (table (contents t))) out (s .count ∙ omega arith)
+
+-- an answer's count is no more than the buffer has
+pub done-room : (t out : List ℕ) (a : Answer) (n : ℕ) → reply a ≡ translate t out .reply → a ≡ Done n → n ≤ length out
+done-room t out a n e d =
+    let s : Success (translateVerdict t) 1 (imageText (table (contents t))) out n (translate t out) = translate-told t out n (sym e ∙ ap reply d) in
+    omega (arith, s .count, s .fits)
+
+-- that many characters of it can be handed on
+module _ (t out held : List ℕ) (a : Answer) (n : ℕ) (e : reply a ≡ translate t out .reply) (d : a ≡ Done n) (k : length held ≡ length out) where
+  pub done-fits : n ≤ length held
+  done-fits = omega (arith, done-room t out a n e d)
+
+  pub done-part : n ≡ length (take n held)
+  done-part = simp length-take (omega (arith, done-room t out a n e d))
