@@ -5,9 +5,6 @@ use std::path::Path;
 
 fn main() {
     println!("cargo:rerun-if-changed=build.rs");
-    if env::var_os("CARGO_FEATURE_LINKED").is_none() {
-        return;
-    }
     let crate_folder = env::var("CARGO_MANIFEST_DIR").expect("cargo sets it");
     let folder = Path::new(&crate_folder).join("../../target/staticlib");
     let archive = folder.join("libfairleadow.a");

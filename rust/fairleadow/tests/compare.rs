@@ -1,5 +1,4 @@
-//! The library against the reference. FAIRLEADOW_SEED and FAIRLEADOW_CASES choose the inputs. As long as the C
-//! functions are not bound, this compares the reference with itself and says nothing about the proved library.
+//! The proved library against the reference. FAIRLEADOW_SEED and FAIRLEADOW_CASES choose the inputs.
 
 use reference::compare::compare;
 

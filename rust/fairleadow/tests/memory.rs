@@ -1,6 +1,5 @@
 //! The deepest stack use of the C functions, measured on a stack of our own that is painted first. The lathe has 64
 //! kilobytes: a translation has to leave room for the chart's text and the image's, a run for the image's.
-#![cfg(feature = "linked")]
 
 use std::arch::asm;
 use std::ffi::c_void;

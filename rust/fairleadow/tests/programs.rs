@@ -1,5 +1,4 @@
 //! The two proved programs against the reference, on the same standard input. They are built by `rt check`.
-#![cfg(feature = "linked")]
 
 use std::io::Write;
 use std::path::Path;

@@ -1,5 +1,4 @@
 //! The fifty bytes by which C keeps a state.
-#![cfg(feature = "linked")]
 
 use fairleadow::c;
 use reference::entry::translated;
