@@ -1,0 +1,520 @@
+// The image check, fresh states and runs, over the tables of the bench sheet and edits of them.
+// Each call prints a frame: 00 for a check and 01 for a run, the number or 00, the index, the count; a run then prints its masks and codes.
+use frames::Answer;
+use machine::State;
+
+fn print(entry: u8, number: u8, index: usize, count: usize) {
+    let ten = [
+        entry,
+        number,
+        (index / 256 % 256) as u8,
+        (index % 256) as u8,
+        (count / 256 % 256) as u8,
+        (count % 256) as u8,
+        0,
+        0,
+        0,
+        0,
+    ];
+    let mut line = [0u8; 23];
+    frames::put_frame(&mut line, 0, &ten);
+    io::write_all(1, &line);
+}
+
+fn report(entry: u8, answer: Answer) {
+    match answer {
+        Answer::Done(count) => print(entry, 0, 0, count),
+        Answer::Refused {
+            number,
+            index,
+            count,
+        } => print(entry, number, index, count),
+    }
+}
+
+// Pairs of a place and the byte that is put there.
+fn patch(bytes: &mut [u8], edits: &[u8]) {
+    let mut i: usize = 0;
+    while i + 1 < edits.len() {
+        let at = edits[i] as usize;
+        if at < bytes.len() {
+            bytes[at] = edits[i + 1];
+        }
+        i += 2;
+    }
+}
+
+// The text of the table, edited.
+fn text_of(table: [u8; 120], edits: &[u8]) -> [u8; 276] {
+    let mut edited = table;
+    patch(&mut edited, edits);
+    let mut text = [0u8; 276];
+    frames::put_text(&mut text, 0, &edited);
+    text
+}
+
+fn check(table: [u8; 120], edits: &[u8]) {
+    let text = text_of(table, edits);
+    report(0, image::check_image(&text));
+}
+
+fn check_front(text: &[u8], n: usize) {
+    if n <= text.len() {
+        report(0, image::check_image(&text[..n]));
+    }
+}
+
+fn check_text(table: [u8; 120], edits: &[u8]) {
+    let mut text = text_of(table, &[]);
+    patch(&mut text, edits);
+    report(0, image::check_image(&text));
+}
+
+fn line(bytes: &[u8]) {
+    io::write_all(1, bytes);
+}
+
+// The mask's last byte and the code of each of eight ticks; 77 and AA where nothing was written.
+fn print_ticks(masks: [u32; 8], codes: [u8; 8]) {
+    for i in 0..8 {
+        let mask = printing::code_line((masks[i] % 256) as u8);
+        line(&mask);
+        let code = printing::code_line(codes[i]);
+        line(&code);
+    }
+}
+
+// A run of eight words; prints what it answers and leaves, and hands its state on.
+fn run(text: [u8; 276], state: State, words: [u16; 8]) -> State {
+    let mut masks = [119u32; 8];
+    let mut codes = [170u8; 8];
+    let ran = machine::run(&text, state, &words, &mut masks, &mut codes);
+    let answer = ran.answer;
+    report(1, answer);
+    print_ticks(masks, codes);
+    ran.state
+}
+
+// A run of no words, which still tries the image and the state.
+fn rest(text: [u8; 276], state: State) {
+    let mut masks = [0u32; 1];
+    let mut codes = [0u8; 1];
+    let words = [0u16; 1];
+    let ran = machine::run(&text, state, &words[..0], &mut masks, &mut codes);
+    let answer = ran.answer;
+    report(1, answer);
+}
+
+// A run whose buffer of codes is one too short.
+fn short(text: [u8; 276], state: State, words: [u16; 8]) -> State {
+    let mut masks = [119u32; 8];
+    let mut codes = [170u8; 7];
+    let ran = machine::run(&text, state, &words, &mut masks, &mut codes);
+    let answer = ran.answer;
+    report(1, answer);
+    ran.state
+}
+
+// 1 to 3.
+fn texts(p: [u8; 120]) {
+    let text = text_of(p, &[]);
+    check_front(&text, 0);
+    check_front(&text, 275);
+    let long = [48u8; 29854];
+    report(0, image::check_image(&long));
+    check_text(p, &[21, 101]);
+    check_text(p, &[45, 32]);
+    check_text(p, &[67, 48]);
+    check_text(p, &[67, 48, 230, 71]);
+}
+
+// 11.
+fn headers(p: [u8; 120]) {
+    check(p, &[]);
+    check(p, &[0, 14]);
+    check(p, &[1, 0]);
+    check(p, &[1, 17]);
+    check(p, &[2, 0]);
+    check(p, &[3, 4, 4, 1]);
+    check(p, &[4, 5]);
+    check(p, &[5, 1]);
+    check(p, &[9, 1, 10, 17]);
+}
+
+// 12.
+fn positions(p: [u8; 120]) {
+    check(p, &[10, 17]);
+    check(p, &[11, 2]);
+    check(p, &[30, 16]);
+    check(p, &[71, 3]);
+    check(p, &[80, 17]);
+    check(p, &[111, 2]);
+    check(p, &[71, 9, 11, 9]);
+    check(p, &[13, 1, 111, 2]);
+}
+
+// 13: entries and labels.
+fn labels(p: [u8; 120]) {
+    check(p, &[13, 1]);
+    check(p, &[12, 1]);
+    check(p, &[12, 9]);
+    check(p, &[22, 2]);
+    check(p, &[12, 0]);
+    check(p, &[22, 1]);
+    check(p, &[32, 3]);
+    check(p, &[34, 2]);
+    check(p, &[35, 1]);
+    check(p, &[39, 1]);
+    check(p, &[42, 4]);
+    check(p, &[44, 1]);
+    check(p, &[52, 3]);
+    check(p, &[52, 0]);
+    check(p, &[53, 1]);
+    check(p, &[53, 3]);
+    check(p, &[63, 2]);
+    check(p, &[74, 0]);
+    check(p, &[74, 3]);
+    check(p, &[75, 3]);
+    check(p, &[76, 255]);
+}
+
+// 13: rows.
+fn rows(p: [u8; 120]) {
+    check(p, &[81, 1]);
+    check(p, &[111, 5]);
+    check(p, &[84, 1]);
+    check(p, &[86, 3]);
+    check(p, &[86, 1]);
+    check(p, &[52, 2, 86, 1]);
+    check(p, &[87, 3]);
+    check(p, &[87, 9]);
+    check(p, &[87, 1]);
+    check(p, &[97, 0]);
+    check(p, &[88, 1]);
+    check(p, &[119, 1]);
+    check(p, &[119, 1, 13, 1]);
+}
+
+// A run of no words from a state with these places.
+fn state_case(text: [u8; 276], size: u8, depth: u8, edits: &[u8]) {
+    let mut places = [0u8; 32];
+    patch(&mut places, edits);
+    let bits = [true; 16];
+    rest(
+        text,
+        State {
+            size,
+            depth,
+            places,
+            bits,
+        },
+    );
+}
+
+// 15.
+fn states(p: [u8; 120]) {
+    let text = text_of(p, &[]);
+    state_case(text, 3, 1, &[]);
+    state_case(text, 0, 1, &[]);
+    state_case(text, 33, 1, &[]);
+    state_case(text, 3, 0, &[]);
+    state_case(text, 3, 4, &[0, 2, 1, 4, 2, 4, 3, 3]);
+    state_case(text, 3, 1, &[0, 5]);
+    state_case(text, 3, 1, &[0, 3]);
+    state_case(text, 3, 1, &[0, 1]);
+    state_case(text, 3, 2, &[1, 1]);
+    state_case(text, 3, 2, &[0, 2, 1, 2]);
+    state_case(text, 3, 2, &[0, 2, 1, 3]);
+    state_case(text, 3, 2, &[0, 2, 1, 1]);
+    state_case(text, 3, 2, &[0, 2, 1, 9]);
+    state_case(text, 3, 1, &[0, 2, 1, 3]);
+    state_case(text, 3, 1, &[0, 2, 31, 1]);
+    state_case(text, 32, 32, &[0, 2]);
+}
+
+fn fresh(size: usize) -> State {
+    let made = State::fresh(size);
+    let answer = made.answer;
+    report(2, answer);
+    made.state
+}
+
+// B2 to B5, runs after 16 and 17, and 18 at a plain tick and at a return.
+fn runs(p: [u8; 120]) {
+    let text = text_of(p, &[]);
+    let words = [0, 0, 1, 0, 0, 0, 0, 0];
+    let three = fresh(3);
+    run(text, three, words);
+    let two = run(text, fresh(2), words);
+    run(text, two, words);
+    rest(text, two);
+    run(text, fresh(1), words);
+    rest(text, fresh(32));
+    let kept = short(text, fresh(3), words);
+    run(text, kept, words);
+    rest(text, fresh(0));
+    fresh(33);
+    let gap = text_of(p, &[95, 1]);
+    let stuck = run(gap, fresh(3), [0, 0, 0, 0, 0, 0, 0, 0]);
+    run(text, stuck, words);
+    run(gap, fresh(3), [0, 0, 1, 0, 0, 0, 0, 0]);
+    let back = text_of(p, &[83, 1, 85, 1]);
+    let held = run(back, fresh(3), [0, 0, 0, 0, 0, 0, 0, 0]);
+    run(back, held, [1, 0, 0, 0, 1, 0, 0, 0]);
+}
+
+fn main() {
+    let p = [
+        15,
+        2,
+        4,
+        0,
+        4,
+        0,
+        0,
+        0,
+        0,
+        0,
+        16,
+        1,
+        2,
+        0,
+        0,
+        0,
+        0,
+        0,
+        0,
+        0,
+        16,
+        2,
+        3,
+        0,
+        0,
+        0,
+        0,
+        0,
+        0,
+        0,
+        17,
+        0,
+        4,
+        0,
+        1,
+        0,
+        0,
+        0,
+        0,
+        0,
+        17,
+        1,
+        3,
+        0,
+        0,
+        0,
+        0,
+        0,
+        0,
+        0,
+        17,
+        2,
+        1,
+        2,
+        1,
+        0,
+        0,
+        0,
+        0,
+        1,
+        17,
+        3,
+        0,
+        0,
+        2,
+        0,
+        0,
+        0,
+        0,
+        0,
+        17,
+        4,
+        1,
+        2,
+        2,
+        0,
+        0,
+        0,
+        0,
+        2,
+        18,
+        2,
+        0,
+        0,
+        0,
+        0,
+        2,
+        0,
+        0,
+        0,
+        18,
+        3,
+        0,
+        1,
+        0,
+        0,
+        2,
+        1,
+        0,
+        0,
+        18,
+        3,
+        0,
+        1,
+        0,
+        1,
+        2,
+        4,
+        0,
+        0,
+        18,
+        4,
+        0,
+        0,
+        0,
+        0,
+        2,
+        1,
+        0,
+        0,
+    ];
+    texts(p);
+    headers(p);
+    positions(p);
+    labels(p);
+    rows(p);
+    states(p);
+    runs(p);
+    let function = [
+        15,
+        2,
+        4,
+        0,
+        4,
+        0,
+        0,
+        0,
+        0,
+        0,
+        16,
+        1,
+        2,
+        0,
+        0,
+        0,
+        0,
+        0,
+        0,
+        0,
+        16,
+        2,
+        4,
+        0,
+        0,
+        0,
+        0,
+        0,
+        0,
+        0,
+        17,
+        0,
+        4,
+        0,
+        1,
+        0,
+        0,
+        0,
+        0,
+        0,
+        17,
+        1,
+        3,
+        0,
+        0,
+        0,
+        0,
+        0,
+        0,
+        0,
+        17,
+        2,
+        2,
+        2,
+        1,
+        0,
+        0,
+        0,
+        0,
+        0,
+        17,
+        3,
+        0,
+        0,
+        1,
+        0,
+        0,
+        0,
+        0,
+        1,
+        17,
+        4,
+        0,
+        0,
+        2,
+        2,
+        0,
+        0,
+        0,
+        0,
+        18,
+        2,
+        0,
+        0,
+        0,
+        0,
+        0,
+        0,
+        0,
+        0,
+        18,
+        2,
+        0,
+        0,
+        0,
+        0,
+        1,
+        3,
+        0,
+        0,
+        18,
+        3,
+        0,
+        0,
+        0,
+        0,
+        2,
+        0,
+        0,
+        0,
+        18,
+        4,
+        0,
+        0,
+        0,
+        0,
+        2,
+        1,
+        0,
+        0,
+    ];
+    let text = text_of(function, &[]);
+    run(text, fresh(2), [0, 0, 0, 0, 0, 0, 0, 0]);
+}
