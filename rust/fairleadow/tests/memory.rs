@@ -107,7 +107,7 @@ fn worst_charts() -> Vec<Vec<Frame>> {
     let mut all =
         vec![samples::operations(254), samples::one_label(), samples::most_rows(), samples::most_schemes()];
     for before in [Before::Begin, Before::Operation, Before::Function] {
-        for different in [1, 2, 8] {
+        for different in [1, 2, 8, 16] {
             all.push(samples::longest_path(before, different));
         }
     }
