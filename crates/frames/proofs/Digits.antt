@@ -2,11 +2,13 @@
 use Prim.Native.Nat.{ℕ, zero, suc, _+_, _*_, _-_, _/_, _%_, _≤_, _<_}
 use mathlib.Core.Path.{_≡_, _∙_, ap}
 use mathlib.Core.Logic.{⊎-elim, _⊎_, inl, inr}
+use mathlib.Core.List.{List}
 use native.Mathlib.Omega.{arith}
-use lib.ListN.{getD}
+use lib.ListN.{length, getD}
 use borrow.Author.Tests.{le-ltb, lt-ltb, le-leb, lt-leb}
 use Rattle.lists.proofs.Tests.{split}
-use Rattle.frames.specs.Digit.{digitOf, charOf}
+use Rattle.lists.proofs.Ranges.{length-map-range, getD-map-range}
+use Rattle.frames.specs.Digit.{digitOf, digitTable, charOf}
 use Rattle.frames.specs.Frame.{byteText}
 
 pub digit-low : (c : ℕ) → 48 ≤ c → c ≤ 57 → digitOf c ≡ c - 48
@@ -55,6 +57,16 @@ char-digit c h =
   where
     none : (c < 48) ⊎ ((57 < c) × (c < 65)) ⊎ (70 < c) → charOf (digitOf c) ≡ c
     none o = absurd (omega (arith, digit-none c o))
+
+-- the digit of each character stands at its place of the table
+module _ (table : List ℕ) (is : table ≡ digitTable) where
+  pub table-length : length table ≡ 256
+  unfolding digitTable
+  table-length = ap length is ∙ length-map-range digitOf 0 256
+
+  pub table-at : (c : ℕ) → c < 256 → getD table c 0 ≡ digitOf c
+  unfolding digitTable
+  table-at c h = ap (λ (xs : List ℕ). getD xs c 0) is ∙ getD-map-range digitOf 0 0 256 c h ∙ ap digitOf (omega arith)
 
 -- the two characters of a byte
 pub pair-digit : (b t : ℕ) → b < 256 → t < 2 → digitOf (getD (byteText b) t 0) < 16

@@ -1,11 +1,9 @@
--- The loops over a frame: its digits, its sum, its characters written.
+-- The loops that write a frame: its sum and its characters.
 use mathlib.Core.Path.{_≡_, refl, sym, _∙_, ap}
-use mathlib.Core.Bool.{not}
 use mathlib.Core.List.{List, [], _∷_, _++_, append-assoc}
 use Prim.Native.Nat.{ℕ, suc, _+_, _-_, _*_, _%_, _≤_, _<_}
 use native.Mathlib.Numerals.{add-one}
 use native.Mathlib.Omega.{arith}
-use lib.Dec.{eqb}
 use lib.ListN.{length, set, getD, length-append}
 use Rattle.lists.specs.Numbers.{sum, range}
 use Rattle.lists.specs.Sequences.{concatMap, written}
@@ -13,9 +11,8 @@ use Rattle.lists.proofs.Searches.{sum-snoc}
 use Rattle.lists.proofs.Joins.{concat-places, length-concat, all-every}
 use Rattle.lists.proofs.Written.{written-more, written-snoc}
 use Rattle.lists.proofs.Fills.{Pieces, pieces-none, pieces-turn, pieces-all}
-use Rattle.frames.specs.Frame.{byteAt, byteText, total, sumByte, frameText}
+use Rattle.frames.specs.Frame.{byteText, total, sumByte, frameText}
 use Rattle.frames.proofs.Frames.{sum-places}
-use Rattle.frames.specs.Check.{badSum}
 
 -- ---- the sum
 -- a turn of the loop that adds
@@ -23,12 +20,6 @@ pub sum-turn : (g : ℕ → ℕ) (s k v : ℕ) → s ≡ sum g 0 k → v ≡ g k
 sum-turn g s k v e q =
     let z : g (0 + k) ≡ g k = ap g (omega arith) in
     rw (add-one k) (let w : sum g 0 (suc k) ≡ sum g 0 k + g (0 + k) = sum-snoc g 0 k in omega arith)
-
-pub sum-end : (t : List ℕ) (f s k : ℕ) → s ≡ sum (byteAt t f) 0 k → k ≤ 11 → 11 ≤ k → not (eqb (s % 256) 0) ≡ badSum t f
-unfolding badSum
-sum-end t f s k e a b =
-    let z : k ≡ 11 = omega arith in
-    ap (λ (n : ℕ). not (eqb (n % 256) 0)) (e ∙ ap (sum (byteAt t f) 0) z)
 
 -- ---- writing
 pub length-frame : (bs : List ℕ) → length bs ≡ 10 → length (frameText bs) ≡ 23

@@ -1,10 +1,11 @@
-pub mod Table
 pub mod Verdicts
 pub mod Chains
 pub mod Digits
 pub mod Frames
 pub mod Texts
 pub mod Contents
+pub mod Reading
 pub mod Lent
 pub mod FrameLoops
+pub mod ReadLoops
 pub mod TextLoops

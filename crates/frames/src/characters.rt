@@ -1,7 +1,7 @@
-// Characters and digits. No function but `digit` knows that there is a table.
+// Characters and digits. A text is read by one table of digits, laid out once.
 ghost use mathlib.Core.Path.{_≡_};
 ghost use Prim.Native.Nat.{_<_};
-ghost use Rattle.frames.specs.Digit.{digitOf, charOf};
+ghost use Rattle.frames.specs.Digit.{digitOf, digitTable, charOf};
 
 const DIGITS: [u8; 256] = [
     255,
@@ -262,12 +262,20 @@ const DIGITS: [u8; 256] = [
     255,
 ];
 
+// The digit of every character.
+pub fn digits() -> [u8; 256]
+    ensures { λ r. ⌜ r ≡ digitTable ⌝ }
+{
+    DIGITS
+}
+
 // The digit that a character stands for, or 255.
-pub fn digit(c: u8) -> u8
+pub fn digit(digits: &[u8], c: u8) -> u8
+    requires { ⌜ now digits ≡ digitTable ⌝ }
     ensures { λ r. ⌜ r ≡ digitOf c ⌝ }
 {
     let i = c as usize;
-    DIGITS[i]
+    digits[i]
 }
 
 // The character of a digit.

@@ -1,14 +1,12 @@
-// Text of frames, 22 hexadecimal characters and a line feed each: checked, decoded, written; the answer that entry points give.
+// Text of frames, 22 hexadecimal characters and a line feed each: read, written; the answer that entry points give.
 mod characters;
 mod check;
-mod decoding;
+mod read;
 mod write;
 
 pub use characters::character;
-pub use characters::digit;
 pub use check::bad_length;
-pub use check::check_text;
-pub use decoding::decode;
+pub use read::read_text;
 pub use write::put_bytes;
 pub use write::put_frame;
 pub use write::put_text;
@@ -21,4 +19,22 @@ pub enum Answer {
         index: usize,
         count: usize,
     },
+}
+
+// A byte of a text as its two characters give it, and whether one of them is no digit.
+struct Byte {
+    value: u16,
+    form: bool,
+}
+
+// What 2 and 3 find at a frame: a character that the form excludes, a sum that is not 0 modulo 256.
+struct Faults {
+    form: bool,
+    sum: bool,
+}
+
+// The lowest frame that 2 turns back and the lowest that 3 turns back, or the number of frames.
+struct Lowest {
+    form: usize,
+    sum: usize,
 }
