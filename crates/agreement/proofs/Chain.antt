@@ -29,6 +29,7 @@ use Rattle.machine.specs.declared.State.{State}
 use Rattle.machine.specs.State.{fresh, noState, Made, freshState}
 use Rattle.machine.specs.Run.{Ran, ticks, Run, noRoom, runOn, run}
 use Rattle.machine.proofs.Fitness.{Fits, fits}
+use Rattle.machine.proofs.Sizes.{size-good}
 use Rattle.machine.proofs.Keeps.{fresh-fits, ticks-keep}
 use Rattle.agreement.specs.Agreement.{Asked, Told, told, chain, short, joined, bound, refusedShort, expectedAll}
 use Rattle.agreement.proofs.TableFacts.{TableFacts}
@@ -69,7 +70,7 @@ replied-by false k = refl
 fresh-is : (n : ℕ) → 1 ≤ n → n ≤ 32 → freshState n .state ≡ fresh n
 unfolding freshState
 fresh-is n l h = ap (λ (t : Bool). pick {A = Made} t (record { reply = refusal 14 0 0; state = noState }) (record { reply = success 0; state = fresh n }) .state)
-    (or-none (eqb n 0) (ltb 32 n) (ne-eqb n 0 (λ p. omega arith)) (le-ltb 32 n h))
+    (size-good n l h)
 
 home-is : (c : Chart) → Facts c → (n : ℕ) → fresh n ≡ stateOf c n (atHome c)
 unfolding below

@@ -38,11 +38,3 @@ module _ (t : List ℕ) (ok : translateVerdict t ≡ fine) (facts : Facts (conte
 
   pub translated-decoded : decoded (contents (imageText (table (contents t)))) ≡ table (contents t)
   translated-decoded = table-decoded (contents t) facts (translated-few t ok)
-
--- n characters were written, and a run is handed these
-pub run-translated : (t out : List ℕ) (n : ℕ) → translate t out .reply ≡ success n → Facts (contents t) → (s : State) (words masks codes : List ℕ)
-    → run (take n (translate t out .buffer)) s words masks codes ≡ runImage (table (contents t)) s words masks codes
-run-translated t out n done facts s words masks codes =
-    let ok : translateVerdict t ≡ fine = translated-fine t out n done in
-    ap (λ (x : List ℕ). run x s words masks codes) (translated-image t out n done)
-    ∙ run-image (imageText (table (contents t))) (table (contents t)) (translated-passes t ok facts) (translated-decoded t ok facts) s words masks codes

@@ -4,7 +4,8 @@ use mathlib.Core.Bool.{Bool, true, false}
 use mathlib.Core.List.{List, [], _∷_, map}
 use Prim.Native.Nat.{ℕ, _-_}
 use native.Mathlib.Omega.{arith}
-use Rattle.lists.proofs.Filters.{keep, leave, filter-none}
+use Rattle.lists.proofs.Ranges.{filter-yes, filter-no}
+use Rattle.lists.proofs.Filters.{filter-none}
 use Rattle.frames.specs.Frame.{contents}
 use Rattle.frames.specs.Verdict.{fine}
 use Rattle.charts.specs.Chart.{Chart}
@@ -31,8 +32,8 @@ first-target l w b [] = ap (λ (rs : List Row). firstOf (map (λ (r : Row). r .n
 first-target l w b (r ∷ rs) = go (first-target l w b rs) (matching l w b r) refl
   where
     go : firstRow l w b rs ≡ firstOf (targets l w b rs) → (t : Bool) → matching l w b r ≡ t → firstRow l w b (r ∷ rs) ≡ firstOf (targets l w b (r ∷ rs))
-    go ih true e = rw (firstRow, e) (ap (λ (rs : List Row). firstOf (map (λ (r : Row). r .next) rs)) (sym (keep (matching l w b) r rs e)))
-    go ih false e = rw (firstRow, e) (ih ∙ ap (λ (rs : List Row). firstOf (map (λ (r : Row). r .next) rs)) (sym (leave (matching l w b) r rs e)))
+    go ih true e = rw (firstRow, e) (ap (λ (rs : List Row). firstOf (map (λ (r : Row). r .next) rs)) (sym (filter-yes (matching l w b) r rs e)))
+    go ih false e = rw (firstRow, e) (ih ∙ ap (λ (rs : List Row). firstOf (map (λ (r : Row). r .next) rs)) (sym (filter-no (matching l w b) r rs e)))
 
 pub first-only : (l w b u : ℕ) (rs : List Row) → targets l w b rs ≡ u ∷ [] → firstRow l w b rs ≡ found u
 first-only l w b u rs e = first-target l w b rs ∙ ap firstOf e

@@ -21,7 +21,8 @@ use Rattle.charts.specs.Check.{arcs, conditionArcs, onCircle}
 use Rattle.charts.specs.Rank.{settled, ready, rankAfter, ranksOf, unranked, Ranked}
 use Rattle.charts.proofs.Nodes.{arcs-condition, in-arcs0, in-arcs1}
 use Rattle.charts.proofs.Meaning.{condition-arcs, leaves-condition, member-only}
-use Rattle.charts.proofs.Rounds.{Ready, ready-parts, rank-new, rank-keep, rank-first, rank-stays, table-at, table-long, a-node}
+use Rattle.charts.proofs.Tables.{table-at, table-long}
+use Rattle.charts.proofs.Rounds.{Ready, ready-parts, rank-new, rank-keep, rank-first, rank-stays, a-node}
 
 module _ (c : Chart) (whole : length c ≡ 10 * size c) where
   -- ---- ranks fall: u is one of the next nodes of v

@@ -4,49 +4,21 @@ use mathlib.Core.Logic.{_⊎_, inl, inr, ⊎-elim}
 use mathlib.Core.Bool.{Bool, true, false, _&&_, _||_, not}
 use mathlib.Core.List.{List}
 use Prim.Native.Nat.{ℕ, zero, suc, _+_, _*_, _≤_, _<_}
-use native.Mathlib.Nat.{zero-add, eq-or-lt-of-le}
+use native.Mathlib.Nat.{eq-or-lt-of-le}
 use native.Mathlib.Numerals.{add-one}
 use native.Mathlib.Decide.{ℕ-discrete}
 use native.Mathlib.Omega.{arith}
 use lib.Dec.{leb, ltb, eqb}
-use lib.ListN.{length, getD, set, replicate, length-set, length-replicate, getD-replicate, List·getD-eq-default}
-use lib.Seq.{ext-getD, getD-set-same, getD-set-other}
+use lib.ListN.{length, getD, set, replicate, List·getD-eq-default}
 use borrow.Author.Tests.{eqb-true, eq-eqb, ne-eqb, lt-ltb, le-ltb, le-leb, lt-leb}
 use Rattle.lists.specs.Pick.{pick}
 use Rattle.lists.specs.Numbers.{count}
 use Rattle.lists.proofs.Tests.{no-both, and-l, and-r, yes-pick, no-pick, cases, split}
 use Rattle.lists.proofs.Counts.{count-some}
-use Rattle.lists.proofs.Ranges.{length-map-range, getD-map-range}
 use Rattle.frames.specs.Frame.{size}
 use Rattle.charts.specs.Chart.{Chart, kind, next0, next1, is}
-use Rattle.charts.specs.Rank.{settled, ready, rankAfter, table, ranksAfter, ranksWithin, ranksOf}
-
--- ---- tables
-pub table-long : (f : ℕ → ℕ) (n : ℕ) → length (table f n) ≡ n
-unfolding table
-table-long f n = length-map-range f 0 n
-
-pub table-at : (f : ℕ → ℕ) (n u : ℕ) → u < n → getD (table f n) u 0 ≡ f u
-unfolding table
-table-at f n u l = getD-map-range f 0 0 n u l ∙ ap f (zero-add u)
-
--- a list with these numbers
-pub table-is : (f : ℕ → ℕ) (n : ℕ) (xs : List ℕ) → length xs ≡ n → ((u : ℕ) → u < n → getD xs u 0 ≡ f u) → xs ≡ table f n
-table-is f n xs e h = ext-getD 0 xs (table f n) (e ∙ sym (table-long f n)) (λ u l. h u (omega arith) ∙ sym (table-at f n u (omega arith)))
-
-pub table-alike : (f g : ℕ → ℕ) (n : ℕ) → ((u : ℕ) → u < n → f u ≡ g u) → table f n ≡ table g n
-table-alike f g n h = table-is g n (table f n) (table-long f n) (λ u l. table-at f n u l ∙ h u l)
-
-pub table-set : (f g : ℕ → ℕ) (n v x : ℕ) → v < n → x ≡ g v → ((u : ℕ) → (u ≡ v → ⊥) → f u ≡ g u) → set (table f n) v x ≡ table g n
-table-set f g n v x l e h = table-is g n (set (table f n) v x) (length-set (table f n) v x ∙ table-long f n) (λ u lu. go u lu (ℕ-discrete u v))
-  where
-    go : (u : ℕ) → u < n → Dec (u ≡ v) → getD (set (table f n) v x) u 0 ≡ g u
-    go u lu (yes q) =
-        ap (λ (k : ℕ). getD (set (table f n) v x) k 0) q ∙ getD-set-same (table f n) v x 0 (omega (arith, table-long f n)) ∙ e ∙ ap g (sym q)
-    go u lu (no q) = getD-set-other (table f n) v u x 0 q ∙ table-at f n u lu ∙ h u q
-
-pub table-none : (f : ℕ → ℕ) (n : ℕ) → ((u : ℕ) → f u ≡ 0) → replicate n 0 ≡ table f n
-table-none f n h = table-is f n (replicate n 0) (length-replicate n 0) (λ u l. getD-replicate n u 0 0 l ∙ sym (h u))
+use Rattle.charts.specs.Rank.{settled, ready, rankAfter, ranksAfter, ranksWithin, ranksOf}
+use Rattle.charts.proofs.Tables.{table-long, table-at, table-alike, table-set, table-none}
 
 module _ (c : Chart) where
   -- ---- what makes a node ready

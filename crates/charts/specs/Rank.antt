@@ -2,15 +2,15 @@
 use Prim.Native.Nat.{ℕ, zero, suc, _<_}
 use mathlib.Core.Path.{_≡_}
 use mathlib.Core.Bool.{Bool, true, _&&_, _||_, not}
-use mathlib.Core.List.{List, map}
+use mathlib.Core.List.{List}
 use lib.Dec.{ltb, eqb}
 use lib.ListN.{length, getD}
 use Rattle.lists.specs.Pick.{pick}
-use Rattle.lists.specs.Numbers.{range}
 use Rattle.graph.specs.Reach.{member}
 use Rattle.frames.specs.Frame.{size}
 use Rattle.charts.specs.Chart.{Chart, kind, next0, next1, is}
 use Rattle.charts.specs.Check.{arcs}
+use Rattle.charts.specs.Table.{table}
 
 -- node u is no condition, or has a rank; 0 is none
 abbrev pub settled : Chart → (ℕ → ℕ) → ℕ → Bool
@@ -24,10 +24,6 @@ ready c rank v = is c 3 v && eqb (rank v) 0 && settled c rank (next0 c v) && set
 unfoldable pub rankAfter : Chart → ℕ → ℕ → ℕ
 rankAfter c zero v = 0
 rankAfter c (suc k) v = pick (ready c (rankAfter c k) v) (suc k) (rankAfter c k v)
-
--- a number for each of n nodes
-unfoldable pub table : (ℕ → ℕ) → ℕ → List ℕ
-table f n = map f (range 0 n)
 
 -- the ranks after k rounds, and within the round after these, at node v
 abbrev pub ranksAfter : Chart → ℕ → List ℕ

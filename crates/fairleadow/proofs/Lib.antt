@@ -1,3 +1,2 @@
-pub mod Arrays
 pub mod CallLaws
 pub mod ResultBytes

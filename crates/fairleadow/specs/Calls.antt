@@ -2,11 +2,12 @@
 use Prim.Native.Nat.{ℕ}
 use mathlib.Core.Bool.{Bool, _&&_}
 use mathlib.Core.Path.{_≡_}
-use mathlib.Core.List.{List, [], _∷_}
+use mathlib.Core.List.{List}
 use lib.Dec.{eqb, leb}
 use Rattle.lists.specs.Pick.{pick}
 use Rattle.frames.specs.Answer.{Reply, number, index, count}
 use Rattle.machine.specs.Run.{Run, run}
+use Rattle.machine.specs.Advance.{Advance, advance}
 use Rattle.fairleadow.specs.Bytes.{stateOf, bytesOf}
 
 -- the number returned, and the index and the count written, are those of the reply
@@ -27,10 +28,10 @@ runFor image state words masks codes = run image (stateOf state) words masks cod
 unfoldable pub bytesAfter : List ℕ → Run → List ℕ
 bytesAfter old r = pick (leaves (number (r .reply))) old (bytesOf (r .state))
 
--- one tick: a run of one word, with room for one mask and one code
-unfoldable pub oneTick : List ℕ → List ℕ → ℕ → Run
-oneTick image state word = runFor image state (word ∷ []) (0 ∷ []) (0 ∷ [])
+-- one tick of the state that the bytes hold
+abbrev pub tickFor : List ℕ → List ℕ → ℕ → Advance
+tickFor image state word = advance image (stateOf state) word
 
 -- a tick that is refused leaves what it was lent as it was
-abbrev pub ifTicked : {A : Type 0} → Run → A → A → A
-ifTicked r new old = pick (eqb (number (r .reply)) 0) new old
+abbrev pub ifTicked : {A : Type 0} → Advance → A → A → A
+ifTicked a new old = pick (eqb (number (a .reply)) 0) new old

@@ -8,15 +8,15 @@ use bytes::bytes_after;
 use bytes::bytes_of;
 use bytes::state_of;
 use machine::State;
+use machine::advance::tick_image;
 ghost use mathlib.Core.Path.{_≡_};
-ghost use lib.ListN.{getD};
 ghost use Rattle.frames.specs.Answer.{judged};
 ghost use Rattle.charts.specs.Entry.{readChart, writeChart};
 ghost use Rattle.image.specs.Check.{imageVerdict};
 ghost use Rattle.translator.specs.Entry.{translate};
 ghost use Rattle.machine.specs.State.{freshState};
 ghost use Rattle.fairleadow.specs.Bytes.{bytesOf};
-ghost use Rattle.fairleadow.specs.Calls.{Told, runFor, bytesAfter, oneTick, ifTicked};
+ghost use Rattle.fairleadow.specs.Calls.{Told, runFor, bytesAfter, tickFor, ifTicked};
 
 #[no_mangle]
 pub extern "C" fn fairleadow_read_chart(
@@ -111,7 +111,7 @@ pub extern "C" fn fairleadow_run(
     number
 }
 
-// A run of one word.
+// One tick; a refused one writes no mask, no code and no state.
 #[no_mangle]
 pub extern "C" fn fairleadow_tick(
     image: &[u8],
@@ -122,24 +122,22 @@ pub extern "C" fn fairleadow_tick(
     at: &mut usize,
     made: &mut usize,
 ) -> u8
-    ensures { λ r. ⌜ Told (oneTick (now (image .entry)) (now (state .entry)) word .reply) r (now (at .exit)) (now (made .exit)) ⌝ }
-    ensures { λ _. ⌜ now (state .exit) ≡ ifTicked (oneTick (now (image .entry)) (now (state .entry)) word) (bytesOf (oneTick (now (image .entry)) (now (state .entry)) word .state)) (now (state .entry)) ⌝ }
-    ensures { λ _. ⌜ now (mask .exit) ≡ ifTicked (oneTick (now (image .entry)) (now (state .entry)) word) (getD (oneTick (now (image .entry)) (now (state .entry)) word .masks) 0 0) (now (mask .entry)) ⌝ }
-    ensures { λ _. ⌜ now (code .exit) ≡ ifTicked (oneTick (now (image .entry)) (now (state .entry)) word) (getD (oneTick (now (image .entry)) (now (state .entry)) word .codes) 0 0) (now (code .entry)) ⌝ }
+    ensures { λ r. ⌜ Told (tickFor (now (image .entry)) (now (state .entry)) word .reply) r (now (at .exit)) (now (made .exit)) ⌝ }
+    ensures { λ _. ⌜ now (state .exit) ≡ ifTicked (tickFor (now (image .entry)) (now (state .entry)) word) (bytesOf (tickFor (now (image .entry)) (now (state .entry)) word .state)) (now (state .entry)) ⌝ }
+    ensures { λ _. ⌜ now (mask .exit) ≡ ifTicked (tickFor (now (image .entry)) (now (state .entry)) word) (tickFor (now (image .entry)) (now (state .entry)) word .mask) (now (mask .entry)) ⌝ }
+    ensures { λ _. ⌜ now (code .exit) ≡ ifTicked (tickFor (now (image .entry)) (now (state .entry)) word) (tickFor (now (image .entry)) (now (state .entry)) word .code) (now (code .entry)) ⌝ }
 {
     let old = *state;
-    let words = [word];
-    let mut masks = [0u32];
-    let mut codes = [0u8];
-    let done = machine::run(image, state_of(old), &words, &mut masks, &mut codes);
-    let answer = done.answer;
+    let done = tick_image(image, state_of(old), word);
+    let report = done.report;
     let after = done.state;
+    let answer = report.answer;
     let number = tell(answer, at, made);
     if number != 0 {
         return number;
     }
-    *mask = masks[0];
-    *code = codes[0];
+    *mask = report.mask;
+    *code = report.code;
     let bytes = bytes_of(after);
     *state = bytes;
     number

@@ -14,14 +14,6 @@ use Rattle.lists.proofs.Ranges.{filter-yes, filter-no}
 use Rattle.lists.proofs.Joins.{concat-cons}
 
 module _ {A : Type 0} (p : A → Bool) where
-  pub keep : (x : A) (xs : List A) → p x ≡ true → filter p (x ∷ xs) ≡ x ∷ filter p xs
-  unfolding filter
-  keep x xs e = rw (filter, e)
-
-  pub leave : (x : A) (xs : List A) → p x ≡ false → filter p (x ∷ xs) ≡ filter p xs
-  unfolding filter
-  leave x xs e = rw (filter, e)
-
   pub filter-none : filter p [] ≡ []
   unfolding filter
   filter-none = refl
@@ -31,8 +23,8 @@ module _ {A : Type 0} (p : A → Bool) where
   filter-append (x ∷ xs) ys = go (filter-append xs ys) (p x) refl
     where
       go : filter p (xs ++ ys) ≡ filter p xs ++ filter p ys → (b : Bool) → p x ≡ b → filter p (x ∷ (xs ++ ys)) ≡ filter p (x ∷ xs) ++ filter p ys
-      go ih true e = keep x (xs ++ ys) e ∙ ap (λ zs. x ∷ zs) ih ∙ ap (λ zs. zs ++ filter p ys) (sym (keep x xs e))
-      go ih false e = leave x (xs ++ ys) e ∙ ih ∙ ap (λ zs. zs ++ filter p ys) (sym (leave x xs e))
+      go ih true e = filter-yes p x (xs ++ ys) e ∙ ap (λ zs. x ∷ zs) ih ∙ ap (λ zs. zs ++ filter p ys) (sym (filter-yes p x xs e))
+      go ih false e = filter-no p x (xs ++ ys) e ∙ ih ∙ ap (λ zs. zs ++ filter p ys) (sym (filter-no p x xs e))
 
   -- nothing is kept, so none passes
   pub none-passes : (d : A) (xs : List A) → length (filter p xs) ≡ 0 → (i : ℕ) → i < length xs → p (getD xs i d) ≡ false
@@ -40,9 +32,9 @@ module _ {A : Type 0} (p : A → Bool) where
   none-passes d (x ∷ xs) e i l = go (p x) refl i l (none-passes d xs)
     where
       go : (b : Bool) → p x ≡ b → (i : ℕ) → i < length (x ∷ xs) → (length (filter p xs) ≡ 0 → (i : ℕ) → i < length xs → p (getD xs i d) ≡ false) → p (getD (x ∷ xs) i d) ≡ false
-      go true q i l ih = absurd (omega (arith, e, ap (λ (zs : List A). length zs) (keep x xs q)))
+      go true q i l ih = absurd (omega (arith, e, ap (λ (zs : List A). length zs) (filter-yes p x xs q)))
       go false q zero l ih = q
-      go false q (suc i) l ih = ih (omega (arith, e, ap (λ (zs : List A). length zs) (leave x xs q))) i (omega arith)
+      go false q (suc i) l ih = ih (omega (arith, e, ap (λ (zs : List A). length zs) (filter-no p x xs q))) i (omega arith)
 
   -- where at most one is kept, two places that pass are the same
   pub one-passes : (d : A) (xs : List A) → length (filter p xs) ≤ 1 → (i j : ℕ) → i < length xs → j < length xs
@@ -54,13 +46,13 @@ module _ {A : Type 0} (p : A → Bool) where
           → (length (filter p xs) ≤ 1 → (i j : ℕ) → i < length xs → j < length xs → p (getD xs i d) ≡ true → p (getD xs j d) ≡ true → i ≡ j) → i ≡ j
       go t q zero zero li lj a b ih = refl
       go true q (suc i) j li lj a b ih =
-          no-both (p (getD xs i d)) a (none-passes d xs (omega (arith, e, ap (λ (zs : List A). length zs) (keep x xs q))) i (omega arith))
+          no-both (p (getD xs i d)) a (none-passes d xs (omega (arith, e, ap (λ (zs : List A). length zs) (filter-yes p x xs q))) i (omega arith))
       go true q zero (suc j) li lj a b ih =
-          no-both (p (getD xs j d)) b (none-passes d xs (omega (arith, e, ap (λ (zs : List A). length zs) (keep x xs q))) j (omega arith))
+          no-both (p (getD xs j d)) b (none-passes d xs (omega (arith, e, ap (λ (zs : List A). length zs) (filter-yes p x xs q))) j (omega arith))
       go false q zero (suc j) li lj a b ih = no-both (p x) a q
       go false q (suc i) zero li lj a b ih = no-both (p x) b q
       go false q (suc i) (suc j) li lj a b ih =
-          ap suc (ih (omega (arith, e, ap (λ (zs : List A). length zs) (leave x xs q))) i j (omega arith) (omega arith) a b)
+          ap suc (ih (omega (arith, e, ap (λ (zs : List A). length zs) (filter-no p x xs q))) i j (omega arith) (omega arith) a b)
 
 -- ---- lists joined over the numbers that pass, where all but one of them are empty
 module _ {B : Type 0} (f : ℕ → List B) (p : ℕ → Bool) where

@@ -6,3 +6,4 @@ pub mod Joins
 pub mod Written
 pub mod Fills
 pub mod Filters
+pub mod Arrays

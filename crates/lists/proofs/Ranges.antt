@@ -44,11 +44,11 @@ pub map-count : {A : Type 0} (f : ℕ → A) (d : A) (xs : List A) (a n : ℕ) �
 map-count f d xs a n e h = ap (λ (m : ℕ). map f (range a m)) e ∙ map-places f d xs a h
 
 -- ---- filter
-pub filter-yes : (p : ℕ → Bool) (x : ℕ) (xs : List ℕ) → p x ≡ true → filter p (x ∷ xs) ≡ x ∷ filter p xs
+pub filter-yes : {A : Type 0} (p : A → Bool) (x : A) (xs : List A) → p x ≡ true → filter p (x ∷ xs) ≡ x ∷ filter p xs
 unfolding filter
 filter-yes p x xs e = rw (filter, e)
 
-pub filter-no : (p : ℕ → Bool) (x : ℕ) (xs : List ℕ) → p x ≡ false → filter p (x ∷ xs) ≡ filter p xs
+pub filter-no : {A : Type 0} (p : A → Bool) (x : A) (xs : List A) → p x ≡ false → filter p (x ∷ xs) ≡ filter p xs
 unfolding filter
 filter-no p x xs e = rw (filter, e)
 

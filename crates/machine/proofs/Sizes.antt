@@ -8,9 +8,6 @@ use borrow.Author.Tests.{eqb-false, ltb-false, le-ltb, ne-eqb}
 use Rattle.lists.proofs.Tests.{or-l, or-r, or-none}
 use Rattle.machine.specs.State.{badSize}
 
-pub size-least : (n : ℕ) → badSize n ≡ false → 1 ≤ n
-size-least n e = omega (arith, eqb-false n 0 (or-l (eqb n 0) (ltb 32 n) e))
-
 pub size-most : (n : ℕ) → badSize n ≡ false → n ≤ 32
 size-most n e = ltb-false 32 n (or-r (eqb n 0) (ltb 32 n) e)
 

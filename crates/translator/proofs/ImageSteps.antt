@@ -40,14 +40,6 @@ from-cons : {A B : Type 0} (f : ℕ → A → B) (i : ℕ) (x : A) (xs : List A)
 unfolding mapFrom
 from-cons f i x xs = refl
 
-from-none : {A B : Type 0} (f : ℕ → A → B) (i : ℕ) → mapFrom f i [] ≡ []
-unfolding mapFrom
-from-none f i = refl
-
-text-none : framesText [] ≡ []
-unfolding concatMap
-text-none = refl
-
 -- ---- entries
 entries-from : (c : Chart) (i n : ℕ) → framesText (mapFrom entryFrame (suc i) (map (entry c) (range (suc i) n))) ≡ concatMap (entryText c) (range i n)
 entries-from c i zero = unfold mapFrom concatMap in refl

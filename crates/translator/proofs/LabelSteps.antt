@@ -23,7 +23,7 @@ use Rattle.walk.specs.Stops.{stops}
 use Rattle.walk.proofs.Facts.{Facts}
 use Rattle.translator.specs.Labels.{numbered, label}
 use Rattle.translator.specs.Ready.{Labelled}
-use Rattle.translator.proofs.NodeSteps.{stops-begin}
+use Rattle.walk.proofs.Follow.{stops-begin}
 
 pub label-own : (c : Chart) (v : ℕ) → numbered c v ≡ true → label c v ≡ 2 + count (numbered c) 0 v
 unfolding label

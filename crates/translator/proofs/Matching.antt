@@ -11,9 +11,9 @@ use borrow.Author.Tests.{eq-eqb, ne-eqb}
 use Rattle.lists.specs.Pick.{pick}
 use Rattle.lists.specs.Sequences.{filter, concatMap}
 use Rattle.lists.proofs.Tests.{and-true, cases}
-use Rattle.lists.proofs.Ranges.{map-append}
+use Rattle.lists.proofs.Ranges.{filter-yes, filter-no, map-append}
 use Rattle.lists.proofs.Joins.{concat-cons}
-use Rattle.lists.proofs.Filters.{keep, leave, filter-none, filter-append}
+use Rattle.lists.proofs.Filters.{filter-none, filter-append}
 use Rattle.bits.specs.Word.{bit, agrees}
 use Rattle.bits.proofs.BitLaws.{bit-cases, Mask, Agree, Clash, agree-match, clash-match, mask-0, mask-1, agree-0, agree-1, clash-0, clash-1, clash-here-0, clash-here-1}
 use Rattle.charts.specs.Chart.{Chart, kind, argument, next0, next1, taken}
@@ -59,11 +59,11 @@ module _ (l w b : ℕ) where
 
   one-yes : (r : Row) → matching l w b r ≡ true → targets l w b (r ∷ []) ≡ r .next ∷ []
   unfolding targets
-  one-yes r e = ap (map (λ (r : Row). r .next)) (keep (matching l w b) r [] e ∙ ap (λ rs. r ∷ rs) (filter-none (matching l w b)))
+  one-yes r e = ap (map (λ (r : Row). r .next)) (filter-yes (matching l w b) r [] e ∙ ap (λ rs. r ∷ rs) (filter-none (matching l w b)))
 
   one-no : (r : Row) → matching l w b r ≡ false → targets l w b (r ∷ []) ≡ []
   unfolding targets
-  one-no r e = ap (map (λ (r : Row). r .next)) (leave (matching l w b) r [] e ∙ filter-none (matching l w b))
+  one-no r e = ap (map (λ (r : Row). r .next)) (filter-no (matching l w b) r [] e ∙ filter-none (matching l w b))
 
 -- ---- the paths from a node
 abbrev pub rowAt : Chart → ℕ → ℕ → ℕ → ℕ → ℕ → Row

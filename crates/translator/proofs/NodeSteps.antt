@@ -13,6 +13,7 @@ use Rattle.frames.specs.Frame.{size}
 use Rattle.charts.specs.Chart.{Chart, kind, scheme, next0, is, isOf, begin, nodeOf}
 use Rattle.walk.specs.Stops.{stops}
 use Rattle.walk.proofs.Facts.{Facts}
+use Rattle.walk.proofs.Follow.{stops-condition}
 
 -- ---- the search for the Begin of scheme h
 pub record Search (c : Chart) (h n v : ℕ) : Type 0 where
@@ -35,18 +36,6 @@ unfolding nodeOf
 search-start c h = record { within = omega arith; all = refl; left = lowest-start (isOf c 0 h) (size c) }
 
 -- ---- stops
-pub stops-begin : (c : Chart) (v : ℕ) → kind c v ≡ 0 → stops c v ≡ (not (eqb (scheme c v) 1) && is c 3 (next0 c v))
-unfolding stops
-stops-begin c v k = rw (stops, ne-eqb (kind c v) 3 (λ e. omega arith), eq-eqb (kind c v) 0 k)
-
-pub stops-condition : (c : Chart) (v : ℕ) → kind c v ≡ 3 → stops c v ≡ (eqb (scheme c v) 1 && eqb (next0 c (begin c 1)) v)
-unfolding stops
-stops-condition c v k = rw (stops, eq-eqb (kind c v) 3 k)
-
-pub stops-other : (c : Chart) (v : ℕ) → (kind c v ≡ 0 → ⊥) → (kind c v ≡ 3 → ⊥) → stops c v ≡ true
-unfolding stops
-stops-other c v z k = rw (stops, ne-eqb (kind c v) 3 k, ne-eqb (kind c v) 0 z)
-
 pub begin-asks : (c : Chart) → Facts c → (v k : ℕ) → v < size c → k ≡ kind c v → k ≡ 0 → (10 * v + 3 < length c) × (10 * next0 c v < length c)
 begin-asks c F v k l e z =
     let t = F .arc0 v l (λ q. omega arith) in

@@ -19,12 +19,12 @@ use Rattle.charts.specs.Chart.{Chart, kind, argument, next0, next1, is, taken}
 use Rattle.charts.proofs.Rank.{rank, rank-falls0, rank-falls1}
 use Rattle.walk.specs.Stops.{stops}
 use Rattle.image.specs.Image.{Row}
+use Rattle.walk.proofs.Follow.{goes-on, stops-other}
 use Rattle.translator.specs.Labels.{numbered}
 use Rattle.translator.specs.Rows.{paths}
 use Rattle.translator.specs.Ready.{Ready, Entered, Labelled, Passed, Settled}
-use Rattle.translator.proofs.NodeSteps.{stops-other}
 use Rattle.translator.proofs.LabelSteps.{label-own, own-label}
-use Rattle.translator.proofs.PathSteps.{no-stop, pathRow, entered0, entered1, entered-taken, falls-taken, at-stop, at-known, at-new}
+use Rattle.translator.proofs.PathSteps.{pathRow, entered0, entered1, entered-taken, falls-taken, at-stop, at-known, at-new}
 
 -- ---- where a path ends
 module _ (c : Chart) (labels : List ℕ) (ok : Labelled c labels) (v k : ℕ) (t : Entered c v) (e : k ≡ kind c v) where
@@ -59,14 +59,14 @@ module _ (c : Chart) (ready : Ready c) where
   small-number v i l k e = omega (arith, ready .facts .conditions v l k)
 
   pub small-on-path : (v i : ℕ) → Entered c v → stops c v ≡ false → i ≡ argument c v → i < 16
-  small-on-path v i t s e = small-number v i (t .inside) (no-stop c v (t .noBegin) s) e
+  small-on-path v i t s e = small-number v i (t .inside) (goes-on c v (t .noBegin) s) e
 
   module _ (care values v u : ℕ) (p : Passed c care values v u) (k : (not (stops c u) && eqb (bit care (argument c u)) 1) ≡ true) where
     goes : stops c u ≡ false
     goes = not-true (stops c u) (and-l (not (stops c u)) (eqb (bit care (argument c u)) 1) k)
 
     pub known-condition : kind c u ≡ 3
-    known-condition = no-stop c u (p .entered .noBegin) goes
+    known-condition = goes-on c u (p .entered .noBegin) goes
 
     pub known-falls : (w : ℕ) → w ≡ taken c values u → rank c w < rank c u
     known-falls w e = omega (arith, ap (rank c) e, falls-taken c ready values u (p .entered .inside) known-condition)
@@ -105,7 +105,7 @@ module _ (c : Chart) (ready : Ready c) (care values v u : ℕ) (st : Settled c c
     fork-number i e = small-on-path c ready u i (st .passed .entered) s e
 
     condition : kind c u ≡ 3
-    condition = no-stop c u (st .passed .entered .noBegin) s
+    condition = goes-on c u (st .passed .entered .noBegin) s
 
     pub fork-inside : u < size c
     fork-inside = st .passed .entered .inside

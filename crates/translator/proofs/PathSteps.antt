@@ -14,21 +14,11 @@ use Rattle.frames.specs.Frame.{size}
 use Rattle.charts.specs.Chart.{Chart, kind, argument, next0, next1, is, taken}
 use Rattle.charts.proofs.Rank.{rank, rank-le, rank-some, rank-falls0, rank-falls1}
 use Rattle.walk.specs.Stops.{stops}
+use Rattle.walk.proofs.Follow.{goes-on}
 use Rattle.image.specs.Image.{Row}
 use Rattle.translator.specs.Labels.{label}
 use Rattle.translator.specs.Rows.{paths}
 use Rattle.translator.specs.Ready.{Ready, Entered}
-
--- what is no stop is a condition
-pub no-stop : (c : Chart) (v : ℕ) → (kind c v ≡ 0 → ⊥) → stops c v ≡ false → kind c v ≡ 3
-no-stop c v z s = go (ℕ-discrete (kind c v) 3)
-  where
-    stopping : (kind c v ≡ 3 → ⊥) → stops c v ≡ true
-    stopping k = unfold stops in rw (stops, ne-eqb (kind c v) 3 k, ne-eqb (kind c v) 0 z)
-
-    go : Dec (kind c v ≡ 3) → kind c v ≡ 3
-    go (yes e) = e
-    go (no e) = no-both (stops c v) (stopping e) s
 
 abbrev pub pathRow : Chart → ℕ → ℕ → ℕ → ℕ → ℕ → Row
 pathRow c l f care values v = record { from = l; care = care; values = values; bit = f; next = label c v }
@@ -83,13 +73,13 @@ module _ (c : Chart) (ready : Ready c) where
             → ((care values v : ℕ) → Entered c v → rank c v ≤ n → rank c v ≤ m → P n care values v ≡ P m care values v) → P (suc n) care values v ≡ P (suc m) care values v
         go true s d ih = step-stop n c l f care values v s ∙ sym (step-stop m c l f care values v s)
         go false s (yes k) ih =
-            let three : kind c v ≡ 3 = no-stop c v (t .noBegin) s in
+            let three : kind c v ≡ 3 = goes-on c v (t .noBegin) s in
             let r : rank c (taken c values v) < rank c v = falls-taken values v (t .inside) three in
             step-known n c l f care values v s k
             ∙ ih care values (taken c values v) (entered-taken values v (t .inside) three) (omega arith) (omega arith)
             ∙ sym (step-known m c l f care values v s k)
         go false s (no k) ih =
-            let three : kind c v ≡ 3 = no-stop c v (t .noBegin) s in
+            let three : kind c v ≡ 3 = goes-on c v (t .noBegin) s in
             let r0 : rank c (next0 c v) < rank c v = rank-falls0 c (ready .sound) v (t .inside) three in
             let r1 : rank c (next1 c v) < rank c v = rank-falls1 c (ready .sound) v (t .inside) three in
             step-new n c l f care values v s k

@@ -50,9 +50,6 @@ count-sides c v care values most w0 w1 low high e0 e1 a b l f g =
       length-append (paths (size c) c l f care 0 (next0 c v)) (paths (size c) c l g care values (next1 c v)),
     )
 
-pub first-values : (care : ℕ) → bitAnd 0 care ≡ 0
-first-values care = and-zero-l care
-
 -- ---- the rows of one node, by its kind
 module _ (c : Chart) (v k : ℕ) (ek : k ≡ kind c v) where
   pub rows-function : k ≡ 4 → rowsOf c v ≡ sides c (label c v) 0 1 0 0 v

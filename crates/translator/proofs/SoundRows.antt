@@ -22,6 +22,7 @@ use Rattle.frames.specs.Frame.{size}
 use Rattle.charts.specs.Chart.{Chart, is, kind, scheme, argument, next0, next1, taken}
 use Rattle.walk.specs.Stops.{stops}
 use Rattle.walk.proofs.Facts.{Facts, Target}
+use Rattle.walk.proofs.Follow.{goes-on}
 use Rattle.image.specs.Image.{Label, Row}
 use Rattle.image.proofs.Sound.{noRow, nthLabel, endOf, Reaches, SoundRow}
 use Rattle.translator.specs.Labels.{numbered, numberedNodes, label, labelOf}
@@ -36,16 +37,6 @@ pub record PathRow (c : Chart) (l f h : ℕ) (r : Row) : Type 0 where
   pub cares : r .care < 65536
   pub within : bitAnd (r .values) (r .care) ≡ r .values
   pub leading : Reaches (table c) h (r .next)
-
--- what is no stop and no Begin is a condition
-no-stop : (c : Chart) (v : ℕ) → stops c v ≡ false → (kind c v ≡ 0 → ⊥) → kind c v ≡ 3
-unfolding stops
-no-stop c v e n = go (is c 3 v) refl (is c 0 v) refl
-  where
-    go : (p : Bool) → is c 3 v ≡ p → (q : Bool) → is c 0 v ≡ q → kind c v ≡ 3
-    go true p q r = eqb-true (kind c v) 3 p
-    go false p true r = absurd (n (eqb-true (kind c v) 0 r))
-    go false p false r = no-both true refl (rw (stops, p, r) at e)
 
 -- the label of a node is of its scheme, or ends it
 pub label-reaches : (c : Chart) (h v : ℕ) → v < size c → scheme c v ≡ h → Reaches (table c) h (label c v)
@@ -83,7 +74,7 @@ module _ (c : Chart) (F : Facts c) where
       go ih false e = further (eqb (bit care (argument c v)) 1) refl
         where
           three : kind c v ≡ 3
-          three = no-stop c v e (t .entered)
+          three = goes-on c v (t .entered) e
 
           t₀ : Target c h (next0 c v)
           t₀ = subst (λ (g : ℕ). Target c g (next0 c v)) (t .same) (F .arc0 v (t .inside) (λ z. omega (arith, three)))

@@ -1,7 +1,7 @@
 // The labels of all nodes.
 use crate::nodes::begin;
-use crate::nodes::field;
 use crate::nodes::is_numbered;
+use charts::field;
 ghost use mathlib.Core.Path.{_≡_};
 ghost use mathlib.Core.List.{map};
 ghost use Prim.Native.Nat.{_+_, _<_, _≤_};

@@ -1,4 +1,5 @@
 // Nodes of an accepted chart: their fields, the Begin of a scheme, the stops.
+use charts::field;
 ghost use mathlib.Core.Path.{_≡_};
 ghost use Prim.Native.Nat.{_+_, _*_, _<_};
 ghost use mathlib.Core.Bool.{_&&_, not};
@@ -9,14 +10,6 @@ ghost use Rattle.charts.specs.Chart.{scheme, is, isOf, begin, next0};
 ghost use Rattle.walk.proofs.Facts.{Facts};
 ghost use Rattle.walk.specs.Stops.{stops};
 ghost use Rattle.translator.specs.Labels.{numbered};
-
-// Byte k of a node's record.
-pub fn field(records: &[u8], v: usize, k: usize) -> u8
-    requires { ⌜ 10 * v + k < length (now records) ⌝ }
-    ensures { λ r. ⌜ r ≡ field (now (records .entry)) v k ⌝ }
-{
-    records[10 * v + k]
-}
 
 fn is_begin(records: &[u8], v: usize, scheme: u8) -> bool
     requires { ⌜ 10 * v + 1 < length (now records) ⌝ }

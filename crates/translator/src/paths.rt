@@ -1,7 +1,7 @@
 // The paths on from a node through conditions that take no tick: counted, and written as rows.
-use crate::nodes::field;
 use bits::bit;
 use bits::with_bit;
+use charts::field;
 ghost use mathlib.Core.Path.{_≡_};
 ghost use mathlib.Core.Bool.{_&&_, not};
 ghost use Prim.Native.Nat.{ℕ, _+_, _≤_, _<_, min};

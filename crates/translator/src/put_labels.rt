@@ -1,6 +1,6 @@
 // Header, entries and labels of the image, written as frames.
 use crate::nodes::begin;
-use crate::nodes::field;
+use charts::field;
 use frames::put_frame;
 ghost use mathlib.Core.Path.{_≡_};
 ghost use mathlib.Core.Bool.{not};

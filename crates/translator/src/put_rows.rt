@@ -1,8 +1,8 @@
 // The rows of all labels, written as frames. Each function returns the place after what it wrote.
-use crate::nodes::field;
 use crate::paths::ends_path;
 use crate::paths::settle;
 use bits::with_bit;
+use charts::field;
 use frames::put_frame;
 ghost use mathlib.Core.Path.{_≡_};
 ghost use Prim.Native.Nat.{_+_, _≤_, _<_};

@@ -1,7 +1,7 @@
 // The rows of all labels, counted up to a limit.
-use crate::nodes::field;
 use crate::paths::count_paths;
 use bits::with_bit;
+use charts::field;
 ghost use mathlib.Core.Path.{_≡_};
 ghost use Prim.Native.Nat.{ℕ, _≤_, _<_, min};
 ghost use lib.Bits.{bitAnd};

@@ -1,50 +1,42 @@
 use borrow.Author.Needs.{needs}
-use Prim.Native.Nat.{ℕ, _-_, _+_, _≤_}
-use mathlib.Core.Path.{_≡_, sym, _∙_, ap}
-use native.Mathlib.Omega.{arith}
-use Rattle.lists.specs.Numbers.{any}
-use Rattle.lists.proofs.Searches.{any-here, any-on, any-over}
-use Rattle.charts.specs.Check.{badScheme}
+use mathlib.Core.Path.{_∙_}
+use Rattle.charts.proofs.Tables.{bad-counts}
 use Rattle.charts.proofs.schemes.any_bad_scheme.Statement.{statement}
 use Rattle.charts.proofs.schemes.any_bad_scheme.Tie as tie
 
-abbrev Inv-loop : tie.InvT-loop
-Inv-loop records highest scheme₀ scheme = (scheme ≤ highest) × (any (badScheme records) (scheme + 1) (highest + 1 - (scheme + 1)) ≡ any (badScheme records) 1 highest)
+slice-aggregate-count-by-scheme : tie.Need-slice-aggregate-count-by-scheme
+slice-aggregate-count-by-scheme c = search needs
 
-abbrev μ-loop : tie.MeasureT-loop
-μ-loop records highest scheme₀ scheme = highest - scheme
+count-by-scheme-requires : tie.Need-count-by-scheme-requires
+count-by-scheme-requires c κs = search needs
 
-loop-holds : tie.Need-loop-holds Inv-loop μ-loop
-loop-holds c = let e : c .before .args .highest + 1 - 1 ≡ c .before .args .highest = omega arith in (search needs, ap (λ (k : ℕ). any (badScheme (c .before .args .records .now)) 1 k) e)
+slice-aggregate-count-by-scheme-2 : tie.Need-slice-aggregate-count-by-scheme-2
+slice-aggregate-count-by-scheme-2 c = search needs
 
-add-scheme : tie.Need-add-scheme Inv-loop μ-loop
-add-scheme c = search needs
+count-by-scheme-requires-2 : tie.Need-count-by-scheme-requires-2
+count-by-scheme-requires-2 c κs = search needs
 
-bad-scheme-requires : tie.Need-bad-scheme-requires Inv-loop μ-loop
-bad-scheme-requires c κs = search needs
+slice-aggregate-any-not-one : tie.Need-slice-aggregate-any-not-one
+slice-aggregate-any-not-one c = search needs
 
-returns : tie.Need-returns Inv-loop μ-loop
-returns c = sym (any-here _ (c .before .before .before .before .before .args .highest + 1) (c .before .before .before .loop .scheme + 1) (search needs) (sym (c .before .bad-scheme .ensures) ∙ c .if1 .taken)) ∙ c .before .before .before .loop .inv .1
+slice-aggregate-any-not-one-2 : tie.Need-slice-aggregate-any-not-one-2
+slice-aggregate-any-not-one-2 c = search needs
 
-loop-less : tie.Need-loop-less Inv-loop μ-loop
-loop-less c = search needs
+any-not-one-requires : tie.Need-any-not-one-requires
+any-not-one-requires c κs = search needs
 
-loop-again : tie.Need-loop-again Inv-loop μ-loop
-loop-again c = (search needs, sym (any-on _ (c .before .before .before .before .before .args .highest + 1) (c .before .before .before .loop .scheme + 1) (search needs) (sym (c .before .bad-scheme .ensures) ∙ c .if1 .left)) ∙ c .before .before .before .loop .inv .1)
-
-returns-2 : tie.Need-returns-2 Inv-loop μ-loop
-returns-2 c = sym (any-over _ (c .before .before .before .args .highest + 1) (c .before .loop .scheme + 1) (search needs)) ∙ c .before .loop .inv .1
+returns : tie.Need-returns
+returns c = c .any-not-one .ensures ∙ bad-counts (c .before .before .before .before .before .before .before .before .before .before .args .records .now) _ _ (c .before .before .before .before .before .before .before .before .before .before .args .highest) (c .before .before .before .before .before .before .before .count-by-scheme .ensures) (c .before .before .before .before .count-by-scheme2 .ensures) (search needs)
 
 pub any-bad-scheme-spec : {M : Type 1} → statement M
 any-bad-scheme-spec =
     tie.close
     (tie.spec
-    Inv-loop
-    μ-loop
-    loop-holds
-    add-scheme
-    bad-scheme-requires
-    returns
-    loop-less
-    loop-again
-    returns-2)
+    slice-aggregate-count-by-scheme
+    count-by-scheme-requires
+    slice-aggregate-count-by-scheme-2
+    count-by-scheme-requires-2
+    slice-aggregate-any-not-one
+    slice-aggregate-any-not-one-2
+    any-not-one-requires
+    returns)

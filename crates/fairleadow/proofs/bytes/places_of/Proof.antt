@@ -2,7 +2,7 @@
 use Prim.Native.Nat.{_+_, _-_}
 use borrow.Author.Needs.{needs}
 use mathlib.Core.Path.{refl}
-use Rattle.fairleadow.proofs.Arrays.{Filled, filled-none, filled-turn, filled-all}
+use Rattle.lists.proofs.Arrays.{Filled, filled-none, filled-turn, filled-all}
 use Rattle.fairleadow.specs.Bytes.{placeIn}
 use Rattle.fairleadow.proofs.bytes.places_of.Statement.{statement}
 use Rattle.fairleadow.proofs.bytes.places_of.Tie as tie

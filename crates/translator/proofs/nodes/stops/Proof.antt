@@ -1,7 +1,8 @@
 use Rattle.translator.proofs.NodeSteps.{condition-second, condition-first}
 -- `translator::stops`: by kind.
 use mathlib.Core.Path.{sym, _∙_}
-use Rattle.translator.proofs.NodeSteps.{stops-begin, stops-other, begin-asks}
+use Rattle.walk.proofs.Follow.{stops-begin, stops-other}
+use Rattle.translator.proofs.NodeSteps.{begin-asks}
 use borrow.Author.Needs.{needs}
 use Rattle.translator.proofs.nodes.stops.Statement.{statement}
 use Rattle.translator.proofs.nodes.stops.Tie as tie

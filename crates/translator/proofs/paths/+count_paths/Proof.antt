@@ -11,7 +11,7 @@ use Rattle.translator.proofs.paths.count_paths.Reads as count-paths
 use Rattle.translator.proofs.paths.count_paths.Kinds as count-paths-kinds
 use Rattle.translator.proofs.paths.+count_paths.Lts-count_paths as count-paths-lts
 use Rattle.bits.proofs.with_bit.Reads as with-bit-reads
-use Rattle.translator.proofs.nodes.field.Reads as field-reads
+use Rattle.charts.proofs.field.Reads as field-reads
 use Rattle.translator.proofs.paths.ends_path.Reads as ends-path-reads
 use Rattle.translator.proofs.paths.settle.Reads as settle-reads
 use Rattle.translator.proofs.paths.+count_paths.{statement}

@@ -12,7 +12,7 @@ use Rattle.translator.proofs.put_rows.put_paths.Reads as put-paths
 use Rattle.translator.proofs.put_rows.put_paths.Kinds as put-paths-kinds
 use Rattle.translator.proofs.put_rows.+put_paths.Lts-put_paths as put-paths-lts
 use Rattle.bits.proofs.with_bit.Reads as with-bit-reads
-use Rattle.translator.proofs.nodes.field.Reads as field-reads
+use Rattle.charts.proofs.field.Reads as field-reads
 use Rattle.translator.proofs.paths.ends_path.Reads as ends-path-reads
 use Rattle.translator.proofs.paths.settle.Reads as settle-reads
 use Rattle.translator.proofs.put_rows.put_row.Reads as put-row-reads

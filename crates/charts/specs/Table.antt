@@ -1,0 +1,19 @@
+-- Tables: a number for each of n places.
+use Prim.Native.Nat.{ℕ}
+use mathlib.Core.Bool.{Bool, _&&_, not}
+use mathlib.Core.List.{List, map}
+use lib.Dec.{eqb}
+use lib.ListN.{getD}
+use Rattle.lists.specs.Numbers.{range, count}
+use Rattle.charts.specs.Chart.{Chart, isOf}
+
+unfoldable pub table : (ℕ → ℕ) → ℕ → List ℕ
+table f n = map f (range 0 n)
+
+-- for each scheme, a byte, how many of the first v nodes are of kind k
+abbrev pub countsTo : Chart → ℕ → ℕ → List ℕ
+countsTo c k v = table (λ h. count (isOf c k h) 0 v) 256
+
+-- by the counts of Begins and of Ends, scheme h has not exactly one of each
+abbrev pub notOne : List ℕ → List ℕ → ℕ → Bool
+notOne begins ends h = not (eqb (getD begins h 0) 1 && eqb (getD ends h 0) 1)
