@@ -15,13 +15,13 @@ use Rattle.lists.proofs.Searches.{any-false, any-true, any-none, some-cons}
 use Rattle.graph.specs.Reach.{member, marked, joinedFrom}
 use Rattle.graph.proofs.Closure.{Closed, joined-least}
 use Rattle.graph.proofs.Rank.{rank, rank-le, rank-some, rank-falls}
+use Rattle.lists.proofs.Tabulated.{getD-tabulate, length-tabulate}
 use Rattle.frames.specs.Frame.{size}
 use Rattle.charts.specs.Chart.{Chart, kind, next0, next1, is}
 use Rattle.charts.specs.Check.{arcs, conditionArcs, onCircle}
 use Rattle.charts.specs.Rank.{settled, ready, rankAfter, ranksOf, unranked, Ranked}
 use Rattle.charts.proofs.Nodes.{arcs-condition, in-arcs0, in-arcs1}
 use Rattle.charts.proofs.Meaning.{condition-arcs, leaves-condition, member-only}
-use Rattle.charts.proofs.Tables.{table-at, table-long}
 use Rattle.charts.proofs.Rounds.{Ready, ready-parts, rank-new, rank-keep, rank-first, rank-stays, a-node}
 
 module _ (c : Chart) (whole : length c ≡ 10 * size c) where
@@ -152,7 +152,7 @@ module _ (c : Chart) (whole : length c ≡ 10 * size c) where
 -- ---- what the test for conditions without a rank tells
 module _ (c : Chart) (ranks : List ℕ) (e : ranks ≡ ranksOf c) (whole : length c ≡ 10 * size c) (few : size c ≤ 256) where
   at : (v : ℕ) → v < size c → getD ranks v 0 ≡ rankAfter c 255 v
-  at v l = ap (λ (xs : List ℕ). getD xs v 0) e ∙ table-at (rankAfter c 255) 256 v (omega arith)
+  at v l = ap (λ (xs : List ℕ). getD xs v 0) e ∙ getD-tabulate (rankAfter c 255) 256 v (omega arith)
 
   given : any (unranked c ranks) 0 (size c) ≡ false → (v : ℕ) → v < size c → is c 3 v ≡ true → 0 < rankAfter c 255 v
   given n v l i = ⊎-elim (λ (p : 0 < rankAfter c 255 v). p)
@@ -163,7 +163,7 @@ module _ (c : Chart) (ranks : List ℕ) (e : ranks ≡ ranksOf c) (whole : lengt
 
   pub ranked : any (unranked c ranks) 0 (size c) ≡ false → Ranked c ranks
   ranked n = record {
-    whole = ap (λ (xs : List ℕ). length xs) e ∙ table-long (rankAfter c 255) 256;
+    whole = ap (λ (xs : List ℕ). length xs) e ∙ length-tabulate (rankAfter c 255) 256;
     falls = λ v u l k s ku.
         let iu : is c 3 u ≡ true = eq-eqb (kind c u) 3 ku in
         let lu : u < size c = a-node c whole u iu in

@@ -15,10 +15,10 @@ use Rattle.lists.specs.Pick.{pick}
 use Rattle.lists.specs.Numbers.{count}
 use Rattle.lists.proofs.Tests.{no-both, and-l, and-r, yes-pick, no-pick, cases, split}
 use Rattle.lists.proofs.Counts.{count-some}
+use Rattle.lists.proofs.Tabulated.{length-tabulate, getD-tabulate, tabulate-alike, tabulate-set, tabulate-none}
 use Rattle.frames.specs.Frame.{size}
 use Rattle.charts.specs.Chart.{Chart, kind, next0, next1, is}
 use Rattle.charts.specs.Rank.{settled, ready, rankAfter, ranksAfter, ranksWithin, ranksOf}
-use Rattle.charts.proofs.Tables.{table-long, table-at, table-alike, table-set, table-none}
 
 module _ (c : Chart) where
   -- ---- what makes a node ready
@@ -89,19 +89,19 @@ module _ (c : Chart) where
   within k v u = pick (ltb u v) (rankAfter c (suc k) u) (rankAfter c k u)
 
   pub within-at : (k v u : ℕ) (ranks : List ℕ) → ranks ≡ ranksWithin c k v → u < 256 → getD ranks u 0 ≡ pick (ltb u v) (rankAfter c (suc k) u) (rankAfter c k u)
-  within-at k v u ranks e l = ap (λ (xs : List ℕ). getD xs u 0) e ∙ table-at (within k v) 256 u l
+  within-at k v u ranks e l = ap (λ (xs : List ℕ). getD xs u 0) e ∙ getD-tabulate (within k v) 256 u l
 
   pub within-long : (k v : ℕ) (ranks : List ℕ) → ranks ≡ ranksWithin c k v → length ranks ≡ 256
-  within-long k v ranks e = ap (λ (xs : List ℕ). length xs) e ∙ table-long (within k v) 256
+  within-long k v ranks e = ap (λ (xs : List ℕ). length xs) e ∙ length-tabulate (within k v) 256
 
   pub after-long : (k : ℕ) (ranks : List ℕ) → ranks ≡ ranksAfter c k → length ranks ≡ 256
-  after-long k ranks e = ap (λ (xs : List ℕ). length xs) e ∙ table-long (rankAfter c k) 256
+  after-long k ranks e = ap (λ (xs : List ℕ). length xs) e ∙ length-tabulate (rankAfter c k) 256
 
   pub rounds-start : (ranks : List ℕ) → ranks ≡ replicate 256 0 → ranks ≡ ranksAfter c 0
-  rounds-start ranks e = e ∙ table-none (rankAfter c 0) 256 rank-first
+  rounds-start ranks e = e ∙ tabulate-none (rankAfter c 0) 256 rank-first
 
   pub round-start : (k : ℕ) (ranks : List ℕ) → ranks ≡ ranksAfter c k → ranks ≡ ranksWithin c k 0
-  round-start k ranks e = e ∙ table-alike (rankAfter c k) (within k 0) 256 (λ u l. sym (no-pick (ltb u 0) (rankAfter c (suc k) u) (rankAfter c k u) (le-ltb u 0 (omega arith))))
+  round-start k ranks e = e ∙ tabulate-alike (rankAfter c k) (within k 0) 256 (λ u l. sym (no-pick (ltb u 0) (rankAfter c (suc k) u) (rankAfter c k u) (le-ltb u 0 (omega arith))))
 
   others : (k v u : ℕ) → (u ≡ v → ⊥) → within k v u ≡ within k (v + 1) u
   others k v u n = ap (λ b. pick b (rankAfter c (suc k) u) (rankAfter c k u)) (⊎-elim
@@ -117,10 +117,10 @@ module _ (c : Chart) where
   pub round-ready : (k v : ℕ) (ranks : List ℕ) → ranks ≡ ranksWithin c k v → v < 256 → ready c (rankAfter c k) v ≡ true → set ranks v (k + 1) ≡ ranksWithin c k (v + 1)
   round-ready k v ranks e l t =
       ap (λ (xs : List ℕ). set xs v (k + 1)) e
-      ∙ table-set (within k v) (within k (v + 1)) 256 v (k + 1) l (add-one k ∙ sym (rank-new k v t) ∙ sym (here k v)) (others k v)
+      ∙ tabulate-set (within k v) (within k (v + 1)) 256 v (k + 1) l (add-one k ∙ sym (rank-new k v t) ∙ sym (here k v)) (others k v)
 
   pub round-pass : (k v : ℕ) (ranks : List ℕ) → ranks ≡ ranksWithin c k v → ready c (rankAfter c k) v ≡ false → ranks ≡ ranksWithin c k (v + 1)
-  round-pass k v ranks e t = e ∙ table-alike (within k v) (within k (v + 1)) 256 (λ u l. go u (ℕ-discrete u v))
+  round-pass k v ranks e t = e ∙ tabulate-alike (within k v) (within k (v + 1)) 256 (λ u l. go u (ℕ-discrete u v))
     where
       go : (u : ℕ) → Dec (u ≡ v) → within k v u ≡ within k (v + 1) u
       go u (yes q) = subst (λ (u : ℕ). within k v u ≡ within k (v + 1) u) (sym q) (before k v ∙ sym (rank-keep k v t) ∙ sym (here k v))
@@ -141,7 +141,7 @@ module _ (c : Chart) where
 
     pub round-end : (k v : ℕ) (ranks : List ℕ) → size c ≤ v → ranks ≡ ranksWithin c k v → ranks ≡ ranksAfter c (k + 1)
     round-end k v ranks l e =
-        e ∙ table-alike (within k v) (rankAfter c (suc k)) 256 (λ u lu. go u (split u v)) ∙ ap (λ (j : ℕ). ranksAfter c j) (sym (add-one k))
+        e ∙ tabulate-alike (within k v) (rankAfter c (suc k)) 256 (λ u lu. go u (split u v)) ∙ ap (λ (j : ℕ). ranksAfter c j) (sym (add-one k))
       where
         go : (u : ℕ) → (u < v) ⊎ (v ≤ u) → within k v u ≡ rankAfter c (suc k) u
         go u (inl h) = yes-pick (ltb u v) (rankAfter c (suc k) u) (rankAfter c k u) (lt-ltb u v h)
@@ -168,4 +168,4 @@ module _ (c : Chart) where
           (eq-or-lt-of-le l)
 
       pub rounds-end : k < 255 → (ranks : List ℕ) → ranks ≡ ranksAfter c (k + 1) → ranks ≡ ranksOf c
-      rounds-end l ranks e = e ∙ table-alike (rankAfter c (k + 1)) (rankAfter c 255) 256 (λ u lu. later (k + 1) (omega arith) u ∙ sym (later 255 (omega arith) u))
+      rounds-end l ranks e = e ∙ tabulate-alike (rankAfter c (k + 1)) (rankAfter c 255) 256 (λ u lu. later (k + 1) (omega arith) u ∙ sym (later 255 (omega arith) u))

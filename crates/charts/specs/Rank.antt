@@ -7,10 +7,10 @@ use lib.Dec.{ltb, eqb}
 use lib.ListN.{length, getD}
 use Rattle.lists.specs.Pick.{pick}
 use Rattle.graph.specs.Reach.{member}
+use Rattle.lists.specs.Numbers.{tabulate}
 use Rattle.frames.specs.Frame.{size}
 use Rattle.charts.specs.Chart.{Chart, kind, next0, next1, is}
 use Rattle.charts.specs.Check.{arcs}
-use Rattle.charts.specs.Table.{table}
 
 -- node u is no condition, or has a rank; 0 is none
 abbrev pub settled : Chart → (ℕ → ℕ) → ℕ → Bool
@@ -27,10 +27,10 @@ rankAfter c (suc k) v = pick (ready c (rankAfter c k) v) (suc k) (rankAfter c k 
 
 -- the ranks after k rounds, and within the round after these, at node v
 abbrev pub ranksAfter : Chart → ℕ → List ℕ
-ranksAfter c k = table (rankAfter c k) 256
+ranksAfter c k = tabulate (rankAfter c k) 256
 
 abbrev pub ranksWithin : Chart → ℕ → ℕ → List ℕ
-ranksWithin c k v = table (λ u. pick (ltb u v) (rankAfter c (suc k) u) (rankAfter c k u)) 256
+ranksWithin c k v = tabulate (λ u. pick (ltb u v) (rankAfter c (suc k) u) (rankAfter c k u)) 256
 
 -- 255 rounds are enough: a chart of 256 nodes has one that is no condition, or a circle
 abbrev pub ranksOf : Chart → List ℕ

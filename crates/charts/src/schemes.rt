@@ -7,7 +7,7 @@ ghost use Rattle.lists.specs.Numbers.{any};
 ghost use Rattle.frames.specs.Frame.{size};
 ghost use Rattle.charts.specs.Chart.{schemes};
 ghost use Rattle.charts.specs.Check.{badScheme};
-ghost use Rattle.charts.specs.Table.{countsTo, notOne};
+ghost use Rattle.charts.specs.Counts.{countsTo, notOne};
 
 // H, the largest scheme of a node.
 pub fn highest_scheme(records: &[u8]) -> u8

@@ -7,8 +7,8 @@ use native.Mathlib.Omega.{arith}
 use lib.ListN.{length, getD}
 use borrow.Author.Tests.{le-ltb, lt-ltb, le-leb, lt-leb}
 use Rattle.lists.proofs.Tests.{split}
-use Rattle.lists.proofs.Ranges.{length-map-range, getD-map-range}
-use Rattle.frames.specs.Digit.{digitOf, digitTable, charOf}
+use Rattle.lists.proofs.Tabulated.{length-tabulate, getD-tabulate}
+use Rattle.frames.specs.Digit.{digitOf, digitTable, charOf, characterTable}
 use Rattle.frames.specs.Frame.{byteText}
 
 pub digit-low : (c : ℕ) → 48 ≤ c → c ≤ 57 → digitOf c ≡ c - 48
@@ -60,13 +60,22 @@ char-digit c h =
 
 -- the digit of each character stands at its place of the table
 module _ (table : List ℕ) (is : table ≡ digitTable) where
-  pub table-length : length table ≡ 256
+  pub digits-length : length table ≡ 256
   unfolding digitTable
-  table-length = ap length is ∙ length-map-range digitOf 0 256
+  digits-length = ap length is ∙ length-tabulate digitOf 256
 
-  pub table-at : (c : ℕ) → c < 256 → getD table c 0 ≡ digitOf c
+  pub digits-at : (c : ℕ) → c < 256 → getD table c 0 ≡ digitOf c
   unfolding digitTable
-  table-at c h = ap (λ (xs : List ℕ). getD xs c 0) is ∙ getD-map-range digitOf 0 0 256 c h ∙ ap digitOf (omega arith)
+  digits-at c h = ap (λ (xs : List ℕ). getD xs c 0) is ∙ getD-tabulate digitOf 256 c h
+
+module _ (table : List ℕ) (is : table ≡ characterTable) where
+  pub characters-length : length table ≡ 16
+  unfolding characterTable
+  characters-length = ap length is ∙ length-tabulate charOf 16
+
+  pub characters-at : (d : ℕ) → d < 16 → getD table d 0 ≡ charOf d
+  unfolding characterTable
+  characters-at d h = ap (λ (xs : List ℕ). getD xs d 0) is ∙ getD-tabulate charOf 16 d h
 
 -- the two characters of a byte
 pub pair-digit : (b t : ℕ) → b < 256 → t < 2 → digitOf (getD (byteText b) t 0) < 16

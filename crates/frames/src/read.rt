@@ -4,7 +4,7 @@ use crate::Byte;
 use crate::Faults;
 use crate::Lowest;
 use crate::characters::digit;
-use crate::characters::digits;
+use crate::characters::digit_table;
 use crate::check::bad_length;
 ghost use mathlib.Core.Path.{_≡_};
 ghost use Prim.Native.Nat.{_+_, _*_, _≤_, _<_};
@@ -65,7 +65,7 @@ fn read_frames(text: &[u8], n: usize, out: &mut [u8]) -> Lowest
     requires { ⌜ 10 * n ≤ length (now out) ⌝ }
     ensures { λ r. ⌜ (r .form ≡ lowest (badForm (now (text .entry))) 0 n) × (r .sum ≡ lowest (badSum (now (text .entry))) 0 n) × (now (out .exit) ≡ over (concatMap (storedOf (now (text .entry))) (range 0 n)) (now (out .entry))) ⌝ }
 {
-    let digits = digits();
+    let digits = digit_table();
     let mut form = n;
     let mut sum = n;
     let mut f = n;

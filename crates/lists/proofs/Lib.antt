@@ -7,3 +7,4 @@ pub mod Written
 pub mod Fills
 pub mod Filters
 pub mod Arrays
+pub mod Tabulated

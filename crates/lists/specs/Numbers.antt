@@ -1,12 +1,16 @@
 -- Functions and tests over n numbers from i on.
 use Prim.Native.Nat.{ℕ, zero, suc, _+_, max}
 use mathlib.Core.Bool.{Bool, true, false, _||_}
-use mathlib.Core.List.{List, [], _∷_}
+use mathlib.Core.List.{List, [], _∷_, map}
 use Rattle.lists.specs.Pick.{pick}
 
 abbrev pub range : ℕ → ℕ → List ℕ
 range i zero = []
 range i (suc n) = i ∷ range (suc i) n
+
+-- f of 0 to n - 1
+unfoldable pub tabulate : (ℕ → ℕ) → ℕ → List ℕ
+tabulate f n = map f (range 0 n)
 
 -- the lowest that passes the test, or i + n where none does
 unfoldable pub lowest : (ℕ → Bool) → ℕ → ℕ → ℕ

@@ -1,6 +1,6 @@
 use borrow.Author.Needs.{needs}
 use mathlib.Core.Path.{_∙_}
-use Rattle.charts.proofs.Tables.{bad-counts}
+use Rattle.charts.proofs.SchemeCounts.{bad-counts}
 use Rattle.charts.proofs.schemes.any_bad_scheme.Statement.{statement}
 use Rattle.charts.proofs.schemes.any_bad_scheme.Tie as tie
 

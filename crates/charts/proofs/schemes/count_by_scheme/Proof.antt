@@ -6,8 +6,8 @@ use mathlib.Core.Logic.{⊎-elim}
 use native.Mathlib.Omega.{arith}
 use lib.ListN.{length, length-replicate}
 use Rattle.frames.specs.Frame.{size}
-use Rattle.charts.specs.Table.{countsTo}
-use Rattle.charts.proofs.Tables.{counts-start, counts-long, counts-low, counts-pass, counts-more}
+use Rattle.charts.specs.Counts.{countsTo}
+use Rattle.charts.proofs.SchemeCounts.{counts-start, counts-long, counts-low, counts-pass, counts-more}
 use Rattle.charts.proofs.schemes.count_by_scheme.Statement.{statement}
 use Rattle.charts.proofs.schemes.count_by_scheme.Tie as tie
 

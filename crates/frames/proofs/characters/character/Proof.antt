@@ -1,23 +1,15 @@
--- `frames::characters::character` meets its contract: each branch is a case of the rule.
-use borrow.Author.Tests.{lt-ltb, le-ltb}
+-- `frames::characters::character` meets its contract: a digit is a place of the table.
+use native.Mathlib.Omega.{arith}
 use borrow.Author.Needs.{needs}
-use Rattle.frames.specs.Digit.{charOf}
+use Rattle.frames.proofs.Digits.{characters-length, characters-at}
 use Rattle.frames.proofs.characters.character.Statement.{statement}
 use Rattle.frames.proofs.characters.character.Tie as tie
 
-add-result : tie.Need-add-result
-add-result c = search needs
-
-add-result-2 : tie.Need-add-result-2
-add-result-2 c = search needs
+shared-slice-read-result : tie.Need-shared-slice-read-result
+shared-slice-read-result c = omega (arith, characters-length _ (c .before .pre .0))
 
 returns : tie.Need-returns
-unfolding charOf
-returns c = simp (lt-ltb _ _ (c .if1 .taken))
-
-returns-2 : tie.Need-returns-2
-unfolding charOf
-returns-2 c = simp (le-ltb _ _ (c .if1 .left))
+returns c = characters-at _ (c .before .pre .0) _ (search needs)
 
 pub character-spec : {M : Type 1} → statement M
-character-spec = tie.close (tie.spec add-result add-result-2 returns returns-2)
+character-spec = tie.close (tie.spec shared-slice-read-result returns)

@@ -14,11 +14,11 @@ Inv-loop text n out₀ digits form₀ sum₀ f₀ out form sum f = (digits ≡ d
 abbrev μ-loop : tie.MeasureT-loop
 μ-loop text n out₀ digits form₀ sum₀ f₀ out form sum f = f
 
-digits-requires : tie.Need-digits-requires Inv-loop μ-loop
-digits-requires c κs = search needs
+digit-table-requires : tie.Need-digit-table-requires Inv-loop μ-loop
+digit-table-requires c κs = search needs
 
 loop-holds : tie.Need-loop-holds Inv-loop μ-loop
-loop-holds c = (c .digits .ensures, frames-none _ _ _)
+loop-holds c = (c .digit-table .ensures, frames-none _ _ _)
 
 sub-f : tie.Need-sub-f Inv-loop μ-loop
 sub-f c = search needs
@@ -65,7 +65,7 @@ read-frames-spec =
     (tie.spec
     Inv-loop
     μ-loop
-    digits-requires
+    digit-table-requires
     loop-holds
     sub-f
     slice-aggregate-read-frame

@@ -1,23 +1,31 @@
 -- `frames::write::put_frame` meets its contract: the characters of the bytes passed stand in the buffer, and the sum is theirs.
 use Prim.Native.Nat.{_-_}
+use mathlib.Core.Path.{_≡_}
 use native.Mathlib.Omega.{arith}
 use lib.ListN.{length-set}
 use borrow.Author.Needs.{needs}
+use Rattle.frames.specs.Digit.{characterTable}
 use Rattle.frames.proofs.FrameLoops.{Digits, digits-none, digits-turn, digits-end}
 use Rattle.frames.proofs.write.put_frame.Statement.{statement}
 use Rattle.frames.proofs.write.put_frame.Tie as tie
 
 abbrev Inv-loop : tie.InvT-loop
-Inv-loop out₀ at bytes sum₀ k₀ out sum k = Digits out₀ bytes out at sum k
+Inv-loop out₀ at bytes characters sum₀ k₀ out sum k = (characters ≡ characterTable) × Digits out₀ bytes out at sum k
 
 abbrev μ-loop : tie.MeasureT-loop
-μ-loop out₀ at bytes sum₀ k₀ out sum k = 10 - k
+μ-loop out₀ at bytes characters sum₀ k₀ out sum k = 10 - k
+
+character-table-requires : tie.Need-character-table-requires Inv-loop μ-loop
+character-table-requires c κs = search needs
 
 loop-holds : tie.Need-loop-holds Inv-loop μ-loop
-loop-holds c = digits-none _ _ _
+loop-holds c = (c .character-table .ensures, digits-none _ _ _)
 
 shared-slice-read-b : tie.Need-shared-slice-read-b Inv-loop μ-loop
 shared-slice-read-b c = search needs
+
+slice-aggregate-put-byte : tie.Need-slice-aggregate-put-byte Inv-loop μ-loop
+slice-aggregate-put-byte c = search needs
 
 mul-put-byte : tie.Need-mul-put-byte Inv-loop μ-loop
 mul-put-byte c = search needs
@@ -29,10 +37,10 @@ put-byte-requires : tie.Need-put-byte-requires Inv-loop μ-loop
 put-byte-requires c κs = search needs
 
 cast-sum : tie.Need-cast-sum Inv-loop μ-loop
-cast-sum c = omega (arith, c .before .before .before .before .shared-slice-known2 .given (c .before .before .before .before .before .before .loop .k))
+cast-sum c = omega (arith, c .before .before .before .before .before .shared-slice-known2 .given (c .before .before .before .before .before .before .before .loop .k))
 
 add-sum : tie.Need-add-sum Inv-loop μ-loop
-add-sum c = omega (arith, c .before .before .before .before .shared-slice-known2 .given (c .before .before .before .before .before .before .loop .k))
+add-sum c = omega (arith, c .before .before .before .before .before .shared-slice-known2 .given (c .before .before .before .before .before .before .before .loop .k))
 
 add-k : tie.Need-add-k Inv-loop μ-loop
 add-k c = search needs
@@ -41,7 +49,16 @@ loop-less : tie.Need-loop-less Inv-loop μ-loop
 loop-less c = search needs
 
 loop-again : tie.Need-loop-again Inv-loop μ-loop
-loop-again c = digits-turn _ _ _ _ _ _ _ (search needs) (c .before .before .before .before .before .before .loop .inv) (search needs) (omega (arith, c .before .before .before .before .shared-slice-known2 .given (c .before .before .before .before .before .before .loop .k))) (c .before .before .put-byte .kept .0) (c .before .before .put-byte .ensures)
+loop-again c =
+    let before = c .before .before .before .before .before .before .before .loop .inv in (
+      before .0,
+      digits-turn _ _ _ _ _ _ _ (search needs) (before .1) (search needs)
+          (omega (arith, c .before .before .before .before .before .shared-slice-known2 .given (c .before .before .before .before .before .before .before .loop .k)))
+          (c .before .before .put-byte .kept .1 .0) (c .before .before .put-byte .ensures),
+    )
+
+slice-aggregate-put-byte-2 : tie.Need-slice-aggregate-put-byte-2 Inv-loop μ-loop
+slice-aggregate-put-byte-2 c = search needs
 
 add-put-byte-2 : tie.Need-add-put-byte-2 Inv-loop μ-loop
 add-put-byte-2 c = search needs
@@ -59,13 +76,13 @@ add-out : tie.Need-add-out Inv-loop μ-loop
 add-out c = search needs
 
 slice-write-out : tie.Need-slice-write-out Inv-loop μ-loop
-slice-write-out c = omega (arith, c .before .before .put-byte2 .kept .0)
+slice-write-out c = omega (arith, c .before .before .put-byte2 .kept .1 .0)
 
 same-length : tie.Need-same-length Inv-loop μ-loop
-same-length c = simp length-set (omega (arith, c .before .before .put-byte2 .kept .0))
+same-length c = simp length-set (omega (arith, c .before .before .put-byte2 .kept .1 .0))
 
 returns : tie.Need-returns Inv-loop μ-loop
-returns c = digits-end _ _ _ _ _ _ _ (search needs) (c .before .before .before .before .before .loop .inv) (search needs) (search needs) (c .before .before .put-byte2 .ensures)
+returns c = digits-end _ _ _ _ _ _ _ (search needs) (c .before .before .before .before .before .before .loop .inv .1) (search needs) (search needs) (c .before .before .put-byte2 .ensures)
 
 pub put-frame-spec : {M : Type 1} → statement M
 put-frame-spec =
@@ -73,8 +90,10 @@ put-frame-spec =
     (tie.spec
     Inv-loop
     μ-loop
+    character-table-requires
     loop-holds
     shared-slice-read-b
+    slice-aggregate-put-byte
     mul-put-byte
     add-put-byte
     put-byte-requires
@@ -83,6 +102,7 @@ put-frame-spec =
     add-k
     loop-less
     loop-again
+    slice-aggregate-put-byte-2
     add-put-byte-2
     sub-put-byte
     cast-put-byte

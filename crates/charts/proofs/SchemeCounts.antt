@@ -1,4 +1,4 @@
--- Laws of tables, and the counts of refusal 5.
+-- The counts of refusal 5: one node more, and a scheme by its counts.
 use mathlib.Core.Path.{_≡_, refl, sym, _∙_, ap}
 use mathlib.Core.Bool.{Bool, true, false, _&&_}
 use mathlib.Core.List.{List}
@@ -8,69 +8,42 @@ use native.Mathlib.Decide.{ℕ-discrete}
 use native.Mathlib.Omega.{arith}
 use lib.Dec.{eqb}
 use lib.ListN.{length, getD, set, replicate, length-set, length-replicate, getD-replicate}
-use lib.Seq.{ext-getD, getD-set-same, getD-set-other}
 use borrow.Author.Tests.{eq-eqb, ne-eqb}
 use Rattle.lists.specs.Numbers.{any, count}
 use Rattle.lists.proofs.Tests.{and-true, and-no}
 use Rattle.lists.proofs.Counts.{count-le, count-yes, count-pass}
-use Rattle.lists.proofs.Ranges.{length-map-range, getD-map-range}
+use Rattle.lists.proofs.Tabulated.{length-tabulate, getD-tabulate, tabulate-alike, tabulate-set, tabulate-none}
 use Rattle.frames.specs.Frame.{size}
 use Rattle.charts.specs.Chart.{Chart, kind, scheme, is, isOf}
 use Rattle.charts.specs.Check.{badScheme}
-use Rattle.charts.specs.Table.{table, countsTo, notOne}
-
-pub table-long : (f : ℕ → ℕ) (n : ℕ) → length (table f n) ≡ n
-unfolding table
-table-long f n = length-map-range f 0 n
-
-pub table-at : (f : ℕ → ℕ) (n u : ℕ) → u < n → getD (table f n) u 0 ≡ f u
-unfolding table
-table-at f n u l = getD-map-range f 0 0 n u l ∙ ap f (zero-add u)
-
--- a list with these numbers
-table-is : (f : ℕ → ℕ) (n : ℕ) (xs : List ℕ) → length xs ≡ n → ((u : ℕ) → u < n → getD xs u 0 ≡ f u) → xs ≡ table f n
-table-is f n xs e h = ext-getD 0 xs (table f n) (e ∙ sym (table-long f n)) (λ u l. h u (omega arith) ∙ sym (table-at f n u (omega arith)))
-
-pub table-alike : (f g : ℕ → ℕ) (n : ℕ) → ((u : ℕ) → u < n → f u ≡ g u) → table f n ≡ table g n
-table-alike f g n h = table-is g n (table f n) (table-long f n) (λ u l. table-at f n u l ∙ h u l)
-
-pub table-set : (f g : ℕ → ℕ) (n v x : ℕ) → v < n → x ≡ g v → ((u : ℕ) → (u ≡ v → ⊥) → f u ≡ g u) → set (table f n) v x ≡ table g n
-table-set f g n v x l e h = table-is g n (set (table f n) v x) (length-set (table f n) v x ∙ table-long f n) (λ u lu. go u lu (ℕ-discrete u v))
-  where
-    go : (u : ℕ) → u < n → Dec (u ≡ v) → getD (set (table f n) v x) u 0 ≡ g u
-    go u lu (yes q) =
-        ap (λ (k : ℕ). getD (set (table f n) v x) k 0) q ∙ getD-set-same (table f n) v x 0 (omega (arith, table-long f n)) ∙ e ∙ ap g (sym q)
-    go u lu (no q) = getD-set-other (table f n) v u x 0 q ∙ table-at f n u lu ∙ h u q
-
-pub table-none : (f : ℕ → ℕ) (n : ℕ) → ((u : ℕ) → f u ≡ 0) → replicate n 0 ≡ table f n
-table-none f n h = table-is f n (replicate n 0) (length-replicate n 0) (λ u l. getD-replicate n u 0 0 l ∙ sym (h u))
+use Rattle.charts.specs.Counts.{countsTo, notOne}
 
 -- ---- the counts of the first v nodes
 module _ (c : Chart) (k : ℕ) where
   pub counts-start : (counts : List ℕ) → counts ≡ replicate 256 0 → counts ≡ countsTo c k 0
   unfolding count
-  counts-start counts e = e ∙ table-none (λ h. count (isOf c k h) 0 0) 256 (λ u. refl)
+  counts-start counts e = e ∙ tabulate-none (λ h. count (isOf c k h) 0 0) 256 (λ u. refl)
 
   module _ (v : ℕ) (counts : List ℕ) (e : counts ≡ countsTo c k v) where
     pub counts-long : length counts ≡ 256
-    counts-long = ap (λ (xs : List ℕ). length xs) e ∙ table-long (λ h. count (isOf c k h) 0 v) 256
+    counts-long = ap (λ (xs : List ℕ). length xs) e ∙ length-tabulate (λ h. count (isOf c k h) 0 v) 256
 
     pub counts-at : (h : ℕ) → h < 256 → getD counts h 0 ≡ count (isOf c k h) 0 v
-    counts-at h l = ap (λ (xs : List ℕ). getD xs h 0) e ∙ table-at (λ h. count (isOf c k h) 0 v) 256 h l
+    counts-at h l = ap (λ (xs : List ℕ). getD xs h 0) e ∙ getD-tabulate (λ h. count (isOf c k h) 0 v) 256 h l
 
     pub counts-low : (h : ℕ) → h < 256 → getD counts h 0 ≤ v
     counts-low h l = omega (arith, counts-at h l, count-le (isOf c k h) 0 v)
 
     -- a node of another kind
     pub counts-pass : (x : ℕ) → x ≡ kind c v → (x ≡ k → ⊥) → counts ≡ countsTo c k (v + 1)
-    counts-pass x p n = e ∙ table-alike (λ h. count (isOf c k h) 0 v) (λ h. count (isOf c k h) 0 (v + 1)) 256
+    counts-pass x p n = e ∙ tabulate-alike (λ h. count (isOf c k h) 0 v) (λ h. count (isOf c k h) 0 (v + 1)) 256
         (λ h l. sym (count-pass (isOf c k h) v (ap (λ b. b && eqb (scheme c v) h) (ne-eqb (kind c v) k (λ q. n (p ∙ q))))))
 
     -- one of this kind counts for its scheme alone
     pub counts-more : (x h : ℕ) → x ≡ kind c v → x ≡ k → h ≡ scheme c v → h < 256 → set counts h (getD counts h 0 + 1) ≡ countsTo c k (v + 1)
     counts-more x h p q s l =
         ap (λ (xs : List ℕ). set xs h (getD counts h 0 + 1)) e
-        ∙ table-set (λ h. count (isOf c k h) 0 v) (λ h. count (isOf c k h) 0 (v + 1)) 256 h (getD counts h 0 + 1) l
+        ∙ tabulate-set (λ h. count (isOf c k h) 0 v) (λ h. count (isOf c k h) 0 (v + 1)) 256 h (getD counts h 0 + 1) l
         (ap (λ (y : ℕ). y + 1) (counts-at h l) ∙ sym (count-yes (isOf c k h) v (and-true (is c k v) (eqb (scheme c v) h) (eq-eqb (kind c v) k (sym p ∙ q)) (eq-eqb (scheme c v) h (sym s)))))
         (λ u n. sym (count-pass (isOf c k u) v (and-no (is c k v) (eqb (scheme c v) u) (ne-eqb (scheme c v) u (λ z. n (sym z ∙ sym s))))))
 

@@ -1,18 +1,15 @@
--- Tables: a number for each of n places.
+-- The Begins and the Ends of each scheme, counted.
 use Prim.Native.Nat.{ℕ}
 use mathlib.Core.Bool.{Bool, _&&_, not}
-use mathlib.Core.List.{List, map}
+use mathlib.Core.List.{List}
 use lib.Dec.{eqb}
 use lib.ListN.{getD}
-use Rattle.lists.specs.Numbers.{range, count}
+use Rattle.lists.specs.Numbers.{tabulate, count}
 use Rattle.charts.specs.Chart.{Chart, isOf}
-
-unfoldable pub table : (ℕ → ℕ) → ℕ → List ℕ
-table f n = map f (range 0 n)
 
 -- for each scheme, a byte, how many of the first v nodes are of kind k
 abbrev pub countsTo : Chart → ℕ → ℕ → List ℕ
-countsTo c k v = table (λ h. count (isOf c k h) 0 v) 256
+countsTo c k v = tabulate (λ h. count (isOf c k h) 0 v) 256
 
 -- by the counts of Begins and of Ends, scheme h has not exactly one of each
 abbrev pub notOne : List ℕ → List ℕ → ℕ → Bool
