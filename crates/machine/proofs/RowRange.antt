@@ -77,7 +77,7 @@ below-more : (b : List ℕ) (l m : ℕ) → l ≤ m → (f : ℕ) → reached b 
 below-more b l m h f e = lt-leb m (field b f 1) (omega (arith, leb-false l (field b f 1) e))
 
 -- ---- the loop over the labels
--- after l of them: behind f stand all rows that leave a label from l on
+-- after l of them: no row before frame f leaves a label from l on
 pub record Indexed (b firsts₀ firsts : List ℕ) (f l : ℕ) : Type 0 where
   pub values : Values (firstFrame b) firsts₀ firsts 0 257 l
   pub inside : f ≤ size b
@@ -151,49 +151,50 @@ module _ (b : List ℕ) (l w bit : ℕ) where
       ∙ trimmed (end - first) (all - end) first (λ k h. behind (first + (end - first) + k) (omega arith) (omega arith)))
 
 -- ---- an accepted table, by the frames that its labels' rows begin at
-module _ (b : List ℕ) (ok : tableVerdict b ≡ fine) (bytes : (k : ℕ) → getD b k 0 < 256) where
-  -- 12: rows never fall
-  rises : (f : ℕ) → rowsFrom b ≤ f → suc f < size b → field b f 1 ≤ field b (suc f) 1
-  rises f h g =
-      let k : ℕ = f - rowsFrom b in
-      let z : rowsFrom b + k ≡ f = omega arith in
-      let s : suc k < rowCount b = omega (arith, counted b ok .all) in
-      let p : nthRow (decoded b) k .from ≡ field b f 1 = ap (λ (r : Row). r .from) (row-read b k (omega arith)) ∙ ap (λ (i : ℕ). field b i 1) z in
-      let q : nthRow (decoded b) (suc k) .from ≡ field b (suc f) 1 = ap (λ (r : Row). r .from) (row-read b (suc k) s) ∙ ap (λ (i : ℕ). field b i 1) (omega arith) in
-      omega (arith, accepted-sound b ok bytes .rising k (omega (arith, rows-count b)))
-
-  rises-on : (f n : ℕ) → rowsFrom b ≤ f → f + n < size b → field b f 1 ≤ field b (f + n) 1
-  rises-on f zero h g = let e : field b f 1 ≡ field b (f + 0) 1 = ap (λ (i : ℕ). field b i 1) (sym (add-zero f)) in omega arith
-  rises-on f (suc n) h g =
-      let e : field b (suc (f + n)) 1 ≡ field b (f + suc n) 1 = ap (λ (i : ℕ). field b i 1) (omega arith) in
-      omega (arith, rises-on f n h (omega arith), rises (f + n) (omega arith) (omega arith))
-
+module _ (b : List ℕ) (ok : tableVerdict b ≡ fine) where
   first-inside : (l : ℕ) → firstFrame b l ≤ size b
   first-inside l = lowest-inside (reached b l) (rowsFrom b) (size b) (rows-inside b ok)
 
-  -- the rows of label l
-  module _ (l : ℕ) where
-    in-order : firstFrame b l ≤ firstFrame b (l + 1)
-    in-order =
-        let on : lowest (reached b (l + 1)) (firstFrame b l) (size b - firstFrame b l) ≡ firstFrame b (l + 1) =
-        lowest-from (reached b l) (rowsFrom b) (size b) (rows-inside b ok) (reached b (l + 1)) (below-more b l (l + 1) (omega arith)) in
-        omega (arith, lowest-above (reached b (l + 1)) (firstFrame b l) (size b - firstFrame b l))
+  in-order : (l : ℕ) → firstFrame b l ≤ firstFrame b (l + 1)
+  in-order l =
+      let on : lowest (reached b (l + 1)) (firstFrame b l) (size b - firstFrame b l) ≡ firstFrame b (l + 1) =
+      lowest-from (reached b l) (rowsFrom b) (size b) (rows-inside b ok) (reached b (l + 1)) (below-more b l (l + 1) (omega arith)) in
+      omega (arith, lowest-above (reached b (l + 1)) (firstFrame b l) (size b - firstFrame b l))
 
-    above : (f : ℕ) → firstFrame b (l + 1) ≤ f → f < size b → l < field b f 1
-    above f h g =
+  module _ (bytes : (k : ℕ) → getD b k 0 < 256) where
+    -- 12: from-labels never fall
+    rises : (f : ℕ) → rowsFrom b ≤ f → suc f < size b → field b f 1 ≤ field b (suc f) 1
+    rises f h g =
+        let k : ℕ = f - rowsFrom b in
+        let z : rowsFrom b + k ≡ f = omega arith in
+        let s : suc k < rowCount b = omega (arith, counted b ok .all) in
+        let p : nthRow (decoded b) k .from ≡ field b f 1 = ap (λ (r : Row). r .from) (row-read b k (omega arith)) ∙ ap (λ (i : ℕ). field b i 1) z in
+        let q : nthRow (decoded b) (suc k) .from ≡ field b (suc f) 1 = ap (λ (r : Row). r .from) (row-read b (suc k) s) ∙ ap (λ (i : ℕ). field b i 1) (omega arith) in
+        omega (arith, accepted-sound b ok bytes .rising k (omega (arith, rows-count b)))
+
+    rises-on : (f n : ℕ) → rowsFrom b ≤ f → f + n < size b → field b f 1 ≤ field b (f + n) 1
+    rises-on f zero h g = let e : field b f 1 ≡ field b (f + 0) 1 = ap (λ (i : ℕ). field b i 1) (sym (add-zero f)) in omega arith
+    rises-on f (suc n) h g =
+        let e : field b (suc (f + n)) 1 ≡ field b (f + suc n) 1 = ap (λ (i : ℕ). field b i 1) (omega arith) in
+        omega (arith, rises-on f n h (omega arith), rises (f + n) (omega arith) (omega arith))
+
+    above : (l f : ℕ) → firstFrame b (l + 1) ≤ f → f < size b → l < field b f 1
+    above l f h g =
         let end : ℕ = firstFrame b (l + 1) in
         let low : rowsFrom b ≤ end = lowest-above (reached b (l + 1)) (rowsFrom b) (size b - rowsFrom b) in
         let hit : l + 1 ≤ field b end 1 = leb-true (l + 1) (field b end 1) (lowest-hit (reached b (l + 1)) (rowsFrom b) (size b - rowsFrom b) (omega arith)) in
         let e : field b (end + (f - end)) 1 ≡ field b f 1 = ap (λ (i : ℕ). field b i 1) (omega arith) in
         omega (arith, rises-on end (f - end) low (omega arith))
 
-    own-rows : (w bit : ℕ) → firstRow l w bit (rowsIn b (firstFrame b l) (firstFrame b (l + 1))) ≡ firstRow l w bit (decoded b .rows)
-    own-rows w bit =
+    -- label l's own rows are enough
+    own-rows : (l w bit : ℕ) → firstRow l w bit (rowsIn b (firstFrame b l) (firstFrame b (l + 1))) ≡ firstRow l w bit (decoded b .rows)
+    own-rows l w bit =
         narrowed b l w bit (rowsFrom b) (firstFrame b l) (firstFrame b (l + 1)) (size b)
-        (lowest-above (reached b l) (rowsFrom b) (size b - rowsFrom b)) in-order (first-inside (l + 1))
-        (λ f h g. sym (fitting-other b l w bit f (λ e.
-        omega (arith, leb-false l (field b f 1) (lowest-before (reached b l) (rowsFrom b) (size b - rowsFrom b) f h g)))))
-        (λ f h g. sym (fitting-other b l w bit f (λ e. omega (arith, above f h g))))
+        (lowest-above (reached b l) (rowsFrom b) (size b - rowsFrom b)) (in-order l) (first-inside (l + 1))
+        (λ f h g.
+        let low : field b f 1 < l = leb-false l (field b f 1) (lowest-before (reached b l) (rowsFrom b) (size b - rowsFrom b) f h g) in
+        sym (fitting-other b l w bit f (λ e. omega arith)))
+        (λ f h g. let high : l < field b f 1 = above l f h g in sym (fitting-other b l w bit f (λ e. omega arith)))
         ∙ ap (firstRow l w bit) (rows-are b ok)
 
 -- ---- the search from one given frame up to the next
@@ -216,7 +217,7 @@ module _ (b : List ℕ) (ok : tableVerdict b ≡ fine) (bytes : (k : ℕ) → ge
   range-lies =
       let p : first ≡ firstFrame b l = first-at l (omega arith) in
       let q : end ≡ firstFrame b (l + 1) = first-at (l + 1) (omega arith) in
-      (omega (arith, in-order b ok bytes l), omega (arith, first-inside b ok bytes (l + 1)))
+      (omega (arith, in-order b ok l), omega (arith, first-inside b ok (l + 1)))
 
   -- what the search says, as a label or 256
   module _ (w bit f : ℕ) (e : foundAt b end f ≡ firstRow l w bit (rowsIn b first end)) where

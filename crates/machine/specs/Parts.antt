@@ -38,7 +38,7 @@ reached b l f = leb l (field b f 1)
 abbrev pub firstFrame : List ℕ → ℕ → ℕ
 firstFrame b l = lowest (reached b l) (rowsFrom b) (size b - rowsFrom b)
 
--- for every label and for 256: the rows of label l stand from place l's frame up to place l + 1's
+-- for 0 to 256; in an accepted table the rows of label l stand from the frame at place l up to that at place l + 1
 unfoldable pub firstFrames : List ℕ → List ℕ
 firstFrames b = map (firstFrame b) (range 0 257)
 

@@ -64,7 +64,7 @@ fn skip_below(b: &[u8], first: usize, end: usize, l: usize) -> usize
     f
 }
 
-// Where the rows of each label begin; those of 255 end where those of 256 would begin.
+// For each label the first frame of rows from it on; a further place says where the rows of label 255 end.
 pub fn index_rows(b: &[u8], firsts: &mut [u16])
     requires { ⌜ (tableVerdict (now b) ≡ fine) × (length (now firsts) ≡ 257) ⌝ }
     ensures { λ _. ⌜ now (firsts .exit) ≡ firstFrames (now (b .entry)) ⌝ }
@@ -97,8 +97,9 @@ fn next_by(b: &[u8], firsts: &[u16], label: u8, word: u16, bit: u8) -> u16
     ensures { λ r. ⌜ foundAs r ≡ firstRow label word bit (decoded (now (b .entry)) .rows) ⌝ }
 {
     let l = label as usize;
+    let first = firsts[l] as usize;
     let end = firsts[l + 1] as usize;
-    let f = find_row(b, firsts[l] as usize, end, label, word, bit);
+    let f = find_row(b, first, end, label, word, bit);
     if f < end {
         return byte(b, f, 7) as u16;
     }

@@ -1,4 +1,4 @@
-// A run of ticks: the image is checked and decoded once, then each word makes one tick on the parts of the state.
+// A run of ticks: the image is checked and decoded and its rows are indexed once, then each word makes one tick on the parts of the state.
 use super::Answered;
 use super::Ended;
 use super::State;

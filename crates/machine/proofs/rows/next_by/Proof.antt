@@ -5,6 +5,15 @@ use borrow.Author.Needs.{needs}
 use Rattle.machine.proofs.rows.next_by.Statement.{statement}
 use Rattle.machine.proofs.rows.next_by.Tie as tie
 
+mul-first : tie.Need-mul-first
+mul-first c = search needs
+
+shared-slice-read-first : tie.Need-shared-slice-read-first
+shared-slice-read-first c = omega (arith, firsts-long (c .before .before .before .args .b .now) (c .before .before .before .args .firsts .now) (c .before .before .before .pre .1))
+
+cast-first : tie.Need-cast-first
+cast-first c = omega (arith, c .before .shared-slice-known2 .given (c .before .before .before .args .label))
+
 add-end : tie.Need-add-end
 add-end c = search needs
 
@@ -12,25 +21,16 @@ mul-end : tie.Need-mul-end
 mul-end c = search needs
 
 shared-slice-read-end : tie.Need-shared-slice-read-end
-shared-slice-read-end c = omega (arith, firsts-long (c .before .before .before .args .b .now) (c .before .before .before .args .firsts .now) (c .before .before .before .pre .1))
+shared-slice-read-end c = omega (arith, firsts-long (c .before .before .before .before .args .b .now) (c .before .before .before .before .args .firsts .now) (c .before .before .before .before .pre .1))
 
 cast-end : tie.Need-cast-end
-cast-end c = omega (arith, c .before .shared-slice-known2 .given (c .before .before .before .args .label + 1))
-
-mul-find-row : tie.Need-mul-find-row
-mul-find-row c = search needs
-
-shared-slice-read-find-row : tie.Need-shared-slice-read-find-row
-shared-slice-read-find-row c = omega (arith, firsts-long (c .before .before .before .before .args .b .now) (c .before .before .before .before .args .firsts .now) (c .before .before .before .before .pre .1))
-
-cast-find-row : tie.Need-cast-find-row
-cast-find-row c = omega (arith, c .before .before .shared-slice-known2 .given (c .before .before .before .before .args .label))
+cast-end c = omega (arith, c .before .before .shared-slice-known2 .given (c .before .before .before .before .args .label + 1))
 
 find-row-requires : tie.Need-find-row-requires
-find-row-requires c κs = range-lies (c .before .before .before .before .args .b .now) (c .before .before .before .before .pre .0) (λ k. omega (arith, c .before .before .before .shared-slice-known .given k)) (c .before .before .before .before .args .firsts .now) (c .before .before .before .before .pre .1) (c .before .before .before .before .args .label) (search needs)
+find-row-requires c κs = let r = range-lies (c .before .before .before .before .args .b .now) (c .before .before .before .before .pre .0) (λ k. omega (arith, c .before .before .before .shared-slice-known .given k)) (c .before .before .before .before .args .firsts .now) (c .before .before .before .before .pre .1) (c .before .before .before .before .args .label) (search needs) in (omega (arith, r .0), omega (arith, r .0, r .1))
 
 byte-requires : tie.Need-byte-requires
-byte-requires c κs = let r = range-lies (c .before .before .before .before .before .before .args .b .now) (c .before .before .before .before .before .before .pre .0) (λ k. omega (arith, c .before .before .before .before .before .shared-slice-known .given k)) (c .before .before .before .before .before .before .args .firsts .now) (c .before .before .before .before .before .before .pre .1) (c .before .before .before .before .before .before .args .label) (search needs) in omega (arith, r .0, r .1)
+byte-requires c κs = let r = range-lies (c .before .before .before .before .before .before .args .b .now) (c .before .before .before .before .before .before .pre .0) (λ k. omega (arith, c .before .before .before .before .before .shared-slice-known .given k)) (c .before .before .before .before .before .before .args .firsts .now) (c .before .before .before .before .before .before .pre .1) (c .before .before .before .before .before .before .args .label) (search needs) in omega (arith, r .1)
 
 cast-result : tie.Need-cast-result
 cast-result c = search needs
@@ -45,13 +45,13 @@ pub next-by-spec : {M : Type 1} → statement M
 next-by-spec =
     tie.close
     (tie.spec
+    mul-first
+    shared-slice-read-first
+    cast-first
     add-end
     mul-end
     shared-slice-read-end
     cast-end
-    mul-find-row
-    shared-slice-read-find-row
-    cast-find-row
     find-row-requires
     byte-requires
     cast-result
