@@ -93,19 +93,6 @@ module _ (b : List ℕ) (ok : tableVerdict b ≡ fine) where
       ap (λ (n : ℕ). map (rowOn b) (range (rowsFrom b) n)) (let e : size b - rowsFrom b ≡ rowCount b = omega (arith, counted b ok .all) in e)
       ∙ map-shift (rowOn b) (rowIn b) (rowsFrom b) 0 (rowCount b) (λ k. ap (λ (n : ℕ). rowIn b n) (omega arith))
 
-  -- what the search says, as a label or 256
-  module _ (l w bit rows end f : ℕ) (p : rows ≡ rowsFrom b) (q : end ≡ size b) (e : foundAt b end f ≡ firstRow l w bit (rowsIn b rows end)) where
-    all-rows : foundAt b end f ≡ firstRow l w bit (decoded b .rows)
-    all-rows = e ∙ ap₂ (λ (x y : ℕ). firstRow l w bit (rowsIn b x y)) p q ∙ ap (firstRow l w bit) rows-are
-
-    pub next-found : (n : ℕ) → n < 256 → f < end → n ≡ field b f 7 → foundAs n ≡ firstRow l w bit (decoded b .rows)
-    next-found n h k r =
-        ap (λ (t : Bool). pick t (found n) missing) (lt-ltb n 256 h) ∙ ap found r
-        ∙ sym (ap (λ (t : Bool). pick t (found (field b f 7)) missing) (lt-ltb f end k)) ∙ all-rows
-
-    pub next-none : end ≤ f → foundAs 256 ≡ firstRow l w bit (decoded b .rows)
-    next-none k = sym (ap (λ (t : Bool). pick t (found (field b f 7)) missing) (le-ltb f end k)) ∙ all-rows
-
   -- the bit that chooses is that of the scheme that the label calls
   module _ (l w : ℕ) (h : l ≤ lastLabel b) (bits : Results) (called : ℕ) (t : Bool) (p : called ≡ labelIn b l .called) (q : t ≡ resultOf called bits) where
     pub chosen : (u : Bool) → t ≡ u → (n : ℕ) → foundAs n ≡ firstRow l w (pick u 1 0) (decoded b .rows) → foundAs n ≡ rowOf (decoded b) bits l w

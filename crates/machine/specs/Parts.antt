@@ -1,18 +1,19 @@
 -- What the functions on a table and on the lent parts of a state promise, in terms of one tick.
-use Prim.Native.Nat.{ℕ, zero, suc, _+_, _<_}
+use Prim.Native.Nat.{ℕ, zero, suc, _+_, _-_, _<_}
 use mathlib.Core.Bool.{Bool, false, _&&_}
 use mathlib.Core.Path.{_≡_}
-use mathlib.Core.List.{List}
-use lib.Dec.{ltb, eqb}
+use mathlib.Core.List.{List, map}
+use lib.Dec.{leb, ltb, eqb}
 use lib.ListN.{length, getD}
 use Rattle.lists.specs.Pick.{pick}
+use Rattle.lists.specs.Numbers.{range, lowest}
 use Rattle.lists.specs.Sequences.{over}
 use Rattle.bits.specs.Results.{Results}
-use Rattle.frames.specs.Frame.{field, pairAt}
+use Rattle.frames.specs.Frame.{size, field, pairAt}
 use Rattle.frames.specs.Verdict.{Verdict, fine, refused, next, when}
 use Rattle.frames.specs.Answer.{Reply, success, refusal, reply}
 use Rattle.image.specs.Image.{Row}
-use Rattle.image.specs.Decode.{decoded}
+use Rattle.image.specs.Decode.{rowsFrom, decoded}
 use Rattle.image.specs.Check.{tableVerdict}
 use Rattle.machine.specs.declared.State.{State}
 use Rattle.machine.specs.declared.Stepped.{Stepped}
@@ -29,6 +30,17 @@ rowOn b f = record { from = field b f 1; care = pairAt b f 2; values = pairAt b 
 
 abbrev pub fitting : List ℕ → ℕ → ℕ → ℕ → ℕ → Bool
 fitting b l w bit f = eqb (rowOn b f .from) l && matches w bit (rowOn b f)
+
+-- the row in frame f leaves label l or one above it; the first such frame, or the end of the table
+abbrev pub reached : List ℕ → ℕ → ℕ → Bool
+reached b l f = leb l (field b f 1)
+
+abbrev pub firstFrame : List ℕ → ℕ → ℕ
+firstFrame b l = lowest (reached b l) (rowsFrom b) (size b - rowsFrom b)
+
+-- for 0 to 256; in an accepted table the rows of label l stand from the frame at place l up to that at place l + 1
+unfoldable pub firstFrames : List ℕ → List ℕ
+firstFrames b = map (firstFrame b) (range 0 257)
 
 -- a search among frames up to end that stopped at f
 abbrev pub foundAt : List ℕ → ℕ → ℕ → Found

@@ -7,14 +7,14 @@ ghost use mathlib.Core.Path.{_≡_};
 ghost use mathlib.Core.List.{map};
 ghost use Prim.Native.Nat.{_-_, _≤_, _<_};
 ghost use lib.ListN.{length};
-ghost use Rattle.lists.specs.Numbers.{range};
+ghost use Rattle.lists.specs.Numbers.{range, lowest};
 ghost use Rattle.bits.specs.Results.{resultOf};
 ghost use Rattle.frames.specs.Frame.{size};
 ghost use Rattle.frames.specs.Verdict.{fine};
 ghost use Rattle.image.specs.Decode.{lastLabel, labelIn, decoded};
 ghost use Rattle.image.specs.Check.{tableVerdict};
 ghost use Rattle.machine.specs.Tick.{firstRow, rowOf};
-ghost use Rattle.machine.specs.Parts.{rowOn, fitting, foundAt, foundAs};
+ghost use Rattle.machine.specs.Parts.{rowOn, fitting, reached, firstFrames, foundAt, foundAs};
 
 // Whether the row in frame f leaves the label and matches.
 fn is_fitting(b: &[u8], f: usize, label: u8, word: u16, bit: u8) -> bool
@@ -49,6 +49,36 @@ fn find_row(b: &[u8], first: usize, end: usize, label: u8, word: u16, bit: u8) -
     f
 }
 
+// The lowest frame from first up to end whose row leaves label l or one above it, or end.
+fn skip_below(b: &[u8], first: usize, end: usize, l: usize) -> usize
+    requires { ⌜ (first ≤ end) × (end ≤ size (now b)) ⌝ }
+    ensures { λ r. ⌜ r ≡ lowest (reached (now (b .entry)) l) first (end - first) ⌝ }
+{
+    let mut f = first;
+    while f < end {
+        if l <= byte(b, f, 1) as usize {
+            return f;
+        }
+        f += 1;
+    }
+    f
+}
+
+// For each label the first frame of rows from it on; a further place says where the rows of label 255 end.
+pub fn index_rows(b: &[u8], firsts: &mut [u16])
+    requires { ⌜ (tableVerdict (now b) ≡ fine) × (length (now firsts) ≡ 257) ⌝ }
+    ensures { λ _. ⌜ now (firsts .exit) ≡ firstFrames (now (b .entry)) ⌝ }
+{
+    let end = b.len() / 10;
+    let mut f = rows_from(b);
+    let mut l: usize = 0;
+    while l < 257 {
+        f = skip_below(b, f, end, l);
+        firsts[l] = f as u16;
+        l += 1;
+    }
+}
+
 // Scheme h's result bit.
 fn result_of(bits: &[bool], h: u8) -> bool
     requires { ⌜ (h ≤ length (now bits)) × (1 ≤ length (now bits)) ⌝ }
@@ -61,12 +91,15 @@ fn result_of(bits: &[bool], h: u8) -> bool
 }
 
 // Where the label's first matching row leads for a given bit, or 256 where none matches.
-fn next_by(b: &[u8], label: u8, word: u16, bit: u8) -> u16
+fn next_by(b: &[u8], firsts: &[u16], label: u8, word: u16, bit: u8) -> u16
     requires { ⌜ tableVerdict (now b) ≡ fine ⌝ }
+    requires { ⌜ now firsts ≡ firstFrames (now b) ⌝ }
     ensures { λ r. ⌜ foundAs r ≡ firstRow label word bit (decoded (now (b .entry)) .rows) ⌝ }
 {
-    let end = b.len() / 10;
-    let f = find_row(b, rows_from(b), end, label, word, bit);
+    let l = label as usize;
+    let first = firsts[l] as usize;
+    let end = firsts[l + 1] as usize;
+    let f = find_row(b, first, end, label, word, bit);
     if f < end {
         return byte(b, f, 7) as u16;
     }
@@ -74,14 +107,15 @@ fn next_by(b: &[u8], label: u8, word: u16, bit: u8) -> u16
 }
 
 // Where the label's row leads, or 256 where none matches.
-pub fn next_label(b: &[u8], label: u8, word: u16, bits: &[bool]) -> u16
+pub fn next_label(b: &[u8], firsts: &[u16], label: u8, word: u16, bits: &[bool]) -> u16
     requires { ⌜ (tableVerdict (now b) ≡ fine) × (label ≤ lastLabel (now b)) ⌝ }
+    requires { ⌜ now firsts ≡ firstFrames (now b) ⌝ }
     requires { ⌜ (labelIn (now b) label .called ≤ 16) × (length (now bits) ≡ 16) ⌝ }
     ensures { λ r. ⌜ foundAs r ≡ rowOf (decoded (now (b .entry))) (now (bits .entry)) label word ⌝ }
 {
     let called = label_byte(b, label as usize, 3);
     if result_of(bits, called) {
-        return next_by(b, label, word, 1);
+        return next_by(b, firsts, label, word, 1);
     }
-    next_by(b, label, word, 0)
+    next_by(b, firsts, label, word, 0)
 }

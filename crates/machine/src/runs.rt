@@ -1,8 +1,9 @@
-// A run of ticks: the image is checked and decoded once, then each word makes one tick on the parts of the state.
+// A run of ticks: the image is checked and decoded and its rows are indexed once, then each word makes one tick on the parts of the state.
 use super::Answered;
 use super::Ended;
 use super::State;
 use crate::fit::is_unfit;
+use crate::rows::index_rows;
 use crate::tick::tick_parts;
 use frames::Answer;
 use image::read_image;
@@ -13,11 +14,12 @@ ghost use Rattle.frames.specs.Answer.{reply};
 ghost use Rattle.frames.specs.Verdict.{fine};
 ghost use Rattle.image.specs.Check.{tableVerdict};
 ghost use Rattle.machine.specs.Run.{run};
-ghost use Rattle.machine.specs.Parts.{stateOf, Ready, Ends, runTable, Runs};
+ghost use Rattle.machine.specs.Parts.{firstFrames, stateOf, Ready, Ends, runTable, Runs};
 
 // One tick a word, until one is stopped.
 fn tick_all(
     b: &[u8],
+    firsts: &[u16],
     size: u8,
     start: u8,
     places: &mut [u8],
@@ -27,13 +29,14 @@ fn tick_all(
     codes: &mut [u8],
 ) -> Ended
     requires { ⌜ Ready (now b) (stateOf size start (now places) (now bits)) ⌝ }
+    requires { ⌜ now firsts ≡ firstFrames (now b) ⌝ }
     requires { ⌜ (length (now words) ≤ length (now masks)) × (length (now words) ≤ length (now codes)) ⌝ }
     ensures { λ r. ⌜ Ends (now (b .entry)) (stateOf size start (now (places .entry)) (now (bits .entry))) (now (words .entry)) (now (masks .entry)) (now (codes .entry)) r (now (places .exit)) (now (bits .exit)) (now (masks .exit)) (now (codes .exit)) ⌝ }
 {
     let mut depth = start;
     let mut i: usize = 0;
     while i < words.len() {
-        let done = tick_parts(b, size, depth, places, bits, words[i]);
+        let done = tick_parts(b, firsts, size, depth, places, bits, words[i]);
         let number = done.number;
         if number != 0 {
             return Ended {
@@ -64,7 +67,19 @@ fn run_ticks(b: &[u8], state: State, words: &[u16], masks: &mut [u32], codes: &m
     let depth = state.depth;
     let mut places = state.places;
     let mut bits = state.bits;
-    let ended = tick_all(b, size, depth, &mut places, &mut bits, words, masks, codes);
+    let mut firsts = [0u16; 257];
+    index_rows(b, &mut firsts);
+    let ended = tick_all(
+        b,
+        &firsts,
+        size,
+        depth,
+        &mut places,
+        &mut bits,
+        words,
+        masks,
+        codes,
+    );
     let number = ended.number;
     let count = ended.count;
     let after = State {

@@ -9,7 +9,7 @@ ghost use Prim.Native.Nat.{_+_, _-_, _≤_, _<_};
 ghost use lib.ListN.{length, getD};
 ghost use Rattle.bits.specs.Results.{withResult};
 ghost use Rattle.image.specs.Decode.{labelIn};
-ghost use Rattle.machine.specs.Parts.{stateOf, Ready, codeOf, Steps};
+ghost use Rattle.machine.specs.Parts.{firstFrames, stateOf, Ready, codeOf, Steps};
 
 // The result of a tick of a scheme: 0 keeps its bit, 1 and 2 write it.
 fn write_result(bits: &mut [bool], result: u8, owner: u8)
@@ -38,6 +38,7 @@ fn code_of(kind: u8, called: u8) -> u8
 // A plain tick: the top takes its row.
 fn tick_plain(
     b: &[u8],
+    firsts: &[u16],
     size: u8,
     depth: u8,
     places: &mut [u8],
@@ -45,12 +46,13 @@ fn tick_plain(
     word: u16,
 ) -> Stepped
     requires { ⌜ Ready (now b) (stateOf size depth (now places) (now bits)) ⌝ }
+    requires { ⌜ now firsts ≡ firstFrames (now b) ⌝ }
     requires { ⌜ labelIn (now b) (getD (now places) (depth - 1) 0) .kind ≡ 0 ⌝ }
     ensures { λ r. ⌜ Steps (now (b .entry)) (stateOf size depth (now (places .entry)) (now (bits .entry))) word r (now (places .exit)) (now (bits .exit)) ⌝ }
 {
     let top = (depth - 1) as usize;
     let label = places[top];
-    let next = next_label(b, label, word, bits);
+    let next = next_label(b, firsts, label, word, bits);
     if 256 <= next {
         return Stepped {
             number: 18,
@@ -115,6 +117,7 @@ fn tick_call(
 // A return: the top is dropped, and the label beneath takes its row by this tick's word.
 fn tick_back(
     b: &[u8],
+    firsts: &[u16],
     size: u8,
     depth: u8,
     places: &mut [u8],
@@ -122,12 +125,13 @@ fn tick_back(
     word: u16,
 ) -> Stepped
     requires { ⌜ Ready (now b) (stateOf size depth (now places) (now bits)) ⌝ }
+    requires { ⌜ now firsts ≡ firstFrames (now b) ⌝ }
     requires { ⌜ labelIn (now b) (getD (now places) (depth - 1) 0) .kind ≡ 3 ⌝ }
     ensures { λ r. ⌜ Steps (now (b .entry)) (stateOf size depth (now (places .entry)) (now (bits .entry))) word r (now (places .exit)) (now (bits .exit)) ⌝ }
 {
     let under = (depth - 2) as usize;
     let caller = places[under];
-    let next = next_label(b, caller, word, bits);
+    let next = next_label(b, firsts, caller, word, bits);
     if 256 <= next {
         return Stepped {
             number: 18,
@@ -171,6 +175,7 @@ fn tick_home(
 // A tick by the kind of the top label.
 pub fn tick_parts(
     b: &[u8],
+    firsts: &[u16],
     size: u8,
     depth: u8,
     places: &mut [u8],
@@ -178,14 +183,15 @@ pub fn tick_parts(
     word: u16,
 ) -> Stepped
     requires { ⌜ Ready (now b) (stateOf size depth (now places) (now bits)) ⌝ }
+    requires { ⌜ now firsts ≡ firstFrames (now b) ⌝ }
     ensures { λ r. ⌜ Steps (now (b .entry)) (stateOf size depth (now (places .entry)) (now (bits .entry))) word r (now (places .exit)) (now (bits .exit)) ⌝ }
 {
     let l = places[(depth - 1) as usize] as usize;
     let kind = label_byte(b, l, 2);
     match kind {
-        0 => tick_plain(b, size, depth, places, bits, word),
+        0 => tick_plain(b, firsts, size, depth, places, bits, word),
         1 | 2 => tick_call(b, size, depth, places, bits, word),
-        3 => tick_back(b, size, depth, places, bits, word),
+        3 => tick_back(b, firsts, size, depth, places, bits, word),
         _ => tick_home(b, size, depth, places, bits, word),
     }
 }

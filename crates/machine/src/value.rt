@@ -1,6 +1,7 @@
 // One tick of a state by value, over the tick on lent parts.
 use super::Advanced;
 use super::State;
+use crate::rows::index_rows;
 use crate::tick::tick_parts;
 use frames::Answer;
 ghost use Rattle.image.specs.Decode.{decoded};
@@ -17,7 +18,9 @@ impl State {
         let depth = self.depth;
         let mut places = self.places;
         let mut bits = self.bits;
-        let done = tick_parts(table, size, depth, &mut places, &mut bits, word);
+        let mut firsts = [0u16; 257];
+        index_rows(table, &mut firsts);
+        let done = tick_parts(table, &firsts, size, depth, &mut places, &mut bits, word);
         let number = done.number;
         let mask = done.mask;
         let code = done.code;

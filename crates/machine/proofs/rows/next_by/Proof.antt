@@ -1,30 +1,59 @@
-use mathlib.Core.Path.{refl}
+use Prim.Native.Nat.{_+_}
 use native.Mathlib.Omega.{arith}
-use Rattle.frames.specs.Frame.{size}
-use Rattle.machine.proofs.RowCases.{rows-inside, next-found, next-none}
+use Rattle.machine.proofs.RowRange.{firsts-long, range-lies, next-found, next-none}
 use borrow.Author.Needs.{needs}
 use Rattle.machine.proofs.rows.next_by.Statement.{statement}
 use Rattle.machine.proofs.rows.next_by.Tie as tie
 
-rows-from-requires : tie.Need-rows-from-requires
-rows-from-requires c κs = omega (arith, rows-inside (c .before .args .b .now) (c .before .pre))
+mul-first : tie.Need-mul-first
+mul-first c = search needs
+
+shared-slice-read-first : tie.Need-shared-slice-read-first
+shared-slice-read-first c = omega (arith, firsts-long (c .before .before .before .args .b .now) (c .before .before .before .args .firsts .now) (c .before .before .before .pre .1))
+
+cast-first : tie.Need-cast-first
+cast-first c = omega (arith, c .before .shared-slice-known2 .given (c .before .before .before .args .label))
+
+add-end : tie.Need-add-end
+add-end c = search needs
+
+mul-end : tie.Need-mul-end
+mul-end c = search needs
+
+shared-slice-read-end : tie.Need-shared-slice-read-end
+shared-slice-read-end c = omega (arith, firsts-long (c .before .before .before .before .args .b .now) (c .before .before .before .before .args .firsts .now) (c .before .before .before .before .pre .1))
+
+cast-end : tie.Need-cast-end
+cast-end c = omega (arith, c .before .before .shared-slice-known2 .given (c .before .before .before .before .args .label + 1))
 
 find-row-requires : tie.Need-find-row-requires
-find-row-requires c κs = (omega (arith, rows-inside (c .before .before .args .b .now) (c .before .before .pre), (c .rows-from .ensures)), search needs)
+find-row-requires c κs = let r = range-lies (c .before .before .before .before .args .b .now) (c .before .before .before .before .pre .0) (λ k. omega (arith, c .before .before .before .shared-slice-known .given k)) (c .before .before .before .before .args .firsts .now) (c .before .before .before .before .pre .1) (c .before .before .before .before .args .label) (search needs) in (omega (arith, r .0), omega (arith, r .0, r .1))
 
 byte-requires : tie.Need-byte-requires
-byte-requires c κs = search needs
+byte-requires c κs = let r = range-lies (c .before .before .before .before .before .before .args .b .now) (c .before .before .before .before .before .before .pre .0) (λ k. omega (arith, c .before .before .before .before .before .shared-slice-known .given k)) (c .before .before .before .before .before .before .args .firsts .now) (c .before .before .before .before .before .before .pre .1) (c .before .before .before .before .before .before .args .label) (search needs) in omega (arith, r .1)
 
 cast-result : tie.Need-cast-result
 cast-result c = search needs
 
 returns : tie.Need-returns
-returns c = next-found (c .before .before .before .before .before .args .b .now) (c .before .before .before .before .before .pre) (c .before .before .before .before .before .args .label) (c .before .before .before .before .before .args .word) (c .before .before .before .before .before .args .bit) (c .before .before .before .rows-from .result) (size (c .before .before .before .before .before .args .b .now)) (c .before .before .find-row .result) (c .before .before .before .rows-from .ensures) refl (c .before .before .find-row .ensures) (c .byte .result) (search needs) (search needs) (c .byte .ensures)
+returns c = next-found (c .before .before .before .before .before .before .before .args .b .now) (c .before .before .before .before .before .before .before .pre .0) (λ k. omega (arith, c .before .before .before .before .before .before .shared-slice-known .given k)) (c .before .before .before .before .before .before .before .args .firsts .now) (c .before .before .before .before .before .before .before .pre .1) (c .before .before .before .before .before .before .before .args .label) (search needs) (c .before .before .before .before .before .before .before .args .word) (c .before .before .before .before .before .before .before .args .bit) (c .before .before .find-row .result) (c .before .before .find-row .ensures) (c .byte .result) (search needs) (search needs) (c .byte .ensures)
 
 returns-2 : tie.Need-returns-2
-returns-2 c = next-none (c .before .before .before .before .args .b .now) (c .before .before .before .before .pre) (c .before .before .before .before .args .label) (c .before .before .before .before .args .word) (c .before .before .before .before .args .bit) (c .before .before .rows-from .result) (size (c .before .before .before .before .args .b .now)) (c .before .find-row .result) (c .before .before .rows-from .ensures) refl (c .before .find-row .ensures) (search needs)
+returns-2 c = next-none (c .before .before .before .before .before .before .args .b .now) (c .before .before .before .before .before .before .pre .0) (λ k. omega (arith, c .before .before .before .before .before .shared-slice-known .given k)) (c .before .before .before .before .before .before .args .firsts .now) (c .before .before .before .before .before .before .pre .1) (c .before .before .before .before .before .before .args .label) (search needs) (c .before .before .before .before .before .before .args .word) (c .before .before .before .before .before .before .args .bit) (c .before .find-row .result) (c .before .find-row .ensures) (search needs)
 
 pub next-by-spec : {M : Type 1} → statement M
 next-by-spec =
     tie.close
-    (tie.spec rows-from-requires find-row-requires byte-requires cast-result returns returns-2)
+    (tie.spec
+    mul-first
+    shared-slice-read-first
+    cast-first
+    add-end
+    mul-end
+    shared-slice-read-end
+    cast-end
+    find-row-requires
+    byte-requires
+    cast-result
+    returns
+    returns-2)

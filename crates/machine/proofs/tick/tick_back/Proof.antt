@@ -7,40 +7,40 @@ use Rattle.machine.proofs.tick.tick_back.Statement.{statement}
 use Rattle.machine.proofs.tick.tick_back.Tie as tie
 
 sub-under : tie.Need-sub-under
-sub-under c = back-two (c .before .before .before .pre .0) (c .before .before .before .pre .1)
+sub-under c = back-two (c .before .before .before .before .pre .0) (c .before .before .before .before .pre .1 .1)
 
 cast-under : tie.Need-cast-under
 cast-under c = search needs
 
 slice-read-caller : tie.Need-slice-read-caller
-slice-read-caller c = omega (arith, depth-some (c .before .before .before .before .pre .0), depth-most (c .before .before .before .before .pre .0), (c .before .before .before .before .pre .0) .places)
+slice-read-caller c = omega (arith, depth-some (c .before .before .before .before .before .pre .0), depth-most (c .before .before .before .before .before .pre .0), (c .before .before .before .before .before .pre .0) .places)
 
 next-label-requires : tie.Need-next-label-requires
-next-label-requires c κs = let two = back-two (c .before .before .before .before .before .pre .0) (c .before .before .before .before .before .pre .1) in (((c .before .before .before .before .before .pre .0) .accepted, place-low (c .before .before .before .before .before .pre .0) ((c .before .before .before .before .before .args .depth) - 2) (omega arith)), (place-called (c .before .before .before .before .before .pre .0) ((c .before .before .before .before .before .args .depth) - 2) (omega arith), (c .before .before .before .before .before .pre .0) .bits))
+next-label-requires c κs = let two = back-two (c .before .before .before .before .before .before .pre .0) (c .before .before .before .before .before .before .pre .1 .1) in (((c .before .before .before .before .before .before .pre .0) .accepted, place-low (c .before .before .before .before .before .before .pre .0) ((c .before .before .before .before .before .before .args .depth) - 2) (omega arith)), (c .before .before .before .before .before .before .pre .1 .0, (place-called (c .before .before .before .before .before .before .pre .0) ((c .before .before .before .before .before .before .args .depth) - 2) (omega arith), (c .before .before .before .before .before .before .pre .0) .bits)))
 
 same-length : tie.Need-same-length
 same-length c = search needs
 
 returns : tie.Need-returns
-returns c = back-stop (c .before .before .before .before .before .before .before .pre .0) (c .before .before .before .before .before .before .before .args .word) (c .before .before .before .before .before .before .before .pre .1) (c .before .next-label .result) (c .before .next-label .ensures) (search needs)
+returns c = back-stop (c .before .before .before .before .before .before .before .before .pre .0) (c .before .before .before .before .before .before .before .before .args .word) (c .before .before .before .before .before .before .before .before .pre .1 .1) (c .before .next-label .result) (c .before .next-label .ensures) (search needs)
 
 sub-places : tie.Need-sub-places
-sub-places c = depth-some (c .before .before .before .before .before .before .before .pre .0)
+sub-places c = depth-some (c .before .before .before .before .before .before .before .before .pre .0)
 
 cast-places : tie.Need-cast-places
 cast-places c = search needs
 
 slice-write-places : tie.Need-slice-write-places
-slice-write-places c = omega (arith, depth-some (c .before .before .before .before .before .before .before .pre .0), depth-most (c .before .before .before .before .before .before .before .pre .0), (c .before .before .before .before .before .before .before .pre .0) .places)
+slice-write-places c = omega (arith, depth-some (c .before .before .before .before .before .before .before .before .pre .0), depth-most (c .before .before .before .before .before .before .before .before .pre .0), (c .before .before .before .before .before .before .before .before .pre .0) .places)
 
 cast-places-2 : tie.Need-cast-places-2
 cast-places-2 c = search needs
 
 slice-write-places-2 : tie.Need-slice-write-places-2
-slice-write-places-2 c = simp length-set (omega (arith, depth-some (c .before .before .before .before .before .before .before .pre .0), depth-most (c .before .before .before .before .before .before .before .pre .0), (c .before .before .before .before .before .before .before .pre .0) .places))
+slice-write-places-2 c = simp length-set (omega (arith, depth-some (c .before .before .before .before .before .before .before .before .pre .0), depth-most (c .before .before .before .before .before .before .before .before .pre .0), (c .before .before .before .before .before .before .before .before .pre .0) .places))
 
-sub-t10 : tie.Need-sub-t10
-sub-t10 c = depth-some (c .before .before .before .before .before .before .before .pre .0)
+sub-t11 : tie.Need-sub-t11
+sub-t11 c = depth-some (c .before .before .before .before .before .before .before .before .pre .0)
 
 same-length-2 : tie.Need-same-length-2
 same-length-2 c = search needs
@@ -49,7 +49,7 @@ same-length-3 : tie.Need-same-length-3
 same-length-3 c = search needs
 
 returns-2 : tie.Need-returns-2
-returns-2 c = back-go (c .before .before .before .before .before .before .before .pre .0) (c .before .before .before .before .before .before .before .args .word) (c .before .before .before .before .before .before .before .pre .1) (c .before .next-label .result) (c .before .next-label .ensures) (search needs)
+returns-2 c = back-go (c .before .before .before .before .before .before .before .before .pre .0) (c .before .before .before .before .before .before .before .before .args .word) (c .before .before .before .before .before .before .before .before .pre .1 .1) (c .before .next-label .result) (c .before .next-label .ensures) (search needs)
 
 pub tick-back-spec : {M : Type 1} → statement M
 tick-back-spec =
@@ -66,7 +66,7 @@ tick-back-spec =
     slice-write-places
     cast-places-2
     slice-write-places-2
-    sub-t10
+    sub-t11
     same-length-2
     same-length-3
     returns-2)

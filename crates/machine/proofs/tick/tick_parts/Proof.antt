@@ -5,25 +5,25 @@ use Rattle.machine.proofs.tick.tick_parts.Statement.{statement}
 use Rattle.machine.proofs.tick.tick_parts.Tie as tie
 
 sub-l : tie.Need-sub-l
-sub-l c = depth-some (c .before .before .before .pre)
+sub-l c = depth-some (c .before .before .before .before .pre .0)
 
 cast-l : tie.Need-cast-l
 cast-l c = search needs
 
 slice-read-l : tie.Need-slice-read-l
-slice-read-l c = omega (arith, depth-some (c .before .before .before .before .pre), depth-most (c .before .before .before .before .pre), (c .before .before .before .before .pre) .places)
+slice-read-l c = omega (arith, depth-some (c .before .before .before .before .before .pre .0), depth-most (c .before .before .before .before .before .pre .0), (c .before .before .before .before .before .pre .0) .places)
 
 cast-l-2 : tie.Need-cast-l-2
-cast-l-2 c = omega (arith, top-small (c .before .before .before .before .pre))
+cast-l-2 c = omega (arith, top-small (c .before .before .before .before .before .pre .0))
 
 label-byte-requires : tie.Need-label-byte-requires
-label-byte-requires c κs = (top-inside (c .before .before .before .before .pre), search needs)
+label-byte-requires c κs = (top-inside (c .before .before .before .before .before .pre .0), search needs)
 
 tick-plain-requires : tie.Need-tick-plain-requires
-tick-plain-requires c κs = search needs
+tick-plain-requires c κs = (search needs, (search needs, search needs))
 
 tick-back-requires : tie.Need-tick-back-requires
-tick-back-requires c κs = search needs
+tick-back-requires c κs = (search needs, (search needs, search needs))
 
 tick-call-requires : tie.Need-tick-call-requires
 tick-call-requires c κs = search needs
