@@ -9,12 +9,14 @@ use Rattle.lists.specs.Sequences.{over, written}
 use Rattle.lists.proofs.Written.{written-front}
 use Rattle.frames.specs.Frame.{contents, frameCount, size, textOf}
 use Rattle.frames.specs.Verdict.{Verdict, fine, when}
-use Rattle.frames.specs.Check.{badLength, badForm, textVerdict}
+use Rattle.frames.specs.Check.{badLength, textVerdict}
+use Rattle.frames.specs.Read.{readInto}
 use Rattle.frames.specs.Answer.{success, refusal, reply, judged}
 use Rattle.frames.specs.declared.Answer.{Answer}
 use Rattle.frames.specs.declared.Answer.the-variants.{Done, Refused}
 use Rattle.frames.proofs.Chains.{when-holds, when-fails, next-refused, next-on, done-fine, refused-verdict}
 use Rattle.frames.proofs.Contents.{Length, length-told, text-told, any-contents-length}
+use Rattle.frames.proofs.Reading.{read-fine}
 use Rattle.frames.proofs.Lent.{lent-refused, lent-short, lent-done, front}
 use Rattle.frames.proofs.TextLoops.{length-text}
 use Rattle.charts.specs.Chart.{Chart}
@@ -51,12 +53,9 @@ formed t a n e d =
     go zero n l e = absurd (l .some refl)
     go (suc m) n l e = omega (arith, l .whole)
 
-pub formed-frames : (t : List ℕ) (n : ℕ) → Formed t n → (f : ℕ) → f < frameCount t → badForm t f ≡ false
-formed-frames t n F = text-told 5888 t (F .passed) .forms
-
--- the part of the table that was decoded is the chart
-pub formed-chart : (t table zeros : List ℕ) (n : ℕ) → Formed t n → table ≡ over (contents t) zeros → take (10 * n) table ≡ contents t
-formed-chart t table zeros n F e = ap (take (10 * n)) e ∙ front (10 * n) (contents t) zeros (sym (F .records))
+-- the part of the table that was read is the chart
+pub formed-chart : (t table zeros : List ℕ) (n : ℕ) → Formed t n → table ≡ readInto 5888 t zeros → take (10 * n) table ≡ contents t
+formed-chart t table zeros n F e = ap (take (10 * n)) (e ∙ read-fine 5888 t zeros (F .passed)) ∙ front (10 * n) (contents t) zeros (sym (F .records))
 
 pub chart-length : (t c : List ℕ) (n : ℕ) → Formed t n → c ≡ contents t → length c ≡ 10 * n
 chart-length t c n F e = ap length e ∙ F .records

@@ -2,10 +2,9 @@
 use crate::check::check_chart;
 use frames::Answer;
 use frames::bad_length;
-use frames::check_text;
-use frames::decode;
 use frames::put_bytes;
 use frames::put_text;
+use frames::read_text;
 ghost use mathlib.Core.Path.{_≡_};
 ghost use Rattle.frames.specs.Answer.{reply};
 ghost use Rattle.charts.specs.Entry.{readChart, writeChart};
@@ -14,12 +13,11 @@ ghost use Rattle.charts.specs.Entry.{readChart, writeChart};
 pub fn read_chart(text: &[u8], out: &mut [u8]) -> Answer
     ensures { λ r. ⌜ (reply r ≡ readChart (now (text .entry)) (now (out .entry)) .reply) × (now (out .exit) ≡ readChart (now (text .entry)) (now (out .entry)) .buffer) ⌝ }
 {
-    let form = check_text(text, 5888);
+    let mut table = [0u8; 2560];
+    let form = read_text(text, 5888, &mut table);
     let Answer::Done(count) = form else {
         return form;
     };
-    let mut table = [0u8; 2560];
-    decode(text, &mut table);
     let end = 10 * count;
     let records = &table[..end];
     let chart = check_chart(records);

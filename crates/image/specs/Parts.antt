@@ -4,9 +4,6 @@ use mathlib.Core.Bool.{Bool, _||_, not}
 use mathlib.Core.List.{List}
 use lib.Bits.{bitAnd}
 use lib.Dec.{ltb, eqb}
-use Rattle.lists.specs.Sequences.{over}
-use Rattle.frames.specs.Frame.{contents}
-use Rattle.frames.specs.Verdict.{Verdict, fine, refused}
 use Rattle.image.specs.Image.{Label, Row}
 use Rattle.image.specs.Decode.{lastLabel}
 use Rattle.image.specs.Check.{Place, header, entryAt, labelAt, rowAt, badCalled}
@@ -25,8 +22,3 @@ badKind b x = ltb 2 (x .kind) || badCalled b x
 -- 13, of a row: the label that it leaves, and its values
 abbrev pub badTest : List ℕ → Row → Bool
 badTest b r = ltb (r .from) 2 || ltb (lastLabel b) (r .from) || not (eqb (bitAnd (r .values) (r .care)) (r .values))
-
--- what a buffer holds after an image's text was read: the table in front where 1 to 3 refuse nothing
-abbrev pub tableAfter : Verdict → List ℕ → List ℕ → List ℕ
-tableAfter fine t old = over (contents t) old
-tableAfter (refused k i) t old = old

@@ -14,13 +14,13 @@ use Rattle.frames.specs.Frame.{frameCount, contents}
 use Rattle.frames.specs.Verdict.{Verdict, fine, refused, next, when}
 use Rattle.frames.specs.Answer.{refusal, reply, replied, judged}
 use Rattle.frames.specs.Check.{textVerdict}
+use Rattle.frames.specs.Read.{readInto}
 use Rattle.frames.specs.declared.Answer.{Answer}
 use Rattle.frames.specs.declared.Answer.the-variants.{Done, Refused}
 use Rattle.image.specs.Decode.{decoded}
 use Rattle.frames.proofs.Verdicts.{next-first}
 use Rattle.frames.proofs.Chains.{done-fine, refused-verdict}
 use Rattle.image.specs.Check.{tableVerdict, imageVerdict}
-use Rattle.image.specs.Parts.{tableAfter}
 use Rattle.image.proofs.Accepted.{image-table}
 use Rattle.image.proofs.ReadCases.{good-text, front-contents, front-length}
 use Rattle.machine.specs.declared.State.{State}
@@ -122,7 +122,7 @@ module _ (t : List ℕ) (s : State) (ws ms ks : List ℕ) where
           (sym (ap (λ (x : Run). x .state) g), (sym (ap (λ (x : Run). x .masks) g), sym (ap (λ (x : Run). x .codes) g))),
         )
 
-    module _ (m : ℕ) (done : a ≡ Done m) (old table : List ℕ) (left : table ≡ tableAfter (textVerdict 29831 t) t old) where
+    module _ (m : ℕ) (done : a ≡ Done m) (old table : List ℕ) (left : table ≡ readInto 29831 t old) where
       accepted : imageVerdict t ≡ fine
       accepted = done-fine a (imageVerdict t) 0 gives m done .0
 
@@ -130,14 +130,11 @@ module _ (t : List ℕ) (s : State) (ws ms ks : List ℕ) where
       unfolding imageVerdict
       passes = next-first (textVerdict 29831 t) (λ _. tableVerdict (contents t)) accepted
 
-      holds : table ≡ over (contents t) old
-      holds = left ∙ ap (λ (v : Verdict). tableAfter v t old) passes
-
       pub front-is : take (10 * frameCount t) table ≡ contents t
-      front-is = front-contents t old table (frameCount t) (good-text t passes) holds
+      front-is = front-contents t old table (frameCount t) (good-text t passes) left
 
       pub front-long : 10 * frameCount t ≡ length (take (10 * frameCount t) table)
-      front-long = front-length t old table (frameCount t) (good-text t passes) holds
+      front-long = front-length t old table (frameCount t) (good-text t passes) left
 
       pub front-short : 10 * frameCount t ≤ 12970
       front-short = omega (arith, good-text t passes .most)

@@ -2,12 +2,15 @@
 use mathlib.Core.Path.{sym}
 use native.Mathlib.Omega.{arith}
 use borrow.Author.Needs.{needs}
-use Rattle.charts.proofs.Entries.{formed, formed-frames, formed-chart, chart-length, chart-asked, read-unformed, read-unsound, read-short, read-done}
+use Rattle.charts.proofs.Entries.{formed, formed-chart, chart-length, chart-asked, read-unformed, read-unsound, read-short, read-done}
 use Rattle.charts.proofs.entry.read_chart.Statement.{statement}
 use Rattle.charts.proofs.entry.read_chart.Tie as tie
 
-check-text-requires : tie.Need-check-text-requires
-check-text-requires c κs = search needs
+slice-aggregate-read-text : tie.Need-slice-aggregate-read-text
+slice-aggregate-read-text c = search needs
+
+read-text-requires : tie.Need-read-text-requires
+read-text-requires c κs = search needs
 
 enum-known-form : tie.Need-enum-known-form
 enum-known-form c = search needs
@@ -16,25 +19,19 @@ enum-told : tie.Need-enum-told
 enum-told c = search needs
 
 returns : tie.Need-returns
-returns c = read-unformed _ _ _ (c .before .before .check-text .ensures) (c .enum-told .given .0 .0) (c .enum-told .given .0 .1 .0) (c .enum-told .given .0 .1 .1 .0) (c .enum-told .given .1)
-
-slice-aggregate-decode : tie.Need-slice-aggregate-decode
-slice-aggregate-decode c = search needs
-
-decode-requires : tie.Need-decode-requires
-decode-requires c κs = (formed-frames _ _ (formed _ _ _ (c .before .before .before .before .check-text .ensures) (c .before .before .form .given .1)), omega (arith, (formed _ _ _ (c .before .before .before .before .check-text .ensures) (c .before .before .form .given .1)) .few, (formed _ _ _ (c .before .before .before .before .check-text .ensures) (c .before .before .form .given .1)) .frames))
+returns c = read-unformed _ _ _ (c .before .before .before .read-text .ensures .0) (c .enum-told .given .0 .0) (c .enum-told .given .0 .1 .0) (c .enum-told .given .0 .1 .1 .0) (c .enum-told .given .1)
 
 mul-end : tie.Need-mul-end
-mul-end c = omega (arith, (formed _ _ _ (c .before .before .before .before .before .before .check-text .ensures) (c .before .before .before .before .form .given .1)) .few)
+mul-end c = omega (arith, (formed _ _ _ (c .before .before .before .before .read-text .ensures .0) (c .before .form .given .1)) .few)
 
 array-share-prefix-table : tie.Need-array-share-prefix-table
-array-share-prefix-table c = omega (arith, (formed _ _ _ (c .before .before .before .before .before .before .check-text .ensures) (c .before .before .before .before .form .given .1)) .few, c .before .decode .kept .1 .0)
+array-share-prefix-table c = omega (arith, (formed _ _ _ (c .before .before .before .before .read-text .ensures .0) (c .before .form .given .1)) .few, c .before .before .before .before .read-text .kept .1 .1 .0)
 
 slice-aggregate-records : tie.Need-slice-aggregate-records
-slice-aggregate-records c = sym (chart-length _ _ _ (formed _ _ _ (c .before .before .before .before .before .before .before .check-text .ensures) (c .before .before .before .before .before .form .given .1)) (formed-chart _ _ _ _ (formed _ _ _ (c .before .before .before .before .before .before .before .check-text .ensures) (c .before .before .before .before .before .form .given .1)) (c .before .before .decode .ensures)))
+slice-aggregate-records c = sym (chart-length _ _ _ (formed _ _ _ (c .before .before .before .before .before .read-text .ensures .0) (c .before .before .form .given .1)) (formed-chart _ _ _ _ (formed _ _ _ (c .before .before .before .before .before .read-text .ensures .0) (c .before .before .form .given .1)) (c .before .before .before .before .before .read-text .ensures .1)))
 
 check-chart-requires : tie.Need-check-chart-requires
-check-chart-requires c κs = chart-asked _ _ _ (formed _ _ _ (c .before .before .before .before .before .before .before .check-text .ensures) (c .before .before .before .before .before .form .given .1)) (formed-chart _ _ _ _ (formed _ _ _ (c .before .before .before .before .before .before .before .check-text .ensures) (c .before .before .before .before .before .form .given .1)) (c .before .before .decode .ensures))
+check-chart-requires c κs = chart-asked _ _ _ (formed _ _ _ (c .before .before .before .before .before .read-text .ensures .0) (c .before .before .form .given .1)) (formed-chart _ _ _ _ (formed _ _ _ (c .before .before .before .before .before .read-text .ensures .0) (c .before .before .form .given .1)) (c .before .before .before .before .before .read-text .ensures .1))
 
 enum-told-2 : tie.Need-enum-told-2
 enum-told-2 c = search needs
@@ -43,30 +40,29 @@ enum-told-3 : tie.Need-enum-told-3
 enum-told-3 c = search needs
 
 returns-2 : tie.Need-returns-2
-returns-2 c = read-unsound _ _ _ (formed _ _ _ (c .before .before .before .before .before .before .before .before .before .before .check-text .ensures) (c .before .before .before .before .before .before .before .before .form .given .1)) _ (formed-chart _ _ _ _ (formed _ _ _ (c .before .before .before .before .before .before .before .before .before .before .check-text .ensures) (c .before .before .before .before .before .before .before .before .form .given .1)) (c .before .before .before .before .before .decode .ensures)) _ (c .before .before .check-chart .ensures) (c .enum-told3 .given .0 .0) (c .enum-told3 .given .0 .1 .0) (c .enum-told3 .given .0 .1 .1 .0) (c .enum-told3 .given .1)
+returns-2 c = read-unsound _ _ _ (formed _ _ _ (c .before .before .before .before .before .before .before .before .read-text .ensures .0) (c .before .before .before .before .before .form .given .1)) _ (formed-chart _ _ _ _ (formed _ _ _ (c .before .before .before .before .before .before .before .before .read-text .ensures .0) (c .before .before .before .before .before .form .given .1)) (c .before .before .before .before .before .before .before .before .read-text .ensures .1)) _ (c .before .before .check-chart .ensures) (c .enum-told3 .given .0 .0) (c .enum-told3 .given .0 .1 .0) (c .enum-told3 .given .0 .1 .1 .0) (c .enum-told3 .given .1)
 
 returns-3 : tie.Need-returns-3
-returns-3 c = read-short _ _ _ (formed _ _ _ (c .before .before .before .before .before .before .before .before .before .before .before .check-text .ensures) (c .before .before .before .before .before .before .before .before .before .form .given .1)) _ (formed-chart _ _ _ _ (formed _ _ _ (c .before .before .before .before .before .before .before .before .before .before .before .check-text .ensures) (c .before .before .before .before .before .before .before .before .before .form .given .1)) (c .before .before .before .before .before .before .decode .ensures)) _ (c .before .before .before .check-chart .ensures) _ (c .before .enum-told2 .given .1) (c .if1 .taken)
+returns-3 c = read-short _ _ _ (formed _ _ _ (c .before .before .before .before .before .before .before .before .before .read-text .ensures .0) (c .before .before .before .before .before .before .form .given .1)) _ (formed-chart _ _ _ _ (formed _ _ _ (c .before .before .before .before .before .before .before .before .before .read-text .ensures .0) (c .before .before .before .before .before .before .form .given .1)) (c .before .before .before .before .before .before .before .before .before .read-text .ensures .1)) _ (c .before .before .before .check-chart .ensures) _ (c .before .enum-told2 .given .1) (c .if1 .taken)
 
 put-bytes-requires : tie.Need-put-bytes-requires
-put-bytes-requires c κs = omega (arith, chart-length _ _ _ (formed _ _ _ (c .before .before .before .before .before .before .before .before .before .before .before .before .check-text .ensures) (c .before .before .before .before .before .before .before .before .before .before .form .given .1)) (formed-chart _ _ _ _ (formed _ _ _ (c .before .before .before .before .before .before .before .before .before .before .before .before .check-text .ensures) (c .before .before .before .before .before .before .before .before .before .before .form .given .1)) (c .before .before .before .before .before .before .before .decode .ensures)), c .before .if1 .left)
+put-bytes-requires c κs = omega (arith, chart-length _ _ _ (formed _ _ _ (c .before .before .before .before .before .before .before .before .before .before .read-text .ensures .0) (c .before .before .before .before .before .before .before .form .given .1)) (formed-chart _ _ _ _ (formed _ _ _ (c .before .before .before .before .before .before .before .before .before .before .read-text .ensures .0) (c .before .before .before .before .before .before .before .form .given .1)) (c .before .before .before .before .before .before .before .before .before .before .read-text .ensures .1)), c .before .if1 .left)
 
 same-length : tie.Need-same-length
 same-length c = search needs
 
 returns-4 : tie.Need-returns-4
-returns-4 c = read-done _ _ _ (formed _ _ _ (c .before .before .before .before .before .before .before .before .before .before .before .before .before .before .before .check-text .ensures) (c .before .before .before .before .before .before .before .before .before .before .before .before .before .form .given .1)) _ (formed-chart _ _ _ _ (formed _ _ _ (c .before .before .before .before .before .before .before .before .before .before .before .before .before .before .before .check-text .ensures) (c .before .before .before .before .before .before .before .before .before .before .before .before .before .form .given .1)) (c .before .before .before .before .before .before .before .before .before .before .decode .ensures)) _ (c .before .before .before .before .before .before .before .check-chart .ensures) _ (c .before .before .before .before .before .enum-told2 .given .1) (c .before .before .before .before .if1 .left) _ (c .before .before .put-bytes .ensures)
+returns-4 c = read-done _ _ _ (formed _ _ _ (c .before .before .before .before .before .before .before .before .before .before .before .before .before .read-text .ensures .0) (c .before .before .before .before .before .before .before .before .before .before .form .given .1)) _ (formed-chart _ _ _ _ (formed _ _ _ (c .before .before .before .before .before .before .before .before .before .before .before .before .before .read-text .ensures .0) (c .before .before .before .before .before .before .before .before .before .before .form .given .1)) (c .before .before .before .before .before .before .before .before .before .before .before .before .before .read-text .ensures .1)) _ (c .before .before .before .before .before .before .before .check-chart .ensures) _ (c .before .before .before .before .before .enum-told2 .given .1) (c .before .before .before .before .if1 .left) _ (c .before .before .put-bytes .ensures)
 
 pub read-chart-spec : {M : Type 1} → statement M
 read-chart-spec =
     tie.close
     (tie.spec
-    check-text-requires
+    slice-aggregate-read-text
+    read-text-requires
     enum-known-form
     enum-told
     returns
-    slice-aggregate-decode
-    decode-requires
     mul-end
     array-share-prefix-table
     slice-aggregate-records
