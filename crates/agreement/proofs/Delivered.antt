@@ -1,17 +1,15 @@
 -- Calls in a row that meet their contracts hand back what demand 3 says.
 use Prim.Native.Nat.{ℕ}
-use mathlib.Core.Path.{_≡_, refl, sym, _∙_, ap, subst}
+use mathlib.Core.Path.{_≡_, refl, sym, _∙_, ap}
 use mathlib.Core.List.{List, [], _∷_}
 use lib.ListN.{take}
-use Rattle.frames.specs.Answer.{reply, success}
-use Rattle.frames.specs.declared.Answer.{Answer}
-use Rattle.translator.specs.Entry.{translate}
+use Rattle.frames.specs.Answer.{reply}
 use Rattle.machine.specs.declared.State.{State}
 use Rattle.machine.specs.declared.Answered.{Answered}
 use Rattle.machine.specs.State.{freshState}
-use Rattle.machine.specs.Run.{Run, run}
+use Rattle.machine.specs.Run.{run}
 use Rattle.agreement.specs.Agreement.{Asked, Told, told, chain, Agreement}
-use Rattle.agreement.specs.Calls.{TranslateCall, FreshCall, RunCall, RunCalls, none, more, Delivered}
+use Rattle.agreement.specs.Calls.{RunCall, RunCalls, none, more, Delivered}
 use Rattle.agreement.proofs.Demand.{theorem}
 
 -- what one call hands back is what the definition gives

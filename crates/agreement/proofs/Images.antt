@@ -1,19 +1,17 @@
 -- A run on the image that the translator wrote is a run on the chart's table.
 use Prim.Native.Nat.{ℕ}
-use mathlib.Core.Path.{_≡_, _∙_, ap, ap₂}
+use mathlib.Core.Path.{_≡_, ap₂}
 use mathlib.Core.List.{List}
-use lib.ListN.{take}
 use Rattle.frames.specs.Frame.{contents}
 use Rattle.frames.specs.Verdict.{Verdict, fine, next, when}
-use Rattle.frames.specs.Answer.{success}
 use Rattle.walk.proofs.Facts.{Facts}
 use Rattle.image.specs.Image.{Image, imageText}
 use Rattle.image.specs.Decode.{decoded}
 use Rattle.image.specs.Check.{imageVerdict}
 use Rattle.translator.specs.Table.{table}
-use Rattle.translator.specs.Entry.{translateVerdict, translate}
+use Rattle.translator.specs.Entry.{translateVerdict}
 use Rattle.translator.proofs.SoundTable.{table-fine, table-decoded}
-use Rattle.translator.proofs.Translated.{translated-few, translated-fine, translated-image}
+use Rattle.translator.proofs.Translated.{translated-few}
 use Rattle.machine.specs.declared.State.{State}
 use Rattle.machine.specs.State.{unfit}
 use Rattle.machine.specs.Run.{Run, noRoom, ticks, runOn, runVerdict, run}

@@ -1,6 +1,6 @@
 -- Functions that do too little: each is shown not to meet the equation of demand 2 or the statement of demand 3.
 use mathlib.Core.Path.{_≡_, ap}
-use mathlib.Core.List.{List, [], _∷_, map}
+use mathlib.Core.List.{map}
 use Prim.Native.Nat.{ℕ, suc}
 use native.Mathlib.Omega.{arith}
 use lib.Dec.{eqb}
@@ -17,16 +17,15 @@ use Rattle.charts.specs.Chart.{nodeOf}
 use Rattle.charts.specs.Check.{badField, chartVerdict}
 use Rattle.charts.specs.Entry.{readVerdict}
 use Rattle.walk.specs.Stops.{stops, start}
-use Rattle.image.specs.Image.{Image, imageFrames, imageText}
+use Rattle.image.specs.Image.{imageFrames, imageText}
 use Rattle.image.specs.Decode.{decoded}
 use Rattle.image.specs.Check.{badHeader, placeOf, stray, badContent, tableVerdict, imageVerdict}
 use Rattle.translator.specs.Labels.{label}
 use Rattle.translator.specs.Rows.{paths, rowsOf, rows}
 use Rattle.translator.specs.Table.{table}
 use Rattle.translator.specs.Entry.{translateVerdict, translate}
-use Rattle.machine.specs.declared.State.{State}
 use Rattle.machine.specs.State.{freshState, unfit}
-use Rattle.machine.specs.Tick.{Ticked, ticked, firstRow, tick}
+use Rattle.machine.specs.Tick.{ticked, firstRow, tick}
 use Rattle.machine.specs.Run.{ticks, runVerdict, run}
 use Rattle.agreement.specs.Agreement.{Runner, Translator, Told, Agreement, Translates}
 use Rattle.bench.specs.Bench.{characters, imageP, words, chartHome}

@@ -10,7 +10,7 @@ use Rattle.lists.specs.Pick.{pick}
 use Rattle.lists.specs.Numbers.{lowest, any, count, sum, highest}
 use Rattle.lists.specs.Sequences.{some, filter, concatMap, mapFrom}
 use Rattle.bits.specs.Word.{bit}
-use Rattle.bits.specs.Results.{Results, resultOf}
+use Rattle.bits.specs.Results.{resultOf}
 use Rattle.graph.specs.Reach.{reach}
 use Rattle.frames.specs.Digit.{digitOf, charOf}
 use Rattle.frames.specs.Frame.{contents, total, frameText}

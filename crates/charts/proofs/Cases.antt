@@ -1,15 +1,14 @@
 -- The checks of one node, case by case, as the code meets them.
 use mathlib.Core.Path.{_≡_, refl, sym, _∙_, ap}
 use mathlib.Core.Bool.{Bool, true, false, _&&_, _||_}
-use mathlib.Core.List.{List, [], _∷_}
+use mathlib.Core.List.{[], _∷_}
 use Prim.Native.Nat.{ℕ, zero, suc, _<_}
 use native.Mathlib.Omega.{arith}
 use lib.Dec.{leb, ltb, eqb}
 use borrow.Author.Tests.{eq-eqb, ne-eqb, lt-leb}
-use Rattle.lists.specs.Pick.{pick}
 use Rattle.lists.specs.Sequences.{some}
 use Rattle.frames.specs.Frame.{size}
-use Rattle.charts.specs.Chart.{Chart, kind, scheme, argument, next0, next1, is, schemes}
+use Rattle.charts.specs.Chart.{Chart, kind, scheme, argument, next0, next1, schemes}
 use Rattle.charts.specs.Check.{badUse, arcs, badEnd, badArc, badCall}
 
 -- ---- 4

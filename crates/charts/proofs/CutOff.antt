@@ -2,7 +2,7 @@
 use mathlib.Core.Path.{_≡_, refl, sym, _∙_, ap, subst}
 use mathlib.Core.Logic.{⊎-elim}
 use mathlib.Core.Bool.{Bool, true, false, _&&_, not}
-use mathlib.Core.List.{List, [], _∷_, map}
+use mathlib.Core.List.{List, [], _∷_}
 use Prim.Native.Nat.{ℕ, _≤_, _<_}
 use native.Mathlib.Nat.{zero-add}
 use native.Mathlib.Omega.{arith}
@@ -10,14 +10,14 @@ use lib.Dec.{eqb}
 use lib.ListN.{length}
 use borrow.Author.Tests.{eqb-true, eq-eqb}
 use Rattle.lists.specs.Numbers.{lowest, any, count}
-use Rattle.lists.proofs.Tests.{no-both, and-l, and-r, and-true, not-false, cases}
+use Rattle.lists.proofs.Tests.{no-both, and-l, and-true, not-false, cases}
 use Rattle.lists.proofs.Searches.{lowest-hit, lowest-past, lowest-alike, any-false, highest-ge, some-both}
 use Rattle.lists.proofs.Counts.{count-lowest, count-one}
 use Rattle.lists.proofs.Ranges.{length-map-range, getD-map-range}
 use Rattle.graph.specs.Reach.{member, marked, reach, joinedFrom}
 use Rattle.graph.proofs.Closure.{Closed, marked-below, reach-grow, reach-least, reach-closed, joined-first, joined-closed, joined-least}
 use Rattle.frames.specs.Frame.{size}
-use Rattle.charts.specs.Chart.{Chart, kind, scheme, is, isOf, schemes, nodeOf, begin}
+use Rattle.charts.specs.Chart.{Chart, scheme, is, isOf, schemes, nodeOf, begin}
 use Rattle.charts.specs.Check.{badField, badScheme, arcs, badEnd, badArc, cutOff}
 use Rattle.charts.specs.Marks.{beginMarks}
 use Rattle.charts.proofs.Nodes.{field-scheme, good-end, member-first}

@@ -1,17 +1,16 @@
 -- Where no condition is on a circle every condition gets a rank, and where every condition has one the ranks fall along arcs, so that none is on a circle.
-use mathlib.Core.Path.{_≡_, refl, sym, _∙_, ap, subst}
+use mathlib.Core.Path.{_≡_, sym, _∙_, ap, subst}
 use mathlib.Core.Logic.{_⊎_, inl, inr, ⊎-elim}
 use mathlib.Core.Bool.{Bool, true, false, _&&_, _||_, not}
 use mathlib.Core.List.{List, [], _∷_}
 use Prim.Native.Nat.{ℕ, zero, suc, _+_, _*_, _≤_, _<_}
 use native.Mathlib.Omega.{arith}
-use native.Mathlib.Decide.{decLt}
 use lib.Dec.{ltb, eqb}
 use lib.ListN.{length, getD}
-use borrow.Author.Tests.{eqb-true, eq-eqb, ne-eqb, ltb-true, lt-ltb}
+use borrow.Author.Tests.{eqb-true, eq-eqb, ltb-true, lt-ltb}
 use Rattle.lists.specs.Numbers.{any}
 use Rattle.lists.proofs.Tests.{no-both, or-cases, or-true-l, or-true-r, and-l, and-r, and-true, and-false, not-true, cases, split}
-use Rattle.lists.proofs.Searches.{any-false, any-true, any-none, some-cons}
+use Rattle.lists.proofs.Searches.{any-false, any-none, some-cons}
 use Rattle.graph.specs.Reach.{member, marked, joinedFrom}
 use Rattle.graph.proofs.Closure.{Closed, joined-least}
 use Rattle.graph.proofs.Rank.{rank, rank-le, rank-some, rank-falls}
@@ -22,7 +21,7 @@ use Rattle.charts.specs.Check.{arcs, conditionArcs, onCircle}
 use Rattle.charts.specs.Rank.{settled, ready, rankAfter, ranksOf, unranked, Ranked}
 use Rattle.charts.proofs.Nodes.{arcs-condition, in-arcs0, in-arcs1}
 use Rattle.charts.proofs.Meaning.{condition-arcs, leaves-condition, member-only}
-use Rattle.charts.proofs.Rounds.{Ready, ready-parts, rank-new, rank-keep, rank-first, rank-stays, a-node}
+use Rattle.charts.proofs.Rounds.{ready-parts, rank-new, rank-keep, rank-first, rank-stays, a-node}
 
 module _ (c : Chart) (whole : length c ≡ 10 * size c) where
   -- ---- ranks fall: u is one of the next nodes of v

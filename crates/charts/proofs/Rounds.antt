@@ -1,7 +1,7 @@
 -- The rounds that give ranks: what a round changes, node by node, and that a round without a new rank is the last that matters.
 use mathlib.Core.Path.{_≡_, refl, sym, _∙_, ap, subst}
 use mathlib.Core.Logic.{_⊎_, inl, inr, ⊎-elim}
-use mathlib.Core.Bool.{Bool, true, false, _&&_, _||_, not}
+use mathlib.Core.Bool.{Bool, true, false, _&&_}
 use mathlib.Core.List.{List}
 use Prim.Native.Nat.{ℕ, zero, suc, _+_, _*_, _≤_, _<_}
 use native.Mathlib.Nat.{eq-or-lt-of-le}
@@ -10,14 +10,14 @@ use native.Mathlib.Decide.{ℕ-discrete}
 use native.Mathlib.Omega.{arith}
 use lib.Dec.{leb, ltb, eqb}
 use lib.ListN.{length, getD, set, replicate, List·getD-eq-default}
-use borrow.Author.Tests.{eqb-true, eq-eqb, ne-eqb, lt-ltb, le-ltb, le-leb, lt-leb}
+use borrow.Author.Tests.{eqb-true, lt-ltb, le-ltb, le-leb, lt-leb}
 use Rattle.lists.specs.Pick.{pick}
 use Rattle.lists.specs.Numbers.{count}
 use Rattle.lists.proofs.Tests.{no-both, and-l, and-r, yes-pick, no-pick, cases, split}
 use Rattle.lists.proofs.Counts.{count-some}
 use Rattle.lists.proofs.Tabulated.{length-tabulate, getD-tabulate, tabulate-alike, tabulate-set, tabulate-none}
 use Rattle.frames.specs.Frame.{size}
-use Rattle.charts.specs.Chart.{Chart, kind, next0, next1, is}
+use Rattle.charts.specs.Chart.{Chart, next0, next1, is}
 use Rattle.charts.specs.Rank.{settled, ready, rankAfter, ranksAfter, ranksWithin, ranksOf}
 
 module _ (c : Chart) where

@@ -8,7 +8,7 @@ use bytes::bytes_after;
 use bytes::bytes_of;
 use bytes::state_of;
 use machine::State;
-use machine::advance::tick_image;
+use machine::tick_image;
 ghost use mathlib.Core.Path.{_≡_};
 ghost use Rattle.frames.specs.Answer.{judged};
 ghost use Rattle.charts.specs.Entry.{readChart, writeChart};

@@ -12,7 +12,7 @@ ghost use mathlib.Core.Path.{_≡_};
 ghost use mathlib.Core.Bool.{not};
 ghost use Prim.Native.Nat.{_+_, _-_, _<_, _≤_};
 ghost use Rattle.lists.specs.Numbers.{lowest};
-ghost use Rattle.frames.specs.Frame.{size, field};
+ghost use Rattle.frames.specs.Frame.{size};
 ghost use Rattle.image.specs.Decode.{labelIn, rowIn, lastLabel, labelsFrom, rowsFrom};
 ghost use Rattle.image.specs.Check.{within, badEntry, isLabel, badLabel, badBit, badRow, badContent};
 ghost use Rattle.image.specs.Parts.{badKind, badTest};

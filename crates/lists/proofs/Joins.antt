@@ -2,7 +2,7 @@
 use mathlib.Core.Path.{_≡_, refl, sym, _∙_, ap, ap₂, subst}
 use mathlib.Core.Bool.{Bool, true, false}
 use mathlib.Core.List.{List, [], _∷_, _++_, map, append-assoc, append-nil}
-use Prim.Native.Nat.{ℕ, zero, suc, _+_, _*_, _≤_, _<_}
+use Prim.Native.Nat.{ℕ, zero, suc, _+_, _*_, _<_}
 use native.Mathlib.Nat.{mul-suc, mul-zero}
 use native.Mathlib.Omega.{arith}
 use lib.ListN.{length, getD, length-append, List·getD-append}
@@ -104,17 +104,6 @@ below-append m [] ys a b k = b k
 below-append m (x ∷ xs) ys a b zero = a zero
 below-append m (x ∷ xs) ys a b (suc k) = below-append m xs ys (λ j. a (suc j)) b k
 
-pub below-map : (m : ℕ) (f : ℕ → ℕ) (i n : ℕ) → 0 < m → ((k : ℕ) → i ≤ k → k < i + n → f k < m) → Below m (map f (range i n))
-below-map m f i zero l h k = l
-below-map m f i (suc n) l h zero = h i (omega arith) (omega arith)
-below-map m f i (suc n) l h (suc k) = below-map m f (suc i) n l (λ j a b. h j (omega arith) (omega arith)) k
-
-pub below-concat : (m : ℕ) (f : ℕ → List ℕ) (i n : ℕ) → 0 < m → ((k : ℕ) → i ≤ k → k < i + n → Below m (f k)) → Below m (concatMap f (range i n))
-unfolding concatMap
-below-concat m f i zero l h = λ k. l
-below-concat m f i (suc n) l h = below-append m (f i) (concatMap f (range (suc i) n)) (h i (omega arith) (omega arith)) (below-concat m f (suc i) n l (λ j a b. h j (omega arith) (omega arith)))
-
--- ---- one more at the far end
 pub concat-range-snoc : {B : Type 0} (f : ℕ → List B) (i n : ℕ) → concatMap f (range i (suc n)) ≡ concatMap f (range i n) ++ f (i + n)
 concat-range-snoc f i n =
     ap (concatMap f) (range-snoc i n) ∙ concat-append f (range i n) ((i + n) ∷ [])

@@ -1,6 +1,6 @@
 -- Laws of the lowest number that passes a test, of whether any does, and of the highest value; of an element that passes.
 use mathlib.Core.Path.{_≡_, refl, sym, _∙_, ap, ap₂}
-use mathlib.Core.Logic.{_⊎_, inl, inr, ⊎-elim}
+use mathlib.Core.Logic.{_⊎_, ⊎-elim}
 use mathlib.Core.Bool.{Bool, true, false, _||_}
 use mathlib.Core.List.{List, [], _∷_}
 use Prim.Native.Nat.{ℕ, zero, suc, _+_, _-_, _≤_, _<_, max}
@@ -164,3 +164,50 @@ lowest-alike p q i (suc n) h = go (q i) (h i (omega arith) (omega arith)) refl (
     go : (b : Bool) → p i ≡ q i → q i ≡ b → lowest p (suc i) n ≡ lowest q (suc i) n → lowest p i (suc n) ≡ lowest q i (suc n)
     go true e t ih = rw (lowest, e ∙ t, lowest, t)
     go false e t ih = rw (lowest, e ∙ t, lowest, t) ih
+
+-- ---- where the lowest that passes lies
+pub lowest-most : (p : ℕ → Bool) (i n : ℕ) → lowest p i n ≤ i + n
+unfolding lowest
+lowest-most p i zero = omega arith
+lowest-most p i (suc n) = go (lowest-most p (suc i) n) (p i) refl
+  where
+    go : lowest p (suc i) n ≤ suc i + n → (t : Bool) → p i ≡ t → lowest p i (suc n) ≤ i + suc n
+    go ih true e = rw (lowest, e) (omega arith)
+    go ih false e = rw (lowest, e) (omega arith)
+
+pub lowest-before : (p : ℕ → Bool) (i n k : ℕ) → i ≤ k → k < lowest p i n → p k ≡ false
+unfolding lowest
+lowest-before p i zero k a b = absurd (omega arith)
+lowest-before p i (suc n) k a b = go (p i) refl b (lowest-before p (suc i) n k)
+  where
+    go : (t : Bool) → p i ≡ t → k < lowest p i (suc n) → (suc i ≤ k → k < lowest p (suc i) n → p k ≡ false) → p k ≡ false
+    go true e b ih = absurd (omega (arith, rw (lowest, e) at b))
+    go false e b ih = ⊎-elim (λ (q : i ≡ k). ap p (sym q) ∙ e) (λ (q : i < k). ih q (rw (lowest, e) at b)) (eq-or-lt-of-le a)
+
+-- a test that fails wherever another one fails: its search may start where the other one's ends
+pub lowest-later : (p q : ℕ → Bool) → ((k : ℕ) → p k ≡ false → q k ≡ false) → (i n : ℕ) → lowest q (lowest p i n) (i + n - lowest p i n) ≡ lowest q i n
+unfolding lowest
+lowest-later p q h i zero = ap (λ (m : ℕ). lowest q i m) (let e : i + 0 - i ≡ 0 = omega arith in e)
+lowest-later p q h i (suc n) = go (p i) refl (lowest-later p q h (suc i) n)
+  where
+    go : (t : Bool) → p i ≡ t → lowest q (lowest p (suc i) n) (suc i + n - lowest p (suc i) n) ≡ lowest q (suc i) n
+        → lowest q (lowest p i (suc n)) (i + suc n - lowest p i (suc n)) ≡ lowest q i (suc n)
+    go true e ih =
+        let one : lowest p i (suc n) ≡ i = rw (lowest, e) in
+        ap (λ (x : ℕ). lowest q x (i + suc n - x)) one ∙ ap (λ (m : ℕ). lowest q i m) (let z : i + suc n - i ≡ suc n = omega arith in z)
+    go false e ih =
+        let on : lowest p i (suc n) ≡ lowest p (suc i) n = rw (lowest, e) in
+        let past : lowest q i (suc n) ≡ lowest q (suc i) n = rw (lowest, h i e) in
+        ap (λ (x : ℕ). lowest q x (i + suc n - x)) on
+        ∙ ap (λ (m : ℕ). lowest q (lowest p (suc i) n) m) (let z : i + suc n - lowest p (suc i) n ≡ suc i + n - lowest p (suc i) n = omega arith in z)
+        ∙ ih ∙ sym past
+
+-- the same by the end of the search
+module _ (p : ℕ → Bool) (i end : ℕ) (h : i ≤ end) where
+  pub lowest-inside : lowest p i (end - i) ≤ end
+  lowest-inside = omega (arith, lowest-most p i (end - i))
+
+  pub lowest-from : (q : ℕ → Bool) → ((k : ℕ) → p k ≡ false → q k ≡ false) → lowest q (lowest p i (end - i)) (end - lowest p i (end - i)) ≡ lowest q i (end - i)
+  lowest-from q f =
+      ap (λ (m : ℕ). lowest q (lowest p i (end - i)) m) (let e : end - lowest p i (end - i) ≡ i + (end - i) - lowest p i (end - i) = omega arith in e)
+      ∙ lowest-later p q f i (end - i)

@@ -1,17 +1,17 @@
 -- Where the rows of each label begin; among them the first matching row is that of all rows.
 use mathlib.Core.Path.{_≡_, refl, sym, _∙_, ap, ap₂, subst}
-use mathlib.Core.Logic.{⊎-elim}
 use mathlib.Core.Bool.{Bool, true, false}
 use mathlib.Core.List.{List, _++_, map, append-nil}
 use Prim.Native.Nat.{ℕ, zero, suc, _+_, _-_, _≤_, _<_}
-use native.Mathlib.Nat.{eq-or-lt-of-le, zero-add, add-zero}
+use native.Mathlib.Nat.{zero-add, add-zero}
 use native.Mathlib.Omega.{arith}
 use lib.ListN.{length, getD, set, drop-of-length-le}
 use borrow.Author.Tests.{lt-ltb, le-ltb, leb-true, leb-false, lt-leb}
 use Rattle.lists.specs.Pick.{pick}
-use Rattle.lists.specs.Numbers.{range, lowest}
-use Rattle.lists.proofs.Searches.{lowest-hit, lowest-above}
-use Rattle.lists.proofs.Ranges.{length-map-range, getD-map-range}
+use Rattle.lists.specs.Numbers.{range, tabulate, lowest}
+use Rattle.lists.proofs.Searches.{lowest-hit, lowest-above, lowest-before, lowest-inside, lowest-from}
+use Rattle.lists.proofs.Ranges.{length-map-range}
+use Rattle.lists.proofs.Tabulated.{length-tabulate, getD-tabulate}
 use Rattle.lists.proofs.Written.{written-front}
 use Rattle.lists.proofs.Fills.{Values, values-none, values-turn, values-all}
 use Rattle.frames.specs.Frame.{size, field}
@@ -24,53 +24,6 @@ use Rattle.image.proofs.Accepted.{rows-count, row-read, counted, accepted-sound
 use Rattle.machine.specs.Tick.{Found, found, missing, firstRow}
 use Rattle.machine.specs.Parts.{rowOn, fitting, reached, firstFrame, firstFrames, foundAt, foundAs}
 use Rattle.machine.proofs.RowCases.{row-here, row-later, fitting-other, rowsIn, rows-inside, rows-are}
-
--- ---- the lowest that passes
-lowest-most : (p : ℕ → Bool) (i n : ℕ) → lowest p i n ≤ i + n
-unfolding lowest
-lowest-most p i zero = omega arith
-lowest-most p i (suc n) = go (lowest-most p (suc i) n) (p i) refl
-  where
-    go : lowest p (suc i) n ≤ suc i + n → (t : Bool) → p i ≡ t → lowest p i (suc n) ≤ i + suc n
-    go ih true e = rw (lowest, e) (omega arith)
-    go ih false e = rw (lowest, e) (omega arith)
-
-lowest-before : (p : ℕ → Bool) (i n k : ℕ) → i ≤ k → k < lowest p i n → p k ≡ false
-unfolding lowest
-lowest-before p i zero k a b = absurd (omega arith)
-lowest-before p i (suc n) k a b = go (p i) refl b (lowest-before p (suc i) n k)
-  where
-    go : (t : Bool) → p i ≡ t → k < lowest p i (suc n) → (suc i ≤ k → k < lowest p (suc i) n → p k ≡ false) → p k ≡ false
-    go true e b ih = absurd (omega (arith, rw (lowest, e) at b))
-    go false e b ih = ⊎-elim (λ (q : i ≡ k). ap p (sym q) ∙ e) (λ (q : i < k). ih q (rw (lowest, e) at b)) (eq-or-lt-of-le a)
-
--- a test that fails wherever another one fails: its search may start where the other one's ends
-lowest-later : (p q : ℕ → Bool) → ((k : ℕ) → p k ≡ false → q k ≡ false) → (i n : ℕ) → lowest q (lowest p i n) (i + n - lowest p i n) ≡ lowest q i n
-unfolding lowest
-lowest-later p q h i zero = ap (λ (m : ℕ). lowest q i m) (let e : i + 0 - i ≡ 0 = omega arith in e)
-lowest-later p q h i (suc n) = go (p i) refl (lowest-later p q h (suc i) n)
-  where
-    go : (t : Bool) → p i ≡ t → lowest q (lowest p (suc i) n) (suc i + n - lowest p (suc i) n) ≡ lowest q (suc i) n
-        → lowest q (lowest p i (suc n)) (i + suc n - lowest p i (suc n)) ≡ lowest q i (suc n)
-    go true e ih =
-        let one : lowest p i (suc n) ≡ i = rw (lowest, e) in
-        ap (λ (x : ℕ). lowest q x (i + suc n - x)) one ∙ ap (λ (m : ℕ). lowest q i m) (let z : i + suc n - i ≡ suc n = omega arith in z)
-    go false e ih =
-        let on : lowest p i (suc n) ≡ lowest p (suc i) n = rw (lowest, e) in
-        let past : lowest q i (suc n) ≡ lowest q (suc i) n = rw (lowest, h i e) in
-        ap (λ (x : ℕ). lowest q x (i + suc n - x)) on
-        ∙ ap (λ (m : ℕ). lowest q (lowest p (suc i) n) m) (let z : i + suc n - lowest p (suc i) n ≡ suc i + n - lowest p (suc i) n = omega arith in z)
-        ∙ ih ∙ sym past
-
--- the same by the end of the search
-module _ (p : ℕ → Bool) (i end : ℕ) (h : i ≤ end) where
-  lowest-inside : lowest p i (end - i) ≤ end
-  lowest-inside = omega (arith, lowest-most p i (end - i))
-
-  lowest-from : (q : ℕ → Bool) → ((k : ℕ) → p k ≡ false → q k ≡ false) → lowest q (lowest p i (end - i)) (end - lowest p i (end - i)) ≡ lowest q i (end - i)
-  lowest-from q f =
-      ap (λ (m : ℕ). lowest q (lowest p i (end - i)) m) (let e : end - lowest p i (end - i) ≡ i + (end - i) - lowest p i (end - i) = omega arith in e)
-      ∙ lowest-later p q f i (end - i)
 
 -- a row that leaves no label from l on leaves none from a higher one on
 below-more : (b : List ℕ) (l m : ℕ) → l ≤ m → (f : ℕ) → reached b l f ≡ false → reached b m f ≡ false
@@ -108,7 +61,7 @@ module _ (b : List ℕ) (ok : tableVerdict b ≡ fine) (firsts₀ : List ℕ) wh
     }
 
   pub index-all : (firsts : List ℕ) (f l : ℕ) → Indexed b firsts₀ firsts f l → length firsts₀ ≡ 257 → 257 ≤ l → firsts ≡ firstFrames b
-  unfolding firstFrames
+  unfolding firstFrames tabulate
   index-all firsts f l t room h =
       let all : List ℕ = map (firstFrame b) (range 0 257) in
       let full : length firsts₀ ≤ length all = omega (arith, length-map-range (firstFrame b) 0 257) in
@@ -200,7 +153,7 @@ module _ (b : List ℕ) (ok : tableVerdict b ≡ fine) where
 -- ---- the search from one given frame up to the next
 pub firsts-long : (b firsts : List ℕ) → firsts ≡ firstFrames b → length firsts ≡ 257
 unfolding firstFrames
-firsts-long b firsts is = ap (λ (xs : List ℕ). length xs) is ∙ length-map-range (firstFrame b) 0 257
+firsts-long b firsts is = ap (λ (xs : List ℕ). length xs) is ∙ length-tabulate (firstFrame b) 257
 
 module _ (b : List ℕ) (ok : tableVerdict b ≡ fine) (bytes : (k : ℕ) → getD b k 0 < 256) (firsts : List ℕ) (is : firsts ≡ firstFrames b) (l : ℕ) (h : l < 256) where
   abbrev first : ℕ
@@ -211,7 +164,7 @@ module _ (b : List ℕ) (ok : tableVerdict b ≡ fine) (bytes : (k : ℕ) → ge
 
   first-at : (m : ℕ) → m < 257 → getD firsts m 0 ≡ firstFrame b m
   unfolding firstFrames
-  first-at m g = ap (λ (xs : List ℕ). getD xs m 0) is ∙ getD-map-range (firstFrame b) 0 0 257 m g ∙ ap (firstFrame b) (zero-add m)
+  first-at m g = ap (λ (xs : List ℕ). getD xs m 0) is ∙ getD-tabulate (firstFrame b) 257 m g
 
   pub range-lies : (first ≤ end) × (end ≤ size b)
   range-lies =

@@ -4,8 +4,8 @@ use mathlib.Core.Bool.{false}
 use mathlib.Core.Path.{_≡_}
 use native.Mathlib.Omega.{arith}
 use lib.Dec.{eqb, ltb}
-use borrow.Author.Tests.{eqb-false, ltb-false, le-ltb, ne-eqb}
-use Rattle.lists.proofs.Tests.{or-l, or-r, or-none}
+use borrow.Author.Tests.{ltb-false, le-ltb, ne-eqb}
+use Rattle.lists.proofs.Tests.{or-r, or-none}
 use Rattle.machine.specs.State.{badSize}
 
 pub size-most : (n : ℕ) → badSize n ≡ false → n ≤ 32

@@ -2,11 +2,11 @@
 use Prim.Native.Nat.{ℕ, zero, suc, _+_, _-_, _<_}
 use mathlib.Core.Bool.{Bool, false, _&&_}
 use mathlib.Core.Path.{_≡_}
-use mathlib.Core.List.{List, map}
+use mathlib.Core.List.{List}
 use lib.Dec.{leb, ltb, eqb}
 use lib.ListN.{length, getD}
 use Rattle.lists.specs.Pick.{pick}
-use Rattle.lists.specs.Numbers.{range, lowest}
+use Rattle.lists.specs.Numbers.{tabulate, lowest}
 use Rattle.lists.specs.Sequences.{over}
 use Rattle.bits.specs.Results.{Results}
 use Rattle.frames.specs.Frame.{size, field, pairAt}
@@ -40,7 +40,7 @@ firstFrame b l = lowest (reached b l) (rowsFrom b) (size b - rowsFrom b)
 
 -- for 0 to 256; in an accepted table the rows of label l stand from the frame at place l up to that at place l + 1
 unfoldable pub firstFrames : List ℕ → List ℕ
-firstFrames b = map (firstFrame b) (range 0 257)
+firstFrames b = tabulate (firstFrame b) 257
 
 -- a search among frames up to end that stopped at f
 abbrev pub foundAt : List ℕ → ℕ → ℕ → Found

@@ -1,14 +1,16 @@
 // The stack machine: its state, one tick, and a run of ticks over an image.
 use frames::Answer;
 
-pub mod advance;
+mod advance;
 mod fit;
 mod fresh;
+mod parts;
 mod rows;
 mod runs;
-mod tick;
 mod value;
 
+pub use advance::tick;
+pub use advance::tick_image;
 pub use runs::run;
 
 // Places hold labels, the bottom first, up to the depth, and 0 above it; scheme h's result bit stands at h - 1.

@@ -1,8 +1,8 @@
 // One tick of a state by value, over the tick on lent parts.
 use super::Advanced;
 use super::State;
+use crate::parts::tick_parts;
 use crate::rows::index_rows;
-use crate::tick::tick_parts;
 use frames::Answer;
 ghost use Rattle.image.specs.Decode.{decoded};
 ghost use Rattle.machine.specs.Tick.{tick};

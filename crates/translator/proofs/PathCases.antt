@@ -4,7 +4,7 @@ use mathlib.Core.Path.{_≡_, refl, sym, _∙_, ap, ap₂, subst}
 use mathlib.Core.Logic.{⊎-elim}
 use mathlib.Core.Bool.{Bool, true, false, _&&_, not}
 use mathlib.Core.List.{List, [], _∷_, _++_}
-use Prim.Native.Nat.{ℕ, suc, _+_, _-_, _^_, _<_, min}
+use Prim.Native.Nat.{ℕ, _+_, _-_, _^_, _<_, min}
 use native.Mathlib.Omega.{arith}
 use lib.Bits.{bitAnd, bitOr}
 use lib.Dec.{eqb, leb}
@@ -15,7 +15,7 @@ use Rattle.bits.specs.Word.{bit}
 use Rattle.bits.proofs.BitLaws.{add-is-or}
 use Rattle.bits.proofs.MaskLaws.{more-within-0, more-within-1, within-lacks}
 use Rattle.frames.specs.Frame.{size}
-use Rattle.charts.specs.Chart.{Chart, kind, argument, next0, next1, is, taken}
+use Rattle.charts.specs.Chart.{Chart, kind, argument, next0, next1, taken}
 use Rattle.charts.proofs.Rank.{rank, rank-falls0, rank-falls1}
 use Rattle.walk.specs.Stops.{stops}
 use Rattle.image.specs.Image.{Row}

@@ -8,10 +8,10 @@ use native.Mathlib.Decide.{ℕ-discrete}
 use native.Mathlib.Omega.{arith}
 use lib.Dec.{eqb}
 use borrow.Author.Tests.{eq-eqb, ne-eqb}
-use Rattle.lists.proofs.Tests.{no-both, yes-pick, no-pick}
+use Rattle.lists.proofs.Tests.{yes-pick, no-pick}
 use Rattle.bits.specs.Word.{bit}
 use Rattle.frames.specs.Frame.{size}
-use Rattle.charts.specs.Chart.{Chart, kind, argument, next0, next1, is, taken}
+use Rattle.charts.specs.Chart.{Chart, kind, argument, next0, next1, taken}
 use Rattle.charts.proofs.Rank.{rank, rank-le, rank-some, rank-falls0, rank-falls1}
 use Rattle.walk.specs.Stops.{stops}
 use Rattle.walk.proofs.Follow.{goes-on}

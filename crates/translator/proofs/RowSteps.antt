@@ -1,12 +1,12 @@
 -- The steps of the functions that count and write the rows of labels, at plain values.
 use mathlib.Core.Path.{_≡_, refl, sym, _∙_, ap, ap₂, subst}
 use mathlib.Core.Bool.{Bool, true, false, not}
-use mathlib.Core.List.{List, [], _∷_, _++_}
+use mathlib.Core.List.{List, [], _++_}
 use Prim.Native.Nat.{ℕ, zero, suc, _+_, _-_, _^_, _≤_, _<_, min}
 use native.Mathlib.Nat.{zero-add}
 use native.Mathlib.Numerals.{add-one}
 use native.Mathlib.Omega.{arith}
-use lib.Bits.{bitAnd, bitOr, and-zero-l}
+use lib.Bits.{bitOr}
 use lib.ListN.{length, getD, length-append}
 use borrow.Author.Tests.{eqb-false, eq-eqb, ne-eqb}
 use Rattle.lists.specs.Pick.{pick}

@@ -13,7 +13,7 @@ use borrow.Author.Tests.{eqb-true, eqb-false}
 use Rattle.lists.specs.Pick.{pick}
 use Rattle.lists.specs.Numbers.{range, count}
 use Rattle.lists.specs.Sequences.{concatMap, filter}
-use Rattle.lists.proofs.Tests.{no-both, and-r, not-true}
+use Rattle.lists.proofs.Tests.{and-r, not-true}
 use Rattle.lists.proofs.Counts.{count-snoc}
 use Rattle.lists.proofs.Joins.{All, all-append, all-of, all-concat, all-range, all-filter}
 use Rattle.bits.specs.Word.{bit}

@@ -1,9 +1,8 @@
 -- The rows of a chart's labels: one for each path through conditions that take no tick.
 use Prim.Native.Nat.{ℕ, zero, suc, _+_, _^_}
-use mathlib.Core.Bool.{Bool, true, false}
+use mathlib.Core.Bool.{true, false}
 use mathlib.Core.List.{List, [], _∷_, _++_}
 use lib.Dec.{eqb}
-use Rattle.lists.specs.Pick.{pick}
 use Rattle.lists.specs.Sequences.{concatMap}
 use Rattle.bits.specs.Word.{bit}
 use Rattle.frames.specs.Frame.{size}

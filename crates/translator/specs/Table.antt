@@ -1,5 +1,5 @@
 -- The table of a chart.
-use mathlib.Core.List.{List, _∷_, map}
+use mathlib.Core.List.{_∷_, map}
 use Rattle.lists.specs.Numbers.{range}
 use Rattle.charts.specs.Chart.{Chart, schemes}
 use Rattle.image.specs.Image.{Image}

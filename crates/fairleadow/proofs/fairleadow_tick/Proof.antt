@@ -1,6 +1,6 @@
 -- `fairleadow::fairleadow_tick` meets its contract: what the functions that it calls ensure, put together, refused or not.
 use borrow.Author.Needs.{needs}
-use Rattle.fairleadow.proofs.CallLaws.{Ticks, ticks-for, tick-refused, tick-done}
+use Rattle.fairleadow.proofs.CallLaws.{ticks-for, tick-refused, tick-done}
 use Rattle.fairleadow.proofs.fairleadow_tick.Statement.{statement}
 use Rattle.fairleadow.proofs.fairleadow_tick.Tie as tie
 

@@ -1,4 +1,4 @@
-use Prim.Native.Nat.{ℕ, _-_, _+_, min}
+use Prim.Native.Nat.{_-_, _+_, min}
 use mathlib.Core.Path.{_≡_, sym, _∙_, subst}
 use mathlib.Core.Bool.{Bool}
 use mathlib.Core.List.{List}

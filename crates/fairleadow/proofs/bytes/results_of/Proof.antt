@@ -1,5 +1,5 @@
 -- `fairleadow::bytes::results_of` meets its contract: the elements passed stand in place.
-use Prim.Native.Nat.{_+_, _-_}
+use Prim.Native.Nat.{_-_}
 use borrow.Author.Needs.{needs}
 use mathlib.Core.Bool.{false}
 use mathlib.Core.Path.{refl}

@@ -4,24 +4,17 @@ use Rattle.machine.specs.State.{freshState}
 use Rattle.machine.proofs.Sizes.{size-most}
 use Rattle.machine.proofs.State.fresh.Statement.{statement}
 use Rattle.machine.proofs.State.fresh.Tie as tie
-use Rattle.machine.proofs.State.fresh.Reads as reads
-use Rattle.machine.proofs.State.fresh.Lts as lts
-use Rattle.machine.proofs.fresh.bad_size.Reads as bad-size-reads
 
--- src/fresh.rt:26:12
 bad-size-requires : tie.Need-bad-size-requires
 bad-size-requires c κs = search needs
 
--- src/fresh.rt:38:13
 returns : tie.Need-returns
 unfolding freshState
 returns c = let e = sym (c .before .bad-size .ensures) ∙ c .if1 .taken in (simp e, simp e)
 
--- src/fresh.rt:42:19
 cast-t9 : tie.Need-cast-t9
 cast-t9 c = search (needs, size-most (c .before .before .args .size) (sym (c .before .bad-size .ensures) ∙ c .if1 .left))
 
--- src/fresh.rt:21:5
 returns-2 : tie.Need-returns-2
 unfolding freshState
 returns-2 c = let e = sym (c .before .bad-size .ensures) ∙ c .if1 .left in (simp e, simp e)

@@ -6,35 +6,25 @@ use Rattle.machine.specs.Advance.{advance}
 use borrow.Author.Needs.{needs}
 use Rattle.machine.proofs.advance.tick_image.Statement.{statement}
 use Rattle.machine.proofs.advance.tick_image.Tie as tie
-use Rattle.machine.proofs.advance.tick_image.Reads as reads
-use Rattle.machine.proofs.advance.tick_image.Lts as lts
-use Rattle.machine.proofs.runs.run.Reads as run-reads
 
--- src/advance.rt:17:34
 slice-aggregate-run : tie.Need-slice-aggregate-run
 slice-aggregate-run c = search needs
 
--- src/advance.rt:17:42
 slice-aggregate-run-2 : tie.Need-slice-aggregate-run-2
 slice-aggregate-run-2 c = search needs
 
--- src/advance.rt:17:54
 slice-aggregate-run-3 : tie.Need-slice-aggregate-run-3
 slice-aggregate-run-3 c = search needs
 
--- src/advance.rt:17:9
 run-requires : tie.Need-run-requires
 run-requires c κs = search needs
 
--- src/advance.rt:19:16
 array-read-mask : tie.Need-array-read-mask
 array-read-mask c = search needs
 
--- src/advance.rt:20:16
 array-read-code : tie.Need-array-read-code
 array-read-code c = search needs
 
--- src/advance.rt:10:1
 returns : tie.Need-returns
 unfolding advance
 returns c = let e = c .before .before .before .run .ensures in ((e .0, (ap (λ (ms : List ℕ). getD ms 0 0) (e .1 .1 .0), ap (λ (ks : List ℕ). getD ks 0 0) (e .1 .1 .1))), e .1 .0)

@@ -6,8 +6,6 @@ use Rattle.lists.proofs.Searches.{any-here, any-on, any-over}
 use Rattle.machine.proofs.FitCases.{filledAt, filled-here, filled-none}
 use Rattle.machine.proofs.fit.any_filled.Statement.{statement}
 use Rattle.machine.proofs.fit.any_filled.Tie as tie
-use Rattle.machine.proofs.fit.any_filled.Reads as reads
-use Rattle.machine.proofs.fit.any_filled.Lts as lts
 
 abbrev Inv-loop : tie.InvT-loop
 Inv-loop s depth k₀ k = (s .depth ≤ k) × (k ≤ 32) × (any (filledAt s) k (32 - k) ≡ any (filledAt s) (s .depth) (32 - s .depth))
@@ -15,35 +13,27 @@ Inv-loop s depth k₀ k = (s .depth ≤ k) × (k ≤ 32) × (any (filledAt s) k 
 abbrev μ-loop : tie.MeasureT-loop
 μ-loop s depth k₀ k = 32 - k
 
--- src/fit.rt:90:17
 cast-depth : tie.Need-cast-depth Inv-loop μ-loop
 cast-depth c = search needs
 
--- src/fit.rt:91:5
 loop-holds : tie.Need-loop-holds Inv-loop μ-loop
 loop-holds c = search needs
 
--- src/fit.rt:92:12
 element-copy-out-if1 : tie.Need-element-copy-out-if1 Inv-loop μ-loop
 element-copy-out-if1 c = search needs
 
--- src/fit.rt:93:13
 returns : tie.Need-returns Inv-loop μ-loop
 returns c = let s = c .before .before .before .before .args .t1 in sym (any-here (filledAt s) 32 (c .before .before .before .loop .k) (search needs) (filled-here s (c .before .before .before .loop .k) (c .if1 .taken))) ∙ c .before .before .before .loop .inv .2
 
--- src/fit.rt:91:9
 add-k : tie.Need-add-k Inv-loop μ-loop
 add-k c = search needs
 
--- src/fit.rt:91:5
 loop-less : tie.Need-loop-less Inv-loop μ-loop
 loop-less c = search needs
 
--- src/fit.rt:91:5
 loop-again : tie.Need-loop-again Inv-loop μ-loop
 loop-again c = let s = c .before .before .before .before .args .t1 in (search needs, search needs, sym (any-on (filledAt s) 32 (c .before .before .before .loop .k) (search needs) (filled-none s (c .before .before .before .loop .k) (c .if1 .left))) ∙ c .before .before .before .loop .inv .2)
 
--- src/fit.rt:86:1
 returns-2 : tie.Need-returns-2 Inv-loop μ-loop
 returns-2 c = sym (any-over (filledAt (c .before .before .args .t1)) 32 (c .before .loop .k) (search needs)) ∙ c .before .loop .inv .2
 

@@ -8,9 +8,6 @@ use Rattle.image.specs.Decode.{decoded}
 use Rattle.machine.specs.State.{unfitPlace}
 use Rattle.machine.proofs.fit.any_unfit.Statement.{statement}
 use Rattle.machine.proofs.fit.any_unfit.Tie as tie
-use Rattle.machine.proofs.fit.any_unfit.Reads as reads
-use Rattle.machine.proofs.fit.any_unfit.Lts as lts
-use Rattle.machine.proofs.fit.unfit_place.Reads as unfit-place-reads
 
 abbrev Inv-loop : tie.InvT-loop
 Inv-loop table s depth k₀ k = (k ≤ s .depth) × (any (unfitPlace (decoded table) s) k (s .depth - k) ≡ any (unfitPlace (decoded table) s) 0 (s .depth))
@@ -18,35 +15,27 @@ Inv-loop table s depth k₀ k = (k ≤ s .depth) × (any (unfitPlace (decoded ta
 abbrev μ-loop : tie.MeasureT-loop
 μ-loop table s depth k₀ k = s .depth - k
 
--- src/fit.rt:76:17
 cast-depth : tie.Need-cast-depth Inv-loop μ-loop
 cast-depth c = search needs
 
--- src/fit.rt:77:5
 loop-holds : tie.Need-loop-holds Inv-loop μ-loop
 loop-holds c = (search needs, simp sub-zero)
 
--- src/fit.rt:78:12
 unfit-place-requires : tie.Need-unfit-place-requires Inv-loop μ-loop
 unfit-place-requires c κs = search needs
 
--- src/fit.rt:79:13
 returns : tie.Need-returns Inv-loop μ-loop
 returns c = sym (any-here _ _ _ (search needs) (sym (c .before .unfit-place .ensures) ∙ c .if1 .taken)) ∙ c .before .before .before .loop .inv .1
 
--- src/fit.rt:77:9
 add-k : tie.Need-add-k Inv-loop μ-loop
 add-k c = search needs
 
--- src/fit.rt:77:5
 loop-less : tie.Need-loop-less Inv-loop μ-loop
 loop-less c = search needs
 
--- src/fit.rt:77:5
 loop-again : tie.Need-loop-again Inv-loop μ-loop
 loop-again c = (search needs, sym (any-on _ _ _ (search needs) (sym (c .before .unfit-place .ensures) ∙ c .if1 .left)) ∙ c .before .before .before .loop .inv .1)
 
--- src/fit.rt:72:1
 returns-2 : tie.Need-returns-2 Inv-loop μ-loop
 returns-2 c = sym (any-over _ _ _ (search needs)) ∙ c .before .loop .inv .1
 

@@ -3,27 +3,19 @@ use borrow.Author.Tests.{eq-eqb, ne-eqb}
 use borrow.Author.Needs.{needs}
 use Rattle.machine.proofs.fit.bad_depth.Statement.{statement}
 use Rattle.machine.proofs.fit.bad_depth.Tie as tie
-use Rattle.machine.proofs.fit.bad_depth.Reads as reads
-use Rattle.machine.proofs.fit.bad_depth.Lts as lts
-use Rattle.machine.proofs.fresh.bad_size.Reads as bad-size-reads
 
--- src/fit.rt:103:17
 cast-bad-size : tie.Need-cast-bad-size
 cast-bad-size c = search needs
 
--- src/fit.rt:103:8
 bad-size-requires : tie.Need-bad-size-requires
 bad-size-requires c κs = search needs
 
--- src/fit.rt:104:9
 returns : tie.Need-returns
 returns c = simp (sym (c .before .bad-size .ensures) ∙ c .if1 .taken)
 
--- src/fit.rt:107:9
 returns-2 : tie.Need-returns-2
 returns-2 c = simp (sym (c .before .before .before .bad-size .ensures) ∙ c .before .before .if1 .left, eq-eqb _ _ (c .if2 .taken))
 
--- src/fit.rt:100:1
 returns-3 : tie.Need-returns-3
 returns-3 c = simp (sym (c .before .before .before .before .bad-size .ensures) ∙ c .before .before .before .if1 .left, ne-eqb _ _ (c .before .if2 .left))
 

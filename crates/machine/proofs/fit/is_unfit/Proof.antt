@@ -3,46 +3,31 @@ use Rattle.machine.proofs.FitCases.{depth-most, unfit-depth, unfit-plac
 use borrow.Author.Needs.{needs}
 use Rattle.machine.proofs.fit.is_unfit.Statement.{statement}
 use Rattle.machine.proofs.fit.is_unfit.Tie as tie
-use Rattle.machine.proofs.fit.is_unfit.Reads as reads
-use Rattle.machine.proofs.fit.is_unfit.Lts as lts
-use Rattle.machine.proofs.fit.any_filled.Reads as any-filled-reads
-use Rattle.machine.proofs.fit.any_unfit.Reads as any-unfit-reads
-use Rattle.machine.proofs.fit.bad_depth.Reads as bad-depth-reads
-use Rattle.machine.proofs.fit.owner_of.Reads as owner-of-reads
 
--- src/fit.rt:117:8
 bad-depth-requires : tie.Need-bad-depth-requires
 bad-depth-requires c κs = search needs
 
--- src/fit.rt:118:9
 returns : tie.Need-returns
 returns c = unfit-depth _ _ (sym (c .before .bad-depth .ensures) ∙ c .if1 .taken)
 
--- src/fit.rt:120:8
 any-unfit-requires : tie.Need-any-unfit-requires
 any-unfit-requires c κs = (search needs, depth-most (c .before .before .before .args .t2) (sym (c .before .bad-depth .ensures) ∙ c .if1 .left))
 
--- src/fit.rt:121:9
 returns-2 : tie.Need-returns-2
 returns-2 c = unfit-places _ _ (sym (c .before .before .before .bad-depth .ensures) ∙ c .before .before .if1 .left) (sym (c .before .any-unfit .ensures) ∙ c .if2 .taken)
 
--- src/fit.rt:123:18
 element-copy-out-bottom : tie.Need-element-copy-out-bottom
 element-copy-out-bottom c = search needs
 
--- src/fit.rt:124:8
 owner-of-requires : tie.Need-owner-of-requires
 owner-of-requires c κs = search needs
 
--- src/fit.rt:125:9
 returns-3 : tie.Need-returns-3
 returns-3 c = unfit-bottom _ _ (sym (c .before .before .before .before .before .before .bad-depth .ensures) ∙ c .before .before .before .before .before .if1 .left) (sym (c .before .before .before .before .any-unfit .ensures) ∙ c .before .before .before .if2 .left) _ (c .before .owner-of .ensures) (c .if3 .taken)
 
--- src/fit.rt:127:5
 any-filled-requires : tie.Need-any-filled-requires
 any-filled-requires c κs = depth-most (c .before .before .before .before .before .before .before .before .args .t2) (sym (c .before .before .before .before .before .before .bad-depth .ensures) ∙ c .before .before .before .before .before .if1 .left)
 
--- src/fit.rt:113:1
 returns-4 : tie.Need-returns-4
 returns-4 c = c .any-filled .ensures ∙ unfit-above _ _ (sym (c .before .before .before .before .before .before .before .bad-depth .ensures) ∙ c .before .before .before .before .before .before .if1 .left) (sym (c .before .before .before .before .before .any-unfit .ensures) ∙ c .before .before .before .before .if2 .left) _ (c .before .before .owner-of .ensures) (c .before .if3 .left)
 

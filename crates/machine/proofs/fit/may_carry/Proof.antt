@@ -2,33 +2,22 @@ use Rattle.machine.proofs.FitCases.{carry-return, carry-owned, carry-no
 use borrow.Author.Needs.{needs}
 use Rattle.machine.proofs.fit.may_carry.Statement.{statement}
 use Rattle.machine.proofs.fit.may_carry.Tie as tie
-use Rattle.machine.proofs.fit.may_carry.Reads as reads
-use Rattle.machine.proofs.fit.may_carry.Lts as lts
-use Rattle.image.proofs.label_byte.Reads as label-byte-reads
-use Rattle.machine.proofs.fit.is_call.Reads as is-call-reads
-use Rattle.machine.proofs.fit.owner_of.Reads as owner-of-reads
 
--- src/fit.rt:43:8
 is-call-requires : tie.Need-is-call-requires
 is-call-requires c κs = search needs
 
--- src/fit.rt:45:13
 returns : tie.Need-returns
 returns c = carry-return _ _ (c .before .before .before .before .pre .1) _ _ (c .before .before .is-call .ensures) (c .before .if1 .taken) (c .if2 .taken)
 
--- src/fit.rt:47:16
 owner-of-requires : tie.Need-owner-of-requires
 owner-of-requires c κs = search needs
 
--- src/fit.rt:47:42
 label-byte-requires : tie.Need-label-byte-requires
 label-byte-requires c κs = search needs
 
--- src/fit.rt:47:9
 returns-2 : tie.Need-returns-2
 returns-2 c = carry-owned _ _ (c .before .before .before .before .before .before .pre .1) _ _ (c .before .before .before .before .is-call .ensures) (c .before .before .before .if1 .taken) (c .before .before .if2 .left) _ _ (c .before .owner-of .ensures) (c .label-byte .ensures)
 
--- src/fit.rt:39:1
 returns-3 : tie.Need-returns-3
 returns-3 c = carry-none _ _ (c .before .before .before .pre .1) (c .before .before .before .args .above) _ (c .before .is-call .ensures) (c .if1 .left)
 

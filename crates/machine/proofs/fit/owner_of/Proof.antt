@@ -2,24 +2,16 @@ use Rattle.machine.proofs.FitCases.{owner-none, owner-some}
 use borrow.Author.Needs.{needs}
 use Rattle.machine.proofs.fit.owner_of.Statement.{statement}
 use Rattle.machine.proofs.fit.owner_of.Tie as tie
-use Rattle.machine.proofs.fit.owner_of.Reads as reads
-use Rattle.machine.proofs.fit.owner_of.Lts as lts
-use Rattle.image.proofs.byte.Reads as byte-reads
-use Rattle.image.proofs.label_byte.Reads as label-byte-reads
 
--- src/fit.rt:20:8
 byte-requires : tie.Need-byte-requires
 byte-requires c κs = search needs
 
--- src/fit.rt:21:9
 returns : tie.Need-returns
 returns c = owner-none _ _ _ (c .before .byte .ensures) (c .if1 .taken)
 
--- src/fit.rt:23:5
 label-byte-requires : tie.Need-label-byte-requires
 label-byte-requires c κs = search needs
 
--- src/fit.rt:16:1
 returns-2 : tie.Need-returns-2
 returns-2 c = owner-some _ _ _ (c .before .before .byte .ensures) _ (c .before .if1 .left) (c .label-byte .ensures)
 

@@ -2,44 +2,31 @@ use Rattle.machine.proofs.FitCases.{place-high, place-kept, place-top}
 use borrow.Author.Needs.{needs}
 use Rattle.machine.proofs.fit.unfit_place.Statement.{statement}
 use Rattle.machine.proofs.fit.unfit_place.Tie as tie
-use Rattle.machine.proofs.fit.unfit_place.Reads as reads
-use Rattle.machine.proofs.fit.unfit_place.Lts as lts
-use Rattle.image.proofs.byte.Reads as byte-reads
-use Rattle.machine.proofs.fit.may_carry.Reads as may-carry-reads
 
--- src/fit.rt:58:13
 element-copy-out-l : tie.Need-element-copy-out-l
 element-copy-out-l c = search needs
 
--- src/fit.rt:59:8
 byte-requires : tie.Need-byte-requires
 byte-requires c κs = search needs
 
--- src/fit.rt:60:9
 returns : tie.Need-returns
 returns c = place-high _ (c .before .before .before .before .args .t2) (c .before .before .before .before .args .k) _ (c .before .byte .ensures) (c .if1 .taken)
 
--- src/fit.rt:62:16
 add-next : tie.Need-add-next
 add-next c = search needs
 
--- src/fit.rt:63:17
 cast-depth : tie.Need-cast-depth
 cast-depth c = search needs
 
--- src/fit.rt:65:21
 element-copy-out-above : tie.Need-element-copy-out-above
 element-copy-out-above c = search needs
 
--- src/fit.rt:66:17
 may-carry-requires : tie.Need-may-carry-requires
 may-carry-requires c κs = search needs
 
--- src/fit.rt:66:9
 returns-2 : tie.Need-returns-2
 returns-2 c = place-kept _ (c .before .before .before .before .before .before .before .args .t2) (c .before .before .before .before .before .before .before .args .k) _ (c .before .before .before .before .byte .ensures) (c .before .before .before .if1 .left) (c .before .before .if2 .taken) _ (c .may-carry .ensures)
 
--- src/fit.rt:53:1
 returns-3 : tie.Need-returns-3
 returns-3 c = place-top _ (c .before .before .before .before .before .args .t2) (c .before .before .before .before .before .args .k) _ (c .before .before .byte .ensures) (c .before .if1 .left) (c .if2 .left)
 

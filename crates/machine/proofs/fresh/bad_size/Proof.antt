@@ -1,14 +1,10 @@
 use borrow.Author.Tests.{eq-eqb, ne-eqb}
 use Rattle.machine.proofs.fresh.bad_size.Statement.{statement}
 use Rattle.machine.proofs.fresh.bad_size.Tie as tie
-use Rattle.machine.proofs.fresh.bad_size.Reads as reads
-use Rattle.machine.proofs.fresh.bad_size.Lts as lts
 
--- src/fresh.rt:14:9
 returns : tie.Need-returns
 returns c = simp (eq-eqb _ _ (c .if1 .taken))
 
--- src/fresh.rt:10:1
 returns-2 : tie.Need-returns-2
 returns-2 c = simp (ne-eqb _ _ (c .if1 .left))
 

@@ -1,8 +1,8 @@
 use native.Mathlib.Omega.{arith}
 use Rattle.machine.proofs.TickCases.{depth-some, depth-most, first-inside, home-go}
 use borrow.Author.Needs.{needs}
-use Rattle.machine.proofs.tick.tick_home.Statement.{statement}
-use Rattle.machine.proofs.tick.tick_home.Tie as tie
+use Rattle.machine.proofs.parts.tick_home.Statement.{statement}
+use Rattle.machine.proofs.parts.tick_home.Tie as tie
 
 byte-requires : tie.Need-byte-requires
 byte-requires c κs = omega (arith, first-inside (c .before .before .before .pre .0))

@@ -1,8 +1,8 @@
 use native.Mathlib.Omega.{arith}
 use Rattle.machine.proofs.TickCases.{depth-some, depth-most, top-small, top-inside}
 use borrow.Author.Needs.{needs}
-use Rattle.machine.proofs.tick.tick_parts.Statement.{statement}
-use Rattle.machine.proofs.tick.tick_parts.Tie as tie
+use Rattle.machine.proofs.parts.tick_parts.Statement.{statement}
+use Rattle.machine.proofs.parts.tick_parts.Tie as tie
 
 sub-l : tie.Need-sub-l
 sub-l c = depth-some (c .before .before .before .before .pre .0)

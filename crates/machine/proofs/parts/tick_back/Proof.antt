@@ -3,8 +3,8 @@ use Prim.Native.Nat.{_-_}
 use lib.ListN.{length-set}
 use Rattle.machine.proofs.TickCases.{depth-some, depth-most, place-low, place-called, back-two, back-stop, back-go}
 use borrow.Author.Needs.{needs}
-use Rattle.machine.proofs.tick.tick_back.Statement.{statement}
-use Rattle.machine.proofs.tick.tick_back.Tie as tie
+use Rattle.machine.proofs.parts.tick_back.Statement.{statement}
+use Rattle.machine.proofs.parts.tick_back.Tie as tie
 
 sub-under : tie.Need-sub-under
 sub-under c = back-two (c .before .before .before .before .pre .0) (c .before .before .before .before .pre .1 .1)

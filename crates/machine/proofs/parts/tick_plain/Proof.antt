@@ -1,8 +1,8 @@
 use native.Mathlib.Omega.{arith}
 use Rattle.machine.proofs.TickCases.{depth-some, depth-most, top-small, top-low, top-inside, top-called, owner-range, plain-stop, plain-go}
 use borrow.Author.Needs.{needs}
-use Rattle.machine.proofs.tick.tick_plain.Statement.{statement}
-use Rattle.machine.proofs.tick.tick_plain.Tie as tie
+use Rattle.machine.proofs.parts.tick_plain.Statement.{statement}
+use Rattle.machine.proofs.parts.tick_plain.Tie as tie
 
 sub-top : tie.Need-sub-top
 sub-top c = depth-some (c .before .before .before .before .pre .0)

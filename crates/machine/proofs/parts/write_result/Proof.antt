@@ -3,8 +3,8 @@ use native.Mathlib.Omega.{arith}
 use borrow.Author.Tests.{eq-eqb, ne-eqb}
 use Rattle.lists.proofs.Tests.{yes-pick, no-pick}
 use borrow.Author.Needs.{needs}
-use Rattle.machine.proofs.tick.write_result.Statement.{statement}
-use Rattle.machine.proofs.tick.write_result.Tie as tie
+use Rattle.machine.proofs.parts.write_result.Statement.{statement}
+use Rattle.machine.proofs.parts.write_result.Tie as tie
 
 sub-bits : tie.Need-sub-bits
 sub-bits c = c .before .pre (c .if1 .taken) .0

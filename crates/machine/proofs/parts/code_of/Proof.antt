@@ -3,8 +3,8 @@ use Prim.Native.Nat.{ℕ, _-_}
 use Rattle.machine.specs.Parts.{codeOf}
 use Rattle.machine.proofs.TickCases.{code-rest}
 use borrow.Author.Needs.{needs}
-use Rattle.machine.proofs.tick.code_of.Statement.{statement}
-use Rattle.machine.proofs.tick.code_of.Tie as tie
+use Rattle.machine.proofs.parts.code_of.Statement.{statement}
+use Rattle.machine.proofs.parts.code_of.Tie as tie
 
 add-result : tie.Need-add-result
 add-result c = search needs

@@ -1,8 +1,8 @@
 use native.Mathlib.Omega.{arith}
 use Rattle.machine.proofs.TickCases.{depth-some, depth-most, depth-within, size-within, top-small, top-inside, top-called, owner-range, entry-inside, call-stop, call-go}
 use borrow.Author.Needs.{needs}
-use Rattle.machine.proofs.tick.tick_call.Statement.{statement}
-use Rattle.machine.proofs.tick.tick_call.Tie as tie
+use Rattle.machine.proofs.parts.tick_call.Statement.{statement}
+use Rattle.machine.proofs.parts.tick_call.Tie as tie
 
 sub-free : tie.Need-sub-free
 sub-free c = depth-within (c .before .before .before .pre .0)
