@@ -1,6 +1,7 @@
 //! The library against plain Rust written for speed, on the same inputs in one run. `cargo bench --offline` prints a
-//! table; a ratio below 1 means that the library takes less time.
+//! table; a ratio below 1 means that the library takes less time. A word after `--` picks the lines that have it.
 
+use std::env;
 use std::hint::black_box;
 use std::time::{Duration, Instant};
 
@@ -107,8 +108,13 @@ fn main() {
     println!("| Input | Call | Library, ns | Plain Rust, ns | Ratio |");
     println!("|---|---|---:|---:|---:|");
     let (mut room, mut other) = (Room::new(), Room::new());
+    let wanted: Vec<String> = env::args().skip(1).filter(|word| !word.starts_with("--")).collect();
     for input in &inputs {
         for call in CALLS {
+            let line = format!("{} {call}", input.name);
+            if !wanted.iter().all(|word| line.contains(word)) {
+                continue;
+            }
             let ours = input.repeats(call, &*library, &mut room);
             let theirs = input.repeats(call, &Fast, &mut other);
             let mut best = (f64::MAX, f64::MAX);
