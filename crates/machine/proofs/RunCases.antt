@@ -24,14 +24,12 @@ use Rattle.image.specs.Check.{tableVerdict, imageVerdict}
 use Rattle.image.proofs.Accepted.{image-table}
 use Rattle.image.proofs.ReadCases.{good-text, front-contents, front-length}
 use Rattle.machine.specs.declared.State.{State}
-use Rattle.machine.specs.declared.Stepped.{Stepped}
 use Rattle.machine.specs.declared.Ended.{Ended}
 use Rattle.machine.specs.declared.Answered.{Answered}
 use Rattle.machine.specs.State.{unfit}
-use Rattle.machine.specs.Tick.{ticked, tick}
 use Rattle.machine.specs.Run.{Ran, Run, ticks, noRoom, runVerdict, runOn, run}
-use Rattle.machine.specs.Parts.{stateOf, after, stepOf, Steps, verdictOf, Ends, runTable, Runs, tickReply, Advances}
-use Rattle.machine.proofs.TurnCases.{number-verdict, went, stood}
+use Rattle.machine.specs.Parts.{stateOf, verdictOf, Ends, runTable, Runs}
+use Rattle.machine.proofs.TurnCases.{number-verdict}
 
 -- ---- on an accepted table
 module _ (b : List ℕ) (s : State) (ws ms₀ ks₀ : List ℕ) where
@@ -149,28 +147,3 @@ module _ (t : List ℕ) (s : State) (ws ms ks : List ℕ) where
             R .answered ∙ ap (λ (x : Run). x .reply) g,
             (R .state ∙ ap (λ (x : Run). x .state) g, (R .masks ∙ ap (λ (x : Run). x .masks) g, R .codes ∙ ap (λ (x : Run). x .codes) g)),
           )
-
--- ---- one tick by value
-module _ (b : List ℕ) (s : State) (w : ℕ) (r : Stepped) (ps : List ℕ) (bs : Results) (q : Steps b s w r ps bs) where
-  pub value-went : r .number ≡ 0 → Advances s (tick (decoded b) s w) (record { answer = Done 1; mask = r .mask; code = r .code; state = stateOf (s .size) (r .depth) ps bs })
-  value-went z =
-      let e : tick (decoded b) s w ≡ ticked (r .mask) (r .code) (stateOf (s .size) (r .depth) ps bs) = went b s w r ps bs q z in
-      record {
-        answered = sym (ap tickReply e);
-        mask = ap (λ (x : Stepped). x .mask) (q .step);
-        code = ap (λ (x : Stepped). x .code) (q .step);
-        state = sym (ap (after s) e);
-      }
-
-  pub value-stood : (r .number ≡ 0 → ⊥)
-      → Advances s (tick (decoded b) s w) (record { answer = Refused (r .number) 0 0; mask = r .mask; code = r .code; state = stateOf (s .size) (r .depth) ps bs })
-  value-stood z =
-      let S = stood b s w r ps bs q z in
-      record {
-        answered = sym (ap tickReply (S .halts));
-        mask = ap (λ (x : Stepped). x .mask) (q .step);
-        code = ap (λ (x : Stepped). x .code) (q .step);
-        state =
-            let d : r .depth ≡ s .depth = ap (λ (x : Stepped). x .depth) (q .step ∙ ap (stepOf s) (S .halts)) in
-            (λ j. record { size = s .size; depth = d j; places = S .samePlaces j; bits = S .sameBits j }) ∙ sym (ap (after s) (S .halts));
-      }

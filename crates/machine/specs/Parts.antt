@@ -11,7 +11,7 @@ use Rattle.lists.specs.Sequences.{over}
 use Rattle.bits.specs.Results.{Results}
 use Rattle.frames.specs.Frame.{size, field, pairAt}
 use Rattle.frames.specs.Verdict.{Verdict, fine, refused, next, when}
-use Rattle.frames.specs.Answer.{Reply, success, refusal, reply}
+use Rattle.frames.specs.Answer.{reply}
 use Rattle.image.specs.Image.{Row}
 use Rattle.image.specs.Decode.{rowsFrom, decoded}
 use Rattle.image.specs.Check.{tableVerdict}
@@ -19,7 +19,6 @@ use Rattle.machine.specs.declared.State.{State}
 use Rattle.machine.specs.declared.Stepped.{Stepped}
 use Rattle.machine.specs.declared.Ended.{Ended}
 use Rattle.machine.specs.declared.Answered.{Answered}
-use Rattle.machine.specs.declared.Advanced.{Advanced}
 use Rattle.machine.specs.State.{unfit}
 use Rattle.machine.specs.Tick.{matches, Found, found, missing, Ticked, ticked, stopped, tick}
 use Rattle.machine.specs.Run.{Run, ticks, noRoom, runOn}
@@ -111,14 +110,3 @@ pub record Runs (x : Run) (r : Answered) (ms ks : List ℕ) : Type 0 where
   pub state : r .state ≡ x .state
   pub masks : ms ≡ x .masks
   pub codes : ks ≡ x .codes
-
--- one tick of a state by value
-abbrev pub tickReply : Ticked → Reply
-tickReply (ticked m k t) = success 1
-tickReply (stopped n) = refusal n 0 0
-
-pub record Advances (s : State) (x : Ticked) (r : Advanced) : Type 0 where
-  pub answered : reply (r .answer) ≡ tickReply x
-  pub mask : r .mask ≡ stepOf s x .mask
-  pub code : r .code ≡ stepOf s x .code
-  pub state : r .state ≡ after s x

@@ -7,7 +7,6 @@ mod fresh;
 mod parts;
 mod rows;
 mod runs;
-mod value;
 
 pub use advance::tick;
 pub use advance::tick_image;
@@ -42,14 +41,6 @@ pub struct Ended {
     pub depth: u8,
 }
 
-// What one tick of a state by value gives.
-pub struct Advanced {
-    pub answer: Answer,
-    pub mask: u32,
-    pub code: u8,
-    pub state: State,
-}
-
 // What one tick answers: with a refusal, mask and code are 0.
 pub struct TickReport {
     pub answer: Answer,
@@ -71,4 +62,7 @@ impl State {
     pub const ROWS: usize = 1024;
 
     pub const SCHEMES: usize = 16;
+
+    // The bytes of the largest table: ten a frame, with the header's.
+    pub const TABLE: usize = 10 * (1 + State::SCHEMES + State::LABELS + State::ROWS);
 }

@@ -1,4 +1,5 @@
 // Which row a label takes, by the word and the result bit of the scheme that the label calls.
+use super::State;
 use image::byte;
 use image::label_byte;
 use image::pair;
@@ -72,7 +73,7 @@ pub fn index_rows(b: &[u8], firsts: &mut [u16])
     let end = b.len() / 10;
     let mut f = rows_from(b);
     let mut l: usize = 0;
-    while l < 257 {
+    while l <= State::LABELS {
         f = skip_below(b, f, end, l);
         firsts[l] = f as u16;
         l += 1;

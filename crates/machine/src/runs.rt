@@ -67,7 +67,7 @@ fn run_ticks(b: &[u8], state: State, words: &[u16], masks: &mut [u32], codes: &m
     let depth = state.depth;
     let mut places = state.places;
     let mut bits = state.bits;
-    let mut firsts = [0u16; 257];
+    let mut firsts = [0u16; State::LABELS + 1];
     index_rows(b, &mut firsts);
     let ended = tick_all(
         b,
@@ -152,7 +152,7 @@ pub fn run(
 ) -> Answered
     ensures { λ r. ⌜ (reply (r .answer) ≡ run (now (image .entry)) state (now (words .entry)) (now (masks .entry)) (now (codes .entry)) .reply) × ((r .state ≡ run (now (image .entry)) state (now (words .entry)) (now (masks .entry)) (now (codes .entry)) .state) × ((now (masks .exit) ≡ run (now (image .entry)) state (now (words .entry)) (now (masks .entry)) (now (codes .entry)) .masks) × (now (codes .exit) ≡ run (now (image .entry)) state (now (words .entry)) (now (masks .entry)) (now (codes .entry)) .codes))) ⌝ }
 {
-    let mut table = [0u8; 12970];
+    let mut table = [0u8; State::TABLE];
     let answer = read_image(image, &mut table);
     let Answer::Done(_) = answer else {
         return Answered { answer, state };
