@@ -95,15 +95,7 @@ unfolding concatMap
 length-concat-range f m i zero h = omega arith
 length-concat-range f m i (suc n) h = length-append (f i) (concatMap f (range (suc i) n)) ∙ omega (arith, h i, length-concat-range f m (suc i) n h, mul-suc m n)
 
--- every element below a bound that is not 0
-abbrev pub Below : ℕ → List ℕ → Type 0
-Below m xs = (k : ℕ) → getD xs k 0 < m
-
-pub below-append : (m : ℕ) (xs ys : List ℕ) → Below m xs → Below m ys → Below m (xs ++ ys)
-below-append m [] ys a b k = b k
-below-append m (x ∷ xs) ys a b zero = a zero
-below-append m (x ∷ xs) ys a b (suc k) = below-append m xs ys (λ j. a (suc j)) b k
-
+-- ---- one more at the far end
 pub concat-range-snoc : {B : Type 0} (f : ℕ → List B) (i n : ℕ) → concatMap f (range i (suc n)) ≡ concatMap f (range i n) ++ f (i + n)
 concat-range-snoc f i n =
     ap (concatMap f) (range-snoc i n) ∙ concat-append f (range i n) ((i + n) ∷ [])
