@@ -231,7 +231,7 @@ impl<'a> Case<'a> {
         let (mut state, mut given) = (start, start);
         for word in words {
             let before = state;
-            let wanted = entry::tick(&image, &mut state, word);
+            let wanted = Reference.tick(&image, &mut state, word);
             let got = self.library.tick(&image, &mut given, word);
             self.hold("tick", wanted.answer, &(wanted, state), &(got, given), || {
                 format!("image of {}state: {}\nword {word:04X}", show::text(&image), show::state(&before))

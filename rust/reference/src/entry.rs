@@ -5,7 +5,6 @@ use crate::chart::Chart;
 use crate::check::chart_of;
 use crate::frames::{frames_of, text_of, Frame, CHART_TEXT, IMAGE_TEXT};
 use crate::image::{self, Image};
-use crate::library::Ticked;
 use crate::machine;
 use crate::state::State;
 use crate::translator;
@@ -135,12 +134,4 @@ fn run_ticks(
         }
     }
     (Answer::Done(words.len()), state)
-}
-
-/// One tick of a lent state: what a run of one word does. A refused tick emits nothing: mask and code 0.
-pub fn tick(image: &[u8], state: &mut State, word: u16) -> Ticked {
-    let (mut masks, mut codes) = ([0], [0]);
-    let (answer, after) = run(image, state, &[word], &mut masks, &mut codes);
-    *state = after;
-    Ticked { answer, mask: masks[0], code: codes[0] }
 }

@@ -7,7 +7,7 @@ use reference::entry::{self, image_from_text};
 use reference::frames::text_of;
 use reference::image::{Image, FUNCTION_CALL, HOME, RETURN};
 use reference::machine::{self, Advanced};
-use reference::{Answer, Library, State, Ticked};
+use reference::{Answer, Library, Reference, State, Ticked};
 
 /// An enum of the faults, and the list of them all.
 macro_rules! faults {
@@ -233,7 +233,7 @@ impl Library for Faulty {
     }
 
     fn tick(&self, image: &[u8], state: &mut State, word: u16) -> Ticked {
-        entry::tick(image, state, word)
+        Reference.tick(image, state, word)
     }
 }
 
