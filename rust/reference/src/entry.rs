@@ -16,10 +16,6 @@ fn put(bytes: &[u8], out: &mut [u8]) -> Result<(), Refusal> {
     Ok(())
 }
 
-fn answer(counted: Result<usize, Refusal>) -> Answer {
-    counted.map_or_else(Answer::from, Answer::Done)
-}
-
 /// The chart of a text, with its records: refusals 1 to 9.
 fn chart_and_records(text: &[u8]) -> Result<(Chart, Vec<Frame>), Refusal> {
     let records = frames_of(text, CHART_TEXT)?;
@@ -38,7 +34,7 @@ pub fn image_from_text(text: &[u8]) -> Result<Image, Refusal> {
 
 /// Refusals 1 to 9 and 16; counts records.
 pub fn read_chart(text: &[u8], out: &mut [u8]) -> Answer {
-    answer(chart_and_records(text).and_then(|(_, records)| {
+    Answer::of(chart_and_records(text).and_then(|(_, records)| {
         put(&records.concat(), out)?;
         Ok(records.len())
     }))
@@ -54,7 +50,7 @@ fn records_of(bytes: &[u8]) -> Result<Vec<Frame>, Refusal> {
 
 /// Refusals 1, 4 to 9 and 16; counts characters.
 pub fn write_chart(bytes: &[u8], out: &mut [u8]) -> Answer {
-    answer(records_of(bytes).and_then(|records| {
+    Answer::of(records_of(bytes).and_then(|records| {
         chart_of(&records)?;
         let text = text_of(&records);
         put(&text, out)?;
@@ -70,7 +66,7 @@ pub fn translated(text: &[u8]) -> Result<Vec<u8>, Refusal> {
 
 /// Refusals 1 to 10 and 16; counts characters.
 pub fn translate(text: &[u8], out: &mut [u8]) -> Answer {
-    answer(translated(text).and_then(|image| {
+    Answer::of(translated(text).and_then(|image| {
         put(&image, out)?;
         Ok(image.len())
     }))
@@ -78,7 +74,7 @@ pub fn translate(text: &[u8], out: &mut [u8]) -> Answer {
 
 /// Refusals 1 to 3 and 11 to 13.
 pub fn check_image(text: &[u8]) -> Answer {
-    answer(image_from_text(text).map(|_| 0))
+    Answer::of(image_from_text(text).map(|_| 0))
 }
 
 /// Refusal 14.

@@ -19,10 +19,6 @@ fn refuse<T>(number: u8, index: usize) -> Result<T, Refusal> {
     Err(Refusal { number, index })
 }
 
-fn answer(counted: Result<usize, Refusal>) -> Answer {
-    counted.map_or_else(Answer::from, Answer::Done)
-}
-
 fn read(text: &[u8], out: &mut [u8]) -> Result<usize, Refusal> {
     let mut frames = [[0; 10]; NODES];
     let records = frames::decode(text, CHART_TEXT, &mut frames)?;
@@ -76,20 +72,20 @@ pub struct Fast;
 
 impl Library for Fast {
     fn read_chart(&self, text: &[u8], out: &mut [u8]) -> Answer {
-        answer(read(text, out))
+        Answer::of(read(text, out))
     }
 
     fn write_chart(&self, records: &[u8], out: &mut [u8]) -> Answer {
-        answer(write(records, out))
+        Answer::of(write(records, out))
     }
 
     fn translate(&self, text: &[u8], out: &mut [u8]) -> Answer {
-        answer(put_image(text, out))
+        Answer::of(put_image(text, out))
     }
 
     fn check_image(&self, text: &[u8]) -> Answer {
         let mut frames = [[0; 10]; IMAGE_FRAMES];
-        answer(accepted(text, &mut frames).map(|_| 0))
+        Answer::of(accepted(text, &mut frames).map(|_| 0))
     }
 
     fn fresh(&self, size: usize) -> (Answer, State) {
