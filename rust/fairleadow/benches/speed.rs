@@ -5,6 +5,7 @@ use std::env;
 use std::hint::black_box;
 use std::time::{Duration, Instant};
 
+use fairleadow::Proved;
 use reference::entry::translated;
 use reference::fast::Fast;
 use reference::frames::{text_of, Frame, CHART_TEXT, IMAGE_TEXT};
@@ -96,7 +97,6 @@ impl Input {
 const CALLS: [&str; 6] = ["read", "write", "translate", "check", "run of 64", "run of 65,536"];
 
 fn main() {
-    let library = fairleadow::library();
     let inputs = [
         Input::new("chart P", &samples::chart_p()),
         Input::new("200 labels", &samples::operations(198)),
@@ -115,11 +115,11 @@ fn main() {
             if !wanted.iter().all(|word| line.contains(word)) {
                 continue;
             }
-            let ours = input.repeats(call, &*library, &mut room);
+            let ours = input.repeats(call, &Proved, &mut room);
             let theirs = input.repeats(call, &Fast, &mut other);
             let mut best = (f64::MAX, f64::MAX);
             for _ in 0..BATCHES {
-                best.0 = best.0.min(input.batch(call, &*library, &mut room, ours));
+                best.0 = best.0.min(input.batch(call, &Proved, &mut room, ours));
                 best.1 = best.1.min(input.batch(call, &Fast, &mut other, theirs));
             }
             println!("| {} | {call} | {:.0} | {:.0} | {:.2} |", input.name, best.0, best.1, best.0 / best.1);
