@@ -8,7 +8,7 @@ use std::time::{Duration, Instant};
 use fairleadow::Proved;
 use reference::entry::translated;
 use reference::fast::Fast;
-use reference::frames::{text_of, Frame, CHART_TEXT, IMAGE_TEXT};
+use reference::frames::{text_of, Frame, CHART_TEXT, IMAGE_TEXT, RECORDS};
 use reference::samples;
 use reference::{Library, State};
 
@@ -28,7 +28,7 @@ struct Room {
 impl Room {
     fn new() -> Room {
         Room {
-            records: vec![0; 2_560],
+            records: vec![0; RECORDS],
             text: vec![0; CHART_TEXT],
             image: vec![0; IMAGE_TEXT],
             masks: vec![0; 65_536],

@@ -7,7 +7,7 @@ use crate::answer::Answer;
 use crate::check::chart_of;
 use crate::entry;
 use crate::expectation::{expected, Outcome, Run};
-use crate::frames::{text_of, Frame, CHARACTERS};
+use crate::frames::{text_of, Frame, CHARACTERS, RECORDS};
 use crate::generate::{charts, damage, images, runs, states, Random};
 use crate::library::{Library, Reference};
 use crate::show;
@@ -165,7 +165,10 @@ impl<'a> Case<'a> {
         match self.random.below(20) {
             0 => records.truncate(self.random.below(records.len() + 1)),
             1 => records.push(0),
-            2 => records = records.iter().cycle().take(self.random.pick(&[2_560, 2_570])).copied().collect(),
+            2 => {
+                let length = self.random.pick(&[RECORDS, RECORDS + 10]);
+                records = records.iter().cycle().take(length).copied().collect();
+            }
             _ => {}
         }
         let needed = records.len() / 10 * CHARACTERS;

@@ -3,7 +3,7 @@
 use crate::answer::{refuse_if, Answer, Refusal};
 use crate::chart::Chart;
 use crate::check::chart_of;
-use crate::frames::{frames_of, text_of, Frame, CHART_TEXT, IMAGE_TEXT};
+use crate::frames::{frames_of, text_of, Frame, CHART_TEXT, IMAGE_TEXT, RECORDS};
 use crate::image::{self, Image};
 use crate::machine;
 use crate::state::State;
@@ -43,7 +43,7 @@ pub fn read_chart(text: &[u8], out: &mut [u8]) -> Answer {
 /// The records of their bytes, or refusal 1.
 fn records_of(bytes: &[u8]) -> Result<Vec<Frame>, Refusal> {
     let length = bytes.len();
-    refuse_if(1, length == 0 || !length.is_multiple_of(10) || length > 2_560)?;
+    refuse_if(1, length == 0 || !length.is_multiple_of(10) || length > RECORDS)?;
     let record = |r: &[u8]| Frame::try_from(r).expect("ten bytes");
     Ok(bytes.chunks(10).map(record).collect())
 }

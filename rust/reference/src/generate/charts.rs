@@ -37,7 +37,7 @@ pub fn chart(random: &mut Random) -> Vec<Frame> {
 }
 
 /// At most so many schemes, each with at most so many nodes between Begin and End.
-pub fn sized(random: &mut Random, most_schemes: usize, most_nodes: usize) -> Vec<Frame> {
+fn sized(random: &mut Random, most_schemes: usize, most_nodes: usize) -> Vec<Frame> {
     let schemes = random.within(1, most_schemes);
     let bodies: Vec<usize> = (0..schemes).map(|_| random.within(0, most_nodes)).collect();
     build(random, &bodies)
