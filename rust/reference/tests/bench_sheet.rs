@@ -159,6 +159,12 @@ fn b10_a_function() {
 #[test]
 fn programs_print_refusals() {
     assert_eq!(programs::translate(b""), b"FF01000000000000000000\n");
+    assert_eq!(programs::run(b""), b"FF01000000000000000000\n");
+}
+
+#[test]
+fn the_run_program_prints_64_codes() {
     let printed = String::from_utf8(programs::run(IMAGE_P.as_bytes())).unwrap();
     assert!(printed.starts_with("04\n12\n00\n03\n04\n12\n00\n03\n04\n"), "{printed}");
+    assert_eq!(printed.lines().count(), 64);
 }
