@@ -12,7 +12,7 @@ pub struct Ticked {
     pub code: u8,
 }
 
-/// The entry points of paper 01. Counts are records, characters and ticks; acceptance of an image, a fresh state: 0.
+/// The entry points of paper 01. Counts are records, characters and ticks; an accepted image and a fresh state count 0.
 pub trait Library {
     fn read_chart(&self, text: &[u8], out: &mut [u8]) -> Answer;
     fn write_chart(&self, records: &[u8], out: &mut [u8]) -> Answer;
