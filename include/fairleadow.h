@@ -1,11 +1,23 @@
 /* Fairleadow: charts read, written, translated and run. Link with libfairleadow.a.
  *
- * Every function answers for everything that it is handed. It returns 0, or the number of a refusal, 1 to 18 (docs/REFUSALS.md), and writes
- *   *index   the frame that the refusal names, counted from 0; 0 where it names none
+ * Every function answers for everything that it is handed. It returns 0, or the number of a refusal, and writes
+ *   *index   the frame (a line or a record) that the refusal names, from 0; only 2, 3, 4, 6 to 9, 12 and 13 name one, else it is 0
  *   *count   records, characters or ticks written; with refusals 1 to 16 it is 0, with 17 and 18 the ticks finished before
- * With refusals 1 to 16 no buffer and no state is changed. With success, and with 17 and 18, nothing past the count is changed.
- * A buffer is a pointer and how many elements it has. No two of the buffers that one call is given may overlap, and `index`
- * and `count` lie in none of them. Nothing is allocated and nothing is kept between calls.
+ * With refusals 1 to 16 no buffer and no state is changed; only 14 writes a state, of zeros. With success, and with 17 and 18,
+ * nothing past the count is changed.
+ * A buffer is a pointer and how many elements it has. No pointer is null, and nothing that a call writes may overlap anything
+ * else that the call is given. Nothing is allocated and nothing is kept between calls.
+ *
+ * The refusals, tried in this order (docs/REFUSALS.md tells what to look for):
+ *    1  the length of the text or of the records           10  more than 1,024 rows
+ *    2  a character other than 0-9, A-F and line feed      11  the image's header
+ *    3  the sum of a frame                                 12  an image frame that stands in a wrong place
+ *    4  a field of a node                                  13  a field of an image frame
+ *    5  a scheme without just one Begin and one End        14  a stack size other than 1 to 32
+ *    6  an arc into another scheme, to a Begin or nowhere  15  a state that does not fit the image
+ *    7  a call of a scheme that cannot be called           16  an output buffer that is too short
+ *    8  a circle of conditions                             17  a call when the stack is full
+ *    9  a node cut off from its Begin                      18  no row for the word
  */
 #ifndef FAIRLEADOW_H
 #define FAIRLEADOW_H
@@ -24,13 +36,15 @@ extern "C" {
 
 /* The machine's state. Only fairleadow_fresh makes one; the controller keeps it and hands it to each run or tick. */
 typedef struct {
-    uint8_t size;       /* places that the stack may use, 1 to 32 */
-    uint8_t depth;      /* places in use */
-    uint8_t places[32]; /* labels, the bottom first; 0 above the depth */
-    uint8_t results[16]; /* result bits 0 or 1, scheme h's at h - 1 */
+    uint8_t size;        /* places that the stack may use, 1 to 32 */
+    uint8_t depth;       /* places in use */
+    uint8_t places[32];  /* labels, the bottom first; 0 above the depth */
+    uint8_t results[16]; /* result bits 0 or 1, scheme h's at h - 1; a byte other than 0 is read as 1 */
 } fairleadow_state;
 
-/* Chart lines to node records of ten bytes each. Tries 1 to 9 and 16; counts records. */
+/* Chart lines to node records of ten bytes each: 0 the kind (0 Begin, 1 End, 2 operation, 3 condition, 4 function), 1 the scheme,
+ * 2 the scheme called or the condition's number, 3 the next node, or that on a 0, 4 the next node on a 1, 5 the result that an
+ * operation writes (0 none, 1 a 0, 2 a 1), 6 to 9 its mask, the high byte first. Tries 1 to 9 and 16; counts records. */
 uint8_t fairleadow_read_chart(const uint8_t *text, size_t text_len, uint8_t *records, size_t records_len,
                               size_t *index, size_t *count);
 
@@ -48,11 +62,13 @@ uint8_t fairleadow_check_image(const uint8_t *image, size_t image_len, size_t *i
 /* A fresh state for a stack of `size` places. Tries 14, and then every number of the state is 0; counts 0. */
 uint8_t fairleadow_fresh(size_t size, fairleadow_state *state, size_t *index, size_t *count);
 
-/* One tick for each word, a mask and a code for each tick. Tries what the image check tries, then 15 to 18; counts ticks. */
+/* One tick for each word, a mask and a code for each tick. Bit i of a word is condition i, bit i of a mask micro operation i.
+ * Codes: 0x00 plain, 0x03 return, 0x04 home, 0x10 + h an operation's call of scheme h, 0x40 + h a function's.
+ * Tries what the image check tries, then 15 to 18; counts ticks. With 17 and 18 the state is that after the ticks counted. */
 uint8_t fairleadow_run(const uint8_t *image, size_t image_len, fairleadow_state *state, const uint16_t *words, size_t words_len,
                        uint32_t *masks, size_t masks_len, uint8_t *codes, size_t codes_len, size_t *index, size_t *count);
 
-/* One tick. Tries what a run tries but 16; a refused tick leaves the state, *mask and *code as they were. */
+/* One tick. Tries what a run tries but 16; counts 1. A refused tick counts 0 and leaves the state, *mask and *code as they were. */
 uint8_t fairleadow_tick(const uint8_t *image, size_t image_len, fairleadow_state *state, uint16_t word,
                         uint32_t *mask, uint8_t *code, size_t *index, size_t *count);
 

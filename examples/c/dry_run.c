@@ -4,6 +4,7 @@
 
 #include "fairleadow.h"
 
+/* One more than the longest text, so that a longer one is refused and not cut off. */
 static uint8_t chart[FAIRLEADOW_CHART_TEXT + 1];
 static uint8_t image[FAIRLEADOW_IMAGE_TEXT];
 

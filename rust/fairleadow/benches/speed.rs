@@ -5,9 +5,10 @@ use std::env;
 use std::hint::black_box;
 use std::time::{Duration, Instant};
 
+use fairleadow::Proved;
 use reference::entry::translated;
 use reference::fast::Fast;
-use reference::frames::{text_of, Frame, CHART_TEXT, IMAGE_TEXT};
+use reference::frames::{text_of, Frame, CHART_TEXT, IMAGE_TEXT, RECORDS};
 use reference::samples;
 use reference::{Library, State};
 
@@ -27,7 +28,7 @@ struct Room {
 impl Room {
     fn new() -> Room {
         Room {
-            records: vec![0; 2_560],
+            records: vec![0; RECORDS],
             text: vec![0; CHART_TEXT],
             image: vec![0; IMAGE_TEXT],
             masks: vec![0; 65_536],
@@ -96,7 +97,6 @@ impl Input {
 const CALLS: [&str; 6] = ["read", "write", "translate", "check", "run of 64", "run of 65,536"];
 
 fn main() {
-    let library = fairleadow::library();
     let inputs = [
         Input::new("chart P", &samples::chart_p()),
         Input::new("200 labels", &samples::operations(198)),
@@ -115,11 +115,11 @@ fn main() {
             if !wanted.iter().all(|word| line.contains(word)) {
                 continue;
             }
-            let ours = input.repeats(call, &*library, &mut room);
+            let ours = input.repeats(call, &Proved, &mut room);
             let theirs = input.repeats(call, &Fast, &mut other);
             let mut best = (f64::MAX, f64::MAX);
             for _ in 0..BATCHES {
-                best.0 = best.0.min(input.batch(call, &*library, &mut room, ours));
+                best.0 = best.0.min(input.batch(call, &Proved, &mut room, ours));
                 best.1 = best.1.min(input.batch(call, &Fast, &mut other, theirs));
             }
             println!("| {} | {call} | {:.0} | {:.0} | {:.2} |", input.name, best.0, best.1, best.0 / best.1);

@@ -6,8 +6,3 @@ mod proved;
 
 pub use proved::Proved;
 pub use reference::{Answer, Library, State, Ticked};
-
-/// The library that the tests compare with the reference.
-pub fn library() -> Box<dyn Library> {
-    Box::new(Proved)
-}

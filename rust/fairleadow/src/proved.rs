@@ -1,5 +1,5 @@
-//! Safe calls of the C functions. Each borrows its buffers for the call, and slices that are borrowed at once never
-//! overlap, which is all that the header asks.
+//! Safe calls of the C functions. Each borrows its buffers for the call: no reference is null, and what is borrowed for
+//! writing overlaps nothing else, which is all that the header asks.
 
 use reference::{Answer, Library, State, Ticked};
 

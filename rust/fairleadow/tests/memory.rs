@@ -1,5 +1,5 @@
-//! The deepest stack use of the C functions, measured on a stack of our own that is painted first. The lathe has 64
-//! kilobytes: a translation has to leave room for the chart's text and the image's, a run for the image's.
+//! The deepest stack use of the C functions, measured on a stack of its own that is filled with one byte first. The
+//! lathe has 64 kilobytes: a translation has to leave room for the chart's text and the image's, a run for the image's.
 
 use std::arch::asm;
 use std::ffi::c_void;
@@ -12,13 +12,13 @@ use reference::samples::{self, Before};
 
 const MEMORY: usize = 65_536;
 const STACK: usize = 1 << 20;
-const PAINT: u8 = 0xA5;
+const FILL: u8 = 0xA5;
 
-/// Runs a job on a painted stack and returns how many bytes of it were written to, from the top down.
+/// Runs a job on a filled stack and returns how many bytes of it were written to, from the top down.
 fn depth<T>(job: &mut T, run: extern "C" fn(&mut T)) -> usize {
-    let mut stack = vec![PAINT; STACK];
+    let mut stack = vec![FILL; STACK];
     let top = (stack.as_mut_ptr() as usize + STACK) & !63;
-    // The job runs to its end on the painted memory, which nothing else uses; then the old stack is back.
+    // The job runs to its end on the filled memory, which nothing else uses; then the old stack is back.
     unsafe {
         asm!(
             "mov r12, rsp",
@@ -32,7 +32,7 @@ fn depth<T>(job: &mut T, run: extern "C" fn(&mut T)) -> usize {
             clobber_abi("C"),
         );
     }
-    let untouched = std::hint::black_box(&stack).iter().take_while(|byte| **byte == PAINT).count();
+    let untouched = std::hint::black_box(&stack).iter().take_while(|byte| **byte == FILL).count();
     top - stack.as_ptr() as usize - untouched
 }
 

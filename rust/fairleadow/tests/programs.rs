@@ -4,7 +4,7 @@ use std::io::Write;
 use std::path::Path;
 use std::process::{Command, Stdio};
 
-use reference::frames::{text_of, CHART_TEXT, IMAGE_TEXT};
+use reference::frames::{text_of, CHARACTERS, CHART_TEXT, IMAGE_TEXT};
 use reference::generate::{charts, damage, images, Random};
 use reference::{programs, samples};
 
@@ -36,7 +36,7 @@ fn the_translator_program_prints_what_the_reference_does() {
     let translate = |input: &[u8]| held("translate", input, &programs::translate(input));
     translate(b"");
     translate(&[b'0'; CHART_TEXT + 1]);
-    translate(&[b'0'; CHART_TEXT + 23]);
+    translate(&[b'0'; CHART_TEXT + CHARACTERS]);
     translate(&vec![b'\n'; 100_000]);
     for records in [samples::chart_p(), samples::one_label(), samples::most_rows(), samples::most_schemes()] {
         translate(&text_of(&records));
@@ -55,7 +55,7 @@ fn the_run_program_prints_what_the_reference_does() {
     let run = |input: &[u8]| held("run_image", input, &programs::run(input));
     run(b"");
     run(&[b'0'; IMAGE_TEXT + 1]);
-    run(&[b'0'; IMAGE_TEXT + 23]);
+    run(&[b'0'; IMAGE_TEXT + CHARACTERS]);
     run(&vec![b'\n'; 100_000]);
     run(&text_of(&samples::largest_image()));
     for seed in 0..500 {

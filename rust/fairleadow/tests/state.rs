@@ -5,6 +5,11 @@ use reference::entry::translated;
 use reference::frames::text_of;
 use reference::samples::chart_p;
 
+/// The image of chart P.
+fn image_p() -> Vec<u8> {
+    translated(&text_of(&chart_p())).expect("a valid chart")
+}
+
 fn fresh(size: usize) -> c::State {
     let (mut index, mut count) = (9, 9);
     let mut state = c::State::NONE;
@@ -37,7 +42,7 @@ fn run(image: &[u8], state: &mut c::State, words: &[u16], room: usize) -> (u8, u
 
 #[test]
 fn a_result_byte_is_true_unless_0_and_comes_back_as_0_or_1() {
-    let image = translated(&text_of(&chart_p())).expect("a valid chart");
+    let image = image_p();
     let mut state = fresh(3);
     state.results = [0, 1, 2, 255, 0, 0, 0, 0, 0, 0, 0, 0, 0, 0, 0, 7];
     assert_eq!(run(&image, &mut state, &[0], 1), (0, 0, 1));
@@ -46,7 +51,7 @@ fn a_result_byte_is_true_unless_0_and_comes_back_as_0_or_1() {
 
 #[test]
 fn refusals_up_to_16_leave_every_byte() {
-    let image = translated(&text_of(&chart_p())).expect("a valid chart");
+    let image = image_p();
     let mut state = fresh(3);
     state.results[4] = 7;
     let kept = state;
@@ -62,7 +67,7 @@ fn refusals_up_to_16_leave_every_byte() {
 
 #[test]
 fn a_refused_tick_leaves_the_state_the_mask_and_the_code() {
-    let image = translated(&text_of(&chart_p())).expect("a valid chart");
+    let image = image_p();
     let mut state = fresh(1);
     assert_eq!(run(&image, &mut state, &[0], 1), (0, 0, 1));
     state.results[4] = 7;

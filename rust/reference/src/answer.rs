@@ -8,6 +8,11 @@ pub enum Answer {
 }
 
 impl Answer {
+    /// Success with this count, or the refusal.
+    pub fn of(counted: Result<usize, Refusal>) -> Answer {
+        counted.map_or_else(Answer::from, Answer::Done)
+    }
+
     /// The refusal's number, 0 for success.
     pub fn number(&self) -> u8 {
         match *self {

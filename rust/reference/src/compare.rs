@@ -7,9 +7,9 @@ use crate::answer::Answer;
 use crate::check::chart_of;
 use crate::entry;
 use crate::expectation::{expected, Outcome, Run};
-use crate::frames::{text_of, Frame};
+use crate::frames::{text_of, Frame, CHARACTERS, RECORDS};
 use crate::generate::{charts, damage, images, runs, states, Random};
-use crate::library::Library;
+use crate::library::{Library, Reference};
 use crate::show;
 use crate::state::State;
 
@@ -77,7 +77,10 @@ struct Case<'a> {
 
 type Compared = Result<(), Box<Difference>>;
 
-impl Case<'_> {
+/// A call that reads one list of bytes and writes another.
+type Call<'a> = fn(&(dyn Library + 'a), &[u8], &mut [u8]) -> Answer;
+
+impl<'a> Case<'a> {
     fn one(&mut self) -> Compared {
         match self.random.below(8) {
             0 => self.read_chart(),
@@ -132,21 +135,29 @@ impl Case<'_> {
         }
     }
 
-    /// A filled buffer for what a call would write.
-    fn buffer(&mut self, needed: usize) -> Vec<u8> {
+    /// Compares a call, with a filled buffer for what it would write.
+    fn written(
+        &mut self,
+        name: &'static str,
+        call: Call<'a>,
+        input: &[u8],
+        needed: usize,
+        shown: fn(&[u8]) -> String,
+    ) -> Compared {
         let length = runs::room(&mut self.random, needed);
-        runs::bytes(&mut self.random, length)
+        let out = runs::bytes(&mut self.random, length);
+        let (mut wanted, mut given) = (out.clone(), out.clone());
+        let answer = call(&Reference, input, &mut wanted);
+        let got = call(self.library, input, &mut given);
+        self.hold(name, answer, &(answer, wanted), &(got, given), || {
+            format!("{}buffer of {}", shown(input), show::bytes(&out))
+        })
     }
 
     fn read_chart(&mut self) -> Compared {
         let text = self.chart_text();
-        let out = self.buffer(text.len() / 23 * 10);
-        let (mut wanted, mut given) = (out.clone(), out.clone());
-        let answer = entry::read_chart(&text, &mut wanted);
-        let got = self.library.read_chart(&text, &mut given);
-        self.hold("read_chart", answer, &(answer, wanted), &(got, given), || {
-            format!("chart of {}buffer of {}", show::text(&text), show::bytes(&out))
-        })
+        let needed = text.len() / CHARACTERS * 10;
+        self.written("read_chart", <dyn Library>::read_chart, &text, needed, show::text)
     }
 
     fn write_chart(&mut self) -> Compared {
@@ -154,28 +165,20 @@ impl Case<'_> {
         match self.random.below(20) {
             0 => records.truncate(self.random.below(records.len() + 1)),
             1 => records.push(0),
-            2 => records = records.iter().cycle().take(self.random.pick(&[2_560, 2_570])).copied().collect(),
+            2 => {
+                let length = self.random.pick(&[RECORDS, RECORDS + 10]);
+                records = records.iter().cycle().take(length).copied().collect();
+            }
             _ => {}
         }
-        let out = self.buffer(records.len() / 10 * 23);
-        let (mut wanted, mut given) = (out.clone(), out.clone());
-        let answer = entry::write_chart(&records, &mut wanted);
-        let got = self.library.write_chart(&records, &mut given);
-        self.hold("write_chart", answer, &(answer, wanted), &(got, given), || {
-            format!("records of {}buffer of {}", show::bytes(&records), show::bytes(&out))
-        })
+        let needed = records.len() / 10 * CHARACTERS;
+        self.written("write_chart", <dyn Library>::write_chart, &records, needed, show::bytes)
     }
 
     fn translate(&mut self) -> Compared {
         let text = self.chart_text();
         let needed = entry::translated(&text).map_or(100, |image| image.len());
-        let out = self.buffer(needed);
-        let (mut wanted, mut given) = (out.clone(), out.clone());
-        let answer = entry::translate(&text, &mut wanted);
-        let got = self.library.translate(&text, &mut given);
-        self.hold("translate", answer, &(answer, wanted), &(got, given), || {
-            format!("chart of {}buffer of {}", show::text(&text), show::bytes(&out))
-        })
+        self.written("translate", <dyn Library>::translate, &text, needed, show::text)
     }
 
     fn check_image(&mut self) -> Compared {
@@ -231,7 +234,7 @@ impl Case<'_> {
         let (mut state, mut given) = (start, start);
         for word in words {
             let before = state;
-            let wanted = entry::tick(&image, &mut state, word);
+            let wanted = Reference.tick(&image, &mut state, word);
             let got = self.library.tick(&image, &mut given, word);
             self.hold("tick", wanted.answer, &(wanted, state), &(got, given), || {
                 format!("image of {}state: {}\nword {word:04X}", show::text(&image), show::state(&before))

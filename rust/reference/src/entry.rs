@@ -3,9 +3,8 @@
 use crate::answer::{refuse_if, Answer, Refusal};
 use crate::chart::Chart;
 use crate::check::chart_of;
-use crate::frames::{frames_of, text_of, Frame, CHART_TEXT, IMAGE_TEXT};
+use crate::frames::{frames_of, text_of, Frame, CHART_TEXT, IMAGE_TEXT, RECORDS};
 use crate::image::{self, Image};
-use crate::library::Ticked;
 use crate::machine;
 use crate::state::State;
 use crate::translator;
@@ -15,10 +14,6 @@ fn put(bytes: &[u8], out: &mut [u8]) -> Result<(), Refusal> {
     refuse_if(16, out.len() < bytes.len())?;
     out[..bytes.len()].copy_from_slice(bytes);
     Ok(())
-}
-
-fn answer(counted: Result<usize, Refusal>) -> Answer {
-    counted.map_or_else(Answer::from, Answer::Done)
 }
 
 /// The chart of a text, with its records: refusals 1 to 9.
@@ -39,7 +34,7 @@ pub fn image_from_text(text: &[u8]) -> Result<Image, Refusal> {
 
 /// Refusals 1 to 9 and 16; counts records.
 pub fn read_chart(text: &[u8], out: &mut [u8]) -> Answer {
-    answer(chart_and_records(text).and_then(|(_, records)| {
+    Answer::of(chart_and_records(text).and_then(|(_, records)| {
         put(&records.concat(), out)?;
         Ok(records.len())
     }))
@@ -48,14 +43,14 @@ pub fn read_chart(text: &[u8], out: &mut [u8]) -> Answer {
 /// The records of their bytes, or refusal 1.
 fn records_of(bytes: &[u8]) -> Result<Vec<Frame>, Refusal> {
     let length = bytes.len();
-    refuse_if(1, length == 0 || !length.is_multiple_of(10) || length > 2_560)?;
+    refuse_if(1, length == 0 || !length.is_multiple_of(10) || length > RECORDS)?;
     let record = |r: &[u8]| Frame::try_from(r).expect("ten bytes");
     Ok(bytes.chunks(10).map(record).collect())
 }
 
 /// Refusals 1, 4 to 9 and 16; counts characters.
 pub fn write_chart(bytes: &[u8], out: &mut [u8]) -> Answer {
-    answer(records_of(bytes).and_then(|records| {
+    Answer::of(records_of(bytes).and_then(|records| {
         chart_of(&records)?;
         let text = text_of(&records);
         put(&text, out)?;
@@ -71,7 +66,7 @@ pub fn translated(text: &[u8]) -> Result<Vec<u8>, Refusal> {
 
 /// Refusals 1 to 10 and 16; counts characters.
 pub fn translate(text: &[u8], out: &mut [u8]) -> Answer {
-    answer(translated(text).and_then(|image| {
+    Answer::of(translated(text).and_then(|image| {
         put(&image, out)?;
         Ok(image.len())
     }))
@@ -79,7 +74,7 @@ pub fn translate(text: &[u8], out: &mut [u8]) -> Answer {
 
 /// Refusals 1 to 3 and 11 to 13.
 pub fn check_image(text: &[u8]) -> Answer {
-    answer(image_from_text(text).map(|_| 0))
+    Answer::of(image_from_text(text).map(|_| 0))
 }
 
 /// Refusal 14.
@@ -135,12 +130,4 @@ fn run_ticks(
         }
     }
     (Answer::Done(words.len()), state)
-}
-
-/// One tick of a lent state: what a run of one word does. A refused tick emits nothing: mask and code 0.
-pub fn tick(image: &[u8], state: &mut State, word: u16) -> Ticked {
-    let (mut masks, mut codes) = ([0], [0]);
-    let (answer, after) = run(image, state, &[word], &mut masks, &mut codes);
-    *state = after;
-    Ticked { answer, mask: masks[0], code: codes[0] }
 }

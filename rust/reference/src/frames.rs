@@ -5,9 +5,13 @@ use crate::answer::{refuse_if, refuse_lowest, Refusal};
 /// The ten bytes of a frame before its sum.
 pub type Frame = [u8; 10];
 
+/// The characters of a frame's line.
 pub const CHARACTERS: usize = 23;
+
+/// The longest texts, in characters, and the longest list of node records, in bytes.
 pub const CHART_TEXT: usize = 5_888;
 pub const IMAGE_TEXT: usize = 29_831;
+pub const RECORDS: usize = 2_560;
 
 const DIGITS: &[u8; 16] = b"0123456789ABCDEF";
 
@@ -17,7 +21,7 @@ pub fn digits(byte: u8) -> [u8; 2] {
 }
 
 /// The byte that makes the sum of all eleven 0 modulo 256.
-pub fn sum_byte(frame: &Frame) -> u8 {
+fn sum_byte(frame: &Frame) -> u8 {
     frame.iter().fold(0u8, |sum, b| sum.wrapping_add(*b)).wrapping_neg()
 }
 

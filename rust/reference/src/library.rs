@@ -4,7 +4,7 @@ use crate::answer::Answer;
 use crate::entry;
 use crate::state::State;
 
-/// What the tick of a lent state hands back; mask and code are 0 when it is refused.
+/// What the tick of a lent state hands back.
 #[derive(Clone, Copy, Debug, PartialEq, Eq)]
 pub struct Ticked {
     pub answer: Answer,
@@ -12,7 +12,7 @@ pub struct Ticked {
     pub code: u8,
 }
 
-/// The entry points of paper 01. Counts are records, characters and ticks; acceptance of an image, a fresh state: 0.
+/// The entry points of paper 01. Counts are records, characters and ticks; an accepted image and a fresh state count 0.
 pub trait Library {
     fn read_chart(&self, text: &[u8], out: &mut [u8]) -> Answer;
     fn write_chart(&self, records: &[u8], out: &mut [u8]) -> Answer;
@@ -27,7 +27,14 @@ pub trait Library {
         masks: &mut [u32],
         codes: &mut [u8],
     ) -> (Answer, State);
-    fn tick(&self, image: &[u8], state: &mut State, word: u16) -> Ticked;
+
+    /// One tick of a lent state: what a run of one word does. A refused tick emits nothing: mask and code 0.
+    fn tick(&self, image: &[u8], state: &mut State, word: u16) -> Ticked {
+        let (mut masks, mut codes) = ([0], [0]);
+        let (answer, after) = self.run(image, state, &[word], &mut masks, &mut codes);
+        *state = after;
+        Ticked { answer, mask: masks[0], code: codes[0] }
+    }
 }
 
 /// The reference itself.
@@ -63,9 +70,5 @@ impl Library for Reference {
         codes: &mut [u8],
     ) -> (Answer, State) {
         entry::run(image, state, words, masks, codes)
-    }
-
-    fn tick(&self, image: &[u8], state: &mut State, word: u16) -> Ticked {
-        entry::tick(image, state, word)
     }
 }

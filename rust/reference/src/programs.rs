@@ -6,7 +6,7 @@ use crate::frames::{digits, line};
 use crate::state::State;
 
 /// The frame that tells a refusal.
-pub fn refusal_line(number: u8, index: usize) -> Vec<u8> {
+fn refusal_line(number: u8, index: usize) -> Vec<u8> {
     let [high, low] = (index as u16).to_be_bytes();
     line(&[0xFF, number, high, low, 0, 0, 0, 0, 0, 0])
 }

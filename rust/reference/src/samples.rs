@@ -160,10 +160,10 @@ pub fn largest_image() -> Vec<Frame> {
 mod tests {
     use super::*;
     use crate::entry::{image_from_text, translated};
-    use crate::frames::text_of;
+    use crate::frames::{text_of, CHARACTERS, IMAGE_TEXT};
 
     fn frame_count(records: &[Frame]) -> usize {
-        translated(&text_of(records)).expect("a valid chart").len() / 23
+        translated(&text_of(records)).expect("a valid chart").len() / CHARACTERS
     }
 
     #[test]
@@ -187,7 +187,7 @@ mod tests {
     #[test]
     fn the_image_is_accepted() {
         let text = text_of(&largest_image());
-        assert_eq!(text.len(), 29_831);
+        assert_eq!(text.len(), IMAGE_TEXT);
         image_from_text(&text).expect("an accepted image");
     }
 }

@@ -1,6 +1,6 @@
 //! The bench sheet, B1 to B10, run on the reference.
 
-use reference::frames::{text_of, Frame};
+use reference::frames::{text_of, Frame, IMAGE_TEXT};
 use reference::{entry, programs, walk, Answer, State};
 
 const CHART_P: &str = "\
@@ -42,12 +42,8 @@ fn run(image: &[u8], size: usize, words: &[u16]) -> (Answer, Vec<u32>, Vec<u8>) 
     (answer, masks, codes)
 }
 
-fn chart(records: &[Frame]) -> Vec<u8> {
-    text_of(records)
-}
-
 fn translate(text: &[u8]) -> Answer {
-    entry::translate(text, &mut [0; 29_831])
+    entry::translate(text, &mut [0; IMAGE_TEXT])
 }
 
 const BEGIN: Frame = [0, 1, 0, 1, 0, 0, 0, 0, 0, 0];
@@ -100,7 +96,7 @@ fn b5_no_words() {
 
 #[test]
 fn b6_begin_to_end() {
-    let image = entry::translated(&chart(&[BEGIN, END])).unwrap();
+    let image = entry::translated(&text_of(&[BEGIN, END])).unwrap();
     let (answer, masks, codes) = run(&image, 1, &[0xFFFF; 20]);
     assert_eq!(answer, Answer::Done(20));
     assert_eq!(codes, [0x04; 20]);
@@ -116,7 +112,7 @@ fn b7_empty_and_lower_case() {
 #[test]
 fn b8_a_circle_before_what_is_cut_off() {
     let condition = [3, 1, 0, 1, 1, 0, 0, 0, 0, 0];
-    assert_eq!(translate(&chart(&[BEGIN, condition, END])), refused(8, 1, 0));
+    assert_eq!(translate(&text_of(&[BEGIN, condition, END])), refused(8, 1, 0));
 }
 
 /// Begin, so many plain operations, ten different conditions with both arcs to the next, End.
@@ -130,7 +126,7 @@ fn ladder(operations: u8) -> Vec<u8> {
         records.push([3, 1, number, next, next, 0, 0, 0, 0, 0]);
     }
     records.push(END);
-    chart(&records)
+    text_of(&records)
 }
 
 #[test]
@@ -142,7 +138,7 @@ fn b9_the_most_rows() {
 
 #[test]
 fn b10_a_function() {
-    let text = chart(&[
+    let text = text_of(&[
         BEGIN,
         [4, 1, 2, 3, 2, 0, 0, 0, 0, 0],
         [2, 1, 0, 3, 0, 0, 0, 0, 0, 1],
@@ -163,6 +159,12 @@ fn b10_a_function() {
 #[test]
 fn programs_print_refusals() {
     assert_eq!(programs::translate(b""), b"FF01000000000000000000\n");
+    assert_eq!(programs::run(b""), b"FF01000000000000000000\n");
+}
+
+#[test]
+fn the_run_program_prints_64_codes() {
     let printed = String::from_utf8(programs::run(IMAGE_P.as_bytes())).unwrap();
     assert!(printed.starts_with("04\n12\n00\n03\n04\n12\n00\n03\n04\n"), "{printed}");
+    assert_eq!(printed.lines().count(), 64);
 }

@@ -4,6 +4,7 @@ use reference::check::chart_of;
 use reference::expectation::{expected, Outcome};
 use reference::frames::{frames_of, text_of, CHART_TEXT, IMAGE_TEXT};
 use reference::generate::{charts, images, ladders, runs, states, Random};
+use reference::image::FUNCTION_CALL;
 use reference::{entry, image, machine, translator, Answer, State};
 
 const CASES: u64 = 3_000;
@@ -88,7 +89,7 @@ fn exactly_one_row_of_a_translated_image_matches() {
         let mut random = Random::new(seed);
         let (_, image) = images::translated(&mut random);
         for label in 2..image.labels.len() {
-            let bits: &[u8] = if image.labels[label].kind == 2 { &[0, 1] } else { &[2] };
+            let bits: &[u8] = if image.labels[label].kind == FUNCTION_CALL { &[0, 1] } else { &[2] };
             let word = random.number() as u16;
             for bit in bits {
                 let matching = image.rows.iter().filter(|row| {

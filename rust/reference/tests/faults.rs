@@ -7,10 +7,23 @@ use reference::entry::{self, image_from_text};
 use reference::frames::text_of;
 use reference::image::{Image, FUNCTION_CALL, HOME, RETURN};
 use reference::machine::{self, Advanced};
-use reference::{Answer, Library, State, Ticked};
+use reference::{Answer, Library, Reference, State, Ticked};
 
-#[derive(Clone, Copy, Debug, PartialEq)]
-enum Fault {
+/// An enum of the faults, and the list of them all.
+macro_rules! faults {
+    ($($fault:ident),* $(,)?) => {
+        #[derive(Clone, Copy, Debug, PartialEq)]
+        enum Fault {
+            $($fault),*
+        }
+
+        use Fault::*;
+
+        const FAULTS: &[Fault] = &[$($fault),*];
+    };
+}
+
+faults! {
     TurnsAllChartsBack,
     OneImageForAll,
     FullBeforeTheFirstTick,
@@ -29,28 +42,6 @@ enum Fault {
     WritesTheResultOfAFullCall,
     KeepsDroppedPlaces,
 }
-
-use Fault::*;
-
-const FAULTS: [Fault; 17] = [
-    TurnsAllChartsBack,
-    OneImageForAll,
-    FullBeforeTheFirstTick,
-    AlwaysHome,
-    PlainAfterTheFirstCall,
-    ChangesNothing,
-    CountsOneMore,
-    WritesPastTheCount,
-    ForgetsTheStateOnShortBuffers,
-    JoinsRows,
-    CallsAgainOnReturn,
-    ResultBitOfTheCall,
-    WordOfTheCall,
-    ReturnsFromSchemeOne,
-    FullOnePlaceEarly,
-    WritesTheResultOfAFullCall,
-    KeepsDroppedPlaces,
-];
 
 /// The reference with one fault. `calls` keeps the word and the result bit of each open call of the state that was
 /// last handed back; where a fault needs them, runs of other states are as they should be.
@@ -242,13 +233,13 @@ impl Library for Faulty {
     }
 
     fn tick(&self, image: &[u8], state: &mut State, word: u16) -> Ticked {
-        entry::tick(image, state, word)
+        Reference.tick(image, state, word)
     }
 }
 
 #[test]
 fn every_fault_is_found() {
-    for fault in FAULTS {
+    for &fault in FAULTS {
         let library = Faulty::new(fault);
         let Err(difference) = compare(&library, 5, 5_000) else {
             panic!("{fault:?} was not found");

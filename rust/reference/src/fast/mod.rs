@@ -1,5 +1,5 @@
 //! The same entry points written for speed, on slices and fixed arrays, with no memory from the heap. They are what
-//! the proved library's times are measured against, and a second opinion in the comparison.
+//! the proved library's times are measured against; the comparison holds them to the reference too.
 
 mod chart;
 mod frames;
@@ -9,7 +9,7 @@ mod table;
 
 use crate::answer::{Answer, Refusal};
 use crate::frames::{Frame, CHARACTERS, CHART_TEXT, IMAGE_TEXT};
-use crate::library::{Library, Ticked};
+use crate::library::Library;
 use crate::state::State;
 
 const NODES: usize = 256;
@@ -17,14 +17,6 @@ const IMAGE_FRAMES: usize = IMAGE_TEXT / CHARACTERS;
 
 fn refuse<T>(number: u8, index: usize) -> Result<T, Refusal> {
     Err(Refusal { number, index })
-}
-
-fn answer(counted: Result<usize, Refusal>) -> Answer {
-    counted.map_or_else(Answer::from, Answer::Done)
-}
-
-pub fn read_chart(text: &[u8], out: &mut [u8]) -> Answer {
-    answer(read(text, out))
 }
 
 fn read(text: &[u8], out: &mut [u8]) -> Result<usize, Refusal> {
@@ -39,8 +31,14 @@ fn read(text: &[u8], out: &mut [u8]) -> Result<usize, Refusal> {
     Ok(records.len())
 }
 
-pub fn write_chart(bytes: &[u8], out: &mut [u8]) -> Answer {
-    answer(write(bytes, out))
+/// Writes the lines of these frames, or refuses with 16 and writes nothing.
+fn put(frames: &[Frame], out: &mut [u8]) -> Result<usize, Refusal> {
+    let count = frames.len() * CHARACTERS;
+    if out.len() < count {
+        return refuse(16, 0);
+    }
+    frames::encode(frames, out);
+    Ok(count)
 }
 
 fn write(bytes: &[u8], out: &mut [u8]) -> Result<usize, Refusal> {
@@ -49,16 +47,7 @@ fn write(bytes: &[u8], out: &mut [u8]) -> Result<usize, Refusal> {
         return refuse(1, 0);
     }
     chart::check(records)?;
-    let count = records.len() * CHARACTERS;
-    if out.len() < count {
-        return refuse(16, 0);
-    }
-    frames::encode(records, out);
-    Ok(count)
-}
-
-pub fn translate(text: &[u8], out: &mut [u8]) -> Answer {
-    answer(put_image(text, out))
+    put(records, out)
 }
 
 fn put_image(text: &[u8], out: &mut [u8]) -> Result<usize, Refusal> {
@@ -66,18 +55,7 @@ fn put_image(text: &[u8], out: &mut [u8]) -> Result<usize, Refusal> {
     let records = frames::decode(text, CHART_TEXT, &mut frames)?;
     let begins = chart::check(records)?;
     let mut image = [[0; 10]; IMAGE_FRAMES];
-    let image = table::fill(records, &begins, &mut image)?;
-    let count = image.len() * CHARACTERS;
-    if out.len() < count {
-        return refuse(16, 0);
-    }
-    frames::encode(image, out);
-    Ok(count)
-}
-
-pub fn check_image(text: &[u8]) -> Answer {
-    let mut frames = [[0; 10]; IMAGE_FRAMES];
-    answer(accepted(text, &mut frames).map(|_| 0))
+    put(table::fill(records, &begins, &mut image)?, out)
 }
 
 /// The frames of an accepted image and where its parts are.
@@ -89,50 +67,25 @@ fn accepted<'a>(
     Ok((frames, image::check(frames)?))
 }
 
-pub fn run(
-    text: &[u8],
-    state: &State,
-    words: &[u16],
-    masks: &mut [u32],
-    codes: &mut [u8],
-) -> (Answer, State) {
-    let mut frames = [[0; 10]; IMAGE_FRAMES];
-    let (frames, parts) = match accepted(text, &mut frames) {
-        Ok(image) => image,
-        Err(refusal) => return (refusal.into(), *state),
-    };
-    let refused = |number| (Refusal { number, index: 0 }.into(), *state);
-    let mut machine = machine::Machine::new(frames, &parts);
-    if !machine.fits(state) {
-        return refused(15);
-    }
-    let count = words.len();
-    let (Some(masks), Some(codes)) = (masks.get_mut(..count), codes.get_mut(..count)) else {
-        return refused(16);
-    };
-    machine.load(state);
-    let answer = machine.run(words, masks, codes);
-    (answer, machine.store(state.size))
-}
-
-/// `Library` by the fast functions.
+/// The fast functions.
 pub struct Fast;
 
 impl Library for Fast {
     fn read_chart(&self, text: &[u8], out: &mut [u8]) -> Answer {
-        read_chart(text, out)
+        Answer::of(read(text, out))
     }
 
     fn write_chart(&self, records: &[u8], out: &mut [u8]) -> Answer {
-        write_chart(records, out)
+        Answer::of(write(records, out))
     }
 
     fn translate(&self, text: &[u8], out: &mut [u8]) -> Answer {
-        translate(text, out)
+        Answer::of(put_image(text, out))
     }
 
     fn check_image(&self, text: &[u8]) -> Answer {
-        check_image(text)
+        let mut frames = [[0; 10]; IMAGE_FRAMES];
+        Answer::of(accepted(text, &mut frames).map(|_| 0))
     }
 
     fn fresh(&self, size: usize) -> (Answer, State) {
@@ -147,13 +100,22 @@ impl Library for Fast {
         masks: &mut [u32],
         codes: &mut [u8],
     ) -> (Answer, State) {
-        run(image, state, words, masks, codes)
-    }
-
-    fn tick(&self, image: &[u8], state: &mut State, word: u16) -> Ticked {
-        let (mut masks, mut codes) = ([0], [0]);
-        let (answer, after) = run(image, state, &[word], &mut masks, &mut codes);
-        *state = after;
-        Ticked { answer, mask: masks[0], code: codes[0] }
+        let mut frames = [[0; 10]; IMAGE_FRAMES];
+        let (frames, parts) = match accepted(image, &mut frames) {
+            Ok(accepted) => accepted,
+            Err(refusal) => return (refusal.into(), *state),
+        };
+        let refused = |number| (Refusal { number, index: 0 }.into(), *state);
+        let mut machine = machine::Machine::new(frames, &parts);
+        if !machine.fits(state) {
+            return refused(15);
+        }
+        let count = words.len();
+        let (Some(masks), Some(codes)) = (masks.get_mut(..count), codes.get_mut(..count)) else {
+            return refused(16);
+        };
+        machine.load(state);
+        let answer = machine.run(words, masks, codes);
+        (answer, machine.store(state.size))
     }
 }

@@ -16,8 +16,9 @@ struct Draft {
     mask: u32,
 }
 
-/// What the schemes of one chart have in common.
-struct Taste {
+/// What the schemes of one chart have in common: how many there are, how many condition numbers they test, the
+/// weights of conditions and of calls against 3 for operations, and whether schemes call themselves.
+struct Settings {
     schemes: usize,
     numbers: usize,
     conditions: usize,
@@ -37,7 +38,7 @@ pub fn chart(random: &mut Random) -> Vec<Frame> {
 }
 
 /// At most so many schemes, each with at most so many nodes between Begin and End.
-pub fn sized(random: &mut Random, most_schemes: usize, most_nodes: usize) -> Vec<Frame> {
+fn sized(random: &mut Random, most_schemes: usize, most_nodes: usize) -> Vec<Frame> {
     let schemes = random.within(1, most_schemes);
     let bodies: Vec<usize> = (0..schemes).map(|_| random.within(0, most_nodes)).collect();
     build(random, &bodies)
@@ -54,8 +55,8 @@ fn full(random: &mut Random) -> Vec<Frame> {
     build(random, &bodies)
 }
 
-fn taste(random: &mut Random, schemes: usize) -> Taste {
-    Taste {
+fn settings(random: &mut Random, schemes: usize) -> Settings {
+    Settings {
         schemes,
         numbers: random.pick(&[1, 2, 3, 5, 16]),
         conditions: random.pick(&[0, 1, 2, 2, 4]),
@@ -65,10 +66,10 @@ fn taste(random: &mut Random, schemes: usize) -> Taste {
 }
 
 fn build(random: &mut Random, bodies: &[usize]) -> Vec<Frame> {
-    let taste = taste(random, bodies.len());
+    let settings = settings(random, bodies.len());
     let mut drafts = Vec::new();
     for (k, body) in bodies.iter().enumerate() {
-        drafts.push(scheme(random, &taste, k + 1, *body));
+        drafts.push(scheme(random, &settings, k + 1, *body));
     }
     placed(random, &drafts)
 }
@@ -102,21 +103,21 @@ fn record(draft: &Draft, scheme: u8, to: impl Fn(usize) -> u8) -> Frame {
 }
 
 /// The nodes of one scheme: Begin first, End last.
-fn scheme(random: &mut Random, taste: &Taste, number: usize, body: usize) -> Vec<Draft> {
-    let mut drafts = vec![draft(random, taste, number, Kind::Begin)];
+fn scheme(random: &mut Random, settings: &Settings, number: usize, body: usize) -> Vec<Draft> {
+    let mut drafts = vec![draft(random, settings, number, Kind::Begin)];
     let mut open = vec![(0, 0)];
     for _ in 0..body {
-        let kind = kind(random, taste, number);
+        let kind = kind(random, settings, number);
         join(random, &mut drafts, &mut open);
         let at = drafts.len();
         open.push((at, 0));
         if matches!(kind, Kind::Condition | Kind::Function) {
             open.push((at, 1));
         }
-        drafts.push(draft(random, taste, number, kind));
+        drafts.push(draft(random, settings, number, kind));
     }
     join(random, &mut drafts, &mut open);
-    drafts.push(draft(random, taste, number, Kind::End));
+    drafts.push(draft(random, settings, number, Kind::End));
     for (at, slot) in open {
         drafts[at].arcs[slot] = free_arc(random, &drafts, at, slot);
     }
@@ -129,24 +130,24 @@ fn join(random: &mut Random, drafts: &mut [Draft], open: &mut Vec<(usize, usize)
     drafts[at].arcs[slot] = drafts.len();
 }
 
-fn kind(random: &mut Random, taste: &Taste, number: usize) -> Kind {
-    let functions = if calls(taste, number) { taste.calls } else { 0 };
-    let drawn = random.below(3 + taste.conditions + functions);
+fn kind(random: &mut Random, settings: &Settings, number: usize) -> Kind {
+    let functions = if calls(settings, number) { settings.calls } else { 0 };
+    let drawn = random.below(3 + settings.conditions + functions);
     if drawn < 3 {
         Kind::Operation
-    } else if drawn < 3 + taste.conditions {
+    } else if drawn < 3 + settings.conditions {
         Kind::Condition
     } else {
         Kind::Function
     }
 }
 
-fn draft(random: &mut Random, taste: &Taste, number: usize, kind: Kind) -> Draft {
+fn draft(random: &mut Random, settings: &Settings, number: usize, kind: Kind) -> Draft {
     let argument = match kind {
-        Kind::Condition => random.below(taste.numbers),
-        Kind::Function => called(random, taste, number),
-        Kind::Operation if calls(taste, number) && random.below(6) < taste.calls => {
-            called(random, taste, number)
+        Kind::Condition => random.below(settings.numbers),
+        Kind::Function => called(random, settings, number),
+        Kind::Operation if calls(settings, number) && random.below(6) < settings.calls => {
+            called(random, settings, number)
         }
         _ => 0,
     };
@@ -159,20 +160,20 @@ fn draft(random: &mut Random, taste: &Taste, number: usize, kind: Kind) -> Draft
 }
 
 /// Whether a scheme calls others: the last one only where schemes may call themselves, so that most calls return.
-fn calls(taste: &Taste, number: usize) -> bool {
-    number < taste.schemes || (taste.schemes > 1 && taste.self_calls)
+fn calls(settings: &Settings, number: usize) -> bool {
+    number < settings.schemes || (settings.schemes > 1 && settings.self_calls)
 }
 
 /// The scheme itself, a later one (such calls come to an end), or any.
-fn called(random: &mut Random, taste: &Taste, number: usize) -> usize {
+fn called(random: &mut Random, settings: &Settings, number: usize) -> usize {
     match random.below(5) {
-        0 if taste.self_calls && number > 1 => number,
-        1..=3 if number < taste.schemes => random.within(number + 1, taste.schemes),
-        _ => random.within(2, taste.schemes),
+        0 if settings.self_calls && number > 1 => number,
+        1..=3 if number < settings.schemes => random.within(number + 1, settings.schemes),
+        _ => random.within(2, settings.schemes),
     }
 }
 
-/// Where an arc that joins no new node goes: back to the first node, to the End, with its twin, or anywhere.
+/// Where an arc that joins no new node goes: to the first node, to the End, where the node's other arc goes, or anywhere.
 fn free_arc(random: &mut Random, drafts: &[Draft], at: usize, slot: usize) -> usize {
     let end = drafts.len() - 1;
     loop {

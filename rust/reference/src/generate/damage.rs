@@ -1,15 +1,20 @@
 //! Damage to texts, to records and to image frames.
 
 use super::Random;
-use crate::frames::Frame;
+use crate::frames::{Frame, CHARACTERS};
 
-/// A text with one to three faults of transmission.
-pub fn text(random: &mut Random, text: &[u8]) -> Vec<u8> {
-    let mut damaged = text.to_vec();
+/// A copy with one to three faults.
+fn damaged<T: Clone>(random: &mut Random, whole: &[T], fault: fn(&mut Random, &mut Vec<T>)) -> Vec<T> {
+    let mut damaged = whole.to_vec();
     for _ in 0..random.pick(&[1, 1, 1, 2, 3]) {
-        text_fault(random, &mut damaged);
+        fault(random, &mut damaged);
     }
     damaged
+}
+
+/// A text with faults of transmission.
+pub fn text(random: &mut Random, text: &[u8]) -> Vec<u8> {
+    damaged(random, text, text_fault)
 }
 
 fn text_fault(random: &mut Random, text: &mut Vec<u8>) {
@@ -27,19 +32,15 @@ fn text_fault(random: &mut Random, text: &mut Vec<u8>) {
             text.remove(at);
         }
         8 => text.truncate(at),
-        9 => text.truncate(at / 23 * 23),
-        10 => text.extend_from_within(at / 23 * 23..),
+        9 => text.truncate(at / CHARACTERS * CHARACTERS),
+        10 => text.extend_from_within(at / CHARACTERS * CHARACTERS..),
         _ => *text = (0..random.below(400)).flat_map(|_| text.clone()).take(30_000).collect(),
     }
 }
 
-/// Records with one to three faults; their sums will be right.
+/// Faulty records; their sums will be right.
 pub fn records(random: &mut Random, records: &[Frame]) -> Vec<Frame> {
-    let mut damaged = records.to_vec();
-    for _ in 0..random.pick(&[1, 1, 1, 2, 3]) {
-        record_fault(random, &mut damaged);
-    }
-    damaged
+    damaged(random, records, record_fault)
 }
 
 fn record_fault(random: &mut Random, records: &mut Vec<Frame>) {
@@ -96,13 +97,9 @@ fn circle(random: &mut Random, records: &mut [Frame]) {
     records[at][random.within(3, 4)] = random.pick(&targets) as u8;
 }
 
-/// Image frames with one to three faults; their sums will be right.
+/// Faulty image frames; their sums will be right.
 pub fn image(random: &mut Random, frames: &[Frame]) -> Vec<Frame> {
-    let mut damaged = frames.to_vec();
-    for _ in 0..random.pick(&[1, 1, 1, 2, 3]) {
-        image_fault(random, &mut damaged);
-    }
-    damaged
+    damaged(random, frames, image_fault)
 }
 
 fn image_fault(random: &mut Random, frames: &mut Vec<Frame>) {
