@@ -1,8 +1,10 @@
 //! The library against plain Rust written for speed, on the same inputs in one run. `cargo bench --offline` prints a
-//! table; a ratio below 1 means that the library takes less time. A word after `--` picks the lines that have it.
+//! table; a ratio below 1 means that the library takes less. Where valgrind is at hand, instructions are counted too.
+//! A word after `--` picks the lines that have it.
 
 use std::env;
 use std::hint::black_box;
+use std::process::Command;
 use std::time::{Duration, Instant};
 
 use fairleadow::Proved;
@@ -96,33 +98,97 @@ impl Input {
 
 const CALLS: [&str; 6] = ["read", "write", "translate", "check", "run of 64", "run of 65,536"];
 
-fn main() {
-    let inputs = [
+fn inputs() -> [Input; 6] {
+    [
         Input::new("chart P", &samples::chart_p()),
         Input::new("200 labels", &samples::operations(198)),
         Input::new("256 labels", &samples::operations(254)),
         Input::new("16 schemes, 256 nodes", &samples::most_schemes()),
         Input::new("229 labels, 1,024 rows", &samples::most_rows()),
         Input::new("one label, 1,024 rows (B9)", &samples::one_label()),
-    ];
-    println!("| Input | Call | Library, ns | Plain Rust, ns | Ratio |");
-    println!("|---|---|---:|---:|---:|");
-    let (mut room, mut other) = (Room::new(), Room::new());
-    let wanted: Vec<String> = env::args().skip(1).filter(|word| !word.starts_with("--")).collect();
-    for input in &inputs {
+    ]
+}
+
+/// The library's name and that of the plain Rust, as this program is told them for one counted call.
+const SIDES: [&str; 2] = ["library", "plain"];
+
+fn side(name: &str) -> &'static dyn Library {
+    if name == SIDES[0] {
+        &Proved
+    } else {
+        &Fast
+    }
+}
+
+/// Asks this program for one call alone: the line and the side follow.
+const ONE_CALL: &str = "--one-call";
+
+/// The function whose instructions are counted.
+#[inline(never)]
+#[no_mangle]
+fn counted_call(input: &Input, call: &str, library: &dyn Library, room: &mut Room) {
+    input.call(call, library, room);
+}
+
+fn make_one_call(line: &str, name: &str) {
+    for input in inputs() {
         for call in CALLS {
-            let line = format!("{} {call}", input.name);
-            if !wanted.iter().all(|word| line.contains(word)) {
-                continue;
+            if line == format!("{} | {call}", input.name) {
+                counted_call(&input, call, side(name), &mut Room::new());
             }
-            let ours = input.repeats(call, &Proved, &mut room);
-            let theirs = input.repeats(call, &Fast, &mut other);
-            let mut best = (f64::MAX, f64::MAX);
-            for _ in 0..BATCHES {
-                best.0 = best.0.min(input.batch(call, &Proved, &mut room, ours));
-                best.1 = best.1.min(input.batch(call, &Fast, &mut other, theirs));
+        }
+    }
+}
+
+/// The instructions of one call, by this program run anew under valgrind; none where valgrind is missing.
+fn instructions(line: &str, name: &str) -> Option<u64> {
+    let output = Command::new("valgrind")
+        .args(["--tool=callgrind", "--callgrind-out-file=/dev/null", "--toggle-collect=counted_call"])
+        .arg(env::current_exe().ok()?)
+        .args([ONE_CALL, line, name])
+        .output()
+        .ok()?;
+    let said = String::from_utf8_lossy(&output.stderr).into_owned();
+    said.lines().find_map(|part| part.split_once("Collected :")?.1.trim().parse().ok())
+}
+
+/// The times of one line in nanoseconds, the library's first.
+fn times(input: &Input, call: &str, rooms: &mut [Room; 2]) -> [f64; 2] {
+    let mut best = [f64::MAX; 2];
+    let repeats = [0, 1].map(|k| input.repeats(call, side(SIDES[k]), &mut rooms[k]));
+    for _ in 0..BATCHES {
+        for k in [0, 1] {
+            best[k] = best[k].min(input.batch(call, side(SIDES[k]), &mut rooms[k], repeats[k]));
+        }
+    }
+    best
+}
+
+fn print_line(input: &Input, call: &str, line: &str, rooms: &mut [Room; 2]) {
+    let [ours, theirs] = times(input, call, rooms);
+    print!("| {line} | {ours:.0} | {theirs:.0} | {:.2} |", ours / theirs);
+    match SIDES.map(|name| instructions(line, name)) {
+        [Some(ours), Some(theirs)] => println!(" {ours} | {theirs} | {:.2} |", ours as f64 / theirs as f64),
+        _ => println!(" | | |"),
+    }
+}
+
+fn main() {
+    let words: Vec<String> = env::args().skip(1).collect();
+    if let [first, line, name] = &words[..] {
+        if first == ONE_CALL {
+            return make_one_call(line, name);
+        }
+    }
+    println!("| Input | Call | Library, ns | Plain Rust, ns | Ratio | Library, instructions | Plain Rust, instructions | Ratio |");
+    println!("|---|---|---:|---:|---:|---:|---:|---:|");
+    let mut rooms = [Room::new(), Room::new()];
+    for input in &inputs() {
+        for call in CALLS {
+            let line = format!("{} | {call}", input.name);
+            if words.iter().all(|word| word.starts_with("--") || line.contains(word)) {
+                print_line(input, call, &line, &mut rooms);
             }
-            println!("| {} | {call} | {:.0} | {:.0} | {:.2} |", input.name, best.0, best.1, best.0 / best.1);
         }
     }
 }
