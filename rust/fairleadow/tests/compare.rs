@@ -4,7 +4,7 @@ use fairleadow::Proved;
 use reference::compare::compare;
 
 const SEED: u64 = 1;
-const CASES: u64 = 60_000;
+const CASES: u64 = 400_000;
 
 fn setting(name: &str, otherwise: u64) -> u64 {
     match std::env::var(name) {
