@@ -22,10 +22,22 @@ tick-parts-requires : tie.Need-tick-parts-requires
 tick-parts-requires c κs = search needs
 
 returns : tie.Need-returns
-returns c = value-stood (c .before .before .before .before .before .before .before .before .before .before .before .before .before .args .table .now) (c .before .before .before .before .before .before .before .before .before .before .before .before .before .args .self) (c .before .before .before .before .before .before .before .before .before .before .before .before .before .args .word) (c .before .before .before .tick-parts .result) _ _ (c .before .before .before .tick-parts .ensures) (c .if1 .taken)
+returns c =
+    let start = c .before .before .before .before .before .before .before .before .before .before .before .before .before in
+    let table = start .args .table .now in
+    let self = start .args .self in
+    let word = start .args .word in
+    let tick-parts = c .before .before .before .tick-parts in
+    value-stood table self word (tick-parts .result) _ _ (tick-parts .ensures) (c .if1 .taken)
 
 returns-2 : tie.Need-returns-2
-returns-2 c = value-went (c .before .before .before .before .before .before .before .before .before .before .before .before .before .args .table .now) (c .before .before .before .before .before .before .before .before .before .before .before .before .before .args .self) (c .before .before .before .before .before .before .before .before .before .before .before .before .before .args .word) (c .before .before .before .tick-parts .result) _ _ (c .before .before .before .tick-parts .ensures) (c .if1 .left)
+returns-2 c =
+    let start = c .before .before .before .before .before .before .before .before .before .before .before .before .before in
+    let table = start .args .table .now in
+    let self = start .args .self in
+    let word = start .args .word in
+    let tick-parts = c .before .before .before .tick-parts in
+    value-went table self word (tick-parts .result) _ _ (tick-parts .ensures) (c .if1 .left)
 
 pub tick-spec : {M : Type 1} → statement M
 tick-spec =
