@@ -35,7 +35,8 @@ pub record Accepted (c : Chart) : Type 0 where
 nexts : (a b d e f g : Verdict) → next a (λ _. next b (λ _. next d (λ _. next e (λ _. next f (λ _. g))))) ≡ fine
     → (a ≡ fine) × (b ≡ fine) × (d ≡ fine) × (e ≡ fine) × (f ≡ fine) × (g ≡ fine)
 nexts a b d e f g q =
-    let qb : next b (λ _. next d (λ _. next e (λ _. next f (λ _. g)))) ≡ fine = next-rest a (λ _. next b (λ _. next d (λ _. next e (λ _. next f (λ _. g))))) q in
+    let qb : next b (λ _. next d (λ _. next e (λ _. next f (λ _. g)))) ≡ fine =
+    next-rest a (λ _. next b (λ _. next d (λ _. next e (λ _. next f (λ _. g))))) q in
     let qd : next d (λ _. next e (λ _. next f (λ _. g))) ≡ fine = next-rest b (λ _. next d (λ _. next e (λ _. next f (λ _. g)))) qb in
     let qe : next e (λ _. next f (λ _. g)) ≡ fine = next-rest d (λ _. next e (λ _. next f (λ _. g))) qd in
     let qf : next f (λ _. g) ≡ fine = next-rest e (λ _. next f (λ _. g)) qe in (
@@ -50,7 +51,8 @@ nexts a b d e f g q =
 pub sound : (c : Chart) → chartVerdict c ≡ fine → Sound c
 unfolding chartVerdict
 sound c e =
-    let q = nexts (atLowest 4 (badField c) (size c)) (when 5 (any (badScheme c) 1 (schemes c))) (atLowest 6 (badArc c) (size c)) (atLowest 7 (badCall c) (size c))
+    let q = nexts (atLowest 4 (badField c) (size c)) (when 5 (any (badScheme c) 1 (schemes c)))
+    (atLowest 6 (badArc c) (size c)) (atLowest 7 (badCall c) (size c))
     (atLowest 8 (onCircle c) (size c)) (atLowest 9 (cutOff c) (size c)) e in
     record {
       goodField = at-lowest-fine 4 (badField c) (size c) (q .0);
@@ -88,7 +90,9 @@ accepted-bytes t e = contents-bytes t (read-text t e .forms)
 pub accepted-records : (c : Chart) → writeVerdict c ≡ fine → Accepted c
 unfolding writeVerdict
 accepted-records c e =
-    let n : Length 10 2560 (length c) = length-told 10 2560 (length c) (when-fine 1 (badLength 10 2560 (length c)) (next-first (when 1 (badLength 10 2560 (length c))) (λ _. chartVerdict c) e)) in
+    let bad = badLength 10 2560 (length c) in
+    let n : Length 10 2560 (length c) =
+    length-told 10 2560 (length c) (when-fine 1 bad (next-first (when 1 bad) (λ _. chartVerdict c) e)) in
     let z : length c ≡ 0 → ⊥ = n .some in
     let w : length c % 10 ≡ 0 = n .whole in
     let f : length c ≤ 2560 = n .fits in

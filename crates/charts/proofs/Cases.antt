@@ -13,7 +13,8 @@ use Rattle.charts.specs.Check.{badUse, arcs, badEnd, badArc, badCall}
 
 -- ---- 4
 -- a kind above 4
-pub no-kind : (c : Chart) (v k : ℕ) → (k ≡ 0 → ⊥) → (k ≡ 1 → ⊥) → (k ≡ 2 → ⊥) → (k ≡ 3 → ⊥) → (k ≡ 4 → ⊥) → true ≡ badUse c v k
+pub no-kind : (c : Chart) (v k : ℕ) → (k ≡ 0 → ⊥) → (k ≡ 1 → ⊥) → (k ≡ 2 → ⊥) → (k ≡ 3 → ⊥)
+    → (k ≡ 4 → ⊥) → true ≡ badUse c v k
 no-kind c v zero a b d e f = absurd (a refl)
 no-kind c v (suc zero) a b d e f = absurd (b refl)
 no-kind c v (suc (suc zero)) a b d e f = absurd (d refl)
@@ -22,7 +23,8 @@ no-kind c v (suc (suc (suc (suc zero)))) a b d e f = absurd (f refl)
 no-kind c v (suc (suc (suc (suc (suc k))))) a b d e f = refl
 
 -- ---- 6
-pub end-inside : (c : Chart) (v u x a b : ℕ) → u < size c → a ≡ scheme c u → b ≡ scheme c v → a ≡ b → x ≡ kind c u → eqb x 0 ≡ badEnd c v u
+pub end-inside : (c : Chart) (v u x a b : ℕ) → u < size c → a ≡ scheme c u → b ≡ scheme c v → a ≡ b → x ≡ kind c u
+    → eqb x 0 ≡ badEnd c v u
 end-inside c v u x a b l p q e k = ap (λ y. eqb y 0) k ∙ sym (rw (lt-leb (size c) u l, eq-eqb (scheme c u) (scheme c v) (sym p ∙ e ∙ q)))
 
 or-no : (a : Bool) → (a || false) ≡ a
@@ -74,7 +76,9 @@ module _ (c : Chart) (v u : ℕ) (r : Bool) (eu : u ≡ next0 c v) (er : r ≡ b
 
 -- ---- 7
 module _ (c : Chart) (v k a h : ℕ) (ek : k ≡ kind c v) (ea : a ≡ argument c v) (eh : h ≡ schemes c) where
-  alike : (p q : Bool) (p′ q′ : Bool) → p ≡ p′ → q ≡ q′ → ((p && (eqb (argument c v) 1 || ltb (schemes c) (argument c v))) || (q && (leb (argument c v) 1 || ltb (schemes c) (argument c v)))) ≡ ((p′ && (eqb a 1 || ltb h a)) || (q′ && (leb a 1 || ltb h a)))
+  alike : (p q : Bool) (p′ q′ : Bool) → p ≡ p′ → q ≡ q′
+      → ((p && (eqb (argument c v) 1 || ltb (schemes c) (argument c v))) || (q && (leb (argument c v) 1 || ltb (schemes c) (argument c v))))
+      ≡ ((p′ && (eqb a 1 || ltb h a)) || (q′ && (leb a 1 || ltb h a)))
   alike p q p′ q′ e f = rw (e, f, ea, eh)
 
   pub operation-call : k ≡ 2 → badCall c v ≡ (eqb a 1 || ltb h a)

@@ -49,6 +49,10 @@ module _ (c : Chart) where
   abbrev v9 : Verdict
   v9 = atLowest 9 (cutOff c) (size c)
 
+  -- the search for schemes goes up to the number that the code has found
+  pub schemes-told : (h : ℕ) (r t : Bool) → h ≡ schemes c → r ≡ any (badScheme c) 1 h → r ≡ t → any (badScheme c) 1 (schemes c) ≡ t
+  schemes-told h r t highest found is = sym (found ∙ ap (λ (k : ℕ). any (badScheme c) 1 k) highest) ∙ is
+
   whole : chartVerdict c ≡ nexts v4 v5 v6 v7 v8 v9
   unfolding chartVerdict
   whole = refl

@@ -23,7 +23,8 @@ use Rattle.charts.specs.Marks.{beginMarks}
 use Rattle.charts.proofs.Nodes.{field-scheme, good-end, member-first}
 use Rattle.charts.proofs.Meaning.{member-only}
 
-module _ (c : Chart) (fields : size c ≤ lowest (badField c) 0 (size c)) (counts : any (badScheme c) 1 (schemes c) ≡ false) (ends : size c ≤ lowest (badArc c) 0 (size c)) where
+module _ (c : Chart) (fields : size c ≤ lowest (badField c) 0 (size c))
+    (counts : any (badScheme c) 1 (schemes c) ≡ false) (ends : size c ≤ lowest (badArc c) 0 (size c)) where
   -- ---- the Begin of a node's scheme
   one-begin : (v : ℕ) → v < size c → count (isOf c 0 (scheme c v)) 0 (size c) ≡ 1
   one-begin v l =
@@ -95,4 +96,6 @@ module _ (c : Chart) (fields : size c ≤ lowest (badField c) 0 (size c)) (count
       (cases (marked joined v)))
 
   pub lowest-apart : (ms : List Bool) → ms ≡ joined → lowest (λ v. not (marked ms v)) 0 (size c) ≡ lowest (cutOff c) 0 (size c)
-  lowest-apart ms e = lowest-alike (λ v. not (marked ms v)) (cutOff c) 0 (size c) (λ v a b. ap (λ (xs : List Bool). not (marked xs v)) e ∙ apart v (omega arith))
+  lowest-apart ms e =
+      lowest-alike (λ v. not (marked ms v)) (cutOff c) 0 (size c)
+      (λ v a b. ap (λ (xs : List Bool). not (marked xs v)) e ∙ apart v (omega arith))

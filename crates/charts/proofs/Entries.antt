@@ -131,9 +131,11 @@ module _ (c : Chart) (out : List ℕ) where
     pub write-unsound : (k i m : ℕ) → a ≡ Refused k i m → (reply a ≡ writeChart c out .reply) × (out ≡ writeChart c out .buffer)
     unfolding writeChart
     write-unsound k i m q =
-        lent-refused (writeVerdict c) 1 (λ _. textOf c) out k i (on ∙ refused-verdict a (chartVerdict c) 0 e k i m q .0) (reply a) (refused-reply a (chartVerdict c) 0 e k i m q)
+        lent-refused (writeVerdict c) 1 (λ _. textOf c) out k i (on ∙ refused-verdict a (chartVerdict c) 0 e k i m q .0)
+        (reply a) (refused-reply a (chartVerdict c) 0 e k i m q)
 
-    pub write-short : (m : ℕ) → a ≡ Done m → length out < 23 * size c → (refusal 16 0 0 ≡ writeChart c out .reply) × (out ≡ writeChart c out .buffer)
+    pub write-short : (m : ℕ) → a ≡ Done m → length out < 23 * size c
+        → (refusal 16 0 0 ≡ writeChart c out .reply) × (out ≡ writeChart c out .buffer)
     unfolding writeChart
     write-short m q h = lent-short (writeVerdict c) 1 (λ _. textOf c) out (on ∙ done-fine a (chartVerdict c) 0 e m q .0) (omega (arith, length-text c))
 

@@ -44,7 +44,10 @@ module _ (c : Chart) (b : Bool) (v k : ℕ) (e : k ≡ kind c v) where
   by-condition q = go b refl
     where
       go : (x : Bool) → b ≡ x → arcsBy c b v ≡ next0 c v ∷ next1 c v ∷ []
-      go true t = ap (λ b. pick b (conditionArcs c v) (arcs c v)) t ∙ condition-arcs c v (eq-eqb (kind c v) 3 (sym e ∙ q)) ∙ arcs-condition c v (sym e ∙ q)
+      go true t =
+          ap (λ b. pick b (conditionArcs c v) (arcs c v)) t
+          ∙ condition-arcs c v (eq-eqb (kind c v) 3 (sym e ∙ q))
+          ∙ arcs-condition c v (sym e ∙ q)
       go false t = by-all t ∙ arcs-condition c v (sym e ∙ q)
 
   pub by-function : b ≡ false → k ≡ 4 → arcsBy c b v ≡ next0 c v ∷ next1 c v ∷ []
@@ -117,7 +120,8 @@ module _ (c : Chart) (old : List Bool) where
       ∙ ap (λ (xs : List Bool). xs ++ drop (suc v) old) (sym (map-range-snoc (is c 0) 0 v))
       ∙ ap (λ (j : ℕ). map (is c 0) (range 0 j) ++ drop j old) (sym (add-one v))
 
-  pub begins-done : (v : ℕ) (ms : List Bool) → v ≡ size c → length old ≡ size c → ms ≡ map (is c 0) (range 0 v) ++ drop v old → ms ≡ beginMarks c
+  pub begins-done : (v : ℕ) (ms : List Bool) → v ≡ size c → length old ≡ size c → ms ≡ map (is c 0) (range 0 v) ++ drop v old
+      → ms ≡ beginMarks c
   begins-done v ms q l e =
       e ∙ ap (λ (xs : List Bool). front v ++ xs) (drop-of-length-le old {i = v} (omega arith)) ∙ append-nil (front v) ∙ ap (λ (j : ℕ). front j) q
 
@@ -136,7 +140,8 @@ module _ (c : Chart) (v x : ℕ) (p : x ≡ kind c v) where
   pub circle-other : (x ≡ 3 → ⊥) → false ≡ onCircle c v
   circle-other n = sym (ap (λ b. b && marked (joinedFrom (size c) (conditionArcs c) (arcs c v)) v) (ne-eqb (kind c v) 3 (λ q. n (p ∙ q))))
 
-  pub circle-back : x ≡ 3 → (ms : List Bool) (r : Bool) → ms ≡ joinedFrom (size c) (conditionArcs c) (arcs c v) → r ≡ marked ms v → r ≡ onCircle c v
+  pub circle-back : x ≡ 3 → (ms : List Bool) (r : Bool) → ms ≡ joinedFrom (size c) (conditionArcs c) (arcs c v)
+      → r ≡ marked ms v → r ≡ onCircle c v
   circle-back q ms r e t =
       t ∙ ap (λ (xs : List Bool). marked xs v) e
       ∙ sym (ap (λ b. b && marked (joinedFrom (size c) (conditionArcs c) (arcs c v)) v) (eq-eqb (kind c v) 3 (sym p ∙ q)))

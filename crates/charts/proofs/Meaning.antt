@@ -65,8 +65,9 @@ circle-found c v k =
 
 pub found-circle : (c : Chart) (v : ℕ) → onCircle c v ≡ true → Circle c v
 found-circle c v e =
-    let i : is c 3 v ≡ true = and-l (is c 3 v) (marked (joinedFrom (size c) (conditionArcs c) (arcs c v)) v) e in
-    let m : marked (joinedFrom (size c) (conditionArcs c) (arcs c v)) v ≡ true = and-r (is c 3 v) (marked (joinedFrom (size c) (conditionArcs c) (arcs c v)) v) e in
+    let ahead = joinedFrom (size c) (conditionArcs c) (arcs c v) in
+    let i : is c 3 v ≡ true = and-l (is c 3 v) (marked ahead v) e in
+    let m : marked ahead v ≡ true = and-r (is c 3 v) (marked ahead v) e in
     let p : PathFrom (size c) (conditionArcs c) (arcs c v) v = joined-path (size c) (conditionArcs c) (arcs c v) v m in
     record {
       second = p .first;

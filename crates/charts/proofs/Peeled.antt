@@ -33,13 +33,17 @@ module _ (c : Chart) (whole : length c ≡ 10 * size c) where
       (or-cases (eqb u (next0 c v)) (member u (next1 c v ∷ [])) (sym (some-cons (eqb u) (next0 c v) (next1 c v ∷ [])) ∙ e))
 
   settled-rank : (f : ℕ → ℕ) (u : ℕ) → settled c f u ≡ true → is c 3 u ≡ true → 0 < f u
-  settled-rank f u s i = ⊎-elim (λ (t : not (is c 3 u) ≡ true). no-both (is c 3 u) i (not-true (is c 3 u) t)) (λ (t : ltb 0 (f u) ≡ true). ltb-true 0 (f u) t) (or-cases (not (is c 3 u)) (ltb 0 (f u)) s)
+  settled-rank f u s i =
+      ⊎-elim (λ (t : not (is c 3 u) ≡ true). no-both (is c 3 u) i (not-true (is c 3 u) t))
+      (λ (t : ltb 0 (f u) ≡ true). ltb-true 0 (f u) t) (or-cases (not (is c 3 u)) (ltb 0 (f u)) s)
 
-  falls : (k v u : ℕ) → 0 < rankAfter c k v → member u (arcs c v) ≡ true → is c 3 u ≡ true → (0 < rankAfter c k u) × (rankAfter c k u < rankAfter c k v)
+  falls : (k v u : ℕ) → 0 < rankAfter c k v → member u (arcs c v) ≡ true → is c 3 u ≡ true
+      → (0 < rankAfter c k u) × (rankAfter c k u < rankAfter c k v)
   falls zero v u p s i = absurd (omega (arith, rank-first c v))
   falls (suc k) v u p s i = go (cases (ready c (rankAfter c k) v)) (λ q. falls k v u q s i)
     where
-      go : (ready c (rankAfter c k) v ≡ true) ⊎ (ready c (rankAfter c k) v ≡ false) → (0 < rankAfter c k v → (0 < rankAfter c k u) × (rankAfter c k u < rankAfter c k v))
+      go : (ready c (rankAfter c k) v ≡ true) ⊎ (ready c (rankAfter c k) v ≡ false)
+          → (0 < rankAfter c k v → (0 < rankAfter c k u) × (rankAfter c k u < rankAfter c k v))
           → (0 < rankAfter c (suc k) u) × (rankAfter c (suc k) u < rankAfter c (suc k) v)
       go (inl t) ih =
           let r = ready-parts c (rankAfter c k) v t in
@@ -69,7 +73,8 @@ module _ (c : Chart) (whole : length c ≡ 10 * size c) where
 
         low-of : (u : ℕ) → (is c 3 u ≡ true → rankAfter c k u < rankAfter c k v) → low u ≡ true
         low-of u h = ⊎-elim
-            (λ (i : is c 3 u ≡ true). or-true-r (not (is c 3 u)) (ltb (rankAfter c k u) (rankAfter c k v)) (lt-ltb (rankAfter c k u) (rankAfter c k v) (h i)))
+            (λ (i : is c 3 u ≡ true). or-true-r (not (is c 3 u)) (ltb (rankAfter c k u) (rankAfter c k v))
+            (lt-ltb (rankAfter c k u) (rankAfter c k v) (h i)))
             (λ (i : is c 3 u ≡ false). or-true-l (not (is c 3 u)) (ltb (rankAfter c k u) (rankAfter c k v)) (ap not i)) (cases (is c 3 u))
 
         is-low : (u : ℕ) → low u ≡ true → is c 3 u ≡ true → rankAfter c k u < rankAfter c k v
@@ -117,7 +122,8 @@ module _ (c : Chart) (whole : length c ≡ 10 * size c) where
       reached zero v l i h = absurd (omega (arith, over v l i))
       reached (suc k) v l i h = go (cases (ready c (rankAfter c k) v)) (split 0 (rankAfter c k v)) (λ u lu iu hu. reached k u lu iu hu)
         where
-          settles : ((u : ℕ) → u < size c → is c 3 u ≡ true → far u ≤ k + s → 0 < rankAfter c k u) → (u : ℕ) → member u (arcs c v) ≡ true → settled c (rankAfter c k) u ≡ true
+          settles : ((u : ℕ) → u < size c → is c 3 u ≡ true → far u ≤ k + s → 0 < rankAfter c k u) → (u : ℕ)
+              → member u (arcs c v) ≡ true → settled c (rankAfter c k) u ≡ true
           settles ih u m = ⊎-elim
               (λ (iu : is c 3 u ≡ true). let lu : u < size c = a-node c whole u iu in
               let d : far u < far v = nearer v u l i m lu in
@@ -142,7 +148,9 @@ module _ (c : Chart) (whole : length c ≡ 10 * size c) where
     calm-all few bytes v l i = go (split (size c) 256)
       where
         go : (size c < 256) ⊎ (256 ≤ size c) → 0 < rankAfter c 255 v
-        go (inl h) = reached 0 (λ u lu iu. omega (arith, rank-some (size c) (conditionArcs c) u lu)) 255 v l i (omega (arith, rank-le (size c) (conditionArcs c) v))
+        go (inl h) =
+            reached 0 (λ u lu iu. omega (arith, rank-some (size c) (conditionArcs c) u lu)) 255 v l i
+            (omega (arith, rank-le (size c) (conditionArcs c) v))
         go (inr h) = reached 1
             (λ u lu iu. let n : next0 c u < size c = omega (arith, bytes (10 * u + 3)) in
             omega (arith, rank-some (size c) (conditionArcs c) (next0 c u) n, nearer u (next0 c u) lu iu (next-in0 u iu) n))
@@ -173,9 +181,12 @@ module _ (c : Chart) (ranks : List ℕ) (e : ranks ≡ ranksOf c) (whole : lengt
   none-unranked bytes = ⊎-elim
       (λ (t : any (unranked c ranks) 0 (size c) ≡ true). ⊎-elim
       (λ (s : any (onCircle c) 0 (size c) ≡ true). t ∙ sym s)
-      (λ (s : any (onCircle c) 0 (size c) ≡ false). no-both (any (unranked c ranks) 0 (size c)) t (any-none (unranked c ranks) 0 (size c) (λ k l. subst (λ (v : ℕ). unranked c ranks v ≡ false) (omega arith) (fine s k l))))
+      (λ (s : any (onCircle c) 0 (size c) ≡ false). no-both (any (unranked c ranks) 0 (size c)) t
+      (any-none (unranked c ranks) 0 (size c)
+      (λ k l. subst (λ (v : ℕ). unranked c ranks v ≡ false) (omega arith) (fine s k l))))
       (cases (any (onCircle c) 0 (size c))))
-      (λ (t : any (unranked c ranks) 0 (size c) ≡ false). t ∙ sym (any-none (onCircle c) 0 (size c) (λ k l. all-calm c whole 255 (given t) (0 + k) (omega arith))))
+      (λ (t : any (unranked c ranks) 0 (size c) ≡ false).
+      t ∙ sym (any-none (onCircle c) 0 (size c) (λ k l. all-calm c whole 255 (given t) (0 + k) (omega arith))))
       (cases (any (unranked c ranks) 0 (size c)))
     where
       fine : any (onCircle c) 0 (size c) ≡ false → (v : ℕ) → v < size c → unranked c ranks v ≡ false

@@ -36,7 +36,10 @@ module _ (c : Chart) (k v : ℕ) (ranks : List ℕ) (e : ranks ≡ ranksWithin c
       settled-some z = seen-some c k u (getD ranks u 0) (ltb u v) (within-at c k v u ranks e l) z ∙ by-rank
 
   pub ready-other : (x : ℕ) → x ≡ kind c v → (x ≡ 3 → ⊥) → false ≡ ready c (rankAfter c k) v
-  ready-other x p n = sym (ap (λ b. b && eqb (rankAfter c k v) 0 && settled c (rankAfter c k) (next0 c v) && settled c (rankAfter c k) (next1 c v)) (ne-eqb (kind c v) 3 (λ q. n (p ∙ q))))
+  ready-other x p n =
+      sym (ap
+      (λ b. b && eqb (rankAfter c k v) 0 && settled c (rankAfter c k) (next0 c v) && settled c (rankAfter c k) (next1 c v))
+      (ne-eqb (kind c v) 3 (λ q. n (p ∙ q))))
 
   own : v < 256 → getD ranks v 0 ≡ rankAfter c k v
   own l = within-at c k v v ranks e l ∙ no-pick (ltb v v) _ (rankAfter c k v) (le-ltb v v (omega arith))

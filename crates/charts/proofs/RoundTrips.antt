@@ -49,7 +49,8 @@ module _ (t : List ℕ) (ok : readVerdict t ≡ fine) where
       let w : length (contents t) ≡ 10 * size (contents t) = A .whole in
       let s : 1 ≤ size (contents t) = A .some in
       let f : size (contents t) ≤ 256 = A .few in
-      ap (λ (b : Bool). next (when 1 b) λ _. chartVerdict (contents t)) (length-good 10 2560 (length (contents t)) (λ z. omega arith) (omega arith) (omega arith))
+      ap (λ (b : Bool). next (when 1 b) λ _. chartVerdict (contents t))
+      (length-good 10 2560 (length (contents t)) (λ z. omega arith) (omega arith) (omega arith))
       ∙ next-rest (textVerdict 5888 t) (λ _. chartVerdict (contents t)) ok
 
   pub write-read : (out : List ℕ) → writeChart (contents t) out ≡ lent fine 1 (λ _. t) out
@@ -58,7 +59,8 @@ module _ (t : List ℕ) (ok : readVerdict t ≡ fine) where
 
 -- ---- through the buffers
 -- n characters were written; given room, the reader turns them into the records again
-pub read-of-write : (c : Chart) → ((k : ℕ) → getD c k 0 < 256) → (out out′ : List ℕ) (n : ℕ) → writeChart c out .reply ≡ success n → length c ≤ length out′
+pub read-of-write : (c : Chart) → ((k : ℕ) → getD c k 0 < 256) → (out out′ : List ℕ) (n : ℕ)
+    → writeChart c out .reply ≡ success n → length c ≤ length out′
     → readChart (take n (writeChart c out .buffer)) out′ ≡ filledWith 10 c out′
 unfolding writeChart
 read-of-write c bytes out out′ n e room =
@@ -73,5 +75,6 @@ unfolding readChart
 write-of-read t out out′ n e room =
     let s : Success (readVerdict t) 10 (contents t) out n (readChart t out) = lent-told (readVerdict t) 10 (λ _. contents t) out n e in
     let w : length (contents t) ≡ 10 * frameCount t = any-contents-length t in
-    let f : take (10 * n) (readChart t out .buffer) ≡ contents t = ap (take (10 * n)) (s .buffer) ∙ front (10 * n) (contents t) out (omega (arith, s .count)) in
+    let f : take (10 * n) (readChart t out .buffer) ≡ contents t =
+    ap (take (10 * n)) (s .buffer) ∙ front (10 * n) (contents t) out (omega (arith, s .count)) in
     ap (λ (c : Chart). writeChart c out′) f ∙ write-read t (s .accepted) out′ ∙ lent-fits 1 (λ _. t) out′ room

@@ -70,7 +70,8 @@ module _ (c : Chart) where
     seen : (x ≡ rankAfter c k u) ⊎ ((x ≡ suc k) × (rankAfter c k u ≡ 0))
     seen = go b e (cases (ready c (rankAfter c k) u))
       where
-        go : (b : Bool) → x ≡ pick b (rankAfter c (suc k) u) (rankAfter c k u) → (ready c (rankAfter c k) u ≡ true) ⊎ (ready c (rankAfter c k) u ≡ false)
+        go : (b : Bool) → x ≡ pick b (rankAfter c (suc k) u) (rankAfter c k u)
+            → (ready c (rankAfter c k) u ≡ true) ⊎ (ready c (rankAfter c k) u ≡ false)
             → (x ≡ rankAfter c k u) ⊎ ((x ≡ suc k) × (rankAfter c k u ≡ 0))
         go true q (inl t) = inr (q ∙ rank-new k u t, ready-parts (rankAfter c k) u t .without)
         go true q (inr t) = inl (q ∙ rank-keep k u t)
@@ -88,7 +89,8 @@ module _ (c : Chart) where
   abbrev within : ℕ → ℕ → ℕ → ℕ
   within k v u = pick (ltb u v) (rankAfter c (suc k) u) (rankAfter c k u)
 
-  pub within-at : (k v u : ℕ) (ranks : List ℕ) → ranks ≡ ranksWithin c k v → u < 256 → getD ranks u 0 ≡ pick (ltb u v) (rankAfter c (suc k) u) (rankAfter c k u)
+  pub within-at : (k v u : ℕ) (ranks : List ℕ) → ranks ≡ ranksWithin c k v → u < 256
+      → getD ranks u 0 ≡ pick (ltb u v) (rankAfter c (suc k) u) (rankAfter c k u)
   within-at k v u ranks e l = ap (λ (xs : List ℕ). getD xs u 0) e ∙ getD-tabulate (within k v) 256 u l
 
   pub within-long : (k v : ℕ) (ranks : List ℕ) → ranks ≡ ranksWithin c k v → length ranks ≡ 256
@@ -101,7 +103,9 @@ module _ (c : Chart) where
   rounds-start ranks e = e ∙ tabulate-none (rankAfter c 0) 256 rank-first
 
   pub round-start : (k : ℕ) (ranks : List ℕ) → ranks ≡ ranksAfter c k → ranks ≡ ranksWithin c k 0
-  round-start k ranks e = e ∙ tabulate-alike (rankAfter c k) (within k 0) 256 (λ u l. sym (no-pick (ltb u 0) (rankAfter c (suc k) u) (rankAfter c k u) (le-ltb u 0 (omega arith))))
+  round-start k ranks e =
+      e ∙ tabulate-alike (rankAfter c k) (within k 0) 256
+      (λ u l. sym (no-pick (ltb u 0) (rankAfter c (suc k) u) (rankAfter c k u) (le-ltb u 0 (omega arith))))
 
   others : (k v u : ℕ) → (u ≡ v → ⊥) → within k v u ≡ within k (v + 1) u
   others k v u n = ap (λ b. pick b (rankAfter c (suc k) u) (rankAfter c k u)) (⊎-elim
@@ -114,7 +118,8 @@ module _ (c : Chart) where
   before : (k v : ℕ) → within k v v ≡ rankAfter c k v
   before k v = no-pick (ltb v v) (rankAfter c (suc k) v) (rankAfter c k v) (le-ltb v v (omega arith))
 
-  pub round-ready : (k v : ℕ) (ranks : List ℕ) → ranks ≡ ranksWithin c k v → v < 256 → ready c (rankAfter c k) v ≡ true → set ranks v (k + 1) ≡ ranksWithin c k (v + 1)
+  pub round-ready : (k v : ℕ) (ranks : List ℕ) → ranks ≡ ranksWithin c k v → v < 256 → ready c (rankAfter c k) v ≡ true
+      → set ranks v (k + 1) ≡ ranksWithin c k (v + 1)
   round-ready k v ranks e l t =
       ap (λ (xs : List ℕ). set xs v (k + 1)) e
       ∙ tabulate-set (within k v) (within k (v + 1)) 256 v (k + 1) l (add-one k ∙ sym (rank-new k v t) ∙ sym (here k v)) (others k v)
@@ -168,4 +173,6 @@ module _ (c : Chart) where
           (eq-or-lt-of-le l)
 
       pub rounds-end : k < 255 → (ranks : List ℕ) → ranks ≡ ranksAfter c (k + 1) → ranks ≡ ranksOf c
-      rounds-end l ranks e = e ∙ tabulate-alike (rankAfter c (k + 1)) (rankAfter c 255) 256 (λ u lu. later (k + 1) (omega arith) u ∙ sym (later 255 (omega arith) u))
+      rounds-end l ranks e =
+          e ∙ tabulate-alike (rankAfter c (k + 1)) (rankAfter c 255) 256
+          (λ u lu. later (k + 1) (omega arith) u ∙ sym (later 255 (omega arith) u))

@@ -38,11 +38,14 @@ module _ (c : Chart) (k : ℕ) where
         (λ h l. sym (count-pass (isOf c k h) v (ap (λ b. b && eqb (scheme c v) h) (ne-eqb (kind c v) k (λ q. n (p ∙ q))))))
 
     -- one of this kind counts for its scheme alone
-    pub counts-more : (x h : ℕ) → x ≡ kind c v → x ≡ k → h ≡ scheme c v → h < 256 → set counts h (getD counts h 0 + 1) ≡ countsTo c k (v + 1)
+    pub counts-more : (x h : ℕ) → x ≡ kind c v → x ≡ k → h ≡ scheme c v → h < 256
+        → set counts h (getD counts h 0 + 1) ≡ countsTo c k (v + 1)
     counts-more x h p q s l =
         ap (λ (xs : List ℕ). set xs h (getD counts h 0 + 1)) e
         ∙ tabulate-set (λ h. count (isOf c k h) 0 v) (λ h. count (isOf c k h) 0 (v + 1)) 256 h (getD counts h 0 + 1) l
-        (ap (λ (y : ℕ). y + 1) (counts-at h l) ∙ sym (count-yes (isOf c k h) v (and-true (is c k v) (eqb (scheme c v) h) (eq-eqb (kind c v) k (sym p ∙ q)) (eq-eqb (scheme c v) h (sym s)))))
+        (ap (λ (y : ℕ). y + 1) (counts-at h l)
+        ∙ sym (count-yes (isOf c k h) v
+        (and-true (is c k v) (eqb (scheme c v) h) (eq-eqb (kind c v) k (sym p ∙ q)) (eq-eqb (scheme c v) h (sym s)))))
         (λ u n. sym (count-pass (isOf c k u) v (and-no (is c k v) (eqb (scheme c v) u) (ne-eqb (scheme c v) u (λ z. n (sym z ∙ sym s))))))
 
 -- ---- a scheme by its counts

@@ -18,7 +18,8 @@ use Rattle.frames.proofs.Verdicts.{next-first, next-rest, when-fine, at-lowest-
 use Rattle.frames.proofs.Contents.{text-told, contents-bytes}
 use Rattle.image.specs.Image.{Label, Row}
 use Rattle.image.specs.Decode.{schemeCount, lastLabel, rowCount, labelsFrom, rowsFrom, entryIn, labelIn, rowIn, decoded}
-use Rattle.image.specs.Check.{filled, badCounts, badHeader, entryAt, labelAt, rowAt, placeOf, falls, strayFrame, stray, within, isLabel, badEntry, badCalled, badLabel, badBit, badRow, badFrame, badContent, tableVerdict, imageVerdict}
+use Rattle.image.specs.Check.{filled, badCounts, badHeader, entryAt, labelAt, rowAt, placeOf, falls, strayFrame, stray, within}
+use Rattle.image.specs.Check.{isLabel, badEntry, badCalled, badLabel, badBit, badRow, badFrame, badContent, tableVerdict, imageVerdict}
 use Rattle.image.proofs.Sound.{noLabel, noRow, nthLabel, nthRow, endOf, Reaches, SoundLabel, SoundRow, Sound}
 
 -- ---- what the image that contents hold has at each number
@@ -56,13 +57,21 @@ module _ (b : List ℕ) where
   pub place-of-label : (l : ℕ) → l ≤ lastLabel b → placeOf b (labelsFrom b + l) ≡ labelAt l
   unfolding placeOf
   place-of-label l h =
-      rw (ne-eqb (labelsFrom b + l) 0 (λ z. omega arith), le-ltb (labelsFrom b + l) (labelsFrom b) (omega arith), lt-ltb (labelsFrom b + l) (rowsFrom b) (omega arith))
+      rw (
+        ne-eqb (labelsFrom b + l) 0 (λ z. omega arith),
+        le-ltb (labelsFrom b + l) (labelsFrom b) (omega arith),
+        lt-ltb (labelsFrom b + l) (rowsFrom b) (omega arith),
+      )
       (ap labelAt (omega arith))
 
   pub place-of-row : (k : ℕ) → placeOf b (rowsFrom b + k) ≡ rowAt k
   unfolding placeOf
   place-of-row k =
-      rw (ne-eqb (rowsFrom b + k) 0 (λ z. omega arith), le-ltb (rowsFrom b + k) (labelsFrom b) (omega arith), le-ltb (rowsFrom b + k) (rowsFrom b) (omega arith))
+      rw (
+        ne-eqb (rowsFrom b + k) 0 (λ z. omega arith),
+        le-ltb (rowsFrom b + k) (labelsFrom b) (omega arith),
+        le-ltb (rowsFrom b + k) (rowsFrom b) (omega arith),
+      )
       (ap rowAt (omega arith))
 
   -- a label that passes for scheme h is one that h reaches
@@ -71,10 +80,12 @@ module _ (b : List ℕ) where
       let low : l ≤ lastLabel b = leb-true l (lastLabel b) (and-l (leb l (lastLabel b)) (eqb (labelIn b l .owner) h || eqb l (endOf h)) e) in
       record {
         inside = omega (arith, labels-count);
-        belongs = go low (or-cases (eqb (labelIn b l .owner) h) (eqb l (endOf h)) (and-r (leb l (lastLabel b)) (eqb (labelIn b l .owner) h || eqb l (endOf h)) e));
+        belongs = go low (or-cases (eqb (labelIn b l .owner) h) (eqb l (endOf h))
+            (and-r (leb l (lastLabel b)) (eqb (labelIn b l .owner) h || eqb l (endOf h)) e));
       }
     where
-      go : l ≤ lastLabel b → (eqb (labelIn b l .owner) h ≡ true) ⊎ (eqb l (endOf h) ≡ true) → (nthLabel (decoded b) l .owner ≡ h) ⊎ (l ≡ endOf h)
+      go : l ≤ lastLabel b → (eqb (labelIn b l .owner) h ≡ true) ⊎ (eqb l (endOf h) ≡ true)
+          → (nthLabel (decoded b) l .owner ≡ h) ⊎ (l ≡ endOf h)
       go low (inl p) = inl (ap (λ (x : Label). x .owner) (label-read l low) ∙ eqb-true (labelIn b l .owner) h p)
       go low (inr p) = inr (eqb-true l (endOf h) p)
 
@@ -98,8 +109,13 @@ label-as k h x e =
 
 called-told : (b : List ℕ) (x : Label) → badCalled b x ≡ false → (x .kind ≡ 0 → ⊥) → (2 ≤ x .called) × (x .called ≤ schemeCount b)
 called-told b x e n =
-    let t : (ltb (x .called) 2 || ltb (schemeCount b) (x .called)) ≡ false = sym (no-pick (eqb (x .kind) 0) (not (eqb (x .called) 0)) (ltb (x .called) 2 || ltb (schemeCount b) (x .called)) (ne-eqb (x .kind) 0 n)) ∙ e in
-    (ltb-false (x .called) 2 (or-l (ltb (x .called) 2) (ltb (schemeCount b) (x .called)) t), ltb-false (schemeCount b) (x .called) (or-r (ltb (x .called) 2) (ltb (schemeCount b) (x .called)) t))
+    let t : (ltb (x .called) 2 || ltb (schemeCount b) (x .called)) ≡ false =
+    sym (no-pick (eqb (x .kind) 0) (not (eqb (x .called) 0)) (ltb (x .called) 2 || ltb (schemeCount b) (x .called))
+    (ne-eqb (x .kind) 0 n))
+    ∙ e in (
+      ltb-false (x .called) 2 (or-l (ltb (x .called) 2) (ltb (schemeCount b) (x .called)) t),
+      ltb-false (schemeCount b) (x .called) (or-r (ltb (x .called) 2) (ltb (schemeCount b) (x .called)) t),
+    )
 
 plain-told : (b : List ℕ) (x : Label) → badCalled b x ≡ false → x .kind ≡ 0 → x .called ≡ 0
 plain-told b x e k =
@@ -156,7 +172,8 @@ row-told b f r small tiny e =
           (and-false (ltb (r .bit) 2) (not (eqb (labelIn b (r .from) .kind) 2))
           (or-r (ltb 2 (r .bit)) (ltb (r .bit) 2 && not (eqb (labelIn b (r .from) .kind) 2)) bit) (lt-ltb (r .bit) 2 h)));
       leading = subst (λ (h : ℕ). Reaches (decoded b) h (r .next)) (sym (ap (λ (x : Label). x .owner) same))
-          (within-reaches b (labelIn b (r .from) .owner) (r .next) (not-false (within b (labelIn b (r .from) .owner) (r .next)) (or-r (a₁ || a₂ || a₃ || a₄) a₅ e₁)));
+          (within-reaches b (labelIn b (r .from) .owner) (r .next)
+          (not-false (within b (labelIn b (r .from) .owner) (r .next)) (or-r (a₁ || a₂ || a₃ || a₄) a₅ e₁)));
     }
 
 -- ---- the whole table
@@ -170,7 +187,9 @@ pub record Counted (b : List ℕ) : Type 0 where
 module _ (b : List ℕ) (ok : tableVerdict b ≡ fine) where
   header-good : badHeader b ≡ false
   unfolding tableVerdict
-  header-good = when-fine 11 (badHeader b) (next-first (when 11 (badHeader b)) (λ _. next (atLowest 12 (stray b) (size b)) λ _. atLowest 13 (badContent b) (size b)) ok)
+  header-good =
+      when-fine 11 (badHeader b) (next-first (when 11 (badHeader b))
+      (λ _. next (atLowest 12 (stray b) (size b)) λ _. atLowest 13 (badContent b) (size b)) ok)
 
   frames-good : (next (atLowest 12 (stray b) (size b)) λ _. atLowest 13 (badContent b) (size b)) ≡ fine
   unfolding tableVerdict
@@ -199,7 +218,8 @@ module _ (b : List ℕ) (ok : tableVerdict b ≡ fine) where
         most = ltb-false 16 (schemeCount b) (or-r h i e₂);
         two = omega (arith, eqb-false (lastLabel b) 0 (or-r (h || i) m e₁));
         few = ltb-false 1024 (rowCount b) (or-r (h || i || m) r e);
-        all = eqb-true (size b) (rowsFrom b + rowCount b) (not-false (eqb (size b) (rowsFrom b + rowCount b)) (or-r (k || filled b 0 5 5 || badCounts b) n header-good));
+        all = eqb-true (size b) (rowsFrom b + rowCount b)
+            (not-false (eqb (size b) (rowsFrom b + rowCount b)) (or-r (k || filled b 0 5 5 || badCounts b) n header-good));
       }
 
   entry-good : (h : ℕ) → 1 ≤ h → h ≤ schemeCount b → Reaches (decoded b) h (entryIn b h)
@@ -220,7 +240,8 @@ module _ (b : List ℕ) (ok : tableVerdict b ≡ fine) where
   unfolding stray
   row-rises k h =
       let f : ℕ = rowsFrom b + suc k in
-      let e : (not (eqb (field b f 0) 18) || falls b (suc k)) ≡ false = sym (ap (strayFrame b f) (place-of-row b (suc k))) ∙ none-stray f (omega (arith, counted .all)) in
+      let e : (not (eqb (field b f 0) 18) || falls b (suc k)) ≡ false =
+      sym (ap (strayFrame b f) (place-of-row b (suc k))) ∙ none-stray f (omega (arith, counted .all)) in
       ltb-false (rowIn b (suc k) .from) (rowIn b k .from) (or-r (not (eqb (field b f 0) 18)) (falls b (suc k)) e)
 
   -- with bytes below 256 the image is sound
@@ -247,7 +268,8 @@ module _ (b : List ℕ) (ok : tableVerdict b ≡ fine) where
           two = omega (arith, counted .two);
           last = omega (arith, bytes 2);
           few = omega (arith, counted .few);
-          starts = λ h l. subst (λ (e : ℕ). Reaches (decoded b) (suc h) e) (sym (entry-read b h (omega arith))) (entry-good (suc h) (omega arith) (omega arith));
+          starts = λ h l. subst (λ (e : ℕ). Reaches (decoded b) (suc h) e) (sym (entry-read b h (omega arith)))
+              (entry-good (suc h) (omega arith) (omega arith));
           home = label-read b 0 (omega arith) ∙ label-as 4 1 (labelIn b 0) (not-false (isLabel 4 1 (labelIn b 0)) (label-good 0 (omega arith)));
           back = label-read b 1 (counted .two) ∙ label-as 3 0 (labelIn b 1) (not-false (isLabel 3 0 (labelIn b 1)) (label-good 1 (counted .two)));
           others = λ l h k. subst (λ (x : Label). SoundLabel (length (decoded b .entries)) x) (sym (label-read b l (omega arith)))

@@ -33,7 +33,8 @@ pub entry-within : (b : List ℕ) (h y : ℕ) (x : Bool) → filled b h 3 7 ≡ 
 entry-within b h y x e p q = rw q (ap (λ (n : ℕ). not (within b h n)) p ∙ ap (λ (t : Bool). t || not (within b h (entryIn b h))) (sym e))
 
 -- the label that a row leads to is of the scheme of the one that it leaves
-pub row-within : (b : List ℕ) (r : Row) (from owner next : ℕ) (x : Bool) → from ≡ r .from → owner ≡ field b (labelsFrom b + from) 4 → next ≡ r .next
+pub row-within : (b : List ℕ) (r : Row) (from owner next : ℕ) (x : Bool) → from ≡ r .from
+    → owner ≡ field b (labelsFrom b + from) 4 → next ≡ r .next
     → x ≡ within b owner next → x ≡ within b (labelIn b (r .from) .owner) (r .next)
 row-within b r from owner next x p q s e =
     e ∙ ap (λ (n : ℕ). within b n next) (q ∙ ap (λ (n : ℕ). labelIn b n .owner) p) ∙ ap (λ (n : ℕ). within b (labelIn b (r .from) .owner) n) s
@@ -105,7 +106,8 @@ module _ (b : List ℕ) (x : Label) where
   pub label-owner : (l : ℕ) → 2 ≤ l → badKind b x ≡ false → (x .owner ≡ 0 → ⊥) → schemeCount b < x .owner → true ≡ badLabel b l x
   label-owner l h e n o = sym (simp (ne-eqb (x .owner) 0 n, lt-ltb (schemeCount b) (x .owner) o)) ∙ label-rest l h e
 
-  pub label-result : (l : ℕ) → 2 ≤ l → badKind b x ≡ false → (x .owner ≡ 0 → ⊥) → x .owner ≤ schemeCount b → ltb 2 (x .result) ≡ badLabel b l x
+  pub label-result : (l : ℕ) → 2 ≤ l → badKind b x ≡ false → (x .owner ≡ 0 → ⊥) → x .owner ≤ schemeCount b
+      → ltb 2 (x .result) ≡ badLabel b l x
   label-result l h e n o = sym (simp (ne-eqb (x .owner) 0 n, le-ltb (schemeCount b) (x .owner) o)) ∙ label-rest l h e
 
 -- ---- rows
@@ -130,7 +132,8 @@ module _ (b : List ℕ) (r : Row) where
 
   pub test-from : badTest b r ≡ false → r .from ≤ lastLabel b
   test-from e = borrow.Author.Tests.ltb-false (lastLabel b) (r .from)
-      (or-r (ltb (r .from) 2) (ltb (lastLabel b) (r .from)) (or-l (ltb (r .from) 2 || ltb (lastLabel b) (r .from)) (not (eqb (bitAnd (r .values) (r .care)) (r .values))) e))
+      (or-r (ltb (r .from) 2) (ltb (lastLabel b) (r .from))
+      (or-l (ltb (r .from) 2 || ltb (lastLabel b) (r .from)) (not (eqb (bitAnd (r .values) (r .care)) (r .values))) e))
 
   module _ (f : ℕ) where
     pub row-test : badTest b r ≡ true → true ≡ badRow b f r
@@ -142,8 +145,14 @@ module _ (b : List ℕ) (r : Row) where
     pub row-next : badTest b r ≡ false → badBit b r ≡ false → within b (labelIn b (r .from) .owner) (r .next) ≡ false → true ≡ badRow b f r
     row-next e t w = simp (e, t, w)
 
-    pub row-filled : badTest b r ≡ false → badBit b r ≡ false → within b (labelIn b (r .from) .owner) (r .next) ≡ true → filled b f 8 2 ≡ badRow b f r
+    pub row-filled : badTest b r ≡ false → badBit b r ≡ false → within b (labelIn b (r .from) .owner) (r .next) ≡ true
+        → filled b f 8 2 ≡ badRow b f r
     row-filled e t w = simp (e, t, w)
+
+-- a row whose other fields are good is judged by its last two bytes, read at the place that the code has counted
+pub row-last : (b : List ℕ) (k n : ℕ) (x : Bool) → x ≡ filled b (n + k) 8 2 → n ≡ rowsFrom b
+    → filled b (rowsFrom b + k) 8 2 ≡ badRow b (rowsFrom b + k) (rowIn b k) → x ≡ badRow b (rowsFrom b + k) (rowIn b k)
+row-last b k n x read from rest = read ∙ ap (λ (m : ℕ). filled b (m + k) 8 2) from ∙ rest
 
 -- ---- one frame
 module _ (b : List ℕ) (f : ℕ) where
@@ -151,16 +160,19 @@ module _ (b : List ℕ) (f : ℕ) where
   unfolding badContent
   content-entry x e q = q ∙ sym (ap (badFrame b f) (place-entry b f e))
 
-  pub content-label : (x : Bool) (y : ℕ) → kindOf (placeOf b f) ≡ 17 → y ≡ labelsFrom b → x ≡ badLabel b (f - y) (labelIn b (f - y)) → x ≡ badContent b f
+  pub content-label : (x : Bool) (y : ℕ) → kindOf (placeOf b f) ≡ 17 → y ≡ labelsFrom b
+      → x ≡ badLabel b (f - y) (labelIn b (f - y)) → x ≡ badContent b f
   unfolding badContent
   content-label x y e q r = r ∙ ap (λ (n : ℕ). badLabel b (f - n) (labelIn b (f - n))) q ∙ sym (ap (badFrame b f) (place-label b f e))
 
-  pub content-row : (x : Bool) (y : ℕ) → kindOf (placeOf b f) ≡ 18 → rowsFrom b ≤ f → y ≡ rowsFrom b → x ≡ badRow b (rowsFrom b + (f - y)) (rowIn b (f - y)) → x ≡ badContent b f
+  pub content-row : (x : Bool) (y : ℕ) → kindOf (placeOf b f) ≡ 18 → rowsFrom b ≤ f → y ≡ rowsFrom b
+      → x ≡ badRow b (rowsFrom b + (f - y)) (rowIn b (f - y)) → x ≡ badContent b f
   unfolding badContent
   content-row x y e l q r =
       r ∙ ap (λ (n : ℕ). badRow b (rowsFrom b + (f - n)) (rowIn b (f - n))) q
       ∙ ap (λ (n : ℕ). badRow b n (rowIn b (f - rowsFrom b))) (omega arith) ∙ sym (ap (badFrame b f) (place-row b f e))
 
-  pub content-header : (kindOf (placeOf b f) ≡ 16 → ⊥) → (kindOf (placeOf b f) ≡ 17 → ⊥) → (kindOf (placeOf b f) ≡ 18 → ⊥) → false ≡ badContent b f
+  pub content-header : (kindOf (placeOf b f) ≡ 16 → ⊥) → (kindOf (placeOf b f) ≡ 17 → ⊥)
+      → (kindOf (placeOf b f) ≡ 18 → ⊥) → false ≡ badContent b f
   unfolding badContent
   content-header p q r = sym (ap (badFrame b f) (place-header b f p q r))

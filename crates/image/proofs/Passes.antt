@@ -18,7 +18,8 @@ use Rattle.frames.specs.Verdict.{Verdict, fine, next, when, atLowest}
 use Rattle.frames.proofs.Verdicts.{at-none}
 use Rattle.image.specs.Image.{Image, Label, Row, imageText}
 use Rattle.image.specs.Decode.{schemeCount, lastLabel, rowCount, rowsFrom, labelIn, rowIn}
-use Rattle.image.specs.Check.{filled, badCounts, badHeader, entryAt, labelAt, rowAt, placeOf, falls, strayFrame, stray, within, badEntry, badCalled, badLabel, badBit, badRow, badFrame, badContent, tableVerdict, imageVerdict}
+use Rattle.image.specs.Check.{filled, badCounts, badHeader, entryAt, labelAt, rowAt, placeOf, falls, strayFrame, stray}
+use Rattle.image.specs.Check.{within, badEntry, badCalled, badLabel, badBit, badRow, badFrame, badContent, tableVerdict, imageVerdict}
 use Rattle.image.proofs.Sound.{nthLabel, nthRow, endOf, Reaches, SoundLabel, SoundRow, Sound}
 use Rattle.image.proofs.Written.{Reads, image-reads, image-text-fine}
 use Rattle.image.proofs.Accepted.{place-of-entry, place-of-label, place-of-row}
@@ -73,7 +74,8 @@ module _ (i : Image) (b : List ℕ) (S : Sound i) (R : Reads i b) where
   header-fine =
       ap₂ _||_ (ap₂ _||_ (ap₂ _||_
       (not-eq (field b 0 0) 15 (R .head 0 (omega arith)))
-      (empty b 0 5 5 (λ k h. R .head (5 + k) (omega arith) ∙ zeros (15 ∷ length (i .entries) ∷ (length (i .labels) - 1) ∷ pair (length (i .rows))) 5 k h)))
+      (empty b 0 5 5 (λ k h. R .head (5 + k) (omega arith)
+      ∙ zeros (15 ∷ length (i .entries) ∷ (length (i .labels) - 1) ∷ pair (length (i .rows))) 5 k h)))
       counts-fine)
       (not-eq (size b) (rowsFrom b + rowCount b) (omega (arith, R .count, h-is, m-is, rows-is i b S R, S .two)))
 
@@ -115,7 +117,9 @@ module _ (i : Image) (b : List ℕ) (S : Sound i) (R : Reads i b) where
   within-true h l r = ap₂ _&&_ (le-leb l (lastLabel b) (omega (arith, r .inside, m-is))) (go (r .belongs))
     where
       go : (nthLabel i l .owner ≡ h) ⊎ (l ≡ endOf h) → (eqb (labelIn b l .owner) h || eqb l (endOf h)) ≡ true
-      go (inl e) = or-true-l (eqb (labelIn b l .owner) h) (eqb l (endOf h)) (eq-eqb (labelIn b l .owner) h (ap (λ (x : Label). x .owner) (label-is i b S R l (r .inside)) ∙ e))
+      go (inl e) =
+          or-true-l (eqb (labelIn b l .owner) h) (eqb l (endOf h))
+          (eq-eqb (labelIn b l .owner) h (ap (λ (x : Label). x .owner) (label-is i b S R l (r .inside)) ∙ e))
       go (inr e) = or-true-r (eqb (labelIn b l .owner) h) (eqb l (endOf h)) (eq-eqb l (endOf h) e)
 
   entry-fine : (h : ℕ) → h < length (i .entries) → badEntry b (suc h) ≡ false
@@ -131,7 +135,9 @@ module _ (i : Image) (b : List ℕ) (S : Sound i) (R : Reads i b) where
       go zero e = not-eq (x .called) 0 (L .plain e)
       go (suc k) e =
           let c : (2 ≤ x .called) × (x .called ≤ length (i .entries)) = L .calls (λ z. omega arith) in
-          rw (ne-eqb (suc k) 0 (λ z. omega arith)) (or-none (ltb (x .called) 2) (ltb (schemeCount b) (x .called)) (le-ltb (x .called) 2 (c .0)) (le-ltb (schemeCount b) (x .called) (omega (arith, h-is))))
+          rw (ne-eqb (suc k) 0 (λ z. omega arith))
+          (or-none (ltb (x .called) 2) (ltb (schemeCount b) (x .called)) (le-ltb (x .called) 2 (c .0))
+          (le-ltb (schemeCount b) (x .called) (omega (arith, h-is))))
 
   label-fine : (l : ℕ) → l < length (i .labels) → badLabel b l (nthLabel i l) ≡ false
   label-fine zero h = ap (badLabel b 0) (S .home)

@@ -51,7 +51,9 @@ module _ (b : List ℕ) where
 
   pub header-frames : field b 0 0 ≡ 15 → filled b 0 5 5 ≡ false → badCounts b ≡ false → not (eqb (size b) (rowsFrom b + rowCount b)) ≡ badHeader b
   unfolding badHeader
-  header-frames k f h = all-false (not (eqb (field b 0 0) 15)) (filled b 0 5 5) (badCounts b) (not (eqb (size b) (rowsFrom b + rowCount b))) (equal (field b 0 0) 15 k) f h
+  header-frames k f h =
+      all-false (not (eqb (field b 0 0) 15)) (filled b 0 5 5) (badCounts b) (not (eqb (size b) (rowsFrom b + rowCount b)))
+      (equal (field b 0 0) 15 k) f h
 
 -- ---- a frame by its position
 abbrev placed : Bool → Bool → Bool → List ℕ → ℕ → Place
@@ -92,7 +94,8 @@ module _ (b : List ℕ) (f : ℕ) where
   placed-row false false true e = absurd (omega arith)
   placed-row false false false e = (refl, refl)
 
-  placed-header : (x y z : Bool) → (kindOf (placed x y z b f) ≡ 16 → ⊥) → (kindOf (placed x y z b f) ≡ 17 → ⊥) → (kindOf (placed x y z b f) ≡ 18 → ⊥) → placed x y z b f ≡ header
+  placed-header : (x y z : Bool) → (kindOf (placed x y z b f) ≡ 16 → ⊥) → (kindOf (placed x y z b f) ≡ 17 → ⊥)
+      → (kindOf (placed x y z b f) ≡ 18 → ⊥) → placed x y z b f ≡ header
   placed-header true y z p q r = refl
   placed-header false true z p q r = absurd (p refl)
   placed-header false false true p q r = absurd (q refl)
@@ -118,12 +121,14 @@ module _ (b : List ℕ) (f : ℕ) where
   unfolding placeOf
   row-above e = ltb-false f (rowsFrom b) (placed-row (eqb f 0) (ltb f (labelsFrom b)) (ltb f (rowsFrom b)) e .1)
 
-  pub place-header : (kindOf (placeOf b f) ≡ 16 → ⊥) → (kindOf (placeOf b f) ≡ 17 → ⊥) → (kindOf (placeOf b f) ≡ 18 → ⊥) → placeOf b f ≡ header
+  pub place-header : (kindOf (placeOf b f) ≡ 16 → ⊥) → (kindOf (placeOf b f) ≡ 17 → ⊥)
+      → (kindOf (placeOf b f) ≡ 18 → ⊥) → placeOf b f ≡ header
   unfolding placeOf
   place-header = placed-header (eqb f 0) (ltb f (labelsFrom b)) (ltb f (rowsFrom b))
 
 -- ---- 12
-pub falls-later : (b : List ℕ) (k x y : ℕ) → (k ≡ 0 → ⊥) → x ≡ field b (rowsFrom b + k) 1 → y ≡ field b (rowsFrom b + (k - 1)) 1 → ltb x y ≡ falls b k
+pub falls-later : (b : List ℕ) (k x y : ℕ) → (k ≡ 0 → ⊥) → x ≡ field b (rowsFrom b + k) 1
+    → y ≡ field b (rowsFrom b + (k - 1)) 1 → ltb x y ≡ falls b k
 falls-later b zero x y n p q = absurd (n refl)
 falls-later b (suc k) x y n p q = rw (p, q) (ap (λ (j : ℕ). ltb (field b (rowsFrom b + suc k) 1) (field b (rowsFrom b + j) 1)) (omega arith))
 
@@ -140,7 +145,8 @@ module _ (b : List ℕ) (f : ℕ) where
   unfolding stray
   stray-label-kind e h = sym (ap (strayFrame b f) (place-label b f e) ∙ simp (ne-eqb (field b f 0) 17 h))
 
-  pub stray-label : (x y : ℕ) → kindOf (placeOf b f) ≡ 17 → field b f 0 ≡ 17 → x ≡ field b f 1 → y ≡ labelsFrom b → not (eqb x (f - y)) ≡ stray b f
+  pub stray-label : (x y : ℕ) → kindOf (placeOf b f) ≡ 17 → field b f 0 ≡ 17 → x ≡ field b f 1 → y ≡ labelsFrom b
+      → not (eqb x (f - y)) ≡ stray b f
   unfolding stray
   stray-label x y e h q r = rw (q, r) (sym (ap (strayFrame b f) (place-label b f e) ∙ simp (eq-eqb (field b f 0) 17 h)))
 
@@ -152,6 +158,7 @@ module _ (b : List ℕ) (f : ℕ) where
   unfolding stray
   stray-row x y e h q r = r ∙ ap (λ (n : ℕ). falls b (f - n)) q ∙ sym (ap (strayFrame b f) (place-row b f e) ∙ simp (eq-eqb (field b f 0) 18 h))
 
-  pub stray-header : (kindOf (placeOf b f) ≡ 16 → ⊥) → (kindOf (placeOf b f) ≡ 17 → ⊥) → (kindOf (placeOf b f) ≡ 18 → ⊥) → false ≡ stray b f
+  pub stray-header : (kindOf (placeOf b f) ≡ 16 → ⊥) → (kindOf (placeOf b f) ≡ 17 → ⊥)
+      → (kindOf (placeOf b f) ≡ 18 → ⊥) → false ≡ stray b f
   unfolding stray
   stray-header p q r = sym (ap (strayFrame b f) (place-header b f p q r))

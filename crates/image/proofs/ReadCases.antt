@@ -46,7 +46,8 @@ module _ (t : List ℕ) (a : Answer) (gives : reply a ≡ judged (textVerdict 29
   unfolding imageVerdict
   read-refused k i m e =
       let v : textVerdict 29831 t ≡ refused k i = refused-verdict a (textVerdict 29831 t) (frameCount t) gives k i m e .0 in
-      gives ∙ ap (λ w. judged w (frameCount t)) v ∙ sym (ap (λ w. judged w 0) (next-refused (textVerdict 29831 t) (λ _. tableVerdict (contents t)) k i v))
+      gives ∙ ap (λ w. judged w (frameCount t)) v
+      ∙ sym (ap (λ w. judged w 0) (next-refused (textVerdict 29831 t) (λ _. tableVerdict (contents t)) k i v))
 
 module _ (t old table : List ℕ) (m : ℕ) (g : GoodText t m) (e : table ≡ readInto 29831 t old) where
   pub contents-count : length (contents t) ≡ 10 * m
@@ -54,7 +55,8 @@ module _ (t old table : List ℕ) (m : ℕ) (g : GoodText t m) (e : table ≡ re
 
   pub front-contents : take (10 * m) table ≡ contents t
   front-contents =
-      ap (λ (l : List ℕ). take (10 * m) l) (e ∙ read-fine 29831 t old (g .verdict)) ∙ take-at (contents t) (drop (length (contents t)) old) (10 * m) contents-count
+      ap (λ (l : List ℕ). take (10 * m) l) (e ∙ read-fine 29831 t old (g .verdict))
+      ∙ take-at (contents t) (drop (length (contents t)) old) (10 * m) contents-count
 
   pub front-size : size (take (10 * m) table) ≡ m
   front-size = ap (λ (l : List ℕ). length l / 10) front-contents ∙ omega (arith, contents-count)

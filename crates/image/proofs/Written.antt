@@ -90,7 +90,8 @@ module _ (i : Image) (S : Sound i) where
   label-frames : All Frame (ls i)
   label-frames = all-places Frame [] (ls i) (λ l h.
       let m : l < length (i .labels) = omega (arith, ls-count i) in
-      let e : getD (ls i) l [] ≡ labelFrame l (nthLabel i l) = getD-mapFrom labelFrame 0 (i .labels) noLabel [] l m ∙ ap (λ (x : ℕ). labelFrame x (nthLabel i l)) (omega arith) in
+      let e : getD (ls i) l [] ≡ labelFrame l (nthLabel i l) =
+      getD-mapFrom labelFrame 0 (i .labels) noLabel [] l m ∙ ap (λ (x : ℕ). labelFrame x (nthLabel i l)) (omega arith) in
       subst Frame (sym e) (frame-by (labelFrame l (nthLabel i l)) refl (label-small i S l m)))
 
   row-frames : All Frame (rs i)

@@ -27,13 +27,27 @@ returns : tie.Need-returns
 returns c = end-arc (c .before .before .before .args .records .now) (c .before .before .before .args .v) _ (c .before .field .ensures) (c .match .keys1)
 
 returns-2 : tie.Need-returns-2
-returns-2 c = c .bad-pair .ensures ∙ condition-arc (c .before .before .before .before .args .records .now) (c .before .before .before .before .args .v) _ (c .before .before .field .ensures) (c .before .match .keys2)
+returns-2 c =
+    let start = c .before .before .before .before in
+    let records = start .args .records .now in
+    let v = start .args .v in
+    c .bad-pair .ensures ∙ condition-arc records v _ (c .before .before .field .ensures) (c .before .match .keys2)
 
 returns-3 : tie.Need-returns-3
-returns-3 c = c .bad-pair2 .ensures ∙ function-arc (c .before .before .before .before .args .records .now) (c .before .before .before .before .args .v) _ (c .before .before .field .ensures) (c .before .match .keys3)
+returns-3 c =
+    let start = c .before .before .before .before in
+    let records = start .args .records .now in
+    let v = start .args .v in
+    c .bad-pair2 .ensures ∙ function-arc records v _ (c .before .before .field .ensures) (c .before .match .keys3)
 
 returns-4 : tie.Need-returns-4
-returns-4 c = c .bad-end .ensures ∙ ap (badEnd (c .before .before .before .before .before .args .records .now) (c .before .before .before .before .before .args .v)) (c .before .field2 .ensures) ∙ single-arc (c .before .before .before .before .before .args .records .now) (c .before .before .before .before .before .args .v) _ (c .before .before .before .field .ensures) (c .before .before .match .rest .0 .0 .1) (c .before .before .match .rest .0 .1) (c .before .before .match .rest .1)
+returns-4 c =
+    let start = c .before .before .before .before .before in
+    let records = start .args .records .now in
+    let v = start .args .v in
+    c .bad-end .ensures ∙ ap (badEnd records v) (c .before .field2 .ensures)
+    ∙ single-arc records v _ (c .before .before .before .field .ensures) (c .before .before .match .rest .0 .0 .1)
+    (c .before .before .match .rest .0 .1) (c .before .before .match .rest .1)
 
 pub bad-arc-spec : {M : Type 1} → statement M
 bad-arc-spec =

@@ -12,19 +12,48 @@ field-requires-2 : tie.Need-field-requires-2
 field-requires-2 c κs = search needs
 
 returns : tie.Need-returns
-returns c = sym (operation-call (c .before .before .before .before .before .args .records .now) (c .before .before .before .before .before .args .v) _ _ _ (c .before .before .field2 .ensures) (c .before .before .before .field .ensures) (c .before .before .before .before .before .pre .1) (c .before .match .keys1) ∙ simp (eq-eqb _ _ (c .if1 .taken)))
+returns c =
+    let start = c .before .before .before .before .before in
+    let records = start .args .records .now in
+    let v = start .args .v in
+    sym (operation-call records v _ _ _ (c .before .before .field2 .ensures) (c .before .before .before .field .ensures)
+    (start .pre .1) (c .before .match .keys1)
+    ∙ simp (eq-eqb _ _ (c .if1 .taken)))
 
 returns-2 : tie.Need-returns-2
-returns-2 c = sym (function-call (c .before .before .before .before .before .args .records .now) (c .before .before .before .before .before .args .v) _ _ _ (c .before .before .field2 .ensures) (c .before .before .before .field .ensures) (c .before .before .before .before .before .pre .1) (c .before .match .keys2) ∙ simp (le-leb _ _ (c .if2 .taken)))
+returns-2 c =
+    let start = c .before .before .before .before .before in
+    let records = start .args .records .now in
+    let v = start .args .v in
+    sym (function-call records v _ _ _ (c .before .before .field2 .ensures) (c .before .before .before .field .ensures)
+    (start .pre .1) (c .before .match .keys2)
+    ∙ simp (le-leb _ _ (c .if2 .taken)))
 
 returns-3 : tie.Need-returns-3
-returns-3 c = sym (operation-call (c .before .before .before .before .before .args .records .now) (c .before .before .before .before .before .args .v) _ _ _ (c .before .before .field2 .ensures) (c .before .before .before .field .ensures) (c .before .before .before .before .before .pre .1) (c .before .match .keys1) ∙ simp (ne-eqb _ _ (c .if1 .left)))
+returns-3 c =
+    let start = c .before .before .before .before .before in
+    let records = start .args .records .now in
+    let v = start .args .v in
+    sym (operation-call records v _ _ _ (c .before .before .field2 .ensures) (c .before .before .before .field .ensures)
+    (start .pre .1) (c .before .match .keys1)
+    ∙ simp (ne-eqb _ _ (c .if1 .left)))
 
 returns-4 : tie.Need-returns-4
-returns-4 c = sym (function-call (c .before .before .before .before .before .args .records .now) (c .before .before .before .before .before .args .v) _ _ _ (c .before .before .field2 .ensures) (c .before .before .before .field .ensures) (c .before .before .before .before .before .pre .1) (c .before .match .keys2) ∙ simp (lt-leb _ _ (c .if2 .left)))
+returns-4 c =
+    let start = c .before .before .before .before .before in
+    let records = start .args .records .now in
+    let v = start .args .v in
+    sym (function-call records v _ _ _ (c .before .before .field2 .ensures) (c .before .before .before .field .ensures)
+    (start .pre .1) (c .before .match .keys2)
+    ∙ simp (lt-leb _ _ (c .if2 .left)))
 
 returns-5 : tie.Need-returns-5
-returns-5 c = no-call (c .before .before .before .before .args .records .now) (c .before .before .before .before .args .v) _ _ _ (c .before .field2 .ensures) (c .before .before .field .ensures) (c .before .before .before .before .pre .1) (c .match .rest .0 .1) (c .match .rest .1)
+returns-5 c =
+    let start = c .before .before .before .before in
+    let records = start .args .records .now in
+    let v = start .args .v in
+    no-call records v _ _ _ (c .before .field2 .ensures) (c .before .before .field .ensures) (start .pre .1)
+    (c .match .rest .0 .1) (c .match .rest .1)
 
 pub bad-call-spec : {M : Type 1} → statement M
 bad-call-spec =

@@ -13,7 +13,11 @@ bad-end-requires : tie.Need-bad-end-requires
 bad-end-requires c κs = search needs
 
 returns : tie.Need-returns
-returns c = pair-first (c .before .before .before .before .args .records .now) (c .before .before .before .before .args .v) _ _ (c .before .before .field .ensures) (c .before .bad-end .ensures) (c .if1 .taken)
+returns c =
+    let start = c .before .before .before .before in
+    let records = start .args .records .now in
+    let v = start .args .v in
+    pair-first records v _ _ (c .before .before .field .ensures) (c .before .bad-end .ensures) (c .if1 .taken)
 
 field-requires-2 : tie.Need-field-requires-2
 field-requires-2 c κs = search needs
@@ -25,7 +29,13 @@ bad-end-requires-2 : tie.Need-bad-end-requires-2
 bad-end-requires-2 c κs = search needs
 
 returns-2 : tie.Need-returns-2
-returns-2 c = pair-second (c .before .before .before .before .before .before .args .records .now) (c .before .before .before .before .before .before .args .v) _ _ (c .before .before .before .before .field .ensures) (c .before .before .before .bad-end .ensures) _ _ (c .before .before .if1 .left) (c .before .field2 .ensures) (c .bad-end2 .ensures)
+returns-2 c =
+    let start = c .before .before .before .before .before .before in
+    let records = start .args .records .now in
+    let v = start .args .v in
+    let field = c .before .before .before .before .field in
+    pair-second records v _ _ (field .ensures) (c .before .before .before .bad-end .ensures) _ _
+    (c .before .before .if1 .left) (c .before .field2 .ensures) (c .bad-end2 .ensures)
 
 pub bad-pair-spec : {M : Type 1} → statement M
 bad-pair-spec =

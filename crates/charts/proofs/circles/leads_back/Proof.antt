@@ -17,20 +17,43 @@ mark-arcs-requires : tie.Need-mark-arcs-requires
 mark-arcs-requires c κs = search needs
 
 join-requires : tie.Need-join-requires
-join-requires c κs = c .before .before .before .mark-arcs .kept .1 .1 .1 .0 ∙ ap (λ (xs : List Bool). length xs) (c .before .before .before .before .before .before .before .pre .1) ∙ length-replicate (size (c .before .before .before .before .before .before .before .args .records .now)) false
+join-requires c κs =
+    let start = c .before .before .before .before .before .before .before in
+    let records = start .args .records .now in
+    c .before .before .before .mark-arcs .kept .1 .1 .1 .0
+    ∙ ap (λ (xs : List Bool). length xs) (start .pre .1)
+    ∙ length-replicate (size records) false
 
 slice-read-result : tie.Need-slice-read-result
-slice-read-result c = omega (arith, c .before .before .before .before .before .before .before .before .before .before .before .pre .0, c .before .before .before .join .kept .1 .1 .0, c .before .before .before .before .before .before .before .mark-arcs .kept .1 .1 .1 .0, ap (λ (xs : List Bool). length xs) (c .before .before .before .before .before .before .before .before .before .before .before .pre .1), length-replicate (size (c .before .before .before .before .before .before .before .before .before .before .before .args .records .now)) false)
+slice-read-result c =
+    let start = c .before .before .before .before .before .before .before .before .before .before .before in
+    let records = start .args .records .now in
+    let mark-arcs = c .before .before .before .before .before .before .before .mark-arcs in
+    omega (
+      arith,
+      start .pre .0,
+      c .before .before .before .join .kept .1 .1 .0,
+      mark-arcs .kept .1 .1 .1 .0,
+      ap (λ (xs : List Bool). length xs) (start .pre .1),
+      length-replicate (size records) false,
+    )
 
 same-length : tie.Need-same-length
 same-length c = search needs
 
 returns : tie.Need-returns
-returns c = (
-  c .before .before .before .join .ensures ∙ ap (λ (xs : List Bool). reach (size (c .before .before .before .before .before .before .before .before .before .before .before .args .records .now)) (arcsBy (c .before .before .before .before .before .before .before .before .before .before .before .args .records .now) true) (size (c .before .before .before .before .before .before .before .before .before .before .before .args .records .now)) xs)
-      (c .before .before .before .before .before .before .before .mark-arcs .ensures .0 ∙ ap (λ (xs : List Bool). markAll (arcs (c .before .before .before .before .before .before .before .before .before .before .before .args .records .now) (c .before .before .before .before .before .before .before .before .before .before .before .args .v)) xs) (c .before .before .before .before .before .before .before .before .before .before .before .pre .1) ∙ all-only (size (c .before .before .before .before .before .before .before .before .before .before .before .args .records .now)) (arcs (c .before .before .before .before .before .before .before .before .before .before .before .args .records .now) (c .before .before .before .before .before .before .before .before .before .before .before .args .v))),
-  refl,
-)
+returns c =
+    let start = c .before .before .before .before .before .before .before .before .before .before .before in
+    let records = start .args .records .now in
+    let v = start .args .v in
+    let mark-arcs = c .before .before .before .before .before .before .before .mark-arcs in (
+      c .before .before .before .join .ensures
+          ∙ ap (λ (xs : List Bool). reach (size records) (arcsBy records true) (size records) xs)
+          (mark-arcs .ensures .0
+          ∙ ap (λ (xs : List Bool). markAll (arcs records v) xs) (start .pre .1)
+          ∙ all-only (size records) (arcs records v)),
+      refl,
+    )
 
 pub leads-back-spec : {M : Type 1} → statement M
 leads-back-spec =

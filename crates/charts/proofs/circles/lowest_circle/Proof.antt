@@ -12,7 +12,9 @@ rank-conditions-requires : tie.Need-rank-conditions-requires
 rank-conditions-requires c κs = search needs
 
 returns : tie.Need-returns
-returns c = calm-lowest (onCircle (c .before .before .before .before .before .args .records .now)) (size (c .before .before .before .before .before .args .records .now)) _ (c .before .before .rank-conditions .ensures .0 .0) (c .if1 .taken)
+returns c =
+    let records = c .before .before .before .before .before .args .records .now in
+    calm-lowest (onCircle records) (size records) _ (c .before .before .rank-conditions .ensures .0 .0) (c .if1 .taken)
 
 search-circle-requires : tie.Need-search-circle-requires
 search-circle-requires c κs = search needs

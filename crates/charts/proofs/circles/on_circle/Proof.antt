@@ -22,7 +22,13 @@ leads-back-requires : tie.Need-leads-back-requires
 leads-back-requires c κs = (search needs, part-of 256 (size (c .before .before .before .before .args .records .now)) false (search needs))
 
 returns-2 : tie.Need-returns-2
-returns-2 c = circle-back (c .before .before .before .before .before .before .args .records .now) (c .before .before .before .before .before .before .args .v) _ (c .before .before .before .before .field .ensures) (c .before .before .before .if1 .left) _ _ (c .before .leads-back .ensures .0) (c .before .leads-back .ensures .1)
+returns-2 c =
+    let start = c .before .before .before .before .before .before in
+    let records = start .args .records .now in
+    let v = start .args .v in
+    let field = c .before .before .before .before .field in
+    circle-back records v _ (field .ensures) (c .before .before .before .if1 .left) _ _
+    (c .before .leads-back .ensures .0) (c .before .leads-back .ensures .1)
 
 pub on-circle-spec : {M : Type 1} → statement M
 on-circle-spec =

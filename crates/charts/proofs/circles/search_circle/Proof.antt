@@ -21,7 +21,10 @@ on-circle-requires : tie.Need-on-circle-requires Inv-loop μ-loop
 on-circle-requires c κs = search needs
 
 returns : tie.Need-returns Inv-loop μ-loop
-returns c = sym (lowest-here (onCircle (c .before .before .before .before .before .args .records .now)) _ _ (search needs) (sym (c .before .on-circle .ensures) ∙ c .if1 .taken)) ∙ c .before .before .before .loop .inv .2
+returns c =
+    let records = c .before .before .before .before .before .args .records .now in
+    sym (lowest-here (onCircle records) _ _ (search needs) (sym (c .before .on-circle .ensures) ∙ c .if1 .taken))
+    ∙ c .before .before .before .loop .inv .2
 
 add-v : tie.Need-add-v Inv-loop μ-loop
 add-v c = search needs
@@ -30,7 +33,13 @@ loop-less : tie.Need-loop-less Inv-loop μ-loop
 loop-less c = search needs
 
 loop-again : tie.Need-loop-again Inv-loop μ-loop
-loop-again c = (search needs, search needs, sym (lowest-on (onCircle (c .before .before .before .before .before .args .records .now)) _ _ (search needs) (sym (c .before .on-circle .ensures) ∙ c .if1 .left)) ∙ c .before .before .before .loop .inv .2)
+loop-again c =
+    let records = c .before .before .before .before .before .args .records .now in (
+      search needs,
+      search needs,
+      sym (lowest-on (onCircle records) _ _ (search needs) (sym (c .before .on-circle .ensures) ∙ c .if1 .left))
+          ∙ c .before .before .before .loop .inv .2,
+    )
 
 returns-2 : tie.Need-returns-2 Inv-loop μ-loop
 returns-2 c = sym (lowest-over (onCircle (c .before .before .before .args .records .now)) _ _ (search needs)) ∙ c .before .loop .inv .2

@@ -23,7 +23,15 @@ bad-use-requires c κs = search needs
 
 returns-3 : tie.Need-returns-3
 unfolding badField
-returns-3 c = simp (c .bad-use .ensures, c .before .field2 .ensures, ← c .before .before .before .before .field .ensures, ne-eqb _ _ (c .before .before .before .if1 .left), le-ltb _ _ (c .before .before .if2 .left))
+returns-3 c =
+    let field = c .before .before .before .before .field in
+    simp (
+      c .bad-use .ensures,
+      c .before .field2 .ensures,
+      ← field .ensures,
+      ne-eqb _ _ (c .before .before .before .if1 .left),
+      le-ltb _ _ (c .before .before .if2 .left),
+    )
 
 pub bad-field-spec : {M : Type 1} → statement M
 bad-field-spec =

@@ -24,7 +24,10 @@ field-requires : tie.Need-field-requires Inv-loop μ-loop
 field-requires c κs = search needs
 
 returns : tie.Need-returns Inv-loop μ-loop
-returns c = sym (any-here _ _ _ (search needs) (ap not (ap (λ x. eqb x 0) (sym (c .before .field .ensures)) ∙ ne-eqb _ _ (c .if1 .taken)))) ∙ c .before .before .before .loop .inv .1
+returns c =
+    sym (any-here _ _ _ (search needs)
+    (ap not (ap (λ x. eqb x 0) (sym (c .before .field .ensures)) ∙ ne-eqb _ _ (c .if1 .taken))))
+    ∙ c .before .before .before .loop .inv .1
 
 add-k : tie.Need-add-k Inv-loop μ-loop
 add-k c = search needs
@@ -33,7 +36,12 @@ loop-less : tie.Need-loop-less Inv-loop μ-loop
 loop-less c = search needs
 
 loop-again : tie.Need-loop-again Inv-loop μ-loop
-loop-again c = (search needs, sym (any-on _ _ _ (search needs) (ap not (ap (λ x. eqb x 0) (sym (c .before .field .ensures)) ∙ eq-eqb _ _ (c .if1 .left)))) ∙ c .before .before .before .loop .inv .1)
+loop-again c = (
+  search needs,
+  sym (any-on _ _ _ (search needs)
+      (ap not (ap (λ x. eqb x 0) (sym (c .before .field .ensures)) ∙ eq-eqb _ _ (c .if1 .left))))
+      ∙ c .before .before .before .loop .inv .1,
+)
 
 returns-2 : tie.Need-returns-2 Inv-loop μ-loop
 returns-2 c = sym (any-over _ _ _ (search needs)) ∙ c .before .loop .inv .1

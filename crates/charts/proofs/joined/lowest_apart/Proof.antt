@@ -23,10 +23,17 @@ same-length : tie.Need-same-length
 same-length c = search needs
 
 returns : tie.Need-returns
-returns c = (
-  c .before .before .before .before .join .ensures ∙ ap (λ (xs : List Bool). reach (size (c .before .before .before .before .before .before .before .before .before .before .before .before .args .records .now)) (arcsBy (c .before .before .before .before .before .before .before .before .before .before .before .before .args .records .now) false) (size (c .before .before .before .before .before .before .before .before .before .before .before .before .args .records .now)) xs) (c .before .before .before .before .before .before .before .before .mark-begins .ensures),
-  c .lowest-unmarked .ensures ∙ ap (λ (k : ℕ). lowest (λ v. not (marked (c .before .before .before .before .join .last .1 .1 .0) v)) 0 k) (c .before .before .before .before .join .kept .1 .1 .0 ∙ c .before .before .before .before .before .before .before .before .mark-begins .kept .1 .0 ∙ c .before .before .before .before .before .before .before .before .before .before .before .before .pre),
-)
+returns c =
+    let start = c .before .before .before .before .before .before .before .before .before .before .before .before in
+    let records = start .args .records .now in
+    let mark-begins = c .before .before .before .before .before .before .before .before .mark-begins in
+    let join = c .before .before .before .before .join in (
+      join .ensures
+          ∙ ap (λ (xs : List Bool). reach (size records) (arcsBy records false) (size records) xs) (mark-begins .ensures),
+      c .lowest-unmarked .ensures
+          ∙ ap (λ (k : ℕ). lowest (λ v. not (marked (join .last .1 .1 .0) v)) 0 k)
+          (join .kept .1 .1 .0 ∙ mark-begins .kept .1 .0 ∙ start .pre),
+    )
 
 pub lowest-apart-spec : {M : Type 1} → statement M
 lowest-apart-spec =

@@ -17,7 +17,12 @@ lowest-apart-requires : tie.Need-lowest-apart-requires
 lowest-apart-requires c κs = part-long 256 (size (c .before .before .args .records .now)) false (search needs)
 
 returns : tie.Need-returns
-returns c = c .before .lowest-apart .ensures .1 ∙ lowest-apart (c .before .before .before .before .args .records .now) (c .before .before .before .before .pre .1 .0) (c .before .before .before .before .pre .1 .1 .0) (c .before .before .before .before .pre .1 .1 .1) _ (c .before .lowest-apart .ensures .0)
+returns c =
+    let start = c .before .before .before .before in
+    let records = start .args .records .now in
+    c .before .lowest-apart .ensures .1
+    ∙ lowest-apart records (start .pre .1 .0) (start .pre .1 .1 .0) (start .pre .1 .1 .1) _
+    (c .before .lowest-apart .ensures .0)
 
 pub lowest-cut-off-spec : {M : Type 1} → statement M
 lowest-cut-off-spec =

@@ -12,22 +12,59 @@ field-requires : tie.Need-field-requires
 field-requires c κs = search needs
 
 returns : tie.Need-returns
-returns c = sym (ap (λ (us : List ℕ). length us) (by-none (c .before .before .before .before .args .records .now) (c .before .before .before .before .args .conditions) (c .before .before .before .before .args .v) _ (c .before .before .field .ensures) (c .if1 .taken) (λ q. omega (arith, c .before .match .keys3))))
+returns c =
+    let start = c .before .before .before .before in
+    let records = start .args .records .now in
+    let conditions = start .args .conditions in
+    let v = start .args .v in
+    sym (ap (λ (us : List ℕ). length us)
+    (by-none records conditions v _ (c .before .before .field .ensures) (c .if1 .taken)
+    (λ q. omega (arith, c .before .match .keys3))))
 
 returns-2 : tie.Need-returns-2
-returns-2 c = sym (ap (λ (us : List ℕ). length us) (by-none (c .before .before .before .before .args .records .now) (c .before .before .before .before .args .conditions) (c .before .before .before .before .args .v) _ (c .before .before .field .ensures) (c .if2 .taken) (c .before .match .rest .0 .1)))
+returns-2 c =
+    let start = c .before .before .before .before in
+    let records = start .args .records .now in
+    let conditions = start .args .conditions in
+    let v = start .args .v in
+    sym (ap (λ (us : List ℕ). length us)
+    (by-none records conditions v _ (c .before .before .field .ensures) (c .if2 .taken) (c .before .match .rest .0 .1)))
 
 returns-3 : tie.Need-returns-3
-returns-3 c = sym (ap (λ (us : List ℕ). length us) (by-end (c .before .before .before .args .records .now) (c .before .before .before .args .conditions) (c .before .before .before .args .v) _ (c .before .field .ensures) (c .match .keys1)))
+returns-3 c =
+    let start = c .before .before .before in
+    let records = start .args .records .now in
+    let conditions = start .args .conditions in
+    let v = start .args .v in
+    sym (ap (λ (us : List ℕ). length us) (by-end records conditions v _ (c .before .field .ensures) (c .match .keys1)))
 
 returns-4 : tie.Need-returns-4
-returns-4 c = sym (ap (λ (us : List ℕ). length us) (by-condition (c .before .before .before .args .records .now) (c .before .before .before .args .conditions) (c .before .before .before .args .v) _ (c .before .field .ensures) (c .match .keys2)))
+returns-4 c =
+    let start = c .before .before .before in
+    let records = start .args .records .now in
+    let conditions = start .args .conditions in
+    let v = start .args .v in
+    sym
+    (ap (λ (us : List ℕ). length us) (by-condition records conditions v _ (c .before .field .ensures) (c .match .keys2)))
 
 returns-5 : tie.Need-returns-5
-returns-5 c = sym (ap (λ (us : List ℕ). length us) (by-function (c .before .before .before .before .args .records .now) (c .before .before .before .before .args .conditions) (c .before .before .before .before .args .v) _ (c .before .before .field .ensures) (c .if1 .left) (c .before .match .keys3)))
+returns-5 c =
+    let start = c .before .before .before .before in
+    let records = start .args .records .now in
+    let conditions = start .args .conditions in
+    let v = start .args .v in
+    sym (ap (λ (us : List ℕ). length us)
+    (by-function records conditions v _ (c .before .before .field .ensures) (c .if1 .left) (c .before .match .keys3)))
 
 returns-6 : tie.Need-returns-6
-returns-6 c = sym (ap (λ (us : List ℕ). length us) (by-one (c .before .before .before .before .args .records .now) (c .before .before .before .before .args .conditions) (c .before .before .before .before .args .v) _ (c .before .before .field .ensures) (c .if2 .left) (c .before .match .rest .0 .0 .1) (c .before .match .rest .0 .1) (c .before .match .rest .1)))
+returns-6 c =
+    let start = c .before .before .before .before in
+    let records = start .args .records .now in
+    let conditions = start .args .conditions in
+    let v = start .args .v in
+    sym (ap (λ (us : List ℕ). length us)
+    (by-one records conditions v _ (c .before .before .field .ensures) (c .if2 .left) (c .before .match .rest .0 .0 .1)
+    (c .before .match .rest .0 .1) (c .before .match .rest .1)))
 
 pub arc-count-spec : {M : Type 1} → statement M
 arc-count-spec =

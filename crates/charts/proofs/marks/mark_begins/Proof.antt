@@ -11,7 +11,8 @@ use Rattle.charts.proofs.marks.mark_begins.Statement.{statement}
 use Rattle.charts.proofs.marks.mark_begins.Tie as tie
 
 abbrev Inv-loop : tie.InvT-loop
-Inv-loop records marks₀ n v₀ marks v = (v ≤ n) × (n ≡ size records) × (length marks ≡ n) × (marks ≡ map (is records 0) (range 0 v) ++ drop v marks₀)
+Inv-loop records marks₀ n v₀ marks v =
+    (v ≤ n) × (n ≡ size records) × (length marks ≡ n) × (marks ≡ map (is records 0) (range 0 v) ++ drop v marks₀)
 
 abbrev μ-loop : tie.MeasureT-loop
 μ-loop records marks₀ n v₀ marks v = n - v
@@ -32,13 +33,26 @@ loop-less : tie.Need-loop-less Inv-loop μ-loop
 loop-less c = search needs
 
 loop-again : tie.Need-loop-again Inv-loop μ-loop
-loop-again c = (search needs, search needs, length-set (c .before .before .loop .marks) _ _ ∙ c .before .before .loop .inv .2, begins-more (c .before .before .before .before .before .args .records .now) (c .before .before .before .before .before .args .marks .now) (c .before .before .loop .v) _ _ (search needs) (c .before .before .loop .inv .3) (c .field .ensures))
+loop-again c =
+    let start = c .before .before .before .before .before in
+    let records = start .args .records .now in
+    let marks = start .args .marks .now in (
+      search needs,
+      search needs,
+      length-set (c .before .before .loop .marks) _ _ ∙ c .before .before .loop .inv .2,
+      begins-more records marks (c .before .before .loop .v) _ _ (search needs) (c .before .before .loop .inv .3)
+          (c .field .ensures),
+    )
 
 same-length : tie.Need-same-length Inv-loop μ-loop
 same-length c = c .before .loop .inv .2 ∙ sym (c .before .before .before .before .pre)
 
 returns : tie.Need-returns Inv-loop μ-loop
-returns c = begins-done (c .before .before .before .before .args .records .now) (c .before .before .before .before .args .marks .now) (c .before .loop .v) _ (search needs) (c .before .before .before .before .pre) (c .before .loop .inv .3)
+returns c =
+    let start = c .before .before .before .before in
+    let records = start .args .records .now in
+    let marks = start .args .marks .now in
+    begins-done records marks (c .before .loop .v) _ (search needs) (start .pre) (c .before .loop .inv .3)
 
 pub mark-begins-spec : {M : Type 1} → statement M
 mark-begins-spec =

@@ -19,10 +19,21 @@ rank-round-requires : tie.Need-rank-round-requires Inv-loop μ-loop
 rank-round-requires c κs = (c .before .before .before .before .before .pre .0, (search needs, c .before .before .loop .inv .1))
 
 same-length : tie.Need-same-length Inv-loop μ-loop
-same-length c = after-long (c .before .before .before .before .before .before .before .before .before .args .records .now) (c .before .before .before .before .before .before .loop .rounds + 1) _ (c .before .before .before .rank-round .ensures .1) ∙ sym (after-long (c .before .before .before .before .before .before .before .before .before .args .records .now) 0 _ (rounds-start (c .before .before .before .before .before .before .before .before .before .args .records .now) _ (c .before .before .before .before .before .before .before .before .before .pre .1)))
+same-length c =
+    let start = c .before .before .before .before .before .before .before .before .before in
+    let records = start .args .records .now in
+    let loop = c .before .before .before .before .before .before .loop in
+    after-long records (loop .rounds + 1) _ (c .before .before .before .rank-round .ensures .1)
+    ∙ sym (after-long records 0 _ (rounds-start records _ (start .pre .1)))
 
 returns : tie.Need-returns Inv-loop μ-loop
-returns c = rounds-end (c .before .before .before .before .before .before .before .before .before .args .records .now) (c .before .before .before .before .before .before .before .before .before .pre .0 .0) (c .before .before .before .before .before .before .loop .rounds) (sym (c .before .before .before .rank-round .ensures .0) ∙ c .if1 .taken) (search needs) _ (c .before .before .before .rank-round .ensures .1)
+returns c =
+    let start = c .before .before .before .before .before .before .before .before .before in
+    let records = start .args .records .now in
+    let loop = c .before .before .before .before .before .before .loop in
+    let rank-round = c .before .before .before .rank-round in
+    rounds-end records (start .pre .0 .0) (loop .rounds) (sym (rank-round .ensures .0) ∙ c .if1 .taken) (search needs) _
+    (rank-round .ensures .1)
 
 add-rounds : tie.Need-add-rounds Inv-loop μ-loop
 add-rounds c = search needs
@@ -34,10 +45,17 @@ loop-again : tie.Need-loop-again Inv-loop μ-loop
 loop-again c = (search needs, c .before .before .before .rank-round .ensures .1)
 
 same-length-2 : tie.Need-same-length-2 Inv-loop μ-loop
-same-length-2 c = after-long (c .before .before .before .before .args .records .now) (c .before .loop .rounds) _ (c .before .loop .inv .1) ∙ sym (after-long (c .before .before .before .before .args .records .now) 0 _ (rounds-start (c .before .before .before .before .args .records .now) _ (c .before .before .before .before .pre .1)))
+same-length-2 c =
+    let start = c .before .before .before .before in
+    let records = start .args .records .now in
+    after-long records (c .before .loop .rounds) _ (c .before .loop .inv .1)
+    ∙ sym (after-long records 0 _ (rounds-start records _ (start .pre .1)))
 
 returns-2 : tie.Need-returns-2 Inv-loop μ-loop
-returns-2 c = let e : c .before .loop .rounds ≡ 255 = search needs in c .before .loop .inv .1 ∙ ap (λ (k : ℕ). ranksAfter (c .before .before .before .before .args .records .now) k) e
+returns-2 c =
+    let records = c .before .before .before .before .args .records .now in
+    let e : c .before .loop .rounds ≡ 255 = search needs in
+    c .before .loop .inv .1 ∙ ap (λ (k : ℕ). ranksAfter records k) e
 
 pub rank-rounds-spec : {M : Type 1} → statement M
 rank-rounds-spec =

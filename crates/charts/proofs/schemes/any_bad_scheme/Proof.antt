@@ -26,7 +26,14 @@ any-not-one-requires : tie.Need-any-not-one-requires
 any-not-one-requires c κs = search needs
 
 returns : tie.Need-returns
-returns c = c .any-not-one .ensures ∙ bad-counts (c .before .before .before .before .before .before .before .before .before .before .args .records .now) _ _ (c .before .before .before .before .before .before .before .before .before .before .args .highest) (c .before .before .before .before .before .before .before .count-by-scheme .ensures) (c .before .before .before .before .count-by-scheme2 .ensures) (search needs)
+returns c =
+    let start = c .before .before .before .before .before .before .before .before .before .before in
+    let records = start .args .records .now in
+    let highest = start .args .highest in
+    let count-by-scheme = c .before .before .before .before .before .before .before .count-by-scheme in
+    let count-by-scheme2 = c .before .before .before .before .count-by-scheme2 in
+    c .any-not-one .ensures
+    ∙ bad-counts records _ _ highest (count-by-scheme .ensures) (count-by-scheme2 .ensures) (search needs)
 
 pub any-bad-scheme-spec : {M : Type 1} → statement M
 any-bad-scheme-spec =

@@ -10,13 +10,17 @@ use Rattle.charts.proofs.schemes.any_not_one.Statement.{statement}
 use Rattle.charts.proofs.schemes.any_not_one.Tie as tie
 
 abbrev Inv-loop : tie.InvT-loop
-Inv-loop begins ends highest scheme₀ scheme = (scheme ≤ highest) × (any (notOne begins ends) (scheme + 1) (highest + 1 - (scheme + 1)) ≡ any (notOne begins ends) 1 highest)
+Inv-loop begins ends highest scheme₀ scheme =
+    (scheme ≤ highest)
+    × (any (notOne begins ends) (scheme + 1) (highest + 1 - (scheme + 1)) ≡ any (notOne begins ends) 1 highest)
 
 abbrev μ-loop : tie.MeasureT-loop
 μ-loop begins ends highest scheme₀ scheme = highest - scheme
 
 loop-holds : tie.Need-loop-holds Inv-loop μ-loop
-loop-holds c = let e : c .args .highest + 1 - 1 ≡ c .args .highest = omega arith in (search needs, ap (λ (k : ℕ). any (notOne (c .args .begins .now) (c .args .ends .now)) 1 k) e)
+loop-holds c =
+    let e : c .args .highest + 1 - 1 ≡ c .args .highest = omega arith in
+    (search needs, ap (λ (k : ℕ). any (notOne (c .args .begins .now) (c .args .ends .now)) 1 k) e)
 
 add-scheme : tie.Need-add-scheme Inv-loop μ-loop
 add-scheme c = search needs
@@ -31,7 +35,15 @@ shared-slice-read-if1 : tie.Need-shared-slice-read-if1 Inv-loop μ-loop
 shared-slice-read-if1 c = search needs
 
 returns : tie.Need-returns Inv-loop μ-loop
-returns c = sym (any-here (notOne (c .before .before .before .before .args .begins .now) (c .before .before .before .before .args .ends .now)) (c .before .before .before .before .args .highest + 1) (c .before .before .before .loop .scheme + 1) (search needs) (not-begin (c .before .before .before .before .args .begins .now) (c .before .before .before .before .args .ends .now) (c .before .before .before .loop .scheme + 1) (c .if1 .taken))) ∙ c .before .before .before .loop .inv .1
+returns c =
+    let start = c .before .before .before .before in
+    let begins = start .args .begins .now in
+    let ends = start .args .ends .now in
+    let highest = start .args .highest in
+    let loop = c .before .before .before .loop in
+    sym (any-here (notOne begins ends) (highest + 1) (loop .scheme + 1) (search needs)
+    (not-begin begins ends (loop .scheme + 1) (c .if1 .taken)))
+    ∙ loop .inv .1
 
 mul-if2 : tie.Need-mul-if2 Inv-loop μ-loop
 mul-if2 c = search needs
@@ -40,13 +52,31 @@ shared-slice-read-if2 : tie.Need-shared-slice-read-if2 Inv-loop μ-loop
 shared-slice-read-if2 c = search needs
 
 returns-2 : tie.Need-returns-2 Inv-loop μ-loop
-returns-2 c = sym (any-here (notOne (c .before .before .before .before .before .before .args .begins .now) (c .before .before .before .before .before .before .args .ends .now)) (c .before .before .before .before .before .before .args .highest + 1) (c .before .before .before .before .before .loop .scheme + 1) (search needs) (not-end (c .before .before .before .before .before .before .args .begins .now) (c .before .before .before .before .before .before .args .ends .now) (c .before .before .before .before .before .loop .scheme + 1) (c .before .before .if1 .left) (c .if2 .taken))) ∙ c .before .before .before .before .before .loop .inv .1
+returns-2 c =
+    let start = c .before .before .before .before .before .before in
+    let begins = start .args .begins .now in
+    let ends = start .args .ends .now in
+    let highest = start .args .highest in
+    let loop = c .before .before .before .before .before .loop in
+    sym (any-here (notOne begins ends) (highest + 1) (loop .scheme + 1) (search needs)
+    (not-end begins ends (loop .scheme + 1) (c .before .before .if1 .left) (c .if2 .taken)))
+    ∙ loop .inv .1
 
 loop-less : tie.Need-loop-less Inv-loop μ-loop
 loop-less c = search needs
 
 loop-again : tie.Need-loop-again Inv-loop μ-loop
-loop-again c = (search needs, sym (any-on (notOne (c .before .before .before .before .before .before .args .begins .now) (c .before .before .before .before .before .before .args .ends .now)) (c .before .before .before .before .before .before .args .highest + 1) (c .before .before .before .before .before .loop .scheme + 1) (search needs) (one-each (c .before .before .before .before .before .before .args .begins .now) (c .before .before .before .before .before .before .args .ends .now) (c .before .before .before .before .before .loop .scheme + 1) (c .before .before .if1 .left) (c .if2 .left))) ∙ c .before .before .before .before .before .loop .inv .1)
+loop-again c =
+    let start = c .before .before .before .before .before .before in
+    let begins = start .args .begins .now in
+    let ends = start .args .ends .now in
+    let highest = start .args .highest in
+    let loop = c .before .before .before .before .before .loop in (
+      search needs,
+      sym (any-on (notOne begins ends) (highest + 1) (loop .scheme + 1) (search needs)
+          (one-each begins ends (loop .scheme + 1) (c .before .before .if1 .left) (c .if2 .left)))
+          ∙ loop .inv .1,
+    )
 
 returns-3 : tie.Need-returns-3 Inv-loop μ-loop
 returns-3 c = sym (any-over _ (c .before .before .args .highest + 1) (c .before .loop .scheme + 1) (search needs)) ∙ c .before .loop .inv .1

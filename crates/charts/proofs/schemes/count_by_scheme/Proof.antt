@@ -33,13 +33,28 @@ mul-counts : tie.Need-mul-counts Inv-loop μ-loop
 mul-counts c = search needs
 
 slice-read-counts : tie.Need-slice-read-counts Inv-loop μ-loop
-slice-read-counts c = omega (arith, counts-long (c .before .before .before .before .before .before .before .before .args .records .now) (c .before .before .before .before .before .before .before .before .args .kind) (c .before .before .before .before .before .loop .v) _ (c .before .before .before .before .before .loop .inv .2), c .before .field2 .ok)
+slice-read-counts c =
+    let start = c .before .before .before .before .before .before .before .before in
+    let records = start .args .records .now in
+    let kind = start .args .kind in
+    let loop = c .before .before .before .before .before .loop in
+    omega (arith, counts-long records kind (loop .v) _ (loop .inv .2), c .before .field2 .ok)
 
 add-counts : tie.Need-add-counts Inv-loop μ-loop
-add-counts c = omega (arith, counts-low (c .before .before .before .before .before .before .before .before .args .records .now) (c .before .before .before .before .before .before .before .before .args .kind) (c .before .before .before .before .before .loop .v) _ (c .before .before .before .before .before .loop .inv .2) (c .before .field2 .result) (search needs))
+add-counts c =
+    let start = c .before .before .before .before .before .before .before .before in
+    let records = start .args .records .now in
+    let kind = start .args .kind in
+    let loop = c .before .before .before .before .before .loop in
+    omega (arith, counts-low records kind (loop .v) _ (loop .inv .2) (c .before .field2 .result) (search needs))
 
 slice-write-counts : tie.Need-slice-write-counts Inv-loop μ-loop
-slice-write-counts c = omega (arith, counts-long (c .before .before .before .before .before .before .before .before .args .records .now) (c .before .before .before .before .before .before .before .before .args .kind) (c .before .before .before .before .before .loop .v) _ (c .before .before .before .before .before .loop .inv .2), c .before .field2 .ok)
+slice-write-counts c =
+    let start = c .before .before .before .before .before .before .before .before in
+    let records = start .args .records .now in
+    let kind = start .args .kind in
+    let loop = c .before .before .before .before .before .loop in
+    omega (arith, counts-long records kind (loop .v) _ (loop .inv .2), c .before .field2 .ok)
 
 add-v : tie.Need-add-v Inv-loop μ-loop
 add-v c = search needs
@@ -48,20 +63,35 @@ loop-less : tie.Need-loop-less Inv-loop μ-loop
 loop-less c = search needs
 
 loop-again : tie.Need-loop-again Inv-loop μ-loop
-loop-again c = (
-  search needs,
-  search needs,
-  ⊎-elim (λ w. w .3 ∙ counts-more (c .before .before .before .before .before .before .args .records .now) (c .before .before .before .before .before .before .args .kind) (c .before .before .before .loop .v) (c .before .before .before .loop .counts) (c .before .before .before .loop .inv .2) _ _ (c .before .field .ensures) (w .0 .taken) (w .1 .ensures) (search needs))
-      (λ w. w .1 ∙ counts-pass (c .before .before .before .before .before .before .args .records .now) (c .before .before .before .before .before .before .args .kind) (c .before .before .before .loop .v) (c .before .before .before .loop .counts) (c .before .before .before .loop .inv .2) _ (c .before .field .ensures) (w .0 .left)) (c .if1 .came),
-)
+loop-again c =
+    let start = c .before .before .before .before .before .before in
+    let records = start .args .records .now in
+    let kind = start .args .kind in
+    let loop = c .before .before .before .loop in (
+      search needs,
+      search needs,
+      ⊎-elim
+          (λ w. w .3 ∙ counts-more records kind (loop .v) (loop .counts) (loop .inv .2) _ _ (c .before .field .ensures) (w .0 .taken)
+          (w .1 .ensures) (search needs))
+          (λ w. w .1 ∙ counts-pass records kind (loop .v) (loop .counts) (loop .inv .2) _ (c .before .field .ensures) (w .0 .left))
+          (c .if1 .came),
+    )
 
 same-length : tie.Need-same-length Inv-loop μ-loop
-same-length c = counts-long (c .before .before .before .before .args .records .now) (c .before .before .before .before .args .kind) (c .before .loop .v) _ (c .before .loop .inv .2) ∙ sym (ap (λ (xs : List ℕ). length xs) (c .before .before .before .before .pre .1) ∙ length-replicate {A = ℕ} 256 0)
+same-length c =
+    let start = c .before .before .before .before in
+    let records = start .args .records .now in
+    let kind = start .args .kind in
+    counts-long records kind (c .before .loop .v) _ (c .before .loop .inv .2)
+    ∙ sym (ap (λ (xs : List ℕ). length xs) (start .pre .1) ∙ length-replicate {A = ℕ} 256 0)
 
 returns : tie.Need-returns Inv-loop μ-loop
 returns c =
-    let e : c .before .loop .v ≡ size (c .before .before .before .before .args .records .now) = search needs in
-    c .before .loop .inv .2 ∙ ap (λ (k : ℕ). countsTo (c .before .before .before .before .args .records .now) (c .before .before .before .before .args .kind) k) e
+    let start = c .before .before .before .before in
+    let records = start .args .records .now in
+    let kind = start .args .kind in
+    let e : c .before .loop .v ≡ size records = search needs in
+    c .before .loop .inv .2 ∙ ap (λ (k : ℕ). countsTo records kind k) e
 
 pub count-by-scheme-spec : {M : Type 1} → statement M
 count-by-scheme-spec =

@@ -30,15 +30,20 @@ loop-less : tie.Need-loop-less Inv-loop μ-loop
 loop-less c = search needs
 
 loop-again : tie.Need-loop-again Inv-loop μ-loop
-loop-again c = (
-  search needs,
-  search needs,
-  ⊎-elim (λ w. omega (arith, highest-next (scheme (c .before .before .before .before .before .args .records .now)) (c .before .before .before .loop .v), c .before .field .ensures))
-      (λ w. omega (arith, highest-next (scheme (c .before .before .before .before .before .args .records .now)) (c .before .before .before .loop .v), c .before .field .ensures)) (c .if1 .came),
-)
+loop-again c =
+    let records = c .before .before .before .before .before .args .records .now in
+    let loop = c .before .before .before .loop in (
+      search needs,
+      search needs,
+      ⊎-elim (λ w. omega (arith, highest-next (scheme records) (loop .v), c .before .field .ensures))
+          (λ w. omega (arith, highest-next (scheme records) (loop .v), c .before .field .ensures)) (c .if1 .came),
+    )
 
 returns : tie.Need-returns Inv-loop μ-loop
-returns c = let e : c .before .loop .v ≡ size (c .before .before .before .args .records .now) = search needs in c .before .loop .inv .2 ∙ ap (λ (k : ℕ). highest (scheme (c .before .before .before .args .records .now)) 0 k) e
+returns c =
+    let records = c .before .before .before .args .records .now in
+    let e : c .before .loop .v ≡ size records = search needs in
+    c .before .loop .inv .2 ∙ ap (λ (k : ℕ). highest (scheme records) 0 k) e
 
 pub highest-scheme-spec : {M : Type 1} → statement M
 highest-scheme-spec =

@@ -15,16 +15,33 @@ lowest-stray-requires : tie.Need-lowest-stray-requires
 lowest-stray-requires c κs = search needs
 
 returns-2 : tie.Need-returns-2
-returns-2 c = table-stray (c .before .before .before .before .before .args .b .now) (sym (c .before .before .before .bad-header .ensures) ∙ c .before .before .if1 .left) _ (c .before .lowest-stray .ensures) (search needs)
+returns-2 c =
+    let b = c .before .before .before .before .before .args .b .now in
+    table-stray b (sym (c .before .before .before .bad-header .ensures) ∙ c .before .before .if1 .left) _
+    (c .before .lowest-stray .ensures) (search needs)
 
 lowest-bad-requires : tie.Need-lowest-bad-requires
-lowest-bad-requires c κs = (omega (arith, header-size (c .before .before .before .before .before .args .b .now) (sym (c .before .before .before .bad-header .ensures) ∙ c .before .before .if1 .left)), search needs)
+lowest-bad-requires c κs =
+    let b = c .before .before .before .before .before .args .b .now in (
+      omega (arith, header-size b (sym (c .before .before .before .bad-header .ensures) ∙ c .before .before .if1 .left)),
+      search needs,
+    )
 
 returns-3 : tie.Need-returns-3
-returns-3 c = table-bad (c .before .before .before .before .before .before .before .args .b .now) (sym (c .before .before .before .before .before .bad-header .ensures) ∙ c .before .before .before .before .if1 .left) _ (c .before .before .before .lowest-stray .ensures) (search needs) _ (c .before .lowest-bad .ensures) (search needs)
+returns-3 c =
+    let b = c .before .before .before .before .before .before .before .args .b .now in
+    let bad-header = c .before .before .before .before .before .bad-header in
+    let if1 = c .before .before .before .before .if1 in
+    table-bad b (sym (bad-header .ensures) ∙ if1 .left) _ (c .before .before .before .lowest-stray .ensures)
+    (search needs) _ (c .before .lowest-bad .ensures) (search needs)
 
 returns-4 : tie.Need-returns-4
-returns-4 c = table-good (c .before .before .before .before .before .before .before .args .b .now) (sym (c .before .before .before .before .before .bad-header .ensures) ∙ c .before .before .before .before .if1 .left) _ (c .before .before .before .lowest-stray .ensures) (search needs) _ (c .before .lowest-bad .ensures) (search needs)
+returns-4 c =
+    let b = c .before .before .before .before .before .before .before .args .b .now in
+    let bad-header = c .before .before .before .before .before .bad-header in
+    let if1 = c .before .before .before .before .if1 in
+    table-good b (sym (bad-header .ensures) ∙ if1 .left) _ (c .before .before .before .lowest-stray .ensures)
+    (search needs) _ (c .before .lowest-bad .ensures) (search needs)
 
 pub check-table-spec : {M : Type 1} → statement M
 check-table-spec =

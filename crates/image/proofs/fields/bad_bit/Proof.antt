@@ -13,10 +13,18 @@ row-byte-requires : tie.Need-row-byte-requires
 row-byte-requires c κs = search needs
 
 returns : tie.Need-returns
-returns c = bit-above (c .before .before .before .args .b .now) (rowIn (c .before .before .before .args .b .now) (c .before .before .before .args .k)) (search needs)
+returns c =
+    let start = c .before .before .before in
+    let b = start .args .b .now in
+    let k = start .args .k in
+    bit-above b (rowIn b k) (search needs)
 
 returns-2 : tie.Need-returns-2
-returns-2 c = bit-none (c .before .before .before .before .args .b .now) (rowIn (c .before .before .before .before .args .b .now) (c .before .before .before .before .args .k)) (search needs)
+returns-2 c =
+    let start = c .before .before .before .before in
+    let b = start .args .b .now in
+    let k = start .args .k in
+    bit-none b (rowIn b k) (search needs)
 
 row-byte-requires-2 : tie.Need-row-byte-requires-2
 row-byte-requires-2 c κs = search needs
@@ -28,7 +36,13 @@ label-byte-requires : tie.Need-label-byte-requires
 label-byte-requires c κs = search needs
 
 returns-3 : tie.Need-returns-3
-returns-3 c = ap (λ (n : ℕ). not (eqb n 2)) (c .label-byte .ensures ∙ ap (λ (n : ℕ). field (c .before .before .before .before .before .before .args .b .now) (labelsFrom (c .before .before .before .before .before .before .args .b .now) + n) 2) (c .before .row-byte2 .ensures)) ∙ bit-function (c .before .before .before .before .before .before .args .b .now) (rowIn (c .before .before .before .before .before .before .args .b .now) (c .before .before .before .before .before .before .args .k)) (search needs) (search needs)
+returns-3 c =
+    let start = c .before .before .before .before .before .before in
+    let b = start .args .b .now in
+    let k = start .args .k in
+    ap (λ (n : ℕ). not (eqb n 2))
+    (c .label-byte .ensures ∙ ap (λ (n : ℕ). field b (labelsFrom b + n) 2) (c .before .row-byte2 .ensures))
+    ∙ bit-function b (rowIn b k) (search needs) (search needs)
 
 pub bad-bit-spec : {M : Type 1} → statement M
 bad-bit-spec =

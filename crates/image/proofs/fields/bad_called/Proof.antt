@@ -16,19 +16,38 @@ label-byte-requires-2 : tie.Need-label-byte-requires-2
 label-byte-requires-2 c κs = search needs
 
 returns : tie.Need-returns
-returns c = kind-low (c .before .before .before .before .before .before .args .b .now) (labelIn (c .before .before .before .before .before .before .args .b .now) (c .before .before .before .before .before .before .args .l)) (search needs) (search needs) (search needs)
+returns c =
+    let start = c .before .before .before .before .before .before in
+    let b = start .args .b .now in
+    let l = start .args .l in
+    kind-low b (labelIn b l) (search needs) (search needs) (search needs)
 
 byte-requires : tie.Need-byte-requires
 byte-requires c κs = search needs
 
 returns-2 : tie.Need-returns-2
-returns-2 c = ap (λ (n : ℕ). not (eqb n 0)) (c .before .before .label-byte .ensures) ∙ kind-plain (c .before .before .before .before .args .b .now) (labelIn (c .before .before .before .before .args .b .now) (c .before .before .before .before .args .l)) (search needs)
+returns-2 c =
+    let start = c .before .before .before .before in
+    let b = start .args .b .now in
+    let l = start .args .l in
+    ap (λ (n : ℕ). not (eqb n 0)) (c .before .before .label-byte .ensures) ∙ kind-plain b (labelIn b l) (search needs)
 
 returns-3 : tie.Need-returns-3
-returns-3 c = ap (λ (n : ℕ). ltb n (c .before .before .before .before .before .label-byte .result)) (c .byte .ensures) ∙ ap (λ (n : ℕ). ltb (field (c .before .before .before .before .before .before .before .args .b .now) 0 1) n) (c .before .before .before .before .before .label-byte .ensures) ∙ kind-call (c .before .before .before .before .before .before .before .args .b .now) (labelIn (c .before .before .before .before .before .before .before .args .b .now) (c .before .before .before .before .before .before .before .args .l)) (search needs) (search needs) (search needs)
+returns-3 c =
+    let start = c .before .before .before .before .before .before .before in
+    let b = start .args .b .now in
+    let l = start .args .l in
+    let label-byte = c .before .before .before .before .before .label-byte in
+    ap (λ (n : ℕ). ltb n (label-byte .result)) (c .byte .ensures)
+    ∙ ap (λ (n : ℕ). ltb (field b 0 1) n) (label-byte .ensures)
+    ∙ kind-call b (labelIn b l) (search needs) (search needs) (search needs)
 
 returns-4 : tie.Need-returns-4
-returns-4 c = kind-none (c .before .before .before .before .before .args .b .now) (labelIn (c .before .before .before .before .before .args .b .now) (c .before .before .before .before .before .args .l)) (search needs)
+returns-4 c =
+    let start = c .before .before .before .before .before in
+    let b = start .args .b .now in
+    let l = start .args .l in
+    kind-none b (labelIn b l) (search needs)
 
 pub bad-called-spec : {M : Type 1} → statement M
 bad-called-spec =

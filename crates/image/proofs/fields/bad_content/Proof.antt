@@ -31,13 +31,26 @@ bad-row-requires : tie.Need-bad-row-requires
 bad-row-requires c κs = omega (arith, row-above (c .before .before .before .before .args .b .now) (c .before .before .before .before .args .f) (search needs))
 
 returns : tie.Need-returns
-returns c = content-entry (c .before .before .before .before .args .b .now) (c .before .before .before .before .args .f) _ (search needs) (c .bad-entry .ensures)
+returns c =
+    let start = c .before .before .before .before in
+    let b = start .args .b .now in
+    let f = start .args .f in
+    content-entry b f _ (search needs) (c .bad-entry .ensures)
 
 returns-2 : tie.Need-returns-2
-returns-2 c = content-label (c .before .before .before .before .before .args .b .now) (c .before .before .before .before .before .args .f) _ _ (search needs) (c .before .labels-from .ensures) (c .bad-label .ensures)
+returns-2 c =
+    let start = c .before .before .before .before .before in
+    let b = start .args .b .now in
+    let f = start .args .f in
+    content-label b f _ _ (search needs) (c .before .labels-from .ensures) (c .bad-label .ensures)
 
 returns-3 : tie.Need-returns-3
-returns-3 c = content-row (c .before .before .before .before .before .args .b .now) (c .before .before .before .before .before .args .f) _ _ (search needs) (row-above (c .before .before .before .before .before .args .b .now) (c .before .before .before .before .before .args .f) (search needs)) (c .before .rows-from .ensures) (c .bad-row .ensures)
+returns-3 c =
+    let start = c .before .before .before .before .before in
+    let b = start .args .b .now in
+    let f = start .args .f in
+    content-row b f _ _ (search needs) (row-above b f (search needs)) (c .before .rows-from .ensures)
+    (c .bad-row .ensures)
 
 returns-4 : tie.Need-returns-4
 returns-4 c = content-header (c .before .before .before .args .b .now) (c .before .before .before .args .f) (search needs) (search needs) (search needs)

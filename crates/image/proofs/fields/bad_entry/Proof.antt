@@ -20,7 +20,12 @@ is-within-requires : tie.Need-is-within-requires
 is-within-requires c κs = search needs
 
 returns-2 : tie.Need-returns-2
-returns-2 c = entry-within (c .before .before .before .before .before .args .b .now) (c .before .before .before .before .before .args .h) _ _ (sym (c .before .before .before .filled-to .ensures) ∙ c .before .before .if1 .left) (c .before .byte .ensures) (c .is-within .ensures)
+returns-2 c =
+    let start = c .before .before .before .before .before in
+    let b = start .args .b .now in
+    let h = start .args .h in
+    entry-within b h _ _ (sym (c .before .before .before .filled-to .ensures) ∙ c .before .before .if1 .left)
+    (c .before .byte .ensures) (c .is-within .ensures)
 
 pub bad-entry-spec : {M : Type 1} → statement M
 bad-entry-spec =

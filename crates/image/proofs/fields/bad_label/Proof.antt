@@ -16,10 +16,14 @@ bad-numbered-requires : tie.Need-bad-numbered-requires
 bad-numbered-requires c κs = search needs
 
 returns : tie.Need-returns
-returns c = c .unlike .ensures ∙ ap (λ (n : ℕ). badLabel (c .before .before .before .args .b .now) n (labelIn (c .before .before .before .args .b .now) n)) (sym (c .before .match .keys1))
+returns c =
+    let b = c .before .before .before .args .b .now in
+    c .unlike .ensures ∙ ap (λ (n : ℕ). badLabel b n (labelIn b n)) (sym (c .before .match .keys1))
 
 returns-2 : tie.Need-returns-2
-returns-2 c = c .unlike2 .ensures ∙ ap (λ (n : ℕ). badLabel (c .before .before .before .args .b .now) n (labelIn (c .before .before .before .args .b .now) n)) (sym (c .before .match .keys2))
+returns-2 c =
+    let b = c .before .before .before .args .b .now in
+    c .unlike2 .ensures ∙ ap (λ (n : ℕ). badLabel b n (labelIn b n)) (sym (c .before .match .keys2))
 
 returns-3 : tie.Need-returns-3
 returns-3 c = search needs

@@ -11,25 +11,42 @@ bad-called-requires : tie.Need-bad-called-requires
 bad-called-requires c κs = search needs
 
 returns : tie.Need-returns
-returns c = label-kind (c .before .before .before .args .b .now) (labelIn (c .before .before .before .args .b .now) (c .before .before .before .args .l)) (c .before .before .before .args .l) (search needs) (cc)
+returns c =
+    let start = c .before .before .before in
+    let b = start .args .b .now in
+    let l = start .args .l in
+    label-kind b (labelIn b l) l (search needs) (cc)
 
 label-byte-requires : tie.Need-label-byte-requires
 label-byte-requires c κs = search needs
 
 returns-2 : tie.Need-returns-2
-returns-2 c = label-unowned (c .before .before .before .before .before .args .b .now) (labelIn (c .before .before .before .before .before .args .b .now) (c .before .before .before .before .before .args .l)) (c .before .before .before .before .before .args .l) (search needs) (cc) (search needs)
+returns-2 c =
+    let start = c .before .before .before .before .before in
+    let b = start .args .b .now in
+    let l = start .args .l in
+    label-unowned b (labelIn b l) l (search needs) (cc) (search needs)
 
 byte-requires : tie.Need-byte-requires
 byte-requires c κs = search needs
 
 returns-3 : tie.Need-returns-3
-returns-3 c = label-owner (c .before .before .before .before .before .before .before .args .b .now) (labelIn (c .before .before .before .before .before .before .before .args .b .now) (c .before .before .before .before .before .before .before .args .l)) (c .before .before .before .before .before .before .before .args .l) (search needs) (cc) (search needs) (search needs)
+returns-3 c =
+    let start = c .before .before .before .before .before .before .before in
+    let b = start .args .b .now in
+    let l = start .args .l in
+    label-owner b (labelIn b l) l (search needs) (cc) (search needs) (search needs)
 
 label-byte-requires-2 : tie.Need-label-byte-requires-2
 label-byte-requires-2 c κs = search needs
 
 returns-4 : tie.Need-returns-4
-returns-4 c = ap (λ (n : ℕ). ltb 2 n) (c .label-byte2 .ensures) ∙ label-result (c .before .before .before .before .before .before .before .before .args .b .now) (labelIn (c .before .before .before .before .before .before .before .before .args .b .now) (c .before .before .before .before .before .before .before .before .args .l)) (c .before .before .before .before .before .before .before .before .args .l) (search needs) (cc) (search needs) (search needs)
+returns-4 c =
+    let start = c .before .before .before .before .before .before .before .before in
+    let b = start .args .b .now in
+    let l = start .args .l in
+    ap (λ (n : ℕ). ltb 2 n) (c .label-byte2 .ensures)
+    ∙ label-result b (labelIn b l) l (search needs) (cc) (search needs) (search needs)
 
 pub bad-numbered-spec : {M : Type 1} → statement M
 bad-numbered-spec =

@@ -1,10 +1,9 @@
 use borrow.Author.Tests.{not-true, not-false}
-use Rattle.image.specs.Check.{filled}
-use mathlib.Core.Path.{sym, _∙_, ap}
-use Prim.Native.Nat.{ℕ, _+_, _-_}
+use mathlib.Core.Path.{sym, _∙_}
+use Prim.Native.Nat.{_+_, _-_}
 use Rattle.image.specs.Decode.{rowIn, rowsFrom}
 use native.Mathlib.Omega.{arith}
-use Rattle.image.proofs.FieldCases.{test-from, row-test, row-bit, row-next, row-filled, row-within}
+use Rattle.image.proofs.FieldCases.{test-from, row-test, row-bit, row-next, row-filled, row-last, row-within}
 use borrow.Author.Needs.{needs}
 use Rattle.image.proofs.fields.bad_row.Statement.{statement}
 use Rattle.image.proofs.fields.bad_row.Tie as tie
@@ -13,13 +12,25 @@ bad-test-requires : tie.Need-bad-test-requires
 bad-test-requires c κs = search needs
 
 returns : tie.Need-returns
-returns c = row-test (c .before .before .before .args .b .now) (rowIn (c .before .before .before .args .b .now) (c .before .before .before .args .k)) (rowsFrom (c .before .before .before .args .b .now) + (c .before .before .before .args .k)) (cc)
+returns c =
+    let start = c .before .before .before in
+    let b = start .args .b .now in
+    let k = start .args .k in
+    row-test b (rowIn b k) (rowsFrom b + k) (cc)
 
 bad-bit-requires : tie.Need-bad-bit-requires
-bad-bit-requires c κs = (search needs, test-from (c .before .before .before .args .b .now) (rowIn (c .before .before .before .args .b .now) (c .before .before .before .args .k)) (cc))
+bad-bit-requires c κs =
+    let start = c .before .before .before in
+    let b = start .args .b .now in
+    let k = start .args .k in
+    (search needs, test-from b (rowIn b k) (cc))
 
 returns-2 : tie.Need-returns-2
-returns-2 c = row-bit (c .before .before .before .before .before .args .b .now) (rowIn (c .before .before .before .before .before .args .b .now) (c .before .before .before .before .before .args .k)) (rowsFrom (c .before .before .before .before .before .args .b .now) + (c .before .before .before .before .before .args .k)) (cc) (cc)
+returns-2 c =
+    let start = c .before .before .before .before .before in
+    let b = start .args .b .now in
+    let k = start .args .k in
+    row-bit b (rowIn b k) (rowsFrom b + k) (cc) (cc)
 
 row-byte-requires : tie.Need-row-byte-requires
 row-byte-requires c κs = search needs
@@ -28,7 +39,11 @@ cast-from : tie.Need-cast-from
 cast-from c = search needs
 
 label-byte-requires : tie.Need-label-byte-requires
-label-byte-requires c κs = (omega (arith, test-from (c .before .before .before .before .before .before .args .b .now) (rowIn (c .before .before .before .before .before .before .args .b .now) (c .before .before .before .before .before .before .args .k)) (cc)), search needs)
+label-byte-requires c κs =
+    let start = c .before .before .before .before .before .before in
+    let b = start .args .b .now in
+    let k = start .args .k in
+    (omega (arith, test-from b (rowIn b k) (cc)), search needs)
 
 cast-owner : tie.Need-cast-owner
 cast-owner c = search needs
@@ -43,7 +58,15 @@ is-within-requires : tie.Need-is-within-requires
 is-within-requires c κs = search needs
 
 returns-3 : tie.Need-returns-3
-returns-3 c = row-next (c .before .before .before .before .before .before .before .before .before .before .args .b .now) (rowIn (c .before .before .before .before .before .before .before .before .before .before .args .b .now) (c .before .before .before .before .before .before .before .before .before .before .args .k)) (rowsFrom (c .before .before .before .before .before .before .before .before .before .before .args .b .now) + (c .before .before .before .before .before .before .before .before .before .before .args .k)) (cc) (cc) (sym (row-within (c .before .before .before .before .before .before .before .before .before .before .args .b .now) (rowIn (c .before .before .before .before .before .before .before .before .before .before .args .b .now) (c .before .before .before .before .before .before .before .before .before .before .args .k)) _ _ _ _ (c .before .before .before .before .row-byte .ensures) (c .before .before .before .label-byte .ensures) (c .before .before .row-byte2 .ensures) (c .before .is-within .ensures)) ∙ not-true _ (c .if3 .taken))
+returns-3 c =
+    let start = c .before .before .before .before .before .before .before .before .before .before in
+    let b = start .args .b .now in
+    let k = start .args .k in
+    let row-byte = c .before .before .before .before .row-byte in
+    row-next b (rowIn b k) (rowsFrom b + k) (cc) (cc)
+    (sym (row-within b (rowIn b k) _ _ _ _ (row-byte .ensures) (c .before .before .before .label-byte .ensures)
+    (c .before .before .row-byte2 .ensures) (c .before .is-within .ensures))
+    ∙ not-true _ (c .if3 .taken))
 
 rows-from-requires : tie.Need-rows-from-requires
 rows-from-requires c κs = search needs
@@ -55,7 +78,18 @@ filled-to-requires : tie.Need-filled-to-requires
 filled-to-requires c κs = search needs
 
 returns-4 : tie.Need-returns-4
-returns-4 c = c .filled-to .ensures ∙ ap (λ (n : ℕ). filled (c .before .before .before .before .before .before .before .before .before .before .before .before .args .b .now) (n + c .before .before .before .before .before .before .before .before .before .before .before .before .args .k) 8 2) (c .before .rows-from .ensures) ∙ row-filled (c .before .before .before .before .before .before .before .before .before .before .before .before .args .b .now) (rowIn (c .before .before .before .before .before .before .before .before .before .before .before .before .args .b .now) (c .before .before .before .before .before .before .before .before .before .before .before .before .args .k)) (rowsFrom (c .before .before .before .before .before .before .before .before .before .before .before .before .args .b .now) + c .before .before .before .before .before .before .before .before .before .before .before .before .args .k) (cc) (cc) (sym (row-within (c .before .before .before .before .before .before .before .before .before .before .before .before .args .b .now) (rowIn (c .before .before .before .before .before .before .before .before .before .before .before .before .args .b .now) (c .before .before .before .before .before .before .before .before .before .before .before .before .args .k)) _ _ _ _ (c .before .before .before .before .before .before .row-byte .ensures) (c .before .before .before .before .before .label-byte .ensures) (c .before .before .before .before .row-byte2 .ensures) (c .before .before .before .is-within .ensures)) ∙ not-false _ (c .before .before .if3 .left))
+returns-4 c =
+    let start = c .before .before .before .before .before .before .before .before .before .before .before .before in
+    let b = start .args .b .now in
+    let k = start .args .k in
+    let row-byte = c .before .before .before .before .before .before .row-byte in
+    let label-byte = c .before .before .before .before .before .label-byte in
+    let row-byte2 = c .before .before .before .before .row-byte2 in
+    row-last b k _ _ (c .filled-to .ensures) (c .before .rows-from .ensures)
+    (row-filled b (rowIn b k) (rowsFrom b + k) (cc) (cc)
+    (sym (row-within b (rowIn b k) _ _ _ _ (row-byte .ensures) (label-byte .ensures) (row-byte2 .ensures)
+    (c .before .before .before .is-within .ensures))
+    ∙ not-false _ (c .before .before .if3 .left)))
 
 pub bad-row-spec : {M : Type 1} → statement M
 bad-row-spec =

@@ -13,13 +13,21 @@ row-byte-requires : tie.Need-row-byte-requires
 row-byte-requires c κs = search needs
 
 returns : tie.Need-returns
-returns c = test-low (c .before .before .before .args .b .now) (rowIn (c .before .before .before .args .b .now) (c .before .before .before .args .k)) (search needs)
+returns c =
+    let start = c .before .before .before in
+    let b = start .args .b .now in
+    let k = start .args .k in
+    test-low b (rowIn b k) (search needs)
 
 byte-requires : tie.Need-byte-requires
 byte-requires c κs = search needs
 
 returns-2 : tie.Need-returns-2
-returns-2 c = test-high (c .before .before .before .before .before .args .b .now) (rowIn (c .before .before .before .before .before .args .b .now) (c .before .before .before .before .before .args .k)) (search needs) (search needs)
+returns-2 c =
+    let start = c .before .before .before .before .before in
+    let b = start .args .b .now in
+    let k = start .args .k in
+    test-high b (rowIn b k) (search needs) (search needs)
 
 row-pair-requires : tie.Need-row-pair-requires
 row-pair-requires c κs = search needs
@@ -28,7 +36,14 @@ row-pair-requires-2 : tie.Need-row-pair-requires-2
 row-pair-requires-2 c κs = search needs
 
 returns-3 : tie.Need-returns-3
-returns-3 c = ap (λ (n : ℕ). not (eqb (bitAnd (c .before .row-pair .result) n) (c .before .row-pair .result))) (c .row-pair2 .ensures) ∙ ap (λ (n : ℕ). not (eqb (bitAnd n (rowIn (c .before .before .before .before .before .before .before .args .b .now) (c .before .before .before .before .before .before .before .args .k) .care)) n)) (c .before .row-pair .ensures) ∙ test-values (c .before .before .before .before .before .before .before .args .b .now) (rowIn (c .before .before .before .before .before .before .before .args .b .now) (c .before .before .before .before .before .before .before .args .k)) (search needs) (search needs)
+returns-3 c =
+    let start = c .before .before .before .before .before .before .before in
+    let b = start .args .b .now in
+    let k = start .args .k in
+    ap (λ (n : ℕ). not (eqb (bitAnd (c .before .row-pair .result) n) (c .before .row-pair .result)))
+    (c .row-pair2 .ensures)
+    ∙ ap (λ (n : ℕ). not (eqb (bitAnd n (rowIn b k .care)) n)) (c .before .row-pair .ensures)
+    ∙ test-values b (rowIn b k) (search needs) (search needs)
 
 pub bad-test-spec : {M : Type 1} → statement M
 bad-test-spec =

@@ -19,13 +19,28 @@ cast-if2 : tie.Need-cast-if2
 cast-if2 c = search needs
 
 returns-2 : tie.Need-returns-2
-returns-2 c = within-owned (c .before .before .before .before .before .args .b .now) (c .before .before .before .before .before .args .h) (c .before .before .before .before .before .args .l) (search needs) (search needs)
+returns-2 c =
+    let start = c .before .before .before .before .before in
+    let b = start .args .b .now in
+    let h = start .args .h in
+    let l = start .args .l in
+    within-owned b h l (search needs) (search needs)
 
 returns-3 : tie.Need-returns-3
-returns-3 c = within-one (c .before .before .before .before .before .before .args .b .now) (c .before .before .before .before .before .before .args .h) (c .before .before .before .before .before .before .args .l) (search needs) (search needs) (search needs)
+returns-3 c =
+    let start = c .before .before .before .before .before .before in
+    let b = start .args .b .now in
+    let h = start .args .h in
+    let l = start .args .l in
+    within-one b h l (search needs) (search needs) (search needs)
 
 returns-4 : tie.Need-returns-4
-returns-4 c = within-other (c .before .before .before .before .before .before .args .b .now) (c .before .before .before .before .before .before .args .h) (c .before .before .before .before .before .before .args .l) (search needs) (search needs) (search needs)
+returns-4 c =
+    let start = c .before .before .before .before .before .before in
+    let b = start .args .b .now in
+    let h = start .args .h in
+    let l = start .args .l in
+    within-other b h l (search needs) (search needs) (search needs)
 
 pub is-within-spec : {M : Type 1} → statement M
 is-within-spec =

@@ -25,7 +25,9 @@ pair-requires : tie.Need-pair-requires
 pair-requires c κs = search needs
 
 returns-4 : tie.Need-returns-4
-returns-4 c = ap (λ (n : ℕ). ltb 1024 n) (c .pair .ensures) ∙ counts-rows (c .before .before .before .before .before .before .before .args .b .now) (search needs) (search needs) (search needs)
+returns-4 c =
+    let b = c .before .before .before .before .before .before .before .args .b .now in
+    ap (λ (n : ℕ). ltb 1024 n) (c .pair .ensures) ∙ counts-rows b (search needs) (search needs) (search needs)
 
 pub bad-counts-spec : {M : Type 1} → statement M
 bad-counts-spec =

@@ -37,10 +37,14 @@ cast-result : tie.Need-cast-result
 cast-result c = search needs
 
 add-result : tie.Need-add-result
-add-result c = omega (arith, c .before .before .before .before .before .before .before .before .shared-slice-known .given 1, c .before .before .before .before .before .before .before .before .shared-slice-known .given 2)
+add-result c =
+    let shared-slice-known = c .before .before .before .before .before .before .before .before .shared-slice-known in
+    omega (arith, shared-slice-known .given 1, shared-slice-known .given 2)
 
 returns-4 : tie.Need-returns-4
-returns-4 c = ap (λ (n : ℕ). not (eqb (size (c .before .before .before .before .before .before .before .before .before .args .b .now)) n)) (cc) ∙ header-frames (c .before .before .before .before .before .before .before .before .before .args .b .now) (search needs) (cc) (cc)
+returns-4 c =
+    let b = c .before .before .before .before .before .before .before .before .before .args .b .now in
+    ap (λ (n : ℕ). not (eqb (size b) n)) (cc) ∙ header-frames b (search needs) (cc) (cc)
 
 pub bad-header-spec : {M : Type 1} → statement M
 bad-header-spec =

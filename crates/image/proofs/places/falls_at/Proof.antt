@@ -16,7 +16,11 @@ row-byte-requires-2 : tie.Need-row-byte-requires-2
 row-byte-requires-2 c κs = search needs
 
 returns-2 : tie.Need-returns-2
-returns-2 c = falls-later (c .before .before .before .before .args .b .now) (c .before .before .before .before .args .k) _ _ (search needs) (c .before .row-byte .ensures) (c .row-byte2 .ensures)
+returns-2 c =
+    let start = c .before .before .before .before in
+    let b = start .args .b .now in
+    let k = start .args .k in
+    falls-later b k _ _ (search needs) (c .before .row-byte .ensures) (c .row-byte2 .ensures)
 
 pub falls-at-spec : {M : Type 1} → statement M
 falls-at-spec =

@@ -16,10 +16,18 @@ rows-from-requires : tie.Need-rows-from-requires
 rows-from-requires c κs = search needs
 
 returns-3 : tie.Need-returns-3
-returns-3 c = kind-label (c .before .before .before .before .before .before .args .b .now) (c .before .before .before .before .before .before .args .f) (search needs) (search needs) (search needs)
+returns-3 c =
+    let start = c .before .before .before .before .before .before in
+    let b = start .args .b .now in
+    let f = start .args .f in
+    kind-label b f (search needs) (search needs) (search needs)
 
 returns-4 : tie.Need-returns-4
-returns-4 c = kind-row (c .before .before .before .before .before .before .args .b .now) (c .before .before .before .before .before .before .args .f) (search needs) (search needs)
+returns-4 c =
+    let start = c .before .before .before .before .before .before in
+    let b = start .args .b .now in
+    let f = start .args .f in
+    kind-row b f (search needs) (search needs)
 
 pub kind-at-spec : {M : Type 1} → statement M
 kind-at-spec =

@@ -1,6 +1,7 @@
 use Prim.Native.Nat.{_-_}
 use native.Mathlib.Omega.{arith}
-use Rattle.image.proofs.PlaceCases.{label-above, row-above, stray-entry-kind, stray-entry, stray-label-kind, stray-label, stray-row-kind, stray-row, stray-header}
+use Rattle.image.proofs.PlaceCases.{label-above, row-above, stray-entry-kind, stray-entry, stray-label-kind}
+use Rattle.image.proofs.PlaceCases.{stray-label, stray-row-kind, stray-row, stray-header}
 use borrow.Author.Needs.{needs}
 use Rattle.image.proofs.places.stray_at.Statement.{statement}
 use Rattle.image.proofs.places.stray_at.Tie as tie
@@ -12,7 +13,11 @@ kind-at-requires : tie.Need-kind-at-requires
 kind-at-requires c κs = search needs
 
 returns : tie.Need-returns
-returns c = stray-entry-kind (c .before .before .before .before .before .args .b .now) (c .before .before .before .before .before .args .f) (search needs) (search needs)
+returns c =
+    let start = c .before .before .before .before .before in
+    let b = start .args .b .now in
+    let f = start .args .f in
+    stray-entry-kind b f (search needs) (search needs)
 
 byte-requires-2 : tie.Need-byte-requires-2
 byte-requires-2 c κs = search needs
@@ -21,7 +26,11 @@ cast-result : tie.Need-cast-result
 cast-result c = search needs
 
 returns-2 : tie.Need-returns-2
-returns-2 c = stray-label-kind (c .before .before .before .before .before .args .b .now) (c .before .before .before .before .before .args .f) (search needs) (search needs)
+returns-2 c =
+    let start = c .before .before .before .before .before in
+    let b = start .args .b .now in
+    let f = start .args .f in
+    stray-label-kind b f (search needs) (search needs)
 
 byte-requires-3 : tie.Need-byte-requires-3
 byte-requires-3 c κs = search needs
@@ -33,31 +42,63 @@ labels-from-requires : tie.Need-labels-from-requires
 labels-from-requires c κs = search needs
 
 sub-result : tie.Need-sub-result
-sub-result c = omega (arith, label-above (c .before .before .before .before .before .before .before .args .b .now) (c .before .before .before .before .before .before .before .args .f) (search needs))
+sub-result c =
+    let start = c .before .before .before .before .before .before .before in
+    let b = start .args .b .now in
+    let f = start .args .f in
+    omega (arith, label-above b f (search needs))
 
 returns-3 : tie.Need-returns-3
-returns-3 c = stray-row-kind (c .before .before .before .before .before .args .b .now) (c .before .before .before .before .before .args .f) (search needs) (search needs)
+returns-3 c =
+    let start = c .before .before .before .before .before in
+    let b = start .args .b .now in
+    let f = start .args .f in
+    stray-row-kind b f (search needs) (search needs)
 
 rows-from-requires : tie.Need-rows-from-requires
 rows-from-requires c κs = search needs
 
 sub-falls-at : tie.Need-sub-falls-at
-sub-falls-at c = omega (arith, row-above (c .before .before .before .before .before .before .args .b .now) (c .before .before .before .before .before .before .args .f) (search needs))
+sub-falls-at c =
+    let start = c .before .before .before .before .before .before in
+    let b = start .args .b .now in
+    let f = start .args .f in
+    omega (arith, row-above b f (search needs))
 
 falls-at-requires : tie.Need-falls-at-requires
-falls-at-requires c κs = omega (arith, row-above (c .before .before .before .before .before .before .args .b .now) (c .before .before .before .before .before .before .args .f) (search needs))
+falls-at-requires c κs =
+    let start = c .before .before .before .before .before .before in
+    let b = start .args .b .now in
+    let f = start .args .f in
+    omega (arith, row-above b f (search needs))
 
 returns-4 : tie.Need-returns-4
-returns-4 c = stray-entry (c .before .before .before .before .before .before .args .b .now) (c .before .before .before .before .before .before .args .f) _ (search needs) (search needs) (c .byte2 .ensures)
+returns-4 c =
+    let start = c .before .before .before .before .before .before in
+    let b = start .args .b .now in
+    let f = start .args .f in
+    stray-entry b f _ (search needs) (search needs) (c .byte2 .ensures)
 
 returns-5 : tie.Need-returns-5
-returns-5 c = stray-label (c .before .before .before .before .before .before .before .args .b .now) (c .before .before .before .before .before .before .before .args .f) _ _ (search needs) (search needs) (c .before .byte3 .ensures) (c .labels-from .ensures)
+returns-5 c =
+    let start = c .before .before .before .before .before .before .before in
+    let b = start .args .b .now in
+    let f = start .args .f in
+    stray-label b f _ _ (search needs) (search needs) (c .before .byte3 .ensures) (c .labels-from .ensures)
 
 returns-6 : tie.Need-returns-6
-returns-6 c = stray-row (c .before .before .before .before .before .before .before .args .b .now) (c .before .before .before .before .before .before .before .args .f) _ _ (search needs) (search needs) (c .before .rows-from .ensures) (c .falls-at .ensures)
+returns-6 c =
+    let start = c .before .before .before .before .before .before .before in
+    let b = start .args .b .now in
+    let f = start .args .f in
+    stray-row b f _ _ (search needs) (search needs) (c .before .rows-from .ensures) (c .falls-at .ensures)
 
 returns-7 : tie.Need-returns-7
-returns-7 c = stray-header (c .before .before .before .before .args .b .now) (c .before .before .before .before .args .f) (search needs) (search needs) (search needs)
+returns-7 c =
+    let start = c .before .before .before .before in
+    let b = start .args .b .now in
+    let f = start .args .f in
+    stray-header b f (search needs) (search needs) (search needs)
 
 pub stray-at-spec : {M : Type 1} → statement M
 stray-at-spec =

@@ -18,25 +18,65 @@ same-length : tie.Need-same-length
 same-length c = search needs
 
 returns : tie.Need-returns
-returns c = (read-refused (c .before .before .before .before .before .before .before .before .args .text .now) (c .before .before .before .before .read-text .result) (c .before .before .before .before .read-text .ensures .0) (c .enum-told .given .0 .0) (c .enum-told .given .0 .1 .0) (c .enum-told .given .0 .1 .1 .0) (c .enum-told .given .1), c .before .before .before .before .read-text .ensures .1)
+returns c =
+    let text = c .before .before .before .before .before .before .before .before .args .text .now in
+    let read-text = c .before .before .before .before .read-text in (
+      read-refused text (read-text .result) (read-text .ensures .0) (c .enum-told .given .0 .0)
+          (c .enum-told .given .0 .1 .0) (c .enum-told .given .0 .1 .1 .0) (c .enum-told .given .1),
+      read-text .ensures .1,
+    )
 
 mul-n : tie.Need-mul-n
-mul-n c = omega (arith, (read-good (c .before .before .before .before .before .before .before .before .before .args .text .now) (c .before .before .before .before .before .read-text .result) (c .before .before .before .before .before .read-text .ensures .0) (c .before .answer .given .0 .0) (c .before .answer .given .1)) .most)
+mul-n c =
+    let text = c .before .before .before .before .before .before .before .before .before .args .text .now in
+    let read-text = c .before .before .before .before .before .read-text in
+    let answer = c .before .answer in
+    let good = read-good text (read-text .result) (read-text .ensures .0) (answer .given .0 .0) (answer .given .1) in
+    omega (arith, good .most)
 
 slice-reshare-prefix-check-table : tie.Need-slice-reshare-prefix-check-table
-slice-reshare-prefix-check-table c = omega (arith, (read-good (c .before .before .before .before .before .before .before .before .before .args .text .now) (c .before .before .before .before .before .read-text .result) (c .before .before .before .before .before .read-text .ensures .0) (c .before .answer .given .0 .0) (c .before .answer .given .1)) .most, c .before .before .before .before .before .read-text .kept .1 .1 .0)
+slice-reshare-prefix-check-table c =
+    let text = c .before .before .before .before .before .before .before .before .before .args .text .now in
+    let read-text = c .before .before .before .before .before .read-text in
+    let answer = c .before .answer in
+    let good = read-good text (read-text .result) (read-text .ensures .0) (answer .given .0 .0) (answer .given .1) in
+    omega (arith, good .most, read-text .kept .1 .1 .0)
 
 slice-aggregate-check-table : tie.Need-slice-aggregate-check-table
-slice-aggregate-check-table c = front-length (c .before .before .before .before .before .before .before .before .before .before .args .text .now) (c .before .before .before .before .before .before .before .before .before .before .args .table .now) (c .before .before .before .before .before .before .read-text .last .1 .1 .0) (c .before .before .answer .given .0 .0) (read-good (c .before .before .before .before .before .before .before .before .before .before .args .text .now) (c .before .before .before .before .before .before .read-text .result) (c .before .before .before .before .before .before .read-text .ensures .0) (c .before .before .answer .given .0 .0) (c .before .before .answer .given .1)) (c .before .before .before .before .before .before .read-text .ensures .1)
+slice-aggregate-check-table c =
+    let start = c .before .before .before .before .before .before .before .before .before .before in
+    let text = start .args .text .now in
+    let table = start .args .table .now in
+    let read-text = c .before .before .before .before .before .before .read-text in
+    let answer = c .before .before .answer in
+    let good = read-good text (read-text .result) (read-text .ensures .0) (answer .given .0 .0) (answer .given .1) in
+    front-length text table (read-text .last .1 .1 .0) (answer .given .0 .0) good (read-text .ensures .1)
 
 check-table-requires : tie.Need-check-table-requires
-check-table-requires c κs = omega (arith, front-size (c .before .before .before .before .before .before .before .before .before .before .args .text .now) (c .before .before .before .before .before .before .before .before .before .before .args .table .now) (c .before .before .before .before .before .before .read-text .last .1 .1 .0) (c .before .before .answer .given .0 .0) (read-good (c .before .before .before .before .before .before .before .before .before .before .args .text .now) (c .before .before .before .before .before .before .read-text .result) (c .before .before .before .before .before .before .read-text .ensures .0) (c .before .before .answer .given .0 .0) (c .before .before .answer .given .1)) (c .before .before .before .before .before .before .read-text .ensures .1), (read-good (c .before .before .before .before .before .before .before .before .before .before .args .text .now) (c .before .before .before .before .before .before .read-text .result) (c .before .before .before .before .before .before .read-text .ensures .0) (c .before .before .answer .given .0 .0) (c .before .before .answer .given .1)) .some)
+check-table-requires c κs =
+    let start = c .before .before .before .before .before .before .before .before .before .before in
+    let text = start .args .text .now in
+    let table = start .args .table .now in
+    let read-text = c .before .before .before .before .before .before .read-text in
+    let answer = c .before .before .answer in
+    let good = read-good text (read-text .result) (read-text .ensures .0) (answer .given .0 .0) (answer .given .1) in
+    omega (arith, front-size text table (read-text .last .1 .1 .0) (answer .given .0 .0) good (read-text .ensures .1), good .some)
 
 same-length-2 : tie.Need-same-length-2
 same-length-2 c = search needs
 
 returns-2 : tie.Need-returns-2
-returns-2 c = (read-done (c .before .before .before .before .before .before .before .before .before .before .before .args .text .now) (c .before .before .before .before .before .before .before .before .before .before .before .args .table .now) (c .before .before .before .before .before .before .before .read-text .last .1 .1 .0) (c .before .before .before .answer .given .0 .0) (read-good (c .before .before .before .before .before .before .before .before .before .before .before .args .text .now) (c .before .before .before .before .before .before .before .read-text .result) (c .before .before .before .before .before .before .before .read-text .ensures .0) (c .before .before .before .answer .given .0 .0) (c .before .before .before .answer .given .1)) (c .before .before .before .before .before .before .before .read-text .ensures .1) (c .check-table .result) (c .check-table .ensures), c .before .before .before .before .before .before .before .read-text .ensures .1)
+returns-2 c =
+    let start = c .before .before .before .before .before .before .before .before .before .before .before in
+    let text = start .args .text .now in
+    let table = start .args .table .now in
+    let read-text = c .before .before .before .before .before .before .before .read-text in
+    let answer = c .before .before .before .answer in
+    let good = read-good text (read-text .result) (read-text .ensures .0) (answer .given .0 .0) (answer .given .1) in (
+      read-done text table (read-text .last .1 .1 .0) (answer .given .0 .0) good (read-text .ensures .1)
+          (c .check-table .result) (c .check-table .ensures),
+      read-text .ensures .1,
+    )
 
 pub read-image-spec : {M : Type 1} → statement M
 read-image-spec =

@@ -15,7 +15,12 @@ byte-requires : tie.Need-byte-requires
 byte-requires c κs = search needs
 
 returns : tie.Need-returns
-returns c = c .byte .ensures ∙ ap (λ (n : ℕ). field (c .before .before .before .args .b .now) (n + (c .before .before .before .args .l)) (c .before .before .before .args .k)) (c .before .labels-from .ensures)
+returns c =
+    let start = c .before .before .before in
+    let b = start .args .b .now in
+    let l = start .args .l in
+    let k = start .args .k in
+    c .byte .ensures ∙ ap (λ (n : ℕ). field b (n + l) k) (c .before .labels-from .ensures)
 
 pub label-byte-spec : {M : Type 1} → statement M
 label-byte-spec = tie.close (tie.spec labels-from-requires add-byte byte-requires returns)

@@ -15,7 +15,11 @@ quad-requires : tie.Need-quad-requires
 quad-requires c κs = search needs
 
 returns : tie.Need-returns
-returns c = c .quad .ensures ∙ ap (λ (n : ℕ). quadAt (c .before .before .before .args .b .now) (n + (c .before .before .before .args .l)) 6) (c .before .labels-from .ensures)
+returns c =
+    let start = c .before .before .before in
+    let b = start .args .b .now in
+    let l = start .args .l in
+    c .quad .ensures ∙ ap (λ (n : ℕ). quadAt b (n + l) 6) (c .before .labels-from .ensures)
 
 pub label-mask-spec : {M : Type 1} → statement M
 label-mask-spec = tie.close (tie.spec labels-from-requires add-quad quad-requires returns)

@@ -15,7 +15,12 @@ byte-requires : tie.Need-byte-requires
 byte-requires c κs = search needs
 
 returns : tie.Need-returns
-returns c = c .byte .ensures ∙ ap (λ (n : ℕ). field (c .before .before .before .args .b .now) (n + (c .before .before .before .args .k)) (c .before .before .before .args .j)) (c .before .rows-from .ensures)
+returns c =
+    let start = c .before .before .before in
+    let b = start .args .b .now in
+    let k = start .args .k in
+    let j = start .args .j in
+    c .byte .ensures ∙ ap (λ (n : ℕ). field b (n + k) j) (c .before .rows-from .ensures)
 
 pub row-byte-spec : {M : Type 1} → statement M
 row-byte-spec = tie.close (tie.spec rows-from-requires add-byte byte-requires returns)

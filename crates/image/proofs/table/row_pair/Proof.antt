@@ -15,7 +15,12 @@ pair-requires : tie.Need-pair-requires
 pair-requires c κs = search needs
 
 returns : tie.Need-returns
-returns c = c .pair .ensures ∙ ap (λ (n : ℕ). pairAt (c .before .before .before .args .b .now) (n + (c .before .before .before .args .k)) (c .before .before .before .args .j)) (c .before .rows-from .ensures)
+returns c =
+    let start = c .before .before .before in
+    let b = start .args .b .now in
+    let k = start .args .k in
+    let j = start .args .j in
+    c .pair .ensures ∙ ap (λ (n : ℕ). pairAt b (n + k) j) (c .before .rows-from .ensures)
 
 pub row-pair-spec : {M : Type 1} → statement M
 row-pair-spec = tie.close (tie.spec rows-from-requires add-pair pair-requires returns)
