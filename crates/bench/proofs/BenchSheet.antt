@@ -21,7 +21,7 @@ use Rattle.charts.specs.Entry.{readVerdict}
 use Rattle.walk.specs.Stops.{stops, start, follow, stopAt}
 use Rattle.image.specs.Image.{Image, imageFrames, imageText}
 use Rattle.image.specs.Decode.{decoded}
-use Rattle.image.specs.Check.{badHeader, placeOf, stray, badContent, tableVerdict, imageVerdict}
+use Rattle.image.specs.Check.{badHeader, positionOf, stray, badContent, tableVerdict, imageVerdict}
 use Rattle.walk.specs.Walk.{spent, after, ticksOf, tick as oneTick, perform, walk}
 use Rattle.translator.specs.Labels.{label}
 use Rattle.translator.specs.Rows.{paths, rowsOf, rows}
@@ -46,7 +46,7 @@ runs : (freshRun imageP 3 words ≡ record {
 })
     × (freshRun imageP 2 words .reply ≡ refusal 17 0 3) × (freshRun imageP 1 words .reply ≡ refusal 17 0 1) × (freshRun imageP 3 [] .reply ≡ success 0)
     × (freshRun (imageOf 276 chartFunction) 2 (replicate 6 0) .codes ≡ 4 ∷ 66 ∷ 0 ∷ 3 ∷ 0 ∷ 4 ∷ [])
-unfolding lowest any count sum highest some filter concatMap mapFrom reach digitOf charOf contents total frameText badForm badSum textVerdict nodeOf badField chartVerdict readVerdict stops start label paths rowsOf rows table imageFrames imageText translateVerdict translate characters badHeader placeOf stray badContent tableVerdict imageVerdict decoded freshState unfit firstRow tick ticks runVerdict run imageP words chartFunction
+unfolding lowest any count sum highest some filter concatMap mapFrom reach digitOf charOf contents total frameText badForm badSum textVerdict nodeOf badField chartVerdict readVerdict stops start label paths rowsOf rows table imageFrames imageText translateVerdict translate characters badHeader positionOf stray badContent tableVerdict imageVerdict decoded freshState unfit firstRow tick ticks runVerdict run imageP words chartFunction
 runs = (refl, refl, refl, refl, refl)
 
 -- ---- B6
@@ -63,12 +63,12 @@ home-image : Image
 home-image = decoded (contents (imageOf 92 chartHome))
 
 home-ticks : (ws : List ℕ) → ticks home-image (fresh 1) ws .codes ≡ map (λ w. 4) ws
-unfolding home-image lowest any count sum highest some filter concatMap mapFrom reach digitOf charOf contents total frameText badForm badSum textVerdict nodeOf badField chartVerdict readVerdict stops start label paths rowsOf rows table imageFrames imageText translateVerdict translate characters badHeader placeOf stray badContent tableVerdict imageVerdict decoded freshState unfit firstRow tick ticks runVerdict run chartHome
+unfolding home-image lowest any count sum highest some filter concatMap mapFrom reach digitOf charOf contents total frameText badForm badSum textVerdict nodeOf badField chartVerdict readVerdict stops start label paths rowsOf rows table imageFrames imageText translateVerdict translate characters badHeader positionOf stray badContent tableVerdict imageVerdict decoded freshState unfit firstRow tick ticks runVerdict run chartHome
 home-ticks [] = refl
 home-ticks (w ∷ ws) = ap (λ (ks : List ℕ). 4 ∷ ks) (home-ticks ws)
 
 home-verdict : (ws ms ks : List ℕ) → runVerdict (imageOf 92 chartHome) (freshState 1 .state) ws ms ks ≡ when 16 (noRoom ws ms ks)
-unfolding lowest any count sum highest some filter concatMap mapFrom reach digitOf charOf contents total frameText badForm badSum textVerdict nodeOf badField chartVerdict readVerdict stops start label paths rowsOf rows table imageFrames imageText translateVerdict translate characters badHeader placeOf stray badContent tableVerdict imageVerdict decoded freshState unfit firstRow tick ticks runVerdict run chartHome
+unfolding lowest any count sum highest some filter concatMap mapFrom reach digitOf charOf contents total frameText badForm badSum textVerdict nodeOf badField chartVerdict readVerdict stops start label paths rowsOf rows table imageFrames imageText translateVerdict translate characters badHeader positionOf stray badContent tableVerdict imageVerdict decoded freshState unfit firstRow tick ticks runVerdict run chartHome
 home-verdict ws ms ks = refl
 
 room : (ws : List ℕ) → noRoom ws (replicate (length ws) 0) (replicate (length ws) 0) ≡ false

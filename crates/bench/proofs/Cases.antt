@@ -12,7 +12,7 @@ use Rattle.charts.specs.Entry.{readVerdict, readChart, writeVerdict}
 use Rattle.walk.specs.Stops.{stops, start}
 use Rattle.image.specs.Image.{imageFrames, imageText}
 use Rattle.image.specs.Decode.{decoded}
-use Rattle.image.specs.Check.{badHeader, placeOf, stray, badContent, tableVerdict, imageVerdict}
+use Rattle.image.specs.Check.{badHeader, positionOf, stray, badContent, tableVerdict, imageVerdict}
 use Rattle.translator.specs.Labels.{label}
 use Rattle.translator.specs.Rows.{paths, rowsOf, rows}
 use Rattle.translator.specs.Table.{table}
@@ -24,7 +24,7 @@ use Rattle.bench.specs.Bench.{characters, chartP, imageP, words}
 use Rattle.bench.specs.Cases.{RefusalCases}
 
 pub refusal-cases : RefusalCases
-unfolding lowest any count sum highest some filter concatMap mapFrom reach digitOf charOf contents total frameText badForm badSum textVerdict nodeOf badField chartVerdict readVerdict stops start label paths rowsOf rows table imageFrames imageText translateVerdict translate characters textOf readChart writeVerdict badHeader placeOf stray badContent tableVerdict imageVerdict decoded freshState unfit firstRow tick ticks runVerdict run chartP imageP words
+unfolding lowest any count sum highest some filter concatMap mapFrom reach digitOf charOf contents total frameText badForm badSum textVerdict nodeOf badField chartVerdict readVerdict stops start label paths rowsOf rows table imageFrames imageText translateVerdict translate characters textOf readChart writeVerdict badHeader positionOf stray badContent tableVerdict imageVerdict decoded freshState unfit firstRow tick ticks runVerdict run chartP imageP words
 refusal-cases = record {
   r1-short = refl;
   r1-records = refl;

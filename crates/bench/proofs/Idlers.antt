@@ -19,7 +19,7 @@ use Rattle.charts.specs.Entry.{readVerdict}
 use Rattle.walk.specs.Stops.{stops, start}
 use Rattle.image.specs.Image.{imageFrames, imageText}
 use Rattle.image.specs.Decode.{decoded}
-use Rattle.image.specs.Check.{badHeader, placeOf, stray, badContent, tableVerdict, imageVerdict}
+use Rattle.image.specs.Check.{badHeader, positionOf, stray, badContent, tableVerdict, imageVerdict}
 use Rattle.translator.specs.Labels.{label}
 use Rattle.translator.specs.Rows.{paths, rowsOf, rows}
 use Rattle.translator.specs.Table.{table}
@@ -70,7 +70,7 @@ abbrev pub plainAfterCall : Step
 plainAfterCall i s w = pick (eqb (s .depth) 1) (tick i s w) (ticked 0 0 s)
 
 pub plain-after-call-fails : Agreement translate freshState (runBy plainAfterCall) → ⊥
-unfolding ticksBy imageP words lowest any count sum highest some filter concatMap mapFrom reach digitOf charOf contents total frameText badForm badSum textVerdict nodeOf badField chartVerdict readVerdict stops start label paths rowsOf rows table imageFrames imageText translateVerdict translate characters badHeader placeOf stray badContent tableVerdict imageVerdict decoded unfit firstRow tick ticks runVerdict run
+unfolding ticksBy imageP words lowest any count sum highest some filter concatMap mapFrom reach digitOf charOf contents total frameText badForm badSum textVerdict nodeOf badField chartVerdict readVerdict stops start label paths rowsOf rows table imageFrames imageText translateVerdict translate characters badHeader positionOf stray badContent tableVerdict imageVerdict decoded unfit firstRow tick ticks runVerdict run
 plain-after-call-fails claim = let z : _≡_ {A = ℕ} 0 18 = ap (codeAt 3) (at-deep (runBy plainAfterCall) claim) in omega arith
 
 -- nothing changes, whatever is answered
@@ -91,5 +91,5 @@ miscounted image s ws masks codes =
     record { reply = oneMore (r .reply); state = r .state; masks = r .masks; codes = r .codes }
 
 pub miscounted-fails : Agreement translate freshState miscounted → ⊥
-unfolding imageHome lowest any count sum highest some filter concatMap mapFrom reach digitOf charOf contents total frameText badForm badSum textVerdict nodeOf badField chartVerdict readVerdict stops start label paths rowsOf rows table imageFrames imageText translateVerdict translate characters badHeader placeOf stray badContent tableVerdict imageVerdict decoded unfit firstRow tick ticks runVerdict run
+unfolding imageHome lowest any count sum highest some filter concatMap mapFrom reach digitOf charOf contents total frameText badForm badSum textVerdict nodeOf badField chartVerdict readVerdict stops start label paths rowsOf rows table imageFrames imageText translateVerdict translate characters badHeader positionOf stray badContent tableVerdict imageVerdict decoded unfit firstRow tick ticks runVerdict run
 miscounted-fails claim = let z : _≡_ {A = ℕ} 2 1 = ap (λ (t : Told). replyCount (t .reply)) (at-home miscounted claim) in omega arith

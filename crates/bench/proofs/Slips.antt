@@ -22,7 +22,7 @@ use Rattle.charts.specs.Entry.{readVerdict}
 use Rattle.walk.specs.Stops.{stops, start}
 use Rattle.image.specs.Image.{Image, Row, imageFrames, imageText}
 use Rattle.image.specs.Decode.{decoded}
-use Rattle.image.specs.Check.{badHeader, placeOf, stray, badContent, tableVerdict, imageVerdict}
+use Rattle.image.specs.Check.{badHeader, positionOf, stray, badContent, tableVerdict, imageVerdict}
 use Rattle.translator.specs.Labels.{label}
 use Rattle.translator.specs.Rows.{paths, rowsOf, rows}
 use Rattle.translator.specs.Table.{table}
@@ -54,7 +54,7 @@ abbrev pub callsAgain : Step
 callsAgain i s w = pick (eqb (kindOf i s) 3) (ticked 0 3 (dropped s)) (tick i s w)
 
 pub calls-again-fails : Agreement translate freshState (runBy callsAgain) → ⊥
-unfolding ticksBy imageP words lowest any count sum highest some filter concatMap mapFrom reach digitOf charOf contents total frameText badForm badSum textVerdict nodeOf badField chartVerdict readVerdict stops start label paths rowsOf rows table imageFrames imageText translateVerdict translate characters badHeader placeOf stray badContent tableVerdict imageVerdict decoded unfit firstRow tick runVerdict
+unfolding ticksBy imageP words lowest any count sum highest some filter concatMap mapFrom reach digitOf charOf contents total frameText badForm badSum textVerdict nodeOf badField chartVerdict readVerdict stops start label paths rowsOf rows table imageFrames imageText translateVerdict translate characters badHeader positionOf stray badContent tableVerdict imageVerdict decoded unfit firstRow tick runVerdict
 calls-again-fails claim = let z : _≡_ {A = ℕ} 18 3 = ap (codeAt 6) (at-deep (runBy callsAgain) claim) in omega arith
 
 -- ---- what a call saw is kept in a result bit that the chart has no scheme for, and the return goes by it
@@ -76,7 +76,7 @@ readsAtCall i s w = pick (eqb (kindOf i s) 3)
     (pick (eqb (kindOf i s) 2) (remember 15 (resultOf (labelAt i (top s) .called) (s .bits)) (tick i s w)) (tick i s w))
 
 pub reads-at-call-fails : Agreement translate freshState (runBy readsAtCall) → ⊥
-unfolding ticksBy imageFunction lowest any count sum highest some filter concatMap mapFrom reach digitOf charOf contents total frameText badForm badSum textVerdict nodeOf badField chartVerdict readVerdict stops start label paths rowsOf rows table imageFrames imageText translateVerdict translate characters badHeader placeOf stray badContent tableVerdict imageVerdict decoded unfit firstRow tick runVerdict
+unfolding ticksBy imageFunction lowest any count sum highest some filter concatMap mapFrom reach digitOf charOf contents total frameText badForm badSum textVerdict nodeOf badField chartVerdict readVerdict stops start label paths rowsOf rows table imageFrames imageText translateVerdict translate characters badHeader positionOf stray badContent tableVerdict imageVerdict decoded unfit firstRow tick runVerdict
 reads-at-call-fails claim = let z : _≡_ {A = ℕ} 4 0 = ap (codeAt 4) (at-function (runBy readsAtCall) claim) in omega arith
 
 -- ---- after a return the choice by the call's word
@@ -86,7 +86,7 @@ choosesByCall i s w = pick (eqb (kindOf i s) 3)
     (pick (isCallKind (kindOf i s)) (remember 15 (eqb (bit w 0) 1) (tick i s w)) (tick i s w))
 
 pub chooses-by-call-fails : Agreement translate freshState (runBy choosesByCall) → ⊥
-unfolding ticksBy imageChoice lowest any count sum highest some filter concatMap mapFrom reach digitOf charOf contents total frameText badForm badSum textVerdict nodeOf badField chartVerdict readVerdict stops start label paths rowsOf rows table imageFrames imageText translateVerdict translate characters badHeader placeOf stray badContent tableVerdict imageVerdict decoded unfit firstRow tick runVerdict
+unfolding ticksBy imageChoice lowest any count sum highest some filter concatMap mapFrom reach digitOf charOf contents total frameText badForm badSum textVerdict nodeOf badField chartVerdict readVerdict stops start label paths rowsOf rows table imageFrames imageText translateVerdict translate characters badHeader positionOf stray badContent tableVerdict imageVerdict decoded unfit firstRow tick runVerdict
 chooses-by-call-fails claim = let z : _≡_ {A = ℕ} 4 0 = ap (codeAt 4) (at-choice (runBy choosesByCall) claim) in omega arith
 
 -- ---- a return from scheme 1
@@ -94,7 +94,7 @@ abbrev pub returnsHome : Step
 returnsHome i s w = pick (eqb (kindOf i s) 4) (ticked 0 3 (dropped s)) (tick i s w)
 
 pub returns-home-fails : Agreement translate freshState (runBy returnsHome) → ⊥
-unfolding ticksBy imageHome lowest any count sum highest some filter concatMap mapFrom reach digitOf charOf contents total frameText badForm badSum textVerdict nodeOf badField chartVerdict readVerdict stops start label paths rowsOf rows table imageFrames imageText translateVerdict translate characters badHeader placeOf stray badContent tableVerdict imageVerdict decoded unfit firstRow tick runVerdict
+unfolding ticksBy imageHome lowest any count sum highest some filter concatMap mapFrom reach digitOf charOf contents total frameText badForm badSum textVerdict nodeOf badField chartVerdict readVerdict stops start label paths rowsOf rows table imageFrames imageText translateVerdict translate characters badHeader positionOf stray badContent tableVerdict imageVerdict decoded unfit firstRow tick runVerdict
 returns-home-fails claim = let z : _≡_ {A = ℕ} 3 4 = ap (codeAt 0) (at-home (runBy returnsHome) claim) in omega arith
 
 -- ---- a call at depth Σ - 1 refused
@@ -102,7 +102,7 @@ abbrev pub refusesEarly : Step
 refusesEarly i s w = pick (isCallKind (kindOf i s) && leb (s .size - 1) (s .depth)) (stopped 17) (tick i s w)
 
 pub refuses-early-fails : Agreement translate freshState (runBy refusesEarly) → ⊥
-unfolding ticksBy imageP words lowest any count sum highest some filter concatMap mapFrom reach digitOf charOf contents total frameText badForm badSum textVerdict nodeOf badField chartVerdict readVerdict stops start label paths rowsOf rows table imageFrames imageText translateVerdict translate characters badHeader placeOf stray badContent tableVerdict imageVerdict decoded unfit firstRow tick runVerdict
+unfolding ticksBy imageP words lowest any count sum highest some filter concatMap mapFrom reach digitOf charOf contents total frameText badForm badSum textVerdict nodeOf badField chartVerdict readVerdict stops start label paths rowsOf rows table imageFrames imageText translateVerdict translate characters badHeader positionOf stray badContent tableVerdict imageVerdict decoded unfit firstRow tick runVerdict
 refuses-early-fails claim = let z : _≡_ {A = ℕ} 0 18 = ap (codeAt 1) (at-shallow (runBy refusesEarly) claim) in omega arith
 
 -- ---- rows with equal targets joined: two neighbours of one label, bit and next label become one that cares for nothing

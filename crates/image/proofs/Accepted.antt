@@ -18,7 +18,7 @@ use Rattle.frames.proofs.Verdicts.{next-first, next-rest, when-fine, at-lowest-
 use Rattle.frames.proofs.Contents.{text-told, contents-bytes}
 use Rattle.image.specs.Image.{Label, Row}
 use Rattle.image.specs.Decode.{schemeCount, lastLabel, rowCount, labelsFrom, rowsFrom, entryIn, labelIn, rowIn, decoded}
-use Rattle.image.specs.Check.{filled, badCounts, badHeader, entryAt, labelAt, rowAt, placeOf, falls, strayFrame, stray, within}
+use Rattle.image.specs.Check.{filled, badCounts, badHeader, entryAt, labelAt, rowAt, positionOf, falls, strayFrame, stray, within}
 use Rattle.image.specs.Check.{isLabel, badEntry, badCalled, badLabel, badBit, badRow, badFrame, badContent, tableVerdict, imageVerdict}
 use Rattle.image.proofs.Sound.{noLabel, noRow, nthLabel, nthRow, endOf, Reaches, SoundLabel, SoundRow, Sound}
 
@@ -50,13 +50,13 @@ module _ (b : List ℕ) where
   row-read k h = getD-map-range (rowIn b) noRow 0 (rowCount b) k h ∙ ap (rowIn b) (omega arith)
 
   -- ---- the place of each frame
-  pub place-of-entry : (h : ℕ) → 1 ≤ h → h ≤ schemeCount b → placeOf b h ≡ entryAt h
-  unfolding placeOf
-  place-of-entry h l m = rw (ne-eqb h 0 (λ z. omega arith), lt-ltb h (labelsFrom b) (omega arith))
+  pub position-of-entry : (h : ℕ) → 1 ≤ h → h ≤ schemeCount b → positionOf b h ≡ entryAt h
+  unfolding positionOf
+  position-of-entry h l m = rw (ne-eqb h 0 (λ z. omega arith), lt-ltb h (labelsFrom b) (omega arith))
 
-  pub place-of-label : (l : ℕ) → l ≤ lastLabel b → placeOf b (labelsFrom b + l) ≡ labelAt l
-  unfolding placeOf
-  place-of-label l h =
+  pub position-of-label : (l : ℕ) → l ≤ lastLabel b → positionOf b (labelsFrom b + l) ≡ labelAt l
+  unfolding positionOf
+  position-of-label l h =
       rw (
         ne-eqb (labelsFrom b + l) 0 (λ z. omega arith),
         le-ltb (labelsFrom b + l) (labelsFrom b) (omega arith),
@@ -64,9 +64,9 @@ module _ (b : List ℕ) where
       )
       (ap labelAt (omega arith))
 
-  pub place-of-row : (k : ℕ) → placeOf b (rowsFrom b + k) ≡ rowAt k
-  unfolding placeOf
-  place-of-row k =
+  pub position-of-row : (k : ℕ) → positionOf b (rowsFrom b + k) ≡ rowAt k
+  unfolding positionOf
+  position-of-row k =
       rw (
         ne-eqb (rowsFrom b + k) 0 (λ z. omega arith),
         le-ltb (rowsFrom b + k) (labelsFrom b) (omega arith),
@@ -225,23 +225,23 @@ module _ (b : List ℕ) (ok : tableVerdict b ≡ fine) where
   entry-good : (h : ℕ) → 1 ≤ h → h ≤ schemeCount b → Reaches (decoded b) h (entryIn b h)
   unfolding badContent
   entry-good h l m =
-      let e : badEntry b h ≡ false = sym (ap (badFrame b h) (place-of-entry b h l m)) ∙ none-bad h (omega (arith, counted .all)) in
+      let e : badEntry b h ≡ false = sym (ap (badFrame b h) (position-of-entry b h l m)) ∙ none-bad h (omega (arith, counted .all)) in
       within-reaches b h (entryIn b h) (not-false (within b h (entryIn b h)) (or-r (filled b h 3 7) (not (within b h (entryIn b h))) e))
 
   label-good : (l : ℕ) → l ≤ lastLabel b → badLabel b l (labelIn b l) ≡ false
   unfolding badContent
-  label-good l h = sym (ap (badFrame b (labelsFrom b + l)) (place-of-label b l h)) ∙ none-bad (labelsFrom b + l) (omega (arith, counted .all))
+  label-good l h = sym (ap (badFrame b (labelsFrom b + l)) (position-of-label b l h)) ∙ none-bad (labelsFrom b + l) (omega (arith, counted .all))
 
   row-good : (k : ℕ) → k < rowCount b → badRow b (rowsFrom b + k) (rowIn b k) ≡ false
   unfolding badContent
-  row-good k h = sym (ap (badFrame b (rowsFrom b + k)) (place-of-row b k)) ∙ none-bad (rowsFrom b + k) (omega (arith, counted .all))
+  row-good k h = sym (ap (badFrame b (rowsFrom b + k)) (position-of-row b k)) ∙ none-bad (rowsFrom b + k) (omega (arith, counted .all))
 
   row-rises : (k : ℕ) → suc k < rowCount b → rowIn b k .from ≤ rowIn b (suc k) .from
   unfolding stray
   row-rises k h =
       let f : ℕ = rowsFrom b + suc k in
       let e : (not (eqb (field b f 0) 18) || falls b (suc k)) ≡ false =
-      sym (ap (strayFrame b f) (place-of-row b (suc k))) ∙ none-stray f (omega (arith, counted .all)) in
+      sym (ap (strayFrame b f) (position-of-row b (suc k))) ∙ none-stray f (omega (arith, counted .all)) in
       ltb-false (rowIn b (suc k) .from) (rowIn b k .from) (or-r (not (eqb (field b f 0) 18)) (falls b (suc k)) e)
 
   -- with bytes below 256 the image is sound

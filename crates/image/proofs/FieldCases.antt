@@ -11,9 +11,9 @@ use Rattle.lists.proofs.Tests.{or-l, or-r, or-true-r}
 use Rattle.frames.specs.Frame.{field}
 use Rattle.image.specs.Image.{Label, Row}
 use Rattle.image.specs.Decode.{schemeCount, lastLabel, labelsFrom, rowsFrom, entryIn, labelIn, rowIn}
-use Rattle.image.specs.Check.{filled, within, badEntry, isLabel, badCalled, badLabel, badBit, badRow, placeOf, badFrame, badContent}
+use Rattle.image.specs.Check.{filled, within, badEntry, isLabel, badCalled, badLabel, badBit, badRow, positionOf, badFrame, badContent}
 use Rattle.image.specs.Parts.{kindOf, badKind, badTest}
-use Rattle.image.proofs.PlaceCases.{place-entry, place-label, place-row, place-header}
+use Rattle.image.proofs.PositionCases.{position-entry, position-label, position-row, position-header}
 
 -- ---- labels of a scheme
 module _ (b : List ℕ) (h l : ℕ) where
@@ -156,23 +156,23 @@ row-last b k n x read from rest = read ∙ ap (λ (m : ℕ). filled b (m + k) 8 
 
 -- ---- one frame
 module _ (b : List ℕ) (f : ℕ) where
-  pub content-entry : (x : Bool) → kindOf (placeOf b f) ≡ 16 → x ≡ badEntry b f → x ≡ badContent b f
+  pub content-entry : (x : Bool) → kindOf (positionOf b f) ≡ 16 → x ≡ badEntry b f → x ≡ badContent b f
   unfolding badContent
-  content-entry x e q = q ∙ sym (ap (badFrame b f) (place-entry b f e))
+  content-entry x e q = q ∙ sym (ap (badFrame b f) (position-entry b f e))
 
-  pub content-label : (x : Bool) (y : ℕ) → kindOf (placeOf b f) ≡ 17 → y ≡ labelsFrom b
+  pub content-label : (x : Bool) (y : ℕ) → kindOf (positionOf b f) ≡ 17 → y ≡ labelsFrom b
       → x ≡ badLabel b (f - y) (labelIn b (f - y)) → x ≡ badContent b f
   unfolding badContent
-  content-label x y e q r = r ∙ ap (λ (n : ℕ). badLabel b (f - n) (labelIn b (f - n))) q ∙ sym (ap (badFrame b f) (place-label b f e))
+  content-label x y e q r = r ∙ ap (λ (n : ℕ). badLabel b (f - n) (labelIn b (f - n))) q ∙ sym (ap (badFrame b f) (position-label b f e))
 
-  pub content-row : (x : Bool) (y : ℕ) → kindOf (placeOf b f) ≡ 18 → rowsFrom b ≤ f → y ≡ rowsFrom b
+  pub content-row : (x : Bool) (y : ℕ) → kindOf (positionOf b f) ≡ 18 → rowsFrom b ≤ f → y ≡ rowsFrom b
       → x ≡ badRow b (rowsFrom b + (f - y)) (rowIn b (f - y)) → x ≡ badContent b f
   unfolding badContent
   content-row x y e l q r =
       r ∙ ap (λ (n : ℕ). badRow b (rowsFrom b + (f - n)) (rowIn b (f - n))) q
-      ∙ ap (λ (n : ℕ). badRow b n (rowIn b (f - rowsFrom b))) (omega arith) ∙ sym (ap (badFrame b f) (place-row b f e))
+      ∙ ap (λ (n : ℕ). badRow b n (rowIn b (f - rowsFrom b))) (omega arith) ∙ sym (ap (badFrame b f) (position-row b f e))
 
-  pub content-header : (kindOf (placeOf b f) ≡ 16 → ⊥) → (kindOf (placeOf b f) ≡ 17 → ⊥)
-      → (kindOf (placeOf b f) ≡ 18 → ⊥) → false ≡ badContent b f
+  pub content-header : (kindOf (positionOf b f) ≡ 16 → ⊥) → (kindOf (positionOf b f) ≡ 17 → ⊥)
+      → (kindOf (positionOf b f) ≡ 18 → ⊥) → false ≡ badContent b f
   unfolding badContent
-  content-header p q r = sym (ap (badFrame b f) (place-header b f p q r))
+  content-header p q r = sym (ap (badFrame b f) (position-header b f p q r))

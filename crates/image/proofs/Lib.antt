@@ -2,7 +2,7 @@ pub mod Sound
 pub mod Written
 pub mod Decoded
 pub mod Passes
-pub mod PlaceCases
+pub mod PositionCases
 pub mod FieldCases
 pub mod TableCases
 pub mod ReadCases

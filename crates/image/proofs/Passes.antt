@@ -18,11 +18,11 @@ use Rattle.frames.specs.Verdict.{Verdict, fine, next, when, atLowest}
 use Rattle.frames.proofs.Verdicts.{at-none}
 use Rattle.image.specs.Image.{Image, Label, Row, imageText}
 use Rattle.image.specs.Decode.{schemeCount, lastLabel, rowCount, rowsFrom, labelIn, rowIn}
-use Rattle.image.specs.Check.{filled, badCounts, badHeader, entryAt, labelAt, rowAt, placeOf, falls, strayFrame, stray}
+use Rattle.image.specs.Check.{filled, badCounts, badHeader, entryAt, labelAt, rowAt, positionOf, falls, strayFrame, stray}
 use Rattle.image.specs.Check.{within, badEntry, badCalled, badLabel, badBit, badRow, badFrame, badContent, tableVerdict, imageVerdict}
 use Rattle.image.proofs.Sound.{nthLabel, nthRow, endOf, Reaches, SoundLabel, SoundRow, Sound}
 use Rattle.image.proofs.Written.{Reads, image-reads, image-text-fine}
-use Rattle.image.proofs.Accepted.{place-of-entry, place-of-label, place-of-row}
+use Rattle.image.proofs.Accepted.{position-of-entry, position-of-label, position-of-row}
 use Rattle.image.proofs.Decoded.{schemes-is, last-is, rows-is, label-is, row-is}
 
 not-eq : (a b : ℕ) → a ≡ b → not (eqb a b) ≡ false
@@ -80,14 +80,14 @@ module _ (i : Image) (b : List ℕ) (S : Sound i) (R : Reads i b) where
       (not-eq (size b) (rowsFrom b + rowCount b) (omega (arith, R .count, h-is, m-is, rows-is i b S R, S .two)))
 
   -- the place of each frame
-  place-entry : (h : ℕ) → h < length (i .entries) → placeOf b (suc h) ≡ entryAt (suc h)
-  place-entry h l = place-of-entry b (suc h) (omega arith) (omega (arith, h-is))
+  position-entry : (h : ℕ) → h < length (i .entries) → positionOf b (suc h) ≡ entryAt (suc h)
+  position-entry h l = position-of-entry b (suc h) (omega arith) (omega (arith, h-is))
 
-  place-label : (l : ℕ) → l < length (i .labels) → placeOf b (labelFrom l) ≡ labelAt l
-  place-label l h = ap (placeOf b) (omega (arith, h-is)) ∙ place-of-label b l (omega (arith, m-is))
+  position-label : (l : ℕ) → l < length (i .labels) → positionOf b (labelFrom l) ≡ labelAt l
+  position-label l h = ap (positionOf b) (omega (arith, h-is)) ∙ position-of-label b l (omega (arith, m-is))
 
-  place-row : (k : ℕ) → k < length (i .rows) → placeOf b (rowFrom k) ≡ rowAt k
-  place-row k h = ap (placeOf b) (omega (arith, h-is, m-is, S .two)) ∙ place-of-row b k
+  position-row : (k : ℕ) → k < length (i .rows) → positionOf b (rowFrom k) ≡ rowAt k
+  position-row k h = ap (positionOf b) (omega (arith, h-is, m-is, S .two)) ∙ position-of-row b k
 
   -- 12
   rows-rise : (k : ℕ) → k < length (i .rows) → falls b k ≡ false
@@ -104,12 +104,12 @@ module _ (i : Image) (b : List ℕ) (S : Sound i) (R : Reads i b) where
   unfolding stray
   stray-none f h =
       frame-cases (λ f. stray b f ≡ false) (length (i .entries)) (length (i .labels)) (length (i .rows))
-      (unfold placeOf in refl)
-      (λ h l. ap (strayFrame b (suc h)) (place-entry h l)
+      (unfold positionOf in refl)
+      (λ h l. ap (strayFrame b (suc h)) (position-entry h l)
       ∙ numbered (field b (suc h) 0) 16 (field b (suc h) 1) (suc h) (R .entry h 0 l (omega arith)) (R .entry h 1 l (omega arith)))
-      (λ l h. ap (strayFrame b (labelFrom l)) (place-label l h)
+      (λ l h. ap (strayFrame b (labelFrom l)) (position-label l h)
       ∙ numbered (field b (labelFrom l) 0) 17 (field b (labelFrom l) 1) l (R .label l 0 h (omega arith)) (R .label l 1 h (omega arith)))
-      (λ k h. ap (strayFrame b (rowFrom k)) (place-row k h) ∙ ap₂ _||_ (not-eq (field b (rowFrom k) 0) 18 (R .row k 0 h (omega arith))) (rows-rise k h))
+      (λ k h. ap (strayFrame b (rowFrom k)) (position-row k h) ∙ ap₂ _||_ (not-eq (field b (rowFrom k) 0) 18 (R .row k 0 h (omega arith))) (rows-rise k h))
       f (omega (arith, R .count))
 
   -- 13
@@ -187,10 +187,10 @@ module _ (i : Image) (b : List ℕ) (S : Sound i) (R : Reads i b) where
   unfolding badContent
   content-good f h =
       frame-cases (λ f. badContent b f ≡ false) (length (i .entries)) (length (i .labels)) (length (i .rows))
-      (unfold placeOf in refl)
-      (λ h l. ap (badFrame b (suc h)) (place-entry h l) ∙ entry-fine h l)
-      (λ l h. ap (badFrame b (labelFrom l)) (place-label l h) ∙ ap (badLabel b l) (label-is i b S R l h) ∙ label-fine l h)
-      (λ k h. ap (badFrame b (rowFrom k)) (place-row k h) ∙ ap (badRow b (rowFrom k)) (row-is i b S R k h)
+      (unfold positionOf in refl)
+      (λ h l. ap (badFrame b (suc h)) (position-entry h l) ∙ entry-fine h l)
+      (λ l h. ap (badFrame b (labelFrom l)) (position-label l h) ∙ ap (badLabel b l) (label-is i b S R l h) ∙ label-fine l h)
+      (λ k h. ap (badFrame b (rowFrom k)) (position-row k h) ∙ ap (badRow b (rowFrom k)) (row-is i b S R k h)
       ∙ row-fine (nthRow i k) (S .each k h) (rowFrom k) (tail-empty k h))
       f (omega (arith, R .count))
 

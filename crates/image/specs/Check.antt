@@ -24,28 +24,28 @@ unfoldable pub badHeader : List ℕ → Bool
 badHeader b = not (eqb (field b 0 0) 15) || filled b 0 5 5 || badCounts b || not (eqb (size b) (rowsFrom b + rowCount b))
 
 -- a frame of an image by its position: header, the entry of a scheme, a label, a row
-pub data Place : Type 0 where
-  header : Place
-  entryAt : ℕ → Place
-  labelAt : ℕ → Place
-  rowAt : ℕ → Place
+pub data Position : Type 0 where
+  header : Position
+  entryAt : ℕ → Position
+  labelAt : ℕ → Position
+  rowAt : ℕ → Position
 
-unfoldable pub placeOf : List ℕ → ℕ → Place
-placeOf b f = pick (eqb f 0) header (pick (ltb f (labelsFrom b)) (entryAt f) (pick (ltb f (rowsFrom b)) (labelAt (f - labelsFrom b)) (rowAt (f - rowsFrom b))))
+unfoldable pub positionOf : List ℕ → ℕ → Position
+positionOf b f = pick (eqb f 0) header (pick (ltb f (labelsFrom b)) (entryAt f) (pick (ltb f (rowsFrom b)) (labelAt (f - labelsFrom b)) (rowAt (f - rowsFrom b))))
 
 -- 12. The wrong kind or number for its position, or a row whose from-label is below the one before.
 abbrev pub falls : List ℕ → ℕ → Bool
 falls b zero = false
 falls b (suc k) = ltb (rowIn b (suc k) .from) (rowIn b k .from)
 
-abbrev pub strayFrame : List ℕ → ℕ → Place → Bool
+abbrev pub strayFrame : List ℕ → ℕ → Position → Bool
 strayFrame b f header = false
 strayFrame b f (entryAt h) = not (eqb (field b f 0) 16 && eqb (field b f 1) h)
 strayFrame b f (labelAt l) = not (eqb (field b f 0) 17 && eqb (field b f 1) l)
 strayFrame b f (rowAt k) = not (eqb (field b f 0) 18) || falls b k
 
 unfoldable pub stray : List ℕ → ℕ → Bool
-stray b f = strayFrame b f (placeOf b f)
+stray b f = strayFrame b f (positionOf b f)
 
 -- 13. A label of the image that scheme h owns, or the one where h ends.
 abbrev pub within : List ℕ → ℕ → ℕ → Bool
@@ -76,14 +76,14 @@ badRow b f r =
     ltb (r .from) 2 || ltb (lastLabel b) (r .from) || not (eqb (bitAnd (r .values) (r .care)) (r .values))
     || badBit b r || not (within b (labelIn b (r .from) .owner) (r .next)) || filled b f 8 2
 
-abbrev pub badFrame : List ℕ → ℕ → Place → Bool
+abbrev pub badFrame : List ℕ → ℕ → Position → Bool
 badFrame b f header = false
 badFrame b f (entryAt h) = badEntry b h
 badFrame b f (labelAt l) = badLabel b l (labelIn b l)
 badFrame b f (rowAt k) = badRow b f (rowIn b k)
 
 unfoldable pub badContent : List ℕ → ℕ → Bool
-badContent b f = badFrame b f (placeOf b f)
+badContent b f = badFrame b f (positionOf b f)
 
 -- of the contents of a text
 unfoldable pub tableVerdict : List ℕ → Verdict

@@ -6,10 +6,10 @@ use lib.Bits.{bitAnd}
 use lib.Dec.{ltb, eqb}
 use Rattle.image.specs.Image.{Label, Row}
 use Rattle.image.specs.Decode.{lastLabel}
-use Rattle.image.specs.Check.{Place, header, entryAt, labelAt, rowAt, badCalled}
+use Rattle.image.specs.Check.{Position, header, entryAt, labelAt, rowAt, badCalled}
 
 -- the kind byte that a frame has by its position
-abbrev pub kindOf : Place → ℕ
+abbrev pub kindOf : Position → ℕ
 kindOf header = 15
 kindOf (entryAt h) = 16
 kindOf (labelAt l) = 17

@@ -1,7 +1,7 @@
 // Refusals 11 to 13 of a decoded table.
 use crate::fields::lowest_bad;
-use crate::places::bad_header;
-use crate::places::lowest_stray;
+use crate::positions::bad_header;
+use crate::positions::lowest_stray;
 use frames::Answer;
 ghost use mathlib.Core.Path.{_≡_};
 ghost use Prim.Native.Nat.{_<_};
@@ -10,19 +10,19 @@ ghost use Rattle.frames.specs.Answer.{reply, judged};
 ghost use Rattle.image.specs.Check.{tableVerdict};
 
 // 11 to 13, each tried on the whole table before the next.
-pub fn check_table(b: &[u8]) -> Answer
-    requires { ⌜ 0 < size (now b) ⌝ }
-    ensures { λ r. ⌜ reply r ≡ judged (tableVerdict (now (b .entry))) 0 ⌝ }
+pub fn check_table(table: &[u8]) -> Answer
+    requires { ⌜ 0 < size (now table) ⌝ }
+    ensures { λ r. ⌜ reply r ≡ judged (tableVerdict (now (table .entry))) 0 ⌝ }
 {
-    if bad_header(b) {
+    if bad_header(table) {
         return Answer::Refused {
             number: 11,
             index: 0,
             count: 0,
         };
     }
-    let frames = b.len() / 10;
-    let stray = lowest_stray(b, frames);
+    let frames = table.len() / 10;
+    let stray = lowest_stray(table, frames);
     if stray < frames {
         return Answer::Refused {
             number: 12,
@@ -30,7 +30,7 @@ pub fn check_table(b: &[u8]) -> Answer
             count: 0,
         };
     }
-    let bad = lowest_bad(b, frames);
+    let bad = lowest_bad(table, frames);
     if bad < frames {
         return Answer::Refused {
             number: 13,

@@ -1,7 +1,7 @@
 // The image: entries, labels and rows as frames, and the check of an image's text.
 mod check;
 mod fields;
-mod places;
+mod positions;
 mod read;
 mod table;
 

@@ -37,7 +37,7 @@ fn code_of(kind: u8, called: u8) -> u8
 
 // A plain tick: the top takes its row.
 fn tick_plain(
-    b: &[u8],
+    table: &[u8],
     firsts: &[u16],
     size: u8,
     depth: u8,
@@ -45,14 +45,14 @@ fn tick_plain(
     bits: &mut [bool],
     word: u16,
 ) -> Stepped
-    requires { ⌜ Ready (now b) (stateOf size depth (now places) (now bits)) ⌝ }
-    requires { ⌜ now firsts ≡ firstFrames (now b) ⌝ }
-    requires { ⌜ labelIn (now b) (getD (now places) (depth - 1) 0) .kind ≡ 0 ⌝ }
-    ensures { λ r. ⌜ Steps (now (b .entry)) (stateOf size depth (now (places .entry)) (now (bits .entry))) word r (now (places .exit)) (now (bits .exit)) ⌝ }
+    requires { ⌜ Ready (now table) (stateOf size depth (now places) (now bits)) ⌝ }
+    requires { ⌜ now firsts ≡ firstFrames (now table) ⌝ }
+    requires { ⌜ labelIn (now table) (getD (now places) (depth - 1) 0) .kind ≡ 0 ⌝ }
+    ensures { λ r. ⌜ Steps (now (table .entry)) (stateOf size depth (now (places .entry)) (now (bits .entry))) word r (now (places .exit)) (now (bits .exit)) ⌝ }
 {
     let top = (depth - 1) as usize;
     let label = places[top];
-    let next = next_label(b, firsts, label, word, bits);
+    let next = next_label(table, firsts, label, word, bits);
     if 256 <= next {
         return Stepped {
             number: 18,
@@ -62,9 +62,9 @@ fn tick_plain(
         };
     }
     let l = label as usize;
-    let mask = label_mask(b, l);
-    let result = label_byte(b, l, 5);
-    let owner = label_byte(b, l, 4);
+    let mask = label_mask(table, l);
+    let result = label_byte(table, l, 5);
+    let owner = label_byte(table, l, 4);
     write_result(bits, result, owner);
     places[top] = next as u8;
     Stepped {
@@ -77,16 +77,16 @@ fn tick_plain(
 
 // A call: the entry of the called scheme goes above the top; at a full stack nothing is done.
 fn tick_call(
-    b: &[u8],
+    table: &[u8],
     size: u8,
     depth: u8,
     places: &mut [u8],
     bits: &mut [bool],
     word: u16,
 ) -> Stepped
-    requires { ⌜ Ready (now b) (stateOf size depth (now places) (now bits)) ⌝ }
-    requires { ⌜ (1 ≤ labelIn (now b) (getD (now places) (depth - 1) 0) .kind) × (labelIn (now b) (getD (now places) (depth - 1) 0) .kind ≤ 2) ⌝ }
-    ensures { λ r. ⌜ Steps (now (b .entry)) (stateOf size depth (now (places .entry)) (now (bits .entry))) word r (now (places .exit)) (now (bits .exit)) ⌝ }
+    requires { ⌜ Ready (now table) (stateOf size depth (now places) (now bits)) ⌝ }
+    requires { ⌜ (1 ≤ labelIn (now table) (getD (now places) (depth - 1) 0) .kind) × (labelIn (now table) (getD (now places) (depth - 1) 0) .kind ≤ 2) ⌝ }
+    ensures { λ r. ⌜ Steps (now (table .entry)) (stateOf size depth (now (places .entry)) (now (bits .entry))) word r (now (places .exit)) (now (bits .exit)) ⌝ }
 {
     let free = size - depth;
     if free < 1 {
@@ -98,12 +98,12 @@ fn tick_call(
         };
     }
     let l = places[(depth - 1) as usize] as usize;
-    let mask = label_mask(b, l);
-    let called = label_byte(b, l, 3);
-    let code = code_of(label_byte(b, l, 2), called);
-    let entry = byte(b, called as usize, 2);
-    let result = label_byte(b, l, 5);
-    let owner = label_byte(b, l, 4);
+    let mask = label_mask(table, l);
+    let called = label_byte(table, l, 3);
+    let code = code_of(label_byte(table, l, 2), called);
+    let entry = byte(table, called as usize, 2);
+    let result = label_byte(table, l, 5);
+    let owner = label_byte(table, l, 4);
     write_result(bits, result, owner);
     places[depth as usize] = entry;
     Stepped {
@@ -116,7 +116,7 @@ fn tick_call(
 
 // A return: the top is dropped, and the label beneath takes its row by this tick's word.
 fn tick_back(
-    b: &[u8],
+    table: &[u8],
     firsts: &[u16],
     size: u8,
     depth: u8,
@@ -124,14 +124,14 @@ fn tick_back(
     bits: &mut [bool],
     word: u16,
 ) -> Stepped
-    requires { ⌜ Ready (now b) (stateOf size depth (now places) (now bits)) ⌝ }
-    requires { ⌜ now firsts ≡ firstFrames (now b) ⌝ }
-    requires { ⌜ labelIn (now b) (getD (now places) (depth - 1) 0) .kind ≡ 3 ⌝ }
-    ensures { λ r. ⌜ Steps (now (b .entry)) (stateOf size depth (now (places .entry)) (now (bits .entry))) word r (now (places .exit)) (now (bits .exit)) ⌝ }
+    requires { ⌜ Ready (now table) (stateOf size depth (now places) (now bits)) ⌝ }
+    requires { ⌜ now firsts ≡ firstFrames (now table) ⌝ }
+    requires { ⌜ labelIn (now table) (getD (now places) (depth - 1) 0) .kind ≡ 3 ⌝ }
+    ensures { λ r. ⌜ Steps (now (table .entry)) (stateOf size depth (now (places .entry)) (now (bits .entry))) word r (now (places .exit)) (now (bits .exit)) ⌝ }
 {
     let under = (depth - 2) as usize;
     let caller = places[under];
-    let next = next_label(b, firsts, caller, word, bits);
+    let next = next_label(table, firsts, caller, word, bits);
     if 256 <= next {
         return Stepped {
             number: 18,
@@ -152,18 +152,18 @@ fn tick_back(
 
 // The home tick: the entry of scheme 1 takes the place of the top.
 fn tick_home(
-    b: &[u8],
+    table: &[u8],
     size: u8,
     depth: u8,
     places: &mut [u8],
     bits: &mut [bool],
     word: u16,
 ) -> Stepped
-    requires { ⌜ Ready (now b) (stateOf size depth (now places) (now bits)) ⌝ }
-    requires { ⌜ 4 ≤ labelIn (now b) (getD (now places) (depth - 1) 0) .kind ⌝ }
-    ensures { λ r. ⌜ Steps (now (b .entry)) (stateOf size depth (now (places .entry)) (now (bits .entry))) word r (now (places .exit)) (now (bits .exit)) ⌝ }
+    requires { ⌜ Ready (now table) (stateOf size depth (now places) (now bits)) ⌝ }
+    requires { ⌜ 4 ≤ labelIn (now table) (getD (now places) (depth - 1) 0) .kind ⌝ }
+    ensures { λ r. ⌜ Steps (now (table .entry)) (stateOf size depth (now (places .entry)) (now (bits .entry))) word r (now (places .exit)) (now (bits .exit)) ⌝ }
 {
-    places[(depth - 1) as usize] = byte(b, 1, 2);
+    places[(depth - 1) as usize] = byte(table, 1, 2);
     Stepped {
         number: 0,
         mask: 0,
@@ -174,7 +174,7 @@ fn tick_home(
 
 // A tick by the kind of the top label.
 pub fn tick_parts(
-    b: &[u8],
+    table: &[u8],
     firsts: &[u16],
     size: u8,
     depth: u8,
@@ -182,16 +182,16 @@ pub fn tick_parts(
     bits: &mut [bool],
     word: u16,
 ) -> Stepped
-    requires { ⌜ Ready (now b) (stateOf size depth (now places) (now bits)) ⌝ }
-    requires { ⌜ now firsts ≡ firstFrames (now b) ⌝ }
-    ensures { λ r. ⌜ Steps (now (b .entry)) (stateOf size depth (now (places .entry)) (now (bits .entry))) word r (now (places .exit)) (now (bits .exit)) ⌝ }
+    requires { ⌜ Ready (now table) (stateOf size depth (now places) (now bits)) ⌝ }
+    requires { ⌜ now firsts ≡ firstFrames (now table) ⌝ }
+    ensures { λ r. ⌜ Steps (now (table .entry)) (stateOf size depth (now (places .entry)) (now (bits .entry))) word r (now (places .exit)) (now (bits .exit)) ⌝ }
 {
     let l = places[(depth - 1) as usize] as usize;
-    let kind = label_byte(b, l, 2);
+    let kind = label_byte(table, l, 2);
     match kind {
-        0 => tick_plain(b, firsts, size, depth, places, bits, word),
-        1 | 2 => tick_call(b, size, depth, places, bits, word),
-        3 => tick_back(b, firsts, size, depth, places, bits, word),
-        _ => tick_home(b, size, depth, places, bits, word),
+        0 => tick_plain(table, firsts, size, depth, places, bits, word),
+        1 | 2 => tick_call(table, size, depth, places, bits, word),
+        3 => tick_back(table, firsts, size, depth, places, bits, word),
+        _ => tick_home(table, size, depth, places, bits, word),
     }
 }

@@ -18,17 +18,17 @@ ghost use Rattle.machine.specs.Tick.{firstRow, rowOf};
 ghost use Rattle.machine.specs.Parts.{rowOn, fitting, reached, firstFrames, foundAt, foundAs};
 
 // Whether the row in frame f leaves the label and matches.
-fn is_fitting(b: &[u8], f: usize, label: u8, word: u16, bit: u8) -> bool
-    requires { ⌜ f < size (now b) ⌝ }
-    ensures { λ r. ⌜ r ≡ fitting (now (b .entry)) label word bit f ⌝ }
+fn is_fitting(table: &[u8], f: usize, label: u8, word: u16, bit: u8) -> bool
+    requires { ⌜ f < size (now table) ⌝ }
+    ensures { λ r. ⌜ r ≡ fitting (now (table .entry)) label word bit f ⌝ }
 {
-    if byte(b, f, 1) != label {
+    if byte(table, f, 1) != label {
         return false;
     }
-    if word & pair(b, f, 2) != pair(b, f, 4) {
+    if word & pair(table, f, 2) != pair(table, f, 4) {
         return false;
     }
-    let only = byte(b, f, 6);
+    let only = byte(table, f, 6);
     if only == 2 {
         return true;
     }
@@ -36,13 +36,13 @@ fn is_fitting(b: &[u8], f: usize, label: u8, word: u16, bit: u8) -> bool
 }
 
 // The frame of the label's first matching row among the frames from first up to end, or end.
-fn find_row(b: &[u8], first: usize, end: usize, label: u8, word: u16, bit: u8) -> usize
-    requires { ⌜ (first ≤ end) × (end ≤ size (now b)) ⌝ }
-    ensures { λ r. ⌜ foundAt (now (b .entry)) end r ≡ firstRow label word bit (map (rowOn (now (b .entry))) (range first (end - first))) ⌝ }
+fn find_row(table: &[u8], first: usize, end: usize, label: u8, word: u16, bit: u8) -> usize
+    requires { ⌜ (first ≤ end) × (end ≤ size (now table)) ⌝ }
+    ensures { λ r. ⌜ foundAt (now (table .entry)) end r ≡ firstRow label word bit (map (rowOn (now (table .entry))) (range first (end - first))) ⌝ }
 {
     let mut f = first;
     while f < end {
-        if is_fitting(b, f, label, word, bit) {
+        if is_fitting(table, f, label, word, bit) {
             return f;
         }
         f += 1;
@@ -51,13 +51,13 @@ fn find_row(b: &[u8], first: usize, end: usize, label: u8, word: u16, bit: u8) -
 }
 
 // The lowest frame from first up to end whose row leaves label l or one above it, or end.
-fn skip_below(b: &[u8], first: usize, end: usize, l: usize) -> usize
-    requires { ⌜ (first ≤ end) × (end ≤ size (now b)) ⌝ }
-    ensures { λ r. ⌜ r ≡ lowest (reached (now (b .entry)) l) first (end - first) ⌝ }
+fn skip_below(table: &[u8], first: usize, end: usize, l: usize) -> usize
+    requires { ⌜ (first ≤ end) × (end ≤ size (now table)) ⌝ }
+    ensures { λ r. ⌜ r ≡ lowest (reached (now (table .entry)) l) first (end - first) ⌝ }
 {
     let mut f = first;
     while f < end {
-        if l <= byte(b, f, 1) as usize {
+        if l <= byte(table, f, 1) as usize {
             return f;
         }
         f += 1;
@@ -66,15 +66,15 @@ fn skip_below(b: &[u8], first: usize, end: usize, l: usize) -> usize
 }
 
 // For each label the first frame of rows from it on; a further place says where the rows of label 255 end.
-pub fn index_rows(b: &[u8], firsts: &mut [u16])
-    requires { ⌜ (tableVerdict (now b) ≡ fine) × (length (now firsts) ≡ 257) ⌝ }
-    ensures { λ _. ⌜ now (firsts .exit) ≡ firstFrames (now (b .entry)) ⌝ }
+pub fn index_rows(table: &[u8], firsts: &mut [u16])
+    requires { ⌜ (tableVerdict (now table) ≡ fine) × (length (now firsts) ≡ 257) ⌝ }
+    ensures { λ _. ⌜ now (firsts .exit) ≡ firstFrames (now (table .entry)) ⌝ }
 {
-    let end = b.len() / 10;
-    let mut f = rows_from(b);
+    let end = table.len() / 10;
+    let mut f = rows_from(table);
     let mut l: usize = 0;
     while l <= State::LABELS {
-        f = skip_below(b, f, end, l);
+        f = skip_below(table, f, end, l);
         firsts[l] = f as u16;
         l += 1;
     }
@@ -92,31 +92,31 @@ fn result_of(bits: &[bool], h: u8) -> bool
 }
 
 // Where the label's first matching row leads for a given bit, or 256 where none matches.
-fn next_by(b: &[u8], firsts: &[u16], label: u8, word: u16, bit: u8) -> u16
-    requires { ⌜ tableVerdict (now b) ≡ fine ⌝ }
-    requires { ⌜ now firsts ≡ firstFrames (now b) ⌝ }
-    ensures { λ r. ⌜ foundAs r ≡ firstRow label word bit (decoded (now (b .entry)) .rows) ⌝ }
+fn next_by(table: &[u8], firsts: &[u16], label: u8, word: u16, bit: u8) -> u16
+    requires { ⌜ tableVerdict (now table) ≡ fine ⌝ }
+    requires { ⌜ now firsts ≡ firstFrames (now table) ⌝ }
+    ensures { λ r. ⌜ foundAs r ≡ firstRow label word bit (decoded (now (table .entry)) .rows) ⌝ }
 {
     let l = label as usize;
     let first = firsts[l] as usize;
     let end = firsts[l + 1] as usize;
-    let f = find_row(b, first, end, label, word, bit);
+    let f = find_row(table, first, end, label, word, bit);
     if f < end {
-        return byte(b, f, 7) as u16;
+        return byte(table, f, 7) as u16;
     }
     256
 }
 
 // Where the label's row leads, or 256 where none matches.
-pub fn next_label(b: &[u8], firsts: &[u16], label: u8, word: u16, bits: &[bool]) -> u16
-    requires { ⌜ (tableVerdict (now b) ≡ fine) × (label ≤ lastLabel (now b)) ⌝ }
-    requires { ⌜ now firsts ≡ firstFrames (now b) ⌝ }
-    requires { ⌜ (labelIn (now b) label .called ≤ 16) × (length (now bits) ≡ 16) ⌝ }
-    ensures { λ r. ⌜ foundAs r ≡ rowOf (decoded (now (b .entry))) (now (bits .entry)) label word ⌝ }
+pub fn next_label(table: &[u8], firsts: &[u16], label: u8, word: u16, bits: &[bool]) -> u16
+    requires { ⌜ (tableVerdict (now table) ≡ fine) × (label ≤ lastLabel (now table)) ⌝ }
+    requires { ⌜ now firsts ≡ firstFrames (now table) ⌝ }
+    requires { ⌜ (labelIn (now table) label .called ≤ 16) × (length (now bits) ≡ 16) ⌝ }
+    ensures { λ r. ⌜ foundAs r ≡ rowOf (decoded (now (table .entry))) (now (bits .entry)) label word ⌝ }
 {
-    let called = label_byte(b, label as usize, 3);
+    let called = label_byte(table, label as usize, 3);
     if result_of(bits, called) {
-        return next_by(b, firsts, label, word, 1);
+        return next_by(table, firsts, label, word, 1);
     }
-    next_by(b, firsts, label, word, 0)
+    next_by(table, firsts, label, word, 0)
 }

@@ -18,7 +18,7 @@ ghost use Rattle.machine.specs.Parts.{firstFrames, stateOf, Ready, Ends,
 
 // One tick a word, until one is stopped.
 fn tick_all(
-    b: &[u8],
+    table: &[u8],
     firsts: &[u16],
     size: u8,
     start: u8,
@@ -28,15 +28,15 @@ fn tick_all(
     masks: &mut [u32],
     codes: &mut [u8],
 ) -> Ended
-    requires { ⌜ Ready (now b) (stateOf size start (now places) (now bits)) ⌝ }
-    requires { ⌜ now firsts ≡ firstFrames (now b) ⌝ }
+    requires { ⌜ Ready (now table) (stateOf size start (now places) (now bits)) ⌝ }
+    requires { ⌜ now firsts ≡ firstFrames (now table) ⌝ }
     requires { ⌜ (length (now words) ≤ length (now masks)) × (length (now words) ≤ length (now codes)) ⌝ }
-    ensures { λ r. ⌜ Ends (now (b .entry)) (stateOf size start (now (places .entry)) (now (bits .entry))) (now (words .entry)) (now (masks .entry)) (now (codes .entry)) r (now (places .exit)) (now (bits .exit)) (now (masks .exit)) (now (codes .exit)) ⌝ }
+    ensures { λ r. ⌜ Ends (now (table .entry)) (stateOf size start (now (places .entry)) (now (bits .entry))) (now (words .entry)) (now (masks .entry)) (now (codes .entry)) r (now (places .exit)) (now (bits .exit)) (now (masks .exit)) (now (codes .exit)) ⌝ }
 {
     let mut depth = start;
     let mut i: usize = 0;
     while i < words.len() {
-        let done = tick_parts(b, firsts, size, depth, places, bits, words[i]);
+        let done = tick_parts(table, firsts, size, depth, places, bits, words[i]);
         let number = done.number;
         if number != 0 {
             return Ended {
@@ -58,19 +58,25 @@ fn tick_all(
 }
 
 // The state taken apart once, and put together after the last tick.
-fn run_ticks(b: &[u8], state: State, words: &[u16], masks: &mut [u32], codes: &mut [u8]) -> Answered
-    requires { ⌜ Ready (now b) state ⌝ }
+fn run_ticks(
+    table: &[u8],
+    state: State,
+    words: &[u16],
+    masks: &mut [u32],
+    codes: &mut [u8],
+) -> Answered
+    requires { ⌜ Ready (now table) state ⌝ }
     requires { ⌜ (length (now words) ≤ length (now masks)) × (length (now words) ≤ length (now codes)) ⌝ }
-    ensures { λ r. ⌜ Runs (runTable (now (b .entry)) state (now (words .entry)) (now (masks .entry)) (now (codes .entry))) r (now (masks .exit)) (now (codes .exit)) ⌝ }
+    ensures { λ r. ⌜ Runs (runTable (now (table .entry)) state (now (words .entry)) (now (masks .entry)) (now (codes .entry))) r (now (masks .exit)) (now (codes .exit)) ⌝ }
 {
     let size = state.size;
     let depth = state.depth;
     let mut places = state.places;
     let mut bits = state.bits;
     let mut firsts = [0u16; State::LABELS + 1];
-    index_rows(b, &mut firsts);
+    index_rows(table, &mut firsts);
     let ended = tick_all(
-        b,
+        table,
         &firsts,
         size,
         depth,
@@ -105,11 +111,17 @@ fn run_ticks(b: &[u8], state: State, words: &[u16], masks: &mut [u32], codes: &m
 }
 
 // 15 and 16, then the ticks.
-fn run_table(b: &[u8], state: State, words: &[u16], masks: &mut [u32], codes: &mut [u8]) -> Answered
-    requires { ⌜ tableVerdict (now b) ≡ fine ⌝ }
-    ensures { λ r. ⌜ Runs (runTable (now (b .entry)) state (now (words .entry)) (now (masks .entry)) (now (codes .entry))) r (now (masks .exit)) (now (codes .exit)) ⌝ }
+fn run_table(
+    table: &[u8],
+    state: State,
+    words: &[u16],
+    masks: &mut [u32],
+    codes: &mut [u8],
+) -> Answered
+    requires { ⌜ tableVerdict (now table) ≡ fine ⌝ }
+    ensures { λ r. ⌜ Runs (runTable (now (table .entry)) state (now (words .entry)) (now (masks .entry)) (now (codes .entry))) r (now (masks .exit)) (now (codes .exit)) ⌝ }
 {
-    if is_unfit(b, state) {
+    if is_unfit(table, state) {
         return Answered {
             answer: Answer::Refused {
                 number: 15,
@@ -139,7 +151,7 @@ fn run_table(b: &[u8], state: State, words: &[u16], masks: &mut [u32], codes: &m
             state,
         };
     }
-    run_ticks(b, state, words, masks, codes)
+    run_ticks(table, state, words, masks, codes)
 }
 
 // A run: what the image check tries, 15 and 16 before the first tick, 17 and 18 tick by tick.

@@ -16,20 +16,20 @@ lowest-stray-requires c κs = search needs
 
 returns-2 : tie.Need-returns-2
 returns-2 c =
-    let b = c .before .before .before .before .before .args .b .now in
+    let b = c .before .before .before .before .before .args .table .now in
     table-stray b (sym (c .before .before .before .bad-header .ensures) ∙ c .before .before .if1 .left) _
     (c .before .lowest-stray .ensures) (search needs)
 
 lowest-bad-requires : tie.Need-lowest-bad-requires
 lowest-bad-requires c κs =
-    let b = c .before .before .before .before .before .args .b .now in (
+    let b = c .before .before .before .before .before .args .table .now in (
       omega (arith, header-size b (sym (c .before .before .before .bad-header .ensures) ∙ c .before .before .if1 .left)),
       search needs,
     )
 
 returns-3 : tie.Need-returns-3
 returns-3 c =
-    let b = c .before .before .before .before .before .before .before .args .b .now in
+    let b = c .before .before .before .before .before .before .before .args .table .now in
     let bad-header = c .before .before .before .before .before .bad-header in
     let if1 = c .before .before .before .before .if1 in
     table-bad b (sym (bad-header .ensures) ∙ if1 .left) _ (c .before .before .before .lowest-stray .ensures)
@@ -37,7 +37,7 @@ returns-3 c =
 
 returns-4 : tie.Need-returns-4
 returns-4 c =
-    let b = c .before .before .before .before .before .before .before .args .b .now in
+    let b = c .before .before .before .before .before .before .before .args .table .now in
     let bad-header = c .before .before .before .before .before .bad-header in
     let if1 = c .before .before .before .before .if1 in
     table-good b (sym (bad-header .ensures) ∙ if1 .left) _ (c .before .before .before .lowest-stray .ensures)

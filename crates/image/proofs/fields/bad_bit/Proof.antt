@@ -15,14 +15,14 @@ row-byte-requires c κs = search needs
 returns : tie.Need-returns
 returns c =
     let start = c .before .before .before in
-    let b = start .args .b .now in
+    let b = start .args .table .now in
     let k = start .args .k in
     bit-above b (rowIn b k) (search needs)
 
 returns-2 : tie.Need-returns-2
 returns-2 c =
     let start = c .before .before .before .before in
-    let b = start .args .b .now in
+    let b = start .args .table .now in
     let k = start .args .k in
     bit-none b (rowIn b k) (search needs)
 
@@ -38,7 +38,7 @@ label-byte-requires c κs = search needs
 returns-3 : tie.Need-returns-3
 returns-3 c =
     let start = c .before .before .before .before .before .before in
-    let b = start .args .b .now in
+    let b = start .args .table .now in
     let k = start .args .k in
     ap (λ (n : ℕ). not (eqb n 2))
     (c .label-byte .ensures ∙ ap (λ (n : ℕ). field b (labelsFrom b + n) 2) (c .before .row-byte2 .ensures))

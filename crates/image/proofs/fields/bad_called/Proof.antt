@@ -18,7 +18,7 @@ label-byte-requires-2 c κs = search needs
 returns : tie.Need-returns
 returns c =
     let start = c .before .before .before .before .before .before in
-    let b = start .args .b .now in
+    let b = start .args .table .now in
     let l = start .args .l in
     kind-low b (labelIn b l) (search needs) (search needs) (search needs)
 
@@ -28,14 +28,14 @@ byte-requires c κs = search needs
 returns-2 : tie.Need-returns-2
 returns-2 c =
     let start = c .before .before .before .before in
-    let b = start .args .b .now in
+    let b = start .args .table .now in
     let l = start .args .l in
     ap (λ (n : ℕ). not (eqb n 0)) (c .before .before .label-byte .ensures) ∙ kind-plain b (labelIn b l) (search needs)
 
 returns-3 : tie.Need-returns-3
 returns-3 c =
     let start = c .before .before .before .before .before .before .before in
-    let b = start .args .b .now in
+    let b = start .args .table .now in
     let l = start .args .l in
     let label-byte = c .before .before .before .before .before .label-byte in
     ap (λ (n : ℕ). ltb n (label-byte .result)) (c .byte .ensures)
@@ -45,7 +45,7 @@ returns-3 c =
 returns-4 : tie.Need-returns-4
 returns-4 c =
     let start = c .before .before .before .before .before in
-    let b = start .args .b .now in
+    let b = start .args .table .now in
     let l = start .args .l in
     kind-none b (labelIn b l) (search needs)
 

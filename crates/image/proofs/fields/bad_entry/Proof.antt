@@ -22,7 +22,7 @@ is-within-requires c κs = search needs
 returns-2 : tie.Need-returns-2
 returns-2 c =
     let start = c .before .before .before .before .before in
-    let b = start .args .b .now in
+    let b = start .args .table .now in
     let h = start .args .h in
     entry-within b h _ _ (sym (c .before .before .before .filled-to .ensures) ∙ c .before .before .if1 .left)
     (c .before .byte .ensures) (c .is-within .ensures)

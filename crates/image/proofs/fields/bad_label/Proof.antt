@@ -17,12 +17,12 @@ bad-numbered-requires c κs = search needs
 
 returns : tie.Need-returns
 returns c =
-    let b = c .before .before .before .args .b .now in
+    let b = c .before .before .before .args .table .now in
     c .unlike .ensures ∙ ap (λ (n : ℕ). badLabel b n (labelIn b n)) (sym (c .before .match .keys1))
 
 returns-2 : tie.Need-returns-2
 returns-2 c =
-    let b = c .before .before .before .args .b .now in
+    let b = c .before .before .before .args .table .now in
     c .unlike2 .ensures ∙ ap (λ (n : ℕ). badLabel b n (labelIn b n)) (sym (c .before .match .keys2))
 
 returns-3 : tie.Need-returns-3

@@ -13,7 +13,7 @@ bad-called-requires c κs = search needs
 returns : tie.Need-returns
 returns c =
     let start = c .before .before .before in
-    let b = start .args .b .now in
+    let b = start .args .table .now in
     let l = start .args .l in
     label-kind b (labelIn b l) l (search needs) (cc)
 
@@ -23,7 +23,7 @@ label-byte-requires c κs = search needs
 returns-2 : tie.Need-returns-2
 returns-2 c =
     let start = c .before .before .before .before .before in
-    let b = start .args .b .now in
+    let b = start .args .table .now in
     let l = start .args .l in
     label-unowned b (labelIn b l) l (search needs) (cc) (search needs)
 
@@ -33,7 +33,7 @@ byte-requires c κs = search needs
 returns-3 : tie.Need-returns-3
 returns-3 c =
     let start = c .before .before .before .before .before .before .before in
-    let b = start .args .b .now in
+    let b = start .args .table .now in
     let l = start .args .l in
     label-owner b (labelIn b l) l (search needs) (cc) (search needs) (search needs)
 
@@ -43,7 +43,7 @@ label-byte-requires-2 c κs = search needs
 returns-4 : tie.Need-returns-4
 returns-4 c =
     let start = c .before .before .before .before .before .before .before .before in
-    let b = start .args .b .now in
+    let b = start .args .table .now in
     let l = start .args .l in
     ap (λ (n : ℕ). ltb 2 n) (c .label-byte2 .ensures)
     ∙ label-result b (labelIn b l) l (search needs) (cc) (search needs) (search needs)

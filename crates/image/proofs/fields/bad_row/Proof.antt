@@ -14,21 +14,21 @@ bad-test-requires c κs = search needs
 returns : tie.Need-returns
 returns c =
     let start = c .before .before .before in
-    let b = start .args .b .now in
+    let b = start .args .table .now in
     let k = start .args .k in
     row-test b (rowIn b k) (rowsFrom b + k) (cc)
 
 bad-bit-requires : tie.Need-bad-bit-requires
 bad-bit-requires c κs =
     let start = c .before .before .before in
-    let b = start .args .b .now in
+    let b = start .args .table .now in
     let k = start .args .k in
     (search needs, test-from b (rowIn b k) (cc))
 
 returns-2 : tie.Need-returns-2
 returns-2 c =
     let start = c .before .before .before .before .before in
-    let b = start .args .b .now in
+    let b = start .args .table .now in
     let k = start .args .k in
     row-bit b (rowIn b k) (rowsFrom b + k) (cc) (cc)
 
@@ -41,7 +41,7 @@ cast-from c = search needs
 label-byte-requires : tie.Need-label-byte-requires
 label-byte-requires c κs =
     let start = c .before .before .before .before .before .before in
-    let b = start .args .b .now in
+    let b = start .args .table .now in
     let k = start .args .k in
     (omega (arith, test-from b (rowIn b k) (cc)), search needs)
 
@@ -60,7 +60,7 @@ is-within-requires c κs = search needs
 returns-3 : tie.Need-returns-3
 returns-3 c =
     let start = c .before .before .before .before .before .before .before .before .before .before in
-    let b = start .args .b .now in
+    let b = start .args .table .now in
     let k = start .args .k in
     let row-byte = c .before .before .before .before .row-byte in
     row-next b (rowIn b k) (rowsFrom b + k) (cc) (cc)
@@ -80,7 +80,7 @@ filled-to-requires c κs = search needs
 returns-4 : tie.Need-returns-4
 returns-4 c =
     let start = c .before .before .before .before .before .before .before .before .before .before .before .before in
-    let b = start .args .b .now in
+    let b = start .args .table .now in
     let k = start .args .k in
     let row-byte = c .before .before .before .before .before .before .row-byte in
     let label-byte = c .before .before .before .before .before .label-byte in

@@ -15,7 +15,7 @@ row-byte-requires c κs = search needs
 returns : tie.Need-returns
 returns c =
     let start = c .before .before .before in
-    let b = start .args .b .now in
+    let b = start .args .table .now in
     let k = start .args .k in
     test-low b (rowIn b k) (search needs)
 
@@ -25,7 +25,7 @@ byte-requires c κs = search needs
 returns-2 : tie.Need-returns-2
 returns-2 c =
     let start = c .before .before .before .before .before in
-    let b = start .args .b .now in
+    let b = start .args .table .now in
     let k = start .args .k in
     test-high b (rowIn b k) (search needs) (search needs)
 
@@ -38,7 +38,7 @@ row-pair-requires-2 c κs = search needs
 returns-3 : tie.Need-returns-3
 returns-3 c =
     let start = c .before .before .before .before .before .before .before in
-    let b = start .args .b .now in
+    let b = start .args .table .now in
     let k = start .args .k in
     ap (λ (n : ℕ). not (eqb (bitAnd (c .before .row-pair .result) n) (c .before .row-pair .result)))
     (c .row-pair2 .ensures)

@@ -10,7 +10,7 @@ cast-if1 : tie.Need-cast-if1
 cast-if1 c = search needs
 
 returns : tie.Need-returns
-returns c = within-above (c .before .before .before .args .b .now) (c .before .before .before .args .h) (c .before .before .before .args .l) (search needs)
+returns c = within-above (c .before .before .before .args .table .now) (c .before .before .before .args .h) (c .before .before .before .args .l) (search needs)
 
 label-byte-requires : tie.Need-label-byte-requires
 label-byte-requires c κs = search needs
@@ -21,7 +21,7 @@ cast-if2 c = search needs
 returns-2 : tie.Need-returns-2
 returns-2 c =
     let start = c .before .before .before .before .before in
-    let b = start .args .b .now in
+    let b = start .args .table .now in
     let h = start .args .h in
     let l = start .args .l in
     within-owned b h l (search needs) (search needs)
@@ -29,7 +29,7 @@ returns-2 c =
 returns-3 : tie.Need-returns-3
 returns-3 c =
     let start = c .before .before .before .before .before .before in
-    let b = start .args .b .now in
+    let b = start .args .table .now in
     let h = start .args .h in
     let l = start .args .l in
     within-one b h l (search needs) (search needs) (search needs)
@@ -37,7 +37,7 @@ returns-3 c =
 returns-4 : tie.Need-returns-4
 returns-4 c =
     let start = c .before .before .before .before .before .before in
-    let b = start .args .b .now in
+    let b = start .args .table .now in
     let h = start .args .h in
     let l = start .args .l in
     within-other b h l (search needs) (search needs) (search needs)

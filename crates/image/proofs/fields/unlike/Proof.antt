@@ -16,7 +16,7 @@ returns c =
     let start = c .before .before .before in
     let kind = start .args .kind in
     let owner = start .args .owner in
-    let b = start .args .b .now in
+    let b = start .args .table .now in
     let l = start .args .l in
     unlike-kind kind owner (labelIn b l) (search needs)
 
@@ -28,7 +28,7 @@ returns-2 c =
     let start = c .before .before .before .before .before in
     let kind = start .args .kind in
     let owner = start .args .owner in
-    let b = start .args .b .now in
+    let b = start .args .table .now in
     let l = start .args .l in
     unlike-called kind owner (labelIn b l) (search needs) (search needs)
 
@@ -40,7 +40,7 @@ returns-3 c =
     let start = c .before .before .before .before .before .before .before in
     let kind = start .args .kind in
     let owner = start .args .owner in
-    let b = start .args .b .now in
+    let b = start .args .table .now in
     let l = start .args .l in
     unlike-owner kind owner (labelIn b l) (search needs) (search needs) (search needs)
 
@@ -52,7 +52,7 @@ returns-4 c =
     let start = c .before .before .before .before .before .before .before .before .before in
     let kind = start .args .kind in
     let owner = start .args .owner in
-    let b = start .args .b .now in
+    let b = start .args .table .now in
     let l = start .args .l in
     unlike-result kind owner (labelIn b l) (search needs) (search needs) (search needs) (search needs)
 
@@ -64,7 +64,7 @@ returns-5 c =
     let start = c .before .before .before .before .before .before .before .before .before .before in
     let kind = start .args .kind in
     let owner = start .args .owner in
-    let b = start .args .b .now in
+    let b = start .args .table .now in
     let l = start .args .l in
     ap (λ (n : ℕ). not (eqb n 0)) (c .label-mask .ensures)
     ∙ unlike-mask kind owner (labelIn b l) (search needs) (search needs) (search needs) (search needs)

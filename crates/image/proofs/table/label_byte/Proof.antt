@@ -17,7 +17,7 @@ byte-requires c κs = search needs
 returns : tie.Need-returns
 returns c =
     let start = c .before .before .before in
-    let b = start .args .b .now in
+    let b = start .args .table .now in
     let l = start .args .l in
     let k = start .args .k in
     c .byte .ensures ∙ ap (λ (n : ℕ). field b (n + l) k) (c .before .labels-from .ensures)

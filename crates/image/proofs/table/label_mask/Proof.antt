@@ -17,7 +17,7 @@ quad-requires c κs = search needs
 returns : tie.Need-returns
 returns c =
     let start = c .before .before .before in
-    let b = start .args .b .now in
+    let b = start .args .table .now in
     let l = start .args .l in
     c .quad .ensures ∙ ap (λ (n : ℕ). quadAt b (n + l) 6) (c .before .labels-from .ensures)
 

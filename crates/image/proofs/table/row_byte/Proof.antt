@@ -17,7 +17,7 @@ byte-requires c κs = search needs
 returns : tie.Need-returns
 returns c =
     let start = c .before .before .before in
-    let b = start .args .b .now in
+    let b = start .args .table .now in
     let k = start .args .k in
     let j = start .args .j in
     c .byte .ensures ∙ ap (λ (n : ℕ). field b (n + k) j) (c .before .rows-from .ensures)

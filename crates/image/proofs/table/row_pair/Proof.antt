@@ -17,7 +17,7 @@ pair-requires c κs = search needs
 returns : tie.Need-returns
 returns c =
     let start = c .before .before .before in
-    let b = start .args .b .now in
+    let b = start .args .table .now in
     let k = start .args .k in
     let j = start .args .j in
     c .pair .ensures ∙ ap (λ (n : ℕ). pairAt b (n + k) j) (c .before .rows-from .ensures)

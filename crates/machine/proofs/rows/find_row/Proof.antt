@@ -22,7 +22,7 @@ returns : tie.Need-returns Inv-loop μ-loop
 returns c =
     let start = c .before .before .before .before .before in
     let loop = c .before .before .before .loop in
-    found-here (start .args .b .now) (start .args .label) (start .args .word) (start .args .bit) (start .args .end)
+    found-here (start .args .table .now) (start .args .label) (start .args .word) (start .args .bit) (start .args .end)
     (loop .f) _ (search needs) (c .before .is-fitting .ensures) (c .if1 .taken)
     ∙ loop .inv .1
 
@@ -37,7 +37,7 @@ loop-again c =
     let start = c .before .before .before .before .before in
     let loop = c .before .before .before .loop in (
       search needs,
-      sym (found-later (start .args .b .now) (start .args .label) (start .args .word) (start .args .bit) (start .args .end)
+      sym (found-later (start .args .table .now) (start .args .label) (start .args .word) (start .args .bit) (start .args .end)
           (loop .f) _ (search needs) (c .before .is-fitting .ensures) (c .if1 .left))
           ∙ loop .inv .1,
     )
@@ -45,7 +45,7 @@ loop-again c =
 returns-2 : tie.Need-returns-2 Inv-loop μ-loop
 returns-2 c =
     let start = c .before .before .before in
-    find-over (start .args .b .now) (start .args .label) (start .args .word) (start .args .bit) (start .args .end)
+    find-over (start .args .table .now) (start .args .label) (start .args .word) (start .args .bit) (start .args .end)
     (c .before .loop .f) (search needs) ∙ c .before .loop .inv .1
 
 pub find-row-spec : {M : Type 1} → statement M

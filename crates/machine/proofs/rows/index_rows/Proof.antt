@@ -13,7 +13,7 @@ abbrev μ-loop : tie.MeasureT-loop
 μ-loop b firsts₀ end f₀ l₀ firsts f l = 257 - l
 
 rows-from-requires : tie.Need-rows-from-requires Inv-loop μ-loop
-rows-from-requires c κs = omega (arith, rows-inside (c .before .before .args .b .now) (c .before .before .pre .0))
+rows-from-requires c κs = omega (arith, rows-inside (c .before .before .args .table .now) (c .before .before .pre .0))
 
 loop-holds : tie.Need-loop-holds Inv-loop μ-loop
 loop-holds c = index-start _ (c .before .before .before .pre .0) _ _ (c .rows-from .ensures)

@@ -14,7 +14,7 @@ byte-requires c κs = search needs
 returns : tie.Need-returns
 returns c =
     let start = c .before .before .before in
-    let b = start .args .b .now in
+    let b = start .args .table .now in
     let label = start .args .label in
     let word = start .args .word in
     let bit = start .args .bit in
@@ -30,7 +30,7 @@ pair-requires-2 c κs = search needs
 returns-2 : tie.Need-returns-2
 returns-2 c =
     let start = c .before .before .before .before .before .before in
-    let b = start .args .b .now in
+    let b = start .args .table .now in
     let label = start .args .label in
     let word = start .args .word in
     let bit = start .args .bit in
@@ -45,7 +45,7 @@ byte-requires-2 c κs = search needs
 returns-3 : tie.Need-returns-3
 returns-3 c =
     let start = c .before .before .before .before .before .before .before .before in
-    let b = start .args .b .now in
+    let b = start .args .table .now in
     let label = start .args .label in
     let word = start .args .word in
     let bit = start .args .bit in
@@ -60,7 +60,7 @@ returns-4 : tie.Need-returns-4
 returns-4 c =
     let start = c .before .before .before .before .before .before .before .before in
     let bit = start .args .bit in
-    let b = start .args .b .now in
+    let b = start .args .table .now in
     let label = start .args .label in
     let word = start .args .word in
     let f = start .args .f in

@@ -11,7 +11,7 @@ mul-first c = search needs
 shared-slice-read-first : tie.Need-shared-slice-read-first
 shared-slice-read-first c =
     let start = c .before .before .before in
-    let b = start .args .b .now in
+    let b = start .args .table .now in
     let firsts = start .args .firsts .now in
     omega (arith, firsts-long b firsts (start .pre .1))
 
@@ -27,7 +27,7 @@ mul-end c = search needs
 shared-slice-read-end : tie.Need-shared-slice-read-end
 shared-slice-read-end c =
     let start = c .before .before .before .before in
-    let b = start .args .b .now in
+    let b = start .args .table .now in
     let firsts = start .args .firsts .now in
     omega (arith, firsts-long b firsts (start .pre .1))
 
@@ -37,7 +37,7 @@ cast-end c = omega (arith, c .before .before .shared-slice-known2 .given (c .bef
 find-row-requires : tie.Need-find-row-requires
 find-row-requires c κs =
     let start = c .before .before .before .before in
-    let b = start .args .b .now in
+    let b = start .args .table .now in
     let firsts = start .args .firsts .now in
     let label = start .args .label in
     let r =
@@ -48,7 +48,7 @@ find-row-requires c κs =
 byte-requires : tie.Need-byte-requires
 byte-requires c κs =
     let start = c .before .before .before .before .before .before in
-    let b = start .args .b .now in
+    let b = start .args .table .now in
     let firsts = start .args .firsts .now in
     let label = start .args .label in
     let shared-slice-known = c .before .before .before .before .before .shared-slice-known in
@@ -61,7 +61,7 @@ cast-result c = search needs
 returns : tie.Need-returns
 returns c =
     let start = c .before .before .before .before .before .before .before in
-    let b = start .args .b .now in
+    let b = start .args .table .now in
     let firsts = start .args .firsts .now in
     let label = start .args .label in
     let word = start .args .word in
@@ -74,7 +74,7 @@ returns c =
 returns-2 : tie.Need-returns-2
 returns-2 c =
     let start = c .before .before .before .before .before .before in
-    let b = start .args .b .now in
+    let b = start .args .table .now in
     let firsts = start .args .firsts .now in
     let label = start .args .label in
     let word = start .args .word in

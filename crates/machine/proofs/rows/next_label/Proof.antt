@@ -7,7 +7,7 @@ use Rattle.machine.proofs.rows.next_label.Tie as tie
 label-byte-requires : tie.Need-label-byte-requires
 label-byte-requires c κs =
     let start = c .before .before .before in
-    let b = start .args .b .now in
+    let b = start .args .table .now in
     let label = start .args .label in
     (label-inside b (start .pre .0 .0) label (start .pre .0 .1), search needs)
 
@@ -20,7 +20,7 @@ next-by-requires c κs = search needs
 returns : tie.Need-returns
 returns c =
     let start = c .before .before .before .before .before .before .before in
-    let b = start .args .b .now in
+    let b = start .args .table .now in
     let label = start .args .label in
     let word = start .args .word in
     let bits = start .args .bits .now in
@@ -35,7 +35,7 @@ next-by-requires-2 c κs = search needs
 returns-2 : tie.Need-returns-2
 returns-2 c =
     let start = c .before .before .before .before .before .before .before in
-    let b = start .args .b .now in
+    let b = start .args .table .now in
     let label = start .args .label in
     let word = start .args .word in
     let bits = start .args .bits .now in

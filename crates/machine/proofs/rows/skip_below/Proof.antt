@@ -27,7 +27,7 @@ cast-if1 c = search needs
 returns : tie.Need-returns Inv-loop μ-loop
 returns c =
     let start = c .before .before .before .before .before in
-    let b = start .args .b .now in
+    let b = start .args .table .now in
     let l = start .args .l in
     let loop = c .before .before .before .loop in
     sym (lowest-here (reached b l) _ _ (search needs) (le-leb l (field b (loop .f) 1) (search needs))) ∙ loop .inv .1
@@ -41,7 +41,7 @@ loop-less c = search needs
 loop-again : tie.Need-loop-again Inv-loop μ-loop
 loop-again c =
     let start = c .before .before .before .before .before in
-    let b = start .args .b .now in
+    let b = start .args .table .now in
     let l = start .args .l in
     let loop = c .before .before .before .loop in (
       search needs,

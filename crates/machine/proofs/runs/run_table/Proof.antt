@@ -7,12 +7,12 @@ use Rattle.machine.proofs.runs.run_table.Statement.{statement}
 use Rattle.machine.proofs.runs.run_table.Tie as tie
 
 is-unfit-requires : tie.Need-is-unfit-requires
-is-unfit-requires c κs = rows-inside (c .before .before .before .before .args .b .now) (c .before .before .before .before .pre)
+is-unfit-requires c κs = rows-inside (c .before .before .before .before .args .table .now) (c .before .before .before .before .pre)
 
 returns : tie.Need-returns
 returns c =
     let start = c .before .before .before .before .before .before in
-    let b = start .args .b .now in
+    let b = start .args .table .now in
     let state = start .args .state in
     let words = start .args .words .now in
     let masks = start .args .masks .now in
@@ -22,7 +22,7 @@ returns c =
 returns-2 : tie.Need-returns-2
 returns-2 c =
     let start = c .before .before .before .before .before .before .before in
-    let b = start .args .b .now in
+    let b = start .args .table .now in
     let state = start .args .state in
     let words = start .args .words .now in
     let masks = start .args .masks .now in
@@ -33,7 +33,7 @@ returns-2 c =
 returns-3 : tie.Need-returns-3
 returns-3 c =
     let start = c .before .before .before .before .before .before .before .before in
-    let b = start .args .b .now in
+    let b = start .args .table .now in
     let state = start .args .state in
     let words = start .args .words .now in
     let masks = start .args .masks .now in

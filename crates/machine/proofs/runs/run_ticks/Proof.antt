@@ -31,7 +31,7 @@ returns : tie.Need-returns
 returns c =
     let call = c .before .before .before .before .before .before .before in
     let start = call .before .before .before .before .before .before .before .before .before .before .before .before .before .before .before in
-    let b = start .args .b .now in
+    let b = start .args .table .now in
     let state = start .args .state in
     let words = start .args .words .now in
     let masks = start .args .masks .now in
@@ -50,7 +50,7 @@ returns-2 : tie.Need-returns-2
 returns-2 c =
     let call = c .before .before .before .before .before .before .before in
     let start = call .before .before .before .before .before .before .before .before .before .before .before .before .before .before .before in
-    let b = start .args .b .now in
+    let b = start .args .table .now in
     let state = start .args .state in
     let words = start .args .words .now in
     let masks = start .args .masks .now in

@@ -10,7 +10,7 @@ use Rattle.lists.specs.Pick.{pick}
 use Rattle.lists.proofs.Tests.{or-true-l, or-true-r}
 use Rattle.frames.specs.Frame.{size, field}
 use Rattle.image.specs.Decode.{schemeCount, lastLabel, rowCount, labelsFrom, rowsFrom}
-use Rattle.image.specs.Check.{Place, header, entryAt, labelAt, rowAt, filled, badCounts, badHeader, placeOf, falls, strayFrame, stray}
+use Rattle.image.specs.Check.{Position, header, entryAt, labelAt, rowAt, filled, badCounts, badHeader, positionOf, falls, strayFrame, stray}
 use Rattle.image.specs.Parts.{kindOf}
 
 pub unequal : (a b : ℕ) → (a ≡ b → ⊥) → not (eqb a b) ≡ true
@@ -56,24 +56,24 @@ module _ (b : List ℕ) where
       (equal (field b 0 0) 15 k) f h
 
 -- ---- a frame by its position
-abbrev placed : Bool → Bool → Bool → List ℕ → ℕ → Place
+abbrev placed : Bool → Bool → Bool → List ℕ → ℕ → Position
 placed x y z b f = pick x header (pick y (entryAt f) (pick z (labelAt (f - labelsFrom b)) (rowAt (f - rowsFrom b))))
 
 module _ (b : List ℕ) (f : ℕ) where
-  pub kind-header : f ≡ 0 → 15 ≡ kindOf (placeOf b f)
-  unfolding placeOf
+  pub kind-header : f ≡ 0 → 15 ≡ kindOf (positionOf b f)
+  unfolding positionOf
   kind-header h = simp (eq-eqb f 0 h)
 
-  pub kind-entry : (f ≡ 0 → ⊥) → f < labelsFrom b → 16 ≡ kindOf (placeOf b f)
-  unfolding placeOf
+  pub kind-entry : (f ≡ 0 → ⊥) → f < labelsFrom b → 16 ≡ kindOf (positionOf b f)
+  unfolding positionOf
   kind-entry n h = simp (ne-eqb f 0 n, lt-ltb f (labelsFrom b) h)
 
-  pub kind-label : (f ≡ 0 → ⊥) → labelsFrom b ≤ f → f < rowsFrom b → 17 ≡ kindOf (placeOf b f)
-  unfolding placeOf
+  pub kind-label : (f ≡ 0 → ⊥) → labelsFrom b ≤ f → f < rowsFrom b → 17 ≡ kindOf (positionOf b f)
+  unfolding positionOf
   kind-label n h l = simp (ne-eqb f 0 n, le-ltb f (labelsFrom b) h, lt-ltb f (rowsFrom b) l)
 
-  pub kind-row : (f ≡ 0 → ⊥) → rowsFrom b ≤ f → 18 ≡ kindOf (placeOf b f)
-  unfolding placeOf
+  pub kind-row : (f ≡ 0 → ⊥) → rowsFrom b ≤ f → 18 ≡ kindOf (positionOf b f)
+  unfolding positionOf
   kind-row n h = simp (ne-eqb f 0 n, le-ltb f (labelsFrom b) (omega arith), le-ltb f (rowsFrom b) h)
 
   placed-entry : (x y z : Bool) → kindOf (placed x y z b f) ≡ 16 → placed x y z b f ≡ entryAt f
@@ -101,30 +101,30 @@ module _ (b : List ℕ) (f : ℕ) where
   placed-header false false true p q r = absurd (q refl)
   placed-header false false false p q r = absurd (r refl)
 
-  pub place-entry : kindOf (placeOf b f) ≡ 16 → placeOf b f ≡ entryAt f
-  unfolding placeOf
-  place-entry = placed-entry (eqb f 0) (ltb f (labelsFrom b)) (ltb f (rowsFrom b))
+  pub position-entry : kindOf (positionOf b f) ≡ 16 → positionOf b f ≡ entryAt f
+  unfolding positionOf
+  position-entry = placed-entry (eqb f 0) (ltb f (labelsFrom b)) (ltb f (rowsFrom b))
 
-  pub place-label : kindOf (placeOf b f) ≡ 17 → placeOf b f ≡ labelAt (f - labelsFrom b)
-  unfolding placeOf
-  place-label e = placed-label (eqb f 0) (ltb f (labelsFrom b)) (ltb f (rowsFrom b)) e .0
+  pub position-label : kindOf (positionOf b f) ≡ 17 → positionOf b f ≡ labelAt (f - labelsFrom b)
+  unfolding positionOf
+  position-label e = placed-label (eqb f 0) (ltb f (labelsFrom b)) (ltb f (rowsFrom b)) e .0
 
-  pub label-above : kindOf (placeOf b f) ≡ 17 → labelsFrom b ≤ f
-  unfolding placeOf
+  pub label-above : kindOf (positionOf b f) ≡ 17 → labelsFrom b ≤ f
+  unfolding positionOf
   label-above e = ltb-false f (labelsFrom b) (placed-label (eqb f 0) (ltb f (labelsFrom b)) (ltb f (rowsFrom b)) e .1)
 
-  pub place-row : kindOf (placeOf b f) ≡ 18 → placeOf b f ≡ rowAt (f - rowsFrom b)
-  unfolding placeOf
-  place-row e = placed-row (eqb f 0) (ltb f (labelsFrom b)) (ltb f (rowsFrom b)) e .0
+  pub position-row : kindOf (positionOf b f) ≡ 18 → positionOf b f ≡ rowAt (f - rowsFrom b)
+  unfolding positionOf
+  position-row e = placed-row (eqb f 0) (ltb f (labelsFrom b)) (ltb f (rowsFrom b)) e .0
 
-  pub row-above : kindOf (placeOf b f) ≡ 18 → rowsFrom b ≤ f
-  unfolding placeOf
+  pub row-above : kindOf (positionOf b f) ≡ 18 → rowsFrom b ≤ f
+  unfolding positionOf
   row-above e = ltb-false f (rowsFrom b) (placed-row (eqb f 0) (ltb f (labelsFrom b)) (ltb f (rowsFrom b)) e .1)
 
-  pub place-header : (kindOf (placeOf b f) ≡ 16 → ⊥) → (kindOf (placeOf b f) ≡ 17 → ⊥)
-      → (kindOf (placeOf b f) ≡ 18 → ⊥) → placeOf b f ≡ header
-  unfolding placeOf
-  place-header = placed-header (eqb f 0) (ltb f (labelsFrom b)) (ltb f (rowsFrom b))
+  pub position-header : (kindOf (positionOf b f) ≡ 16 → ⊥) → (kindOf (positionOf b f) ≡ 17 → ⊥)
+      → (kindOf (positionOf b f) ≡ 18 → ⊥) → positionOf b f ≡ header
+  unfolding positionOf
+  position-header = placed-header (eqb f 0) (ltb f (labelsFrom b)) (ltb f (rowsFrom b))
 
 -- ---- 12
 pub falls-later : (b : List ℕ) (k x y : ℕ) → (k ≡ 0 → ⊥) → x ≡ field b (rowsFrom b + k) 1
@@ -133,32 +133,32 @@ falls-later b zero x y n p q = absurd (n refl)
 falls-later b (suc k) x y n p q = rw (p, q) (ap (λ (j : ℕ). ltb (field b (rowsFrom b + suc k) 1) (field b (rowsFrom b + j) 1)) (omega arith))
 
 module _ (b : List ℕ) (f : ℕ) where
-  pub stray-entry-kind : kindOf (placeOf b f) ≡ 16 → (field b f 0 ≡ 16 → ⊥) → true ≡ stray b f
+  pub stray-entry-kind : kindOf (positionOf b f) ≡ 16 → (field b f 0 ≡ 16 → ⊥) → true ≡ stray b f
   unfolding stray
-  stray-entry-kind e h = sym (ap (strayFrame b f) (place-entry b f e) ∙ simp (ne-eqb (field b f 0) 16 h))
+  stray-entry-kind e h = sym (ap (strayFrame b f) (position-entry b f e) ∙ simp (ne-eqb (field b f 0) 16 h))
 
-  pub stray-entry : (x : ℕ) → kindOf (placeOf b f) ≡ 16 → field b f 0 ≡ 16 → x ≡ field b f 1 → not (eqb x f) ≡ stray b f
+  pub stray-entry : (x : ℕ) → kindOf (positionOf b f) ≡ 16 → field b f 0 ≡ 16 → x ≡ field b f 1 → not (eqb x f) ≡ stray b f
   unfolding stray
-  stray-entry x e h q = rw q (sym (ap (strayFrame b f) (place-entry b f e) ∙ simp (eq-eqb (field b f 0) 16 h)))
+  stray-entry x e h q = rw q (sym (ap (strayFrame b f) (position-entry b f e) ∙ simp (eq-eqb (field b f 0) 16 h)))
 
-  pub stray-label-kind : kindOf (placeOf b f) ≡ 17 → (field b f 0 ≡ 17 → ⊥) → true ≡ stray b f
+  pub stray-label-kind : kindOf (positionOf b f) ≡ 17 → (field b f 0 ≡ 17 → ⊥) → true ≡ stray b f
   unfolding stray
-  stray-label-kind e h = sym (ap (strayFrame b f) (place-label b f e) ∙ simp (ne-eqb (field b f 0) 17 h))
+  stray-label-kind e h = sym (ap (strayFrame b f) (position-label b f e) ∙ simp (ne-eqb (field b f 0) 17 h))
 
-  pub stray-label : (x y : ℕ) → kindOf (placeOf b f) ≡ 17 → field b f 0 ≡ 17 → x ≡ field b f 1 → y ≡ labelsFrom b
+  pub stray-label : (x y : ℕ) → kindOf (positionOf b f) ≡ 17 → field b f 0 ≡ 17 → x ≡ field b f 1 → y ≡ labelsFrom b
       → not (eqb x (f - y)) ≡ stray b f
   unfolding stray
-  stray-label x y e h q r = rw (q, r) (sym (ap (strayFrame b f) (place-label b f e) ∙ simp (eq-eqb (field b f 0) 17 h)))
+  stray-label x y e h q r = rw (q, r) (sym (ap (strayFrame b f) (position-label b f e) ∙ simp (eq-eqb (field b f 0) 17 h)))
 
-  pub stray-row-kind : kindOf (placeOf b f) ≡ 18 → (field b f 0 ≡ 18 → ⊥) → true ≡ stray b f
+  pub stray-row-kind : kindOf (positionOf b f) ≡ 18 → (field b f 0 ≡ 18 → ⊥) → true ≡ stray b f
   unfolding stray
-  stray-row-kind e h = sym (ap (strayFrame b f) (place-row b f e) ∙ simp (ne-eqb (field b f 0) 18 h))
+  stray-row-kind e h = sym (ap (strayFrame b f) (position-row b f e) ∙ simp (ne-eqb (field b f 0) 18 h))
 
-  pub stray-row : (x : Bool) (y : ℕ) → kindOf (placeOf b f) ≡ 18 → field b f 0 ≡ 18 → y ≡ rowsFrom b → x ≡ falls b (f - y) → x ≡ stray b f
+  pub stray-row : (x : Bool) (y : ℕ) → kindOf (positionOf b f) ≡ 18 → field b f 0 ≡ 18 → y ≡ rowsFrom b → x ≡ falls b (f - y) → x ≡ stray b f
   unfolding stray
-  stray-row x y e h q r = r ∙ ap (λ (n : ℕ). falls b (f - n)) q ∙ sym (ap (strayFrame b f) (place-row b f e) ∙ simp (eq-eqb (field b f 0) 18 h))
+  stray-row x y e h q r = r ∙ ap (λ (n : ℕ). falls b (f - n)) q ∙ sym (ap (strayFrame b f) (position-row b f e) ∙ simp (eq-eqb (field b f 0) 18 h))
 
-  pub stray-header : (kindOf (placeOf b f) ≡ 16 → ⊥) → (kindOf (placeOf b f) ≡ 17 → ⊥)
-      → (kindOf (placeOf b f) ≡ 18 → ⊥) → false ≡ stray b f
+  pub stray-header : (kindOf (positionOf b f) ≡ 16 → ⊥) → (kindOf (positionOf b f) ≡ 17 → ⊥)
+      → (kindOf (positionOf b f) ≡ 18 → ⊥) → false ≡ stray b f
   unfolding stray
-  stray-header p q r = sym (ap (strayFrame b f) (place-header b f p q r))
+  stray-header p q r = sym (ap (strayFrame b f) (position-header b f p q r))

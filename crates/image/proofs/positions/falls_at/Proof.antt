@@ -1,7 +1,7 @@
-use Rattle.image.proofs.PlaceCases.{falls-later}
+use Rattle.image.proofs.PositionCases.{falls-later}
 use borrow.Author.Needs.{needs}
-use Rattle.image.proofs.places.falls_at.Statement.{statement}
-use Rattle.image.proofs.places.falls_at.Tie as tie
+use Rattle.image.proofs.positions.falls_at.Statement.{statement}
+use Rattle.image.proofs.positions.falls_at.Tie as tie
 
 returns : tie.Need-returns
 returns c = search needs
@@ -18,7 +18,7 @@ row-byte-requires-2 c κs = search needs
 returns-2 : tie.Need-returns-2
 returns-2 c =
     let start = c .before .before .before .before in
-    let b = start .args .b .now in
+    let b = start .args .table .now in
     let k = start .args .k in
     falls-later b k _ _ (search needs) (c .before .row-byte .ensures) (c .row-byte2 .ensures)
 

@@ -1,16 +1,16 @@
-use Rattle.image.proofs.PlaceCases.{kind-header, kind-entry, kind-label, kind-row}
+use Rattle.image.proofs.PositionCases.{kind-header, kind-entry, kind-label, kind-row}
 use borrow.Author.Needs.{needs}
-use Rattle.image.proofs.places.kind_at.Statement.{statement}
-use Rattle.image.proofs.places.kind_at.Tie as tie
+use Rattle.image.proofs.positions.kind_at.Statement.{statement}
+use Rattle.image.proofs.positions.kind_at.Tie as tie
 
 returns : tie.Need-returns
-returns c = kind-header (c .before .before .args .b .now) (c .before .before .args .f) (search needs)
+returns c = kind-header (c .before .before .args .table .now) (c .before .before .args .f) (search needs)
 
 labels-from-requires : tie.Need-labels-from-requires
 labels-from-requires c κs = search needs
 
 returns-2 : tie.Need-returns-2
-returns-2 c = kind-entry (c .before .before .before .before .args .b .now) (c .before .before .before .before .args .f) (search needs) (search needs)
+returns-2 c = kind-entry (c .before .before .before .before .args .table .now) (c .before .before .before .before .args .f) (search needs) (search needs)
 
 rows-from-requires : tie.Need-rows-from-requires
 rows-from-requires c κs = search needs
@@ -18,14 +18,14 @@ rows-from-requires c κs = search needs
 returns-3 : tie.Need-returns-3
 returns-3 c =
     let start = c .before .before .before .before .before .before in
-    let b = start .args .b .now in
+    let b = start .args .table .now in
     let f = start .args .f in
     kind-label b f (search needs) (search needs) (search needs)
 
 returns-4 : tie.Need-returns-4
 returns-4 c =
     let start = c .before .before .before .before .before .before in
-    let b = start .args .b .now in
+    let b = start .args .table .now in
     let f = start .args .f in
     kind-row b f (search needs) (search needs)
 

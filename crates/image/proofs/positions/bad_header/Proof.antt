@@ -4,28 +4,28 @@ use lib.Dec.{eqb}
 use mathlib.Core.Bool.{not}
 use native.Mathlib.Omega.{arith}
 use Rattle.frames.specs.Frame.{size}
-use Rattle.image.proofs.PlaceCases.{header-kind, header-filled, header-counts, header-frames}
+use Rattle.image.proofs.PositionCases.{header-kind, header-filled, header-counts, header-frames}
 use borrow.Author.Needs.{needs}
-use Rattle.image.proofs.places.bad_header.Statement.{statement}
-use Rattle.image.proofs.places.bad_header.Tie as tie
+use Rattle.image.proofs.positions.bad_header.Statement.{statement}
+use Rattle.image.proofs.positions.bad_header.Tie as tie
 
 byte-requires : tie.Need-byte-requires
 byte-requires c κs = search needs
 
 returns : tie.Need-returns
-returns c = header-kind (c .before .before .before .args .b .now) (search needs)
+returns c = header-kind (c .before .before .before .args .table .now) (search needs)
 
 filled-to-requires : tie.Need-filled-to-requires
 filled-to-requires c κs = search needs
 
 returns-2 : tie.Need-returns-2
-returns-2 c = header-filled (c .before .before .before .before .before .args .b .now) (search needs) (cc)
+returns-2 c = header-filled (c .before .before .before .before .before .args .table .now) (search needs) (cc)
 
 bad-counts-requires : tie.Need-bad-counts-requires
 bad-counts-requires c κs = search needs
 
 returns-3 : tie.Need-returns-3
-returns-3 c = header-counts (c .before .before .before .before .before .before .before .args .b .now) (search needs) (cc) (cc)
+returns-3 c = header-counts (c .before .before .before .before .before .before .before .args .table .now) (search needs) (cc) (cc)
 
 rows-from-requires : tie.Need-rows-from-requires
 rows-from-requires c κs = search needs
@@ -43,7 +43,7 @@ add-result c =
 
 returns-4 : tie.Need-returns-4
 returns-4 c =
-    let b = c .before .before .before .before .before .before .before .before .before .args .b .now in
+    let b = c .before .before .before .before .before .before .before .before .before .args .table .now in
     ap (λ (n : ℕ). not (eqb (size b) n)) (cc) ∙ header-frames b (search needs) (cc) (cc)
 
 pub bad-header-spec : {M : Type 1} → statement M

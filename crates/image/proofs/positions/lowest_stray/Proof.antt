@@ -4,8 +4,8 @@ use Prim.Native.Nat.{_-_, _≤_}
 use Rattle.lists.specs.Numbers.{lowest}
 use Rattle.lists.proofs.Searches.{lowest-here, lowest-on, lowest-over, lowest-start}
 use Rattle.image.specs.Check.{stray}
-use Rattle.image.proofs.places.lowest_stray.Statement.{statement}
-use Rattle.image.proofs.places.lowest_stray.Tie as tie
+use Rattle.image.proofs.positions.lowest_stray.Statement.{statement}
+use Rattle.image.proofs.positions.lowest_stray.Tie as tie
 
 abbrev Inv-loop : tie.InvT-loop
 Inv-loop b n f₀ f = (f ≤ n) × (lowest (stray b) f (n - f) ≡ lowest (stray b) 0 n)
