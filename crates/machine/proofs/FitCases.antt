@@ -64,7 +64,8 @@ module _ (b : List ℕ) (s : State) (k m : ℕ) (last : m ≡ lastLabel b) where
   pub place-high : m < placeAt s k → true ≡ unfitPlace (decoded b) s k
   place-high h = rw (le-leb (length (decoded b .labels)) (placeAt s k) (omega (arith, labels-count b)))
 
-  pub place-kept : placeAt s k ≤ m → k + 1 < s .depth → (t : Bool) → t ≡ mayCarry (decoded b) (placeAt s k) (placeAt s (k + 1)) → not t ≡ unfitPlace (decoded b) s k
+  pub place-kept : placeAt s k ≤ m → k + 1 < s .depth → (t : Bool) → t ≡ mayCarry (decoded b) (placeAt s k) (placeAt s (k + 1))
+      → not t ≡ unfitPlace (decoded b) s k
   place-kept h d t e = rw (lt-leb (length (decoded b .labels)) (placeAt s k) (omega (arith, labels-count b)), lt-ltb (k + 1) (s .depth) d, e)
 
   pub place-top : placeAt s k ≤ m → s .depth ≤ k + 1 → false ≡ unfitPlace (decoded b) s k
@@ -89,7 +90,8 @@ module _ (b : List ℕ) (s : State) where
   unfolding unfit
   unfit-places d e = rw (d, e)
 
-  module _ (depth : badDepth s ≡ false) (places : any (unfitPlace (decoded b) s) 0 (s .depth) ≡ false) (r : ℕ) (owner : r ≡ labelAt (decoded b) (placeAt s 0) .owner) where
+  module _ (depth : badDepth s ≡ false) (places : any (unfitPlace (decoded b) s) 0 (s .depth) ≡ false) (r : ℕ)
+      (owner : r ≡ labelAt (decoded b) (placeAt s 0) .owner) where
     pub unfit-bottom : (r ≡ 1 → ⊥) → true ≡ unfit (decoded b) s
     unfolding unfit
     unfit-bottom n = rw (depth, places, sym owner, ne-eqb r 1 n)

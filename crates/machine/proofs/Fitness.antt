@@ -69,14 +69,21 @@ module _ (i : Image) where
 
     fits-place : Fits i s → (k : ℕ) → k < s .depth → unfitPlace i s k ≡ false
     fits-place f k l =
-        or-none (leb (length (i .labels)) (placeAt s k)) (strays k) (lt-leb (length (i .labels)) (placeAt s k) (f .labels k l)) (go (ltb (k + 1) (s .depth)) refl)
+        or-none (leb (length (i .labels)) (placeAt s k)) (strays k)
+        (lt-leb (length (i .labels)) (placeAt s k) (f .labels k l)) (go (ltb (k + 1) (s .depth)) refl)
       where
         go : (t : Bool) → ltb (k + 1) (s .depth) ≡ t → (t && not (mayCarry i (placeAt s k) (placeAt s (k + 1)))) ≡ false
         go true e = ap not (may-carry (placeAt s k) (placeAt s (k + 1)) (f .carries k (ltb-true (k + 1) (s .depth) e)))
         go false e = refl
 
     fits-depth : Fits i s → badDepth s ≡ false
-    fits-depth f = rw (ne-eqb (s .size) 0 (λ p. omega (arith, f .some, f .most)), le-ltb 32 (s .size) (f .small), ne-eqb (s .depth) 0 (λ p. omega (arith, f .some)), le-ltb (s .size) (s .depth) (f .most))
+    fits-depth f =
+        rw (
+          ne-eqb (s .size) 0 (λ p. omega (arith, f .some, f .most)),
+          le-ltb 32 (s .size) (f .small),
+          ne-eqb (s .depth) 0 (λ p. omega (arith, f .some)),
+          le-ltb (s .size) (s .depth) (f .most),
+        )
 
     pub fits : Fits i s → unfit i s ≡ false
     unfolding unfit
@@ -90,7 +97,9 @@ module _ (i : Image) where
     pub unfits : length (s .places) ≡ 32 → unfit i s ≡ false → Fits i s
     unfolding unfit
     unfits w e =
-        let none = none-of (badDepth s) (any (unfitPlace i s) 0 (s .depth)) (not (eqb (labelAt i (placeAt s 0) .owner) 1)) (any filledAt (s .depth) (32 - s .depth)) e in
+        let none =
+        none-of (badDepth s) (any (unfitPlace i s) 0 (s .depth)) (not (eqb (labelAt i (placeAt s 0) .owner) 1))
+        (any filledAt (s .depth) (32 - s .depth)) e in
         let sizes = none-of (eqb (s .size) 0) (ltb 32 (s .size)) (eqb (s .depth) 0) (ltb (s .size) (s .depth)) (none .0) in
         let some : s .depth ≡ 0 → ⊥ = eqb-false (s .depth) 0 (sizes .2) in
         record {
@@ -99,12 +108,14 @@ module _ (i : Image) where
           some = omega arith;
           most = ltb-false (s .size) (s .depth) (sizes .3);
           labels = λ k l. leb-false (length (i .labels)) (placeAt s k) (place (none .1) k l .0);
-          carries = λ k l. does-carry (placeAt s k) (placeAt s (k + 1)) (not-false _ (and-false (ltb (k + 1) (s .depth)) _ (place (none .1) k (omega arith) .1) (lt-ltb (k + 1) (s .depth) l)));
+          carries = λ k l. does-carry (placeAt s k) (placeAt s (k + 1))
+              (not-false _ (and-false (ltb (k + 1) (s .depth)) _ (place (none .1) k (omega arith) .1) (lt-ltb (k + 1) (s .depth) l)));
           bottom = eqb-true (labelAt i (placeAt s 0) .owner) 1 (not-false _ (none .2));
           above = λ k l m. eqb-true (placeAt s k) 0 (not-false _ (any-false filledAt (s .depth) (32 - s .depth) (none .3) k l (omega arith)));
         }
       where
-        place : any (unfitPlace i s) 0 (s .depth) ≡ false → (k : ℕ) → k < s .depth → (leb (length (i .labels)) (placeAt s k) ≡ false) × (strays k ≡ false)
+        place : any (unfitPlace i s) 0 (s .depth) ≡ false → (k : ℕ) → k < s .depth
+            → (leb (length (i .labels)) (placeAt s k) ≡ false) × (strays k ≡ false)
         place q k l =
             let p : unfitPlace i s k ≡ false = any-false (unfitPlace i s) 0 (s .depth) q k (omega arith) (omega arith) in
             (or-l (leb (length (i .labels)) (placeAt s k)) (strays k) p, or-r (leb (length (i .labels)) (placeAt s k)) (strays k) p)

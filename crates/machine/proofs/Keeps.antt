@@ -27,7 +27,8 @@ use Rattle.machine.proofs.Fitness.{Carries, Fits, fits, unfits}
 
 -- a row that is found is one of the label's
 found-row : (i : Image) (h l w b u : ℕ) (rs : List Row)
-    → ((k : ℕ) → k < length rs → getD rs k noRow .from ≡ l → Reaches i h (getD rs k noRow .next)) → firstRow l w b rs ≡ found u → Reaches i h u
+    → ((k : ℕ) → k < length rs → getD rs k noRow .from ≡ l → Reaches i h (getD rs k noRow .next))
+    → firstRow l w b rs ≡ found u → Reaches i h u
 unfolding firstRow
 found-row i h l w b u [] each e = absurd (let z : _≡_ {A = ℕ} 0 1 = cc in omega arith)
 found-row i h l w b u (r ∷ rs) each e = go (eqb (r .from) l && matches w b r) refl (found-row i h l w b u rs (λ k m. each (suc k) (omega arith)))
@@ -221,7 +222,8 @@ module _ (i : Image) (sound : Sound i) where
   Keeps (stopped n) = Unit {0}
 
   moved-keeps : (m code : ℕ) (s : State) (k d : ℕ) (places : List ℕ) (b : Results) (f : Found)
-      → ((u : ℕ) → f ≡ found u → Fits i (record { size = s .size; depth = d; places = set places k u; bits = b })) → Keeps (moved m code s k d places b f)
+      → ((u : ℕ) → f ≡ found u → Fits i (record { size = s .size; depth = d; places = set places k u; bits = b }))
+      → Keeps (moved m code s k d places b f)
   moved-keeps m code s k d places b (found u) h = h u refl
   moved-keeps m code s k d places b missing h = tt
 
@@ -236,7 +238,8 @@ module _ (i : Image) (sound : Sound i) where
     plain-keeps w b e = moved-keeps _ 0 s _ _ (s .places) b (rowOf i b top w)
         (λ u q. replaced-fits s u b f (not-return top top-low (λ p. omega arith)) (row-leads top w _ u q))
 
-    call-keeps : (m code : ℕ) (b : Results) → isCall (labelAt i top) ≡ true → Keeps (pushed i s m code (labelAt i top .called) b (leb (s .size) (s .depth)))
+    call-keeps : (m code : ℕ) (b : Results) → isCall (labelAt i top) ≡ true
+        → Keeps (pushed i s m code (labelAt i top .called) b (leb (s .size) (s .depth)))
     call-keeps m code b e = go (leb (s .size) (s .depth)) refl
       where
         h : ℕ
@@ -300,7 +303,8 @@ module _ (i : Image) (sound : Sound i) where
         b : Results
         b = withResult (x .result) (x .owner) (s .bits)
 
-        go : (k : ℕ) → labelAt i top .kind ≡ k → Keeps (tickBy i s w top (labelAt i top) (withResult (labelAt i top .result) (labelAt i top .owner) (s .bits)) k)
+        go : (k : ℕ) → labelAt i top .kind ≡ k
+            → Keeps (tickBy i s w top (labelAt i top) (withResult (labelAt i top .result) (labelAt i top .owner) (s .bits)) k)
         go zero e = plain-keeps w b e
         go (suc zero) e = call-keeps _ _ b (rw e)
         go (suc (suc zero)) e = call-keeps _ _ b (rw e)

@@ -28,7 +28,8 @@ pub advance-by : (t : List ℕ) (s : State) (w : ℕ) → advance t s w ≡ adva
 unfolding advance run runVerdict ticks
 advance-by t s w = go (imageVerdict t) refl (unfit (decoded (contents t)) s) refl (tick (decoded (contents t)) s w) refl
   where
-    go : (v : Verdict) → imageVerdict t ≡ v → (b : Bool) → unfit (decoded (contents t)) s ≡ b → (d : Ticked) → tick (decoded (contents t)) s w ≡ d
+    go : (v : Verdict) → imageVerdict t ≡ v → (b : Bool) → unfit (decoded (contents t)) s ≡ b → (d : Ticked)
+        → tick (decoded (contents t)) s w ≡ d
         → advance t s w ≡ advanceBy s (tried t s) (tick (decoded (contents t)) s w)
     go (refused k i) e b f d g = simp e
     go fine e true f d g = simp (e, f)

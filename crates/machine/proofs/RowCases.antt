@@ -38,11 +38,15 @@ module _ (b : List ℕ) (l w bit f : ℕ) where
   fitting-other h = simp (ne-eqb (field b f 1) l h)
 
   pub fitting-not : field b f 1 ≡ l → agrees w (rowOn b f .care) (rowOn b f .values) ≡ false → false ≡ fitting b l w bit f
-  fitting-not h e = sym (ap (λ (t : Bool). t && matches w bit (rowOn b f)) (eq-eqb (field b f 1) l h) ∙ ap (λ (t : Bool). t && (eqb (field b f 6) 2 || eqb (field b f 6) bit)) e)
+  fitting-not h e =
+      sym (ap (λ (t : Bool). t && matches w bit (rowOn b f)) (eq-eqb (field b f 1) l h)
+      ∙ ap (λ (t : Bool). t && (eqb (field b f 6) 2 || eqb (field b f 6) bit)) e)
 
   module _ (h : field b f 1 ≡ l) (e : agrees w (rowOn b f .care) (rowOn b f .values) ≡ true) where
     both : fitting b l w bit f ≡ (eqb (field b f 6) 2 || eqb (field b f 6) bit)
-    both = ap (λ (t : Bool). t && matches w bit (rowOn b f)) (eq-eqb (field b f 1) l h) ∙ ap (λ (t : Bool). t && (eqb (field b f 6) 2 || eqb (field b f 6) bit)) e
+    both =
+        ap (λ (t : Bool). t && matches w bit (rowOn b f)) (eq-eqb (field b f 1) l h)
+        ∙ ap (λ (t : Bool). t && (eqb (field b f 6) 2 || eqb (field b f 6) bit)) e
 
     pub fitting-any : field b f 6 ≡ 2 → true ≡ fitting b l w bit f
     fitting-any k = sym (both ∙ ap (λ (t : Bool). t || eqb (field b f 6) bit) (eq-eqb (field b f 6) 2 k))
@@ -58,14 +62,24 @@ module _ (b : List ℕ) (l w bit end f : ℕ) where
   more : f < end → rowsIn b f end ≡ rowOn b f ∷ rowsIn b (suc f) end
   more h = ap (λ (n : ℕ). map (rowOn b) (range f n)) (let e : end - f ≡ suc (end - suc f) = omega arith in e)
 
-  pub find-here : f < end → fitting b l w bit f ≡ true → foundAt b end f ≡ firstRow l w bit (rowsIn b f end)
+  find-here : f < end → fitting b l w bit f ≡ true → foundAt b end f ≡ firstRow l w bit (rowsIn b f end)
   find-here h e =
       ap (λ (t : Bool). pick t (found (field b f 7)) missing) (lt-ltb f end h)
       ∙ sym (ap (firstRow l w bit) (more h) ∙ row-here l w bit (rowOn b f) (rowsIn b (suc f) end) e)
 
-  pub find-on : f < end → fitting b l w bit f ≡ false → firstRow l w bit (rowsIn b f end) ≡ firstRow l w bit (rowsIn b (f + 1) end)
+  find-on : f < end → fitting b l w bit f ≡ false → firstRow l w bit (rowsIn b f end) ≡ firstRow l w bit (rowsIn b (f + 1) end)
   find-on h e =
-      ap (firstRow l w bit) (more h) ∙ row-later l w bit (rowOn b f) (rowsIn b (suc f) end) e ∙ ap (λ (n : ℕ). firstRow l w bit (rowsIn b n end)) (sym (add-one f))
+      ap (firstRow l w bit) (more h)
+      ∙ row-later l w bit (rowOn b f) (rowsIn b (suc f) end) e
+      ∙ ap (λ (n : ℕ). firstRow l w bit (rowsIn b n end)) (sym (add-one f))
+
+  -- the same by the test that the code has made
+  pub found-here : (x : Bool) → f < end → x ≡ fitting b l w bit f → x ≡ true → foundAt b end f ≡ firstRow l w bit (rowsIn b f end)
+  found-here x h e t = find-here h (sym e ∙ t)
+
+  pub found-later : (x : Bool) → f < end → x ≡ fitting b l w bit f → x ≡ false
+      → firstRow l w bit (rowsIn b f end) ≡ firstRow l w bit (rowsIn b (f + 1) end)
+  found-later x h e t = find-on h (sym e ∙ t)
 
   pub find-over : end ≤ f → foundAt b end f ≡ firstRow l w bit (rowsIn b f end)
   unfolding firstRow
@@ -94,7 +108,8 @@ module _ (b : List ℕ) (ok : tableVerdict b ≡ fine) where
       ∙ map-shift (rowOn b) (rowIn b) (rowsFrom b) 0 (rowCount b) (λ k. ap (λ (n : ℕ). rowIn b n) (omega arith))
 
   -- the bit that chooses is that of the scheme that the label calls
-  module _ (l w : ℕ) (h : l ≤ lastLabel b) (bits : Results) (called : ℕ) (t : Bool) (p : called ≡ labelIn b l .called) (q : t ≡ resultOf called bits) where
+  module _ (l w : ℕ) (h : l ≤ lastLabel b) (bits : Results) (called : ℕ) (t : Bool) (p : called ≡ labelIn b l .called)
+      (q : t ≡ resultOf called bits) where
     pub chosen : (u : Bool) → t ≡ u → (n : ℕ) → foundAs n ≡ firstRow l w (pick u 1 0) (decoded b .rows) → foundAs n ≡ rowOf (decoded b) bits l w
     chosen u r n e =
         e
@@ -108,10 +123,12 @@ same-test l w p q r h = go (eqb (r .from) l) refl
     go : (t : Bool) → eqb (r .from) l ≡ t → (t && matches w p r) ≡ (t && matches w q r)
     go true e =
         let two : eqb (r .bit) 2 ≡ true = eq-eqb (r .bit) 2 (h (eqb-true (r .from) l e)) in
-        ap (λ (t : Bool). agrees w (r .care) (r .values) && (t || eqb (r .bit) p)) two ∙ sym (ap (λ (t : Bool). agrees w (r .care) (r .values) && (t || eqb (r .bit) q)) two)
+        ap (λ (t : Bool). agrees w (r .care) (r .values) && (t || eqb (r .bit) p)) two
+        ∙ sym (ap (λ (t : Bool). agrees w (r .care) (r .values) && (t || eqb (r .bit) q)) two)
     go false e = refl
 
-pub any-bit : (l w p q : ℕ) (rs : List Row) → ((k : ℕ) → k < length rs → getD rs k noRow .from ≡ l → getD rs k noRow .bit ≡ 2) → firstRow l w p rs ≡ firstRow l w q rs
+pub any-bit : (l w p q : ℕ) (rs : List Row)
+    → ((k : ℕ) → k < length rs → getD rs k noRow .from ≡ l → getD rs k noRow .bit ≡ 2) → firstRow l w p rs ≡ firstRow l w q rs
 unfolding firstRow
 any-bit l w p q [] h = refl
 any-bit l w p q (r ∷ rs) h = go (eqb (r .from) l && matches w p r) refl (any-bit l w p q rs (λ k m. h (suc k) (omega arith)))
@@ -119,6 +136,7 @@ any-bit l w p q (r ∷ rs) h = go (eqb (r .from) l && matches w p r) refl (any-b
     same : (eqb (r .from) l && matches w p r) ≡ (eqb (r .from) l && matches w q r)
     same = same-test l w p q r (h 0 (omega arith))
 
-    go : (t : Bool) → (eqb (r .from) l && matches w p r) ≡ t → firstRow l w p rs ≡ firstRow l w q rs → firstRow l w p (r ∷ rs) ≡ firstRow l w q (r ∷ rs)
+    go : (t : Bool) → (eqb (r .from) l && matches w p r) ≡ t → firstRow l w p rs ≡ firstRow l w q rs
+        → firstRow l w p (r ∷ rs) ≡ firstRow l w q (r ∷ rs)
     go true e ih = row-here l w p r rs e ∙ sym (row-here l w q r rs (sym same ∙ e))
     go false e ih = row-later l w p r rs e ∙ ih ∙ sym (row-later l w q r rs (sym same ∙ e))

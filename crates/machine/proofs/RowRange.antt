@@ -90,8 +90,13 @@ module _ (b : List ℕ) (l w bit : ℕ) where
       ∙ go (fitting b l w bit i) refl (trimmed n m (suc i) (λ k g. ap (fitting b l w bit) (omega arith) ∙ h k g))
     where
       go : (t : Bool) → fitting b l w bit i ≡ t → among (suc i) (n + m) ≡ among (suc i) n → among i (suc (n + m)) ≡ among i (suc n)
-      go true e ih = row-here l w bit (rowOn b i) (map (rowOn b) (range (suc i) (n + m))) e ∙ sym (row-here l w bit (rowOn b i) (map (rowOn b) (range (suc i) n)) e)
-      go false e ih = row-later l w bit (rowOn b i) (map (rowOn b) (range (suc i) (n + m))) e ∙ ih ∙ sym (row-later l w bit (rowOn b i) (map (rowOn b) (range (suc i) n)) e)
+      go true e ih =
+          row-here l w bit (rowOn b i) (map (rowOn b) (range (suc i) (n + m))) e
+          ∙ sym (row-here l w bit (rowOn b i) (map (rowOn b) (range (suc i) n)) e)
+      go false e ih =
+          row-later l w bit (rowOn b i) (map (rowOn b) (range (suc i) (n + m))) e
+          ∙ ih
+          ∙ sym (row-later l w bit (rowOn b i) (map (rowOn b) (range (suc i) n)) e)
 
   narrowed : (rows first end all : ℕ) → rows ≤ first → first ≤ end → end ≤ all
       → ((f : ℕ) → rows ≤ f → f < first → fitting b l w bit f ≡ false) → ((f : ℕ) → end ≤ f → f < all → fitting b l w bit f ≡ false)
@@ -122,7 +127,8 @@ module _ (b : List ℕ) (ok : tableVerdict b ≡ fine) where
         let z : rowsFrom b + k ≡ f = omega arith in
         let s : suc k < rowCount b = omega (arith, counted b ok .all) in
         let p : nthRow (decoded b) k .from ≡ field b f 1 = ap (λ (r : Row). r .from) (row-read b k (omega arith)) ∙ ap (λ (i : ℕ). field b i 1) z in
-        let q : nthRow (decoded b) (suc k) .from ≡ field b (suc f) 1 = ap (λ (r : Row). r .from) (row-read b (suc k) s) ∙ ap (λ (i : ℕ). field b i 1) (omega arith) in
+        let q : nthRow (decoded b) (suc k) .from ≡ field b (suc f) 1 =
+        ap (λ (r : Row). r .from) (row-read b (suc k) s) ∙ ap (λ (i : ℕ). field b i 1) (omega arith) in
         omega (arith, accepted-sound b ok bytes .rising k (omega (arith, rows-count b)))
 
     rises-on : (f n : ℕ) → rowsFrom b ≤ f → f + n < size b → field b f 1 ≤ field b (f + n) 1
@@ -135,7 +141,8 @@ module _ (b : List ℕ) (ok : tableVerdict b ≡ fine) where
     above l f h g =
         let end : ℕ = firstFrame b (l + 1) in
         let low : rowsFrom b ≤ end = lowest-above (reached b (l + 1)) (rowsFrom b) (size b - rowsFrom b) in
-        let hit : l + 1 ≤ field b end 1 = leb-true (l + 1) (field b end 1) (lowest-hit (reached b (l + 1)) (rowsFrom b) (size b - rowsFrom b) (omega arith)) in
+        let hit : l + 1 ≤ field b end 1 =
+        leb-true (l + 1) (field b end 1) (lowest-hit (reached b (l + 1)) (rowsFrom b) (size b - rowsFrom b) (omega arith)) in
         let e : field b (end + (f - end)) 1 ≡ field b f 1 = ap (λ (i : ℕ). field b i 1) (omega arith) in
         omega (arith, rises-on end (f - end) low (omega arith))
 
@@ -155,7 +162,8 @@ pub firsts-long : (b firsts : List ℕ) → firsts ≡ firstFrames b → length 
 unfolding firstFrames
 firsts-long b firsts is = ap (λ (xs : List ℕ). length xs) is ∙ length-tabulate (firstFrame b) 257
 
-module _ (b : List ℕ) (ok : tableVerdict b ≡ fine) (bytes : (k : ℕ) → getD b k 0 < 256) (firsts : List ℕ) (is : firsts ≡ firstFrames b) (l : ℕ) (h : l < 256) where
+module _ (b : List ℕ) (ok : tableVerdict b ≡ fine) (bytes : (k : ℕ) → getD b k 0 < 256) (firsts : List ℕ)
+    (is : firsts ≡ firstFrames b) (l : ℕ) (h : l < 256) where
   abbrev first : ℕ
   first = getD firsts l 0
 
@@ -175,7 +183,9 @@ module _ (b : List ℕ) (ok : tableVerdict b ≡ fine) (bytes : (k : ℕ) → ge
   -- what the search says, as a label or 256
   module _ (w bit f : ℕ) (e : foundAt b end f ≡ firstRow l w bit (rowsIn b first end)) where
     all-rows : foundAt b end f ≡ firstRow l w bit (decoded b .rows)
-    all-rows = e ∙ ap₂ (λ (x y : ℕ). firstRow l w bit (rowsIn b x y)) (first-at l (omega arith)) (first-at (l + 1) (omega arith)) ∙ own-rows b ok bytes l w bit
+    all-rows =
+        e ∙ ap₂ (λ (x y : ℕ). firstRow l w bit (rowsIn b x y)) (first-at l (omega arith)) (first-at (l + 1) (omega arith))
+        ∙ own-rows b ok bytes l w bit
 
     pub next-found : (n : ℕ) → n < 256 → f < end → n ≡ field b f 7 → foundAs n ≡ firstRow l w bit (decoded b .rows)
     next-found n h k r =

@@ -44,6 +44,15 @@ module _ (b : List ℕ) (s : State) (ws ms₀ ks₀ : List ℕ) where
   abbrev kept : ℕ → Run
   kept n = record { reply = refusal n 0 0; state = s; masks = ms₀; codes = ks₀ }
 
+  -- a run that is refused before its first tick keeps what it was given
+  kept-runs : (n : ℕ) → given ≡ kept n → Runs given (record { answer = Refused n 0 0; state = s }) ms₀ ks₀
+  kept-runs n g = record {
+    answered = sym (ap (λ (x : Run). x .reply) g);
+    state = sym (ap (λ (x : Run). x .state) g);
+    masks = sym (ap (λ (x : Run). x .masks) g);
+    codes = sym (ap (λ (x : Run). x .codes) g);
+  }
+
   table-unfit : unfit (decoded b) s ≡ true → given ≡ kept 15
   unfolding runTable
   table-unfit e = ap (λ (t : Bool). runOn (next (when 15 t) λ _. when 16 (noRoom ws ms₀ ks₀)) (λ _. ran) s ms₀ ks₀) e
@@ -57,27 +66,36 @@ module _ (b : List ℕ) (s : State) (ws ms₀ ks₀ : List ℕ) where
 
     pub masks-short : length ms₀ < length ws → Runs given (record { answer = Refused 16 0 0; state = s }) ms₀ ks₀
     masks-short h =
-        let g : given ≡ kept 16 = table-room true (or-true-l (ltb (length ms₀) (length ws)) (ltb (length ks₀) (length ws)) (lt-ltb (length ms₀) (length ws) h)) in
-        record { answered = sym (ap (λ (x : Run). x .reply) g); state = sym (ap (λ (x : Run). x .state) g); masks = sym (ap (λ (x : Run). x .masks) g); codes = sym (ap (λ (x : Run). x .codes) g) }
+        kept-runs 16 (table-room true
+        (or-true-l (ltb (length ms₀) (length ws)) (ltb (length ks₀) (length ws)) (lt-ltb (length ms₀) (length ws) h)))
 
     pub codes-short : length ks₀ < length ws → Runs given (record { answer = Refused 16 0 0; state = s }) ms₀ ks₀
     codes-short h =
-        let g : given ≡ kept 16 = table-room true (or-true-r (ltb (length ms₀) (length ws)) (ltb (length ks₀) (length ws)) (lt-ltb (length ks₀) (length ws) h)) in
-        record { answered = sym (ap (λ (x : Run). x .reply) g); state = sym (ap (λ (x : Run). x .state) g); masks = sym (ap (λ (x : Run). x .masks) g); codes = sym (ap (λ (x : Run). x .codes) g) }
+        kept-runs 16 (table-room true
+        (or-true-r (ltb (length ms₀) (length ws)) (ltb (length ks₀) (length ws)) (lt-ltb (length ks₀) (length ws) h)))
 
-    module _ (p : length ws ≤ length ms₀) (q : length ws ≤ length ks₀) (r : Ended) (ps : List ℕ) (bs : Results) (ms ks : List ℕ) (E : Ends b s ws ms₀ ks₀ r ps bs ms ks) where
+    module _ (p : length ws ≤ length ms₀) (q : length ws ≤ length ks₀) (r : Ended) (ps : List ℕ) (bs : Results)
+        (ms ks : List ℕ) (E : Ends b s ws ms₀ ks₀ r ps bs ms ks) where
       abbrev done : Run
-      done = record { reply = replied (ran .verdict) (length (ran .codes)); state = ran .state; masks = over (ran .masks) ms₀; codes = over (ran .codes) ks₀ }
+      done =
+          record {
+            reply = replied (ran .verdict) (length (ran .codes));
+            state = ran .state;
+            masks = over (ran .masks) ms₀;
+            codes = over (ran .codes) ks₀;
+          }
 
       table-done : given ≡ done
       table-done = table-room false
-          (or-none (ltb (length ms₀) (length ws)) (ltb (length ks₀) (length ws)) (le-ltb (length ms₀) (length ws) p) (le-ltb (length ks₀) (length ws) q))
+          (or-none (ltb (length ms₀) (length ws)) (ltb (length ks₀) (length ws)) (le-ltb (length ms₀) (length ws) p)
+          (le-ltb (length ks₀) (length ws) q))
 
       after-all : stateOf (s .size) (r .depth) ps bs ≡ given .state
       after-all =
           (λ j. record { size = E .size j; depth = E .depth j; places = E .places j; bits = E .bits j }) ∙ sym (ap (λ (x : Run). x .state) table-done)
 
-      ended-runs : (a : Answer) → reply a ≡ replied (verdictOf (r .number)) (r .count) → Runs given (record { answer = a; state = stateOf (s .size) (r .depth) ps bs }) ms ks
+      ended-runs : (a : Answer) → reply a ≡ replied (verdictOf (r .number)) (r .count)
+          → Runs given (record { answer = a; state = stateOf (s .size) (r .depth) ps bs }) ms ks
       ended-runs a e = record {
         answered = e ∙ ap₂ replied (E .verdict) (E .count) ∙ sym (ap (λ (x : Run). x .reply) table-done);
         state = after-all;
@@ -88,30 +106,36 @@ module _ (b : List ℕ) (s : State) (ws ms₀ ks₀ : List ℕ) where
       pub all-done : r .number ≡ 0 → Runs given (record { answer = Done (r .count); state = stateOf (s .size) (r .depth) ps bs }) ms ks
       all-done z = ended-runs (Done (r .count)) (sym (ap (λ (n : ℕ). replied (verdictOf n) (r .count)) z))
 
-      pub some-done : (r .number ≡ 0 → ⊥) → Runs given (record { answer = Refused (r .number) 0 (r .count); state = stateOf (s .size) (r .depth) ps bs }) ms ks
+      pub some-done : (r .number ≡ 0 → ⊥)
+          → Runs given (record { answer = Refused (r .number) 0 (r .count); state = stateOf (s .size) (r .depth) ps bs }) ms ks
       some-done z = ended-runs (Refused (r .number) 0 (r .count)) (sym (ap (λ (v : Verdict). replied v (r .count)) (number-verdict (r .number) z)))
 
   pub unfit-runs : unfit (decoded b) s ≡ true → Runs given (record { answer = Refused 15 0 0; state = s }) ms₀ ks₀
-  unfit-runs e =
-      let g : given ≡ kept 15 = table-unfit e in
-      record { answered = sym (ap (λ (x : Run). x .reply) g); state = sym (ap (λ (x : Run). x .state) g); masks = sym (ap (λ (x : Run). x .masks) g); codes = sym (ap (λ (x : Run). x .codes) g) }
+  unfit-runs e = kept-runs 15 (table-unfit e)
 
 -- ---- by the image's text
 module _ (t : List ℕ) (s : State) (ws ms ks : List ℕ) where
   pub run-table : imageVerdict t ≡ fine → run t s ws ms ks ≡ runTable (contents t) s ws ms ks
   unfolding run runTable runVerdict
   run-table e =
-      ap (λ (v : Verdict). runOn (next v λ _. next (when 15 (unfit (decoded (contents t)) s)) λ _. when 16 (noRoom ws ms ks)) (λ _. ticks (decoded (contents t)) s ws) s ms ks) e
+      ap
+      (λ (v : Verdict). runOn (next v λ _. next (when 15 (unfit (decoded (contents t)) s)) λ _. when 16 (noRoom ws ms ks))
+      (λ _. ticks (decoded (contents t)) s ws) s ms ks)
+      e
 
   pub run-refused : (k i : ℕ) → imageVerdict t ≡ refused k i → run t s ws ms ks ≡ record { reply = refusal k i 0; state = s; masks = ms; codes = ks }
   unfolding run runVerdict
   run-refused k i e =
-      ap (λ (v : Verdict). runOn (next v λ _. next (when 15 (unfit (decoded (contents t)) s)) λ _. when 16 (noRoom ws ms ks)) (λ _. ticks (decoded (contents t)) s ws) s ms ks) e
+      ap
+      (λ (v : Verdict). runOn (next v λ _. next (when 15 (unfit (decoded (contents t)) s)) λ _. when 16 (noRoom ws ms ks))
+      (λ _. ticks (decoded (contents t)) s ws) s ms ks)
+      e
 
   -- the four things that a run hands back, as the image check's answer decides
   abbrev Handed : Answered → List ℕ → List ℕ → Type 0
   Handed r us vs =
-      (reply (r .answer) ≡ run t s ws ms ks .reply) × ((r .state ≡ run t s ws ms ks .state) × ((us ≡ run t s ws ms ks .masks) × (vs ≡ run t s ws ms ks .codes)))
+      (reply (r .answer) ≡ run t s ws ms ks .reply)
+      × ((r .state ≡ run t s ws ms ks .state) × ((us ≡ run t s ws ms ks .masks) × (vs ≡ run t s ws ms ks .codes)))
 
   module _ (a : Answer) (gives : reply a ≡ judged (imageVerdict t) 0) where
     pub image-refused : (k i m : ℕ) → a ≡ Refused k i m → Handed (record { answer = a; state = s }) ms ks

@@ -32,7 +32,8 @@ code-rest (suc (suc (suc (suc k)))) h p q r t = refl
 
 -- ---- what is answered and left, by what the tick is
 module _ (b : List ℕ) (s : State) (w : ℕ) where
-  pub steps-stopped : (n : ℕ) → tick (decoded b) s w ≡ stopped n → Steps b s w (record { number = n; mask = 0; code = 0; depth = s .depth }) (s .places) (s .bits)
+  pub steps-stopped : (n : ℕ) → tick (decoded b) s w ≡ stopped n
+      → Steps b s w (record { number = n; mask = 0; code = 0; depth = s .depth }) (s .places) (s .bits)
   steps-stopped n e = record {
     step = sym (ap (stepOf s) e);
     places = sym (ap (λ (x : Ticked). after s x .places) e);
@@ -182,14 +183,19 @@ module _ {b : List ℕ} {s : State} (y : Ready b s) where
         each k h e = go (native.Mathlib.Decide.decLt (getD (decoded b .rows) k noRow .bit) 2)
           where
             go : Dec (getD (decoded b .rows) k noRow .bit < 2) → getD (decoded b .rows) k noRow .bit ≡ 2
-            go (yes m) = absurd (n (ap (λ (z : Label). z .kind) (sym (label-read b l low)) ∙ ap (λ (j : ℕ). nthLabel (decoded b) j .kind) (sym e) ∙ sound .each k h .function m))
+            go (yes m) =
+                absurd (n (ap (λ (z : Label). z .kind) (sym (label-read b l low))
+                ∙ ap (λ (j : ℕ). nthLabel (decoded b) j .kind) (sym e)
+                ∙ sound .each k h .function m))
             go (no m) = omega (arith, sound .each k h .bits)
 
-    tick-plain : x .kind ≡ 0 → tick (decoded b) s w ≡ moved (x .mask) 0 s (s .depth - 1) (s .depth) (s .places) after-result (rowOf (decoded b) (s .bits) l w)
+    tick-plain : x .kind ≡ 0
+        → tick (decoded b) s w ≡ moved (x .mask) 0 s (s .depth - 1) (s .depth) (s .places) after-result (rowOf (decoded b) (s .bits) l w)
     tick-plain k =
         tick-is ∙ ap (tickBy (decoded b) s w l x after-result) k
         ∙ ap (moved (x .mask) 0 s (s .depth - 1) (s .depth) (s .places) after-result)
-        (rows-any (λ e. omega arith) (pick (resultOf (labelAt (decoded b) l .called) after-result) 1 0) (pick (resultOf (labelAt (decoded b) l .called) (s .bits)) 1 0))
+        (rows-any (λ e. omega arith) (pick (resultOf (labelAt (decoded b) l .called) after-result) 1 0)
+        (pick (resultOf (labelAt (decoded b) l .called) (s .bits)) 1 0))
 
     by-call : (z : Label) (bs : Results) (k : ℕ) → 1 ≤ k → k ≤ 2
         → tickBy (decoded b) s w l z bs k ≡ pushed (decoded b) s (z .mask) (codeOf k (z .called)) (z .called) bs (leb (s .size) (s .depth))
@@ -203,7 +209,8 @@ module _ {b : List ℕ} {s : State} (y : Ready b s) where
     tick-call h k = tick-is ∙ by-call x after-result (x .kind) h k
 
     tick-back : x .kind ≡ 3
-        → tick (decoded b) s w ≡ moved 0 3 s (s .depth - 2) (s .depth - 1) (set (s .places) (s .depth - 1) 0) (s .bits) (rowOf (decoded b) (s .bits) (placeAt s (s .depth - 2)) w)
+        → tick (decoded b) s w ≡ moved 0 3 s (s .depth - 2) (s .depth - 1) (set (s .places) (s .depth - 1) 0) (s .bits)
+        (rowOf (decoded b) (s .bits) (placeAt s (s .depth - 2)) w)
     tick-back k =
         tick-is
         ∙ ap (λ (z : Label). tickBy (decoded b) s w l z (withResult (z .result) (z .owner) (s .bits)) (z .kind))
@@ -240,7 +247,8 @@ module _ {b : List ℕ} {s : State} (y : Ready b s) where
           steps-stopped b s w 17
           (tick-call h k ∙ ap (pushed (decoded b) s (x .mask) (codeOf (x .kind) (x .called)) (x .called) after-result) (le-leb (s .size) (s .depth) f))
 
-      pub call-go : s .depth < s .size → (m c v g r o : ℕ) → m ≡ x .mask → c ≡ x .called → v ≡ x .kind → g ≡ codeOf v c → r ≡ x .result → o ≡ x .owner
+      pub call-go : s .depth < s .size → (m c v g r o : ℕ) → m ≡ x .mask → c ≡ x .called → v ≡ x .kind → g ≡ codeOf v c
+          → r ≡ x .result → o ≡ x .owner
           → (n : ℕ) → n ≡ field b c 2 → (bs : Results) → bs ≡ withResult r o (s .bits)
           → Steps b s w (record { number = 0; mask = m; code = g; depth = s .depth + 1 }) (set (s .places) (s .depth) n) bs
       call-go f m c v g r o p q a d t u n i bs j =
@@ -261,7 +269,12 @@ module _ {b : List ℕ} {s : State} (y : Ready b s) where
       pub back-go : n < 256
           → Steps b s w (record { number = 0; mask = 0; code = 3; depth = s .depth - 1 }) (set (set (s .places) (s .depth - 1) 0) (s .depth - 2) n) (s .bits)
       back-go h =
-          steps-ticked b s w 0 3 (record { size = s .size; depth = s .depth - 1; places = set (set (s .places) (s .depth - 1) 0) (s .depth - 2) n; bits = s .bits })
+          steps-ticked b s w 0 3 (record {
+            size = s .size;
+            depth = s .depth - 1;
+            places = set (set (s .places) (s .depth - 1) 0) (s .depth - 2) n;
+            bits = s .bits;
+          })
           (tick-back k ∙ ap (moved 0 3 s (s .depth - 2) (s .depth - 1) (set (s .places) (s .depth - 1) 0) (s .bits)) (sym (one-found n h ∙ e)))
 
     pub home-go : 4 ≤ x .kind → (n : ℕ) → n ≡ field b 1 2
@@ -269,4 +282,10 @@ module _ {b : List ℕ} {s : State} (y : Ready b s) where
     home-go k n e =
         let q : n ≡ entryAt (decoded b) 1 = e ∙ sym (entry-is 1 (omega arith) (counted b (y .accepted) .first)) in
         rw q
-        (steps-ticked b s w 0 4 (record { size = s .size; depth = s .depth; places = set (s .places) (s .depth - 1) (entryAt (decoded b) 1); bits = s .bits }) (tick-home k))
+        (steps-ticked b s w 0 4 (record {
+          size = s .size;
+          depth = s .depth;
+          places = set (s .places) (s .depth - 1) (entryAt (decoded b) 1);
+          bits = s .bits;
+        })
+        (tick-home k))

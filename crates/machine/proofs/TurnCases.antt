@@ -52,7 +52,9 @@ module _ (i : Image) (s : State) where
   by-normal w l x b zero e = moved-normal (x .mask) 0 (s .depth - 1) (s .depth) (s .places) b (rowOf i b l w) e
   by-normal w l x b (suc zero) e = pushed-normal (x .mask) (16 + x .called) (x .called) b (leb (s .size) (s .depth)) e
   by-normal w l x b (suc (suc zero)) e = pushed-normal (x .mask) (64 + x .called) (x .called) b (leb (s .size) (s .depth)) e
-  by-normal w l x b (suc (suc (suc zero))) e = moved-normal (x .mask) 3 (s .depth - 2) (s .depth - 1) (set (s .places) (s .depth - 1) 0) b (rowOf i b (placeAt s (s .depth - 2)) w) e
+  by-normal w l x b (suc (suc (suc zero))) e =
+      moved-normal (x .mask) 3 (s .depth - 2) (s .depth - 1) (set (s .places) (s .depth - 1) 0) b
+      (rowOf i b (placeAt s (s .depth - 2)) w) e
   by-normal w l x b (suc (suc (suc (suc k)))) e = moved-normal (x .mask) 4 (s .depth - 1) (s .depth) (s .places) b (found (entryAt i 1)) e
 
   tick-normal : (w : ℕ) → Normal s (tick i s w)
@@ -109,7 +111,12 @@ module _ (b : List ℕ) (s : State) (w : ℕ) (r : Stepped) (ps : List ℕ) (bs 
 -- ---- ticks over one word more
 module _ (i : Image) (s : State) (w : ℕ) (ws : List ℕ) where
   ticks-went : (m k : ℕ) (t : State) → tick i s w ≡ ticked m k t
-      → ticks i s (w ∷ ws) ≡ record { masks = m ∷ ticks i t ws .masks; codes = k ∷ ticks i t ws .codes; state = ticks i t ws .state; verdict = ticks i t ws .verdict }
+      → ticks i s (w ∷ ws) ≡ record {
+        masks = m ∷ ticks i t ws .masks;
+        codes = k ∷ ticks i t ws .codes;
+        state = ticks i t ws .state;
+        verdict = ticks i t ws .verdict;
+      }
   unfolding ticks
   ticks-went m k t e = ap (then s (λ u. ticks i u ws)) e
 
@@ -155,7 +162,8 @@ turn-start b s ws ms ks y = record {
 }
 
 -- one value more in a buffer
-grown : (old out past : List ℕ) (i v : ℕ) → out ≡ written old 0 past → length past ≡ i → i < length old → set out i v ≡ written old 0 (past ++ (v ∷ []))
+grown : (old out past : List ℕ) (i v : ℕ) → out ≡ written old 0 past → length past ≡ i → i < length old
+    → set out i v ≡ written old 0 (past ++ (v ∷ []))
 grown old out past i v e n h =
     ap (λ (l : List ℕ). set l i v) e ∙ ap (λ (m : ℕ). set (written old 0 past) m v) (sym (zero-add (length past) ∙ n))
     ∙ written-snoc old 0 past v (omega (arith, n))
@@ -199,10 +207,12 @@ module _ {b : List ℕ} {s₀ : State} {ws ms₀ ks₀ : List ℕ} {s : State} {
         }
 
     -- a tick that is stopped ends the run
-    pub turn-stood : s .size ≡ s₀ .size → (r .number ≡ 0 → ⊥) → Ends b s₀ ws ms₀ ks₀ (record { number = r .number; count = i; depth = s .depth }) ps bs ms ks
+    pub turn-stood : s .size ≡ s₀ .size → (r .number ≡ 0 → ⊥)
+        → Ends b s₀ ws ms₀ ks₀ (record { number = r .number; count = i; depth = s .depth }) ps bs ms ks
     turn-stood same z =
         let S = stood b s (getD ws i 0) r ps bs q z in
-        let all : joined (t .pastMasks) (t .pastCodes) (record { masks = []; codes = []; state = s; verdict = refused (r .number) 0 }) ≡ ticks (decoded b) s₀ ws =
+        let all : joined (t .pastMasks) (t .pastCodes) (record { masks = []; codes = []; state = s; verdict = refused (r .number) 0 })
+        ≡ ticks (decoded b) s₀ ws =
         ap (joined (t .pastMasks) (t .pastCodes)) (sym (ticks-stood (decoded b) s (getD ws i 0) (drop (suc i) ws) (r .number) (S .halts)))
         ∙ ap (λ (l : List ℕ). joined (t .pastMasks) (t .pastCodes) (ticks (decoded b) s l)) (sym (drop-cons ws i 0 h)) ∙ t .whole in
         record {
@@ -212,12 +222,15 @@ module _ {b : List ℕ} {s₀ : State} {ws ms₀ ks₀ : List ℕ} {s : State} {
           depth = ap (λ (x : Ran). x .state .depth) all;
           places = S .samePlaces ∙ ap (λ (x : Ran). x .state .places) all;
           bits = S .sameBits ∙ ap (λ (x : Ran). x .state .bits) all;
-          masks = t .masks ∙ written-front ms₀ (t .pastMasks) ∙ ap (λ (l : List ℕ). over l ms₀) (sym (append-nil (t .pastMasks)) ∙ ap (λ (x : Ran). x .masks) all);
-          codes = t .codes ∙ written-front ks₀ (t .pastCodes) ∙ ap (λ (l : List ℕ). over l ks₀) (sym (append-nil (t .pastCodes)) ∙ ap (λ (x : Ran). x .codes) all);
+          masks = t .masks ∙ written-front ms₀ (t .pastMasks)
+              ∙ ap (λ (l : List ℕ). over l ms₀) (sym (append-nil (t .pastMasks)) ∙ ap (λ (x : Ran). x .masks) all);
+          codes = t .codes ∙ written-front ks₀ (t .pastCodes)
+              ∙ ap (λ (l : List ℕ). over l ks₀) (sym (append-nil (t .pastCodes)) ∙ ap (λ (x : Ran). x .codes) all);
         }
 
   -- no word is left
-  pub turn-over : s .size ≡ s₀ .size → length ws ≤ i → Ends b s₀ ws ms₀ ks₀ (record { number = 0; count = i; depth = s .depth }) (s .places) (s .bits) ms ks
+  pub turn-over : s .size ≡ s₀ .size → length ws ≤ i
+      → Ends b s₀ ws ms₀ ks₀ (record { number = 0; count = i; depth = s .depth }) (s .places) (s .bits) ms ks
   turn-over same h =
       let all : joined (t .pastMasks) (t .pastCodes) (record { masks = []; codes = []; state = s; verdict = fine }) ≡ ticks (decoded b) s₀ ws =
       ap (joined (t .pastMasks) (t .pastCodes)) (sym (ticks-none (decoded b) s))
@@ -229,6 +242,8 @@ module _ {b : List ℕ} {s₀ : State} {ws ms₀ ks₀ : List ℕ} {s : State} {
         depth = ap (λ (x : Ran). x .state .depth) all;
         places = ap (λ (x : Ran). x .state .places) all;
         bits = ap (λ (x : Ran). x .state .bits) all;
-        masks = t .masks ∙ written-front ms₀ (t .pastMasks) ∙ ap (λ (l : List ℕ). over l ms₀) (sym (append-nil (t .pastMasks)) ∙ ap (λ (x : Ran). x .masks) all);
-        codes = t .codes ∙ written-front ks₀ (t .pastCodes) ∙ ap (λ (l : List ℕ). over l ks₀) (sym (append-nil (t .pastCodes)) ∙ ap (λ (x : Ran). x .codes) all);
+        masks = t .masks ∙ written-front ms₀ (t .pastMasks)
+            ∙ ap (λ (l : List ℕ). over l ms₀) (sym (append-nil (t .pastMasks)) ∙ ap (λ (x : Ran). x .masks) all);
+        codes = t .codes ∙ written-front ks₀ (t .pastCodes)
+            ∙ ap (λ (l : List ℕ). over l ks₀) (sym (append-nil (t .pastCodes)) ∙ ap (λ (x : Ran). x .codes) all);
       }

@@ -27,7 +27,16 @@ array-read-code c = search needs
 
 returns : tie.Need-returns
 unfolding advance
-returns c = let e = c .before .before .before .run .ensures in ((e .0, (ap (λ (ms : List ℕ). getD ms 0 0) (e .1 .1 .0), ap (λ (ks : List ℕ). getD ks 0 0) (e .1 .1 .1))), e .1 .0)
+returns c = (
+  (
+    c .before .before .before .run .ensures .0,
+    (
+      ap (λ (ms : List ℕ). getD ms 0 0) (c .before .before .before .run .ensures .1 .1 .0),
+      ap (λ (ks : List ℕ). getD ks 0 0) (c .before .before .before .run .ensures .1 .1 .1),
+    ),
+  ),
+  c .before .before .before .run .ensures .1 .0,
+)
 
 pub tick-image-spec : {M : Type 1} → statement M
 tick-image-spec =

@@ -23,7 +23,10 @@ element-copy-out-if1 : tie.Need-element-copy-out-if1 Inv-loop μ-loop
 element-copy-out-if1 c = search needs
 
 returns : tie.Need-returns Inv-loop μ-loop
-returns c = let s = c .before .before .before .before .args .t1 in sym (any-here (filledAt s) 32 (c .before .before .before .loop .k) (search needs) (filled-here s (c .before .before .before .loop .k) (c .if1 .taken))) ∙ c .before .before .before .loop .inv .2
+returns c =
+    let s = c .before .before .before .before .args .t1 in
+    let loop = c .before .before .before .loop in
+    sym (any-here (filledAt s) 32 (loop .k) (search needs) (filled-here s (loop .k) (c .if1 .taken))) ∙ loop .inv .2
 
 add-k : tie.Need-add-k Inv-loop μ-loop
 add-k c = search needs
@@ -32,7 +35,13 @@ loop-less : tie.Need-loop-less Inv-loop μ-loop
 loop-less c = search needs
 
 loop-again : tie.Need-loop-again Inv-loop μ-loop
-loop-again c = let s = c .before .before .before .before .args .t1 in (search needs, search needs, sym (any-on (filledAt s) 32 (c .before .before .before .loop .k) (search needs) (filled-none s (c .before .before .before .loop .k) (c .if1 .left))) ∙ c .before .before .before .loop .inv .2)
+loop-again c =
+    let s = c .before .before .before .before .args .t1 in
+    let loop = c .before .before .before .loop in (
+      search needs,
+      search needs,
+      sym (any-on (filledAt s) 32 (loop .k) (search needs) (filled-none s (loop .k) (c .if1 .left))) ∙ loop .inv .2,
+    )
 
 returns-2 : tie.Need-returns-2 Inv-loop μ-loop
 returns-2 c = sym (any-over (filledAt (c .before .before .args .t1)) 32 (c .before .loop .k) (search needs)) ∙ c .before .loop .inv .2

@@ -34,7 +34,11 @@ loop-less : tie.Need-loop-less Inv-loop μ-loop
 loop-less c = search needs
 
 loop-again : tie.Need-loop-again Inv-loop μ-loop
-loop-again c = (search needs, sym (any-on _ _ _ (search needs) (sym (c .before .unfit-place .ensures) ∙ c .if1 .left)) ∙ c .before .before .before .loop .inv .1)
+loop-again c = (
+  search needs,
+  sym (any-on _ _ _ (search needs) (sym (c .before .unfit-place .ensures) ∙ c .if1 .left))
+      ∙ c .before .before .before .loop .inv .1,
+)
 
 returns-2 : tie.Need-returns-2 Inv-loop μ-loop
 returns-2 c = sym (any-over _ _ _ (search needs)) ∙ c .before .loop .inv .1

@@ -14,7 +14,9 @@ any-unfit-requires : tie.Need-any-unfit-requires
 any-unfit-requires c κs = (search needs, depth-most (c .before .before .before .args .t2) (sym (c .before .bad-depth .ensures) ∙ c .if1 .left))
 
 returns-2 : tie.Need-returns-2
-returns-2 c = unfit-places _ _ (sym (c .before .before .before .bad-depth .ensures) ∙ c .before .before .if1 .left) (sym (c .before .any-unfit .ensures) ∙ c .if2 .taken)
+returns-2 c =
+    unfit-places _ _ (sym (c .before .before .before .bad-depth .ensures) ∙ c .before .before .if1 .left)
+    (sym (c .before .any-unfit .ensures) ∙ c .if2 .taken)
 
 element-copy-out-bottom : tie.Need-element-copy-out-bottom
 element-copy-out-bottom c = search needs
@@ -23,13 +25,29 @@ owner-of-requires : tie.Need-owner-of-requires
 owner-of-requires c κs = search needs
 
 returns-3 : tie.Need-returns-3
-returns-3 c = unfit-bottom _ _ (sym (c .before .before .before .before .before .before .bad-depth .ensures) ∙ c .before .before .before .before .before .if1 .left) (sym (c .before .before .before .before .any-unfit .ensures) ∙ c .before .before .before .if2 .left) _ (c .before .owner-of .ensures) (c .if3 .taken)
+returns-3 c =
+    let bad-depth = c .before .before .before .before .before .before .bad-depth in
+    let if1 = c .before .before .before .before .before .if1 in
+    let any-unfit = c .before .before .before .before .any-unfit in
+    unfit-bottom _ _ (sym (bad-depth .ensures) ∙ if1 .left)
+    (sym (any-unfit .ensures) ∙ c .before .before .before .if2 .left) _ (c .before .owner-of .ensures) (c .if3 .taken)
 
 any-filled-requires : tie.Need-any-filled-requires
-any-filled-requires c κs = depth-most (c .before .before .before .before .before .before .before .before .args .t2) (sym (c .before .before .before .before .before .before .bad-depth .ensures) ∙ c .before .before .before .before .before .if1 .left)
+any-filled-requires c κs =
+    let t2 = c .before .before .before .before .before .before .before .before .args .t2 in
+    let bad-depth = c .before .before .before .before .before .before .bad-depth in
+    let if1 = c .before .before .before .before .before .if1 in
+    depth-most t2 (sym (bad-depth .ensures) ∙ if1 .left)
 
 returns-4 : tie.Need-returns-4
-returns-4 c = c .any-filled .ensures ∙ unfit-above _ _ (sym (c .before .before .before .before .before .before .before .bad-depth .ensures) ∙ c .before .before .before .before .before .before .if1 .left) (sym (c .before .before .before .before .before .any-unfit .ensures) ∙ c .before .before .before .before .if2 .left) _ (c .before .before .owner-of .ensures) (c .before .if3 .left)
+returns-4 c =
+    let bad-depth = c .before .before .before .before .before .before .before .bad-depth in
+    let if1 = c .before .before .before .before .before .before .if1 in
+    let any-unfit = c .before .before .before .before .before .any-unfit in
+    let if2 = c .before .before .before .before .if2 in
+    c .any-filled .ensures
+    ∙ unfit-above _ _ (sym (bad-depth .ensures) ∙ if1 .left) (sym (any-unfit .ensures) ∙ if2 .left) _
+    (c .before .before .owner-of .ensures) (c .before .if3 .left)
 
 pub is-unfit-spec : {M : Type 1} → statement M
 is-unfit-spec =

@@ -16,7 +16,11 @@ label-byte-requires : tie.Need-label-byte-requires
 label-byte-requires c κs = search needs
 
 returns-2 : tie.Need-returns-2
-returns-2 c = carry-owned _ _ (c .before .before .before .before .before .before .pre .1) _ _ (c .before .before .before .before .is-call .ensures) (c .before .before .before .if1 .taken) (c .before .before .if2 .left) _ _ (c .before .owner-of .ensures) (c .label-byte .ensures)
+returns-2 c =
+    let asked = c .before .before .before .before .before .before .pre in
+    let is-call = c .before .before .before .before .is-call in
+    carry-owned _ _ (asked .1) _ _ (is-call .ensures) (c .before .before .before .if1 .taken)
+    (c .before .before .if2 .left) _ _ (c .before .owner-of .ensures) (c .label-byte .ensures)
 
 returns-3 : tie.Need-returns-3
 returns-3 c = carry-none _ _ (c .before .before .before .pre .1) (c .before .before .before .args .above) _ (c .before .is-call .ensures) (c .if1 .left)

@@ -25,10 +25,20 @@ may-carry-requires : tie.Need-may-carry-requires
 may-carry-requires c κs = search needs
 
 returns-2 : tie.Need-returns-2
-returns-2 c = place-kept _ (c .before .before .before .before .before .before .before .args .t2) (c .before .before .before .before .before .before .before .args .k) _ (c .before .before .before .before .byte .ensures) (c .before .before .before .if1 .left) (c .before .before .if2 .taken) _ (c .may-carry .ensures)
+returns-2 c =
+    let start = c .before .before .before .before .before .before .before in
+    let t2 = start .args .t2 in
+    let k = start .args .k in
+    let byte = c .before .before .before .before .byte in
+    place-kept _ t2 k _ (byte .ensures) (c .before .before .before .if1 .left) (c .before .before .if2 .taken) _
+    (c .may-carry .ensures)
 
 returns-3 : tie.Need-returns-3
-returns-3 c = place-top _ (c .before .before .before .before .before .args .t2) (c .before .before .before .before .before .args .k) _ (c .before .before .byte .ensures) (c .before .if1 .left) (c .if2 .left)
+returns-3 c =
+    let start = c .before .before .before .before .before in
+    let t2 = start .args .t2 in
+    let k = start .args .k in
+    place-top _ t2 k _ (c .before .before .byte .ensures) (c .before .if1 .left) (c .if2 .left)
 
 pub unfit-place-spec : {M : Type 1} → statement M
 unfit-place-spec =

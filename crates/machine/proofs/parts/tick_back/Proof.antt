@@ -13,16 +13,28 @@ cast-under : tie.Need-cast-under
 cast-under c = search needs
 
 slice-read-caller : tie.Need-slice-read-caller
-slice-read-caller c = omega (arith, depth-some (c .before .before .before .before .before .pre .0), depth-most (c .before .before .before .before .before .pre .0), (c .before .before .before .before .before .pre .0) .places)
+slice-read-caller c =
+    let asked = c .before .before .before .before .before .pre in
+    omega (arith, depth-some (asked .0), depth-most (asked .0), (asked .0) .places)
 
 next-label-requires : tie.Need-next-label-requires
-next-label-requires c κs = let two = back-two (c .before .before .before .before .before .before .pre .0) (c .before .before .before .before .before .before .pre .1 .1) in (((c .before .before .before .before .before .before .pre .0) .accepted, place-low (c .before .before .before .before .before .before .pre .0) ((c .before .before .before .before .before .before .args .depth) - 2) (omega arith)), (c .before .before .before .before .before .before .pre .1 .0, (place-called (c .before .before .before .before .before .before .pre .0) ((c .before .before .before .before .before .before .args .depth) - 2) (omega arith), (c .before .before .before .before .before .before .pre .0) .bits)))
+next-label-requires c κs =
+    let start = c .before .before .before .before .before .before in
+    let depth = start .args .depth in
+    let two = back-two (start .pre .0) (start .pre .1 .1) in (
+      ((start .pre .0) .accepted, place-low (start .pre .0) (depth - 2) (omega arith)),
+      (start .pre .1 .0, (place-called (start .pre .0) (depth - 2) (omega arith), (start .pre .0) .bits)),
+    )
 
 same-length : tie.Need-same-length
 same-length c = search needs
 
 returns : tie.Need-returns
-returns c = back-stop (c .before .before .before .before .before .before .before .before .pre .0) (c .before .before .before .before .before .before .before .before .args .word) (c .before .before .before .before .before .before .before .before .pre .1 .1) (c .before .next-label .result) (c .before .next-label .ensures) (search needs)
+returns c =
+    let start = c .before .before .before .before .before .before .before .before in
+    let word = start .args .word in
+    back-stop (start .pre .0) word (start .pre .1 .1) (c .before .next-label .result) (c .before .next-label .ensures)
+    (search needs)
 
 sub-places : tie.Need-sub-places
 sub-places c = depth-some (c .before .before .before .before .before .before .before .before .pre .0)
@@ -31,13 +43,17 @@ cast-places : tie.Need-cast-places
 cast-places c = search needs
 
 slice-write-places : tie.Need-slice-write-places
-slice-write-places c = omega (arith, depth-some (c .before .before .before .before .before .before .before .before .pre .0), depth-most (c .before .before .before .before .before .before .before .before .pre .0), (c .before .before .before .before .before .before .before .before .pre .0) .places)
+slice-write-places c =
+    let asked = c .before .before .before .before .before .before .before .before .pre in
+    omega (arith, depth-some (asked .0), depth-most (asked .0), (asked .0) .places)
 
 cast-places-2 : tie.Need-cast-places-2
 cast-places-2 c = search needs
 
 slice-write-places-2 : tie.Need-slice-write-places-2
-slice-write-places-2 c = simp length-set (omega (arith, depth-some (c .before .before .before .before .before .before .before .before .pre .0), depth-most (c .before .before .before .before .before .before .before .before .pre .0), (c .before .before .before .before .before .before .before .before .pre .0) .places))
+slice-write-places-2 c =
+    let asked = c .before .before .before .before .before .before .before .before .pre in
+    simp length-set (omega (arith, depth-some (asked .0), depth-most (asked .0), (asked .0) .places))
 
 sub-t11 : tie.Need-sub-t11
 sub-t11 c = depth-some (c .before .before .before .before .before .before .before .before .pre .0)
@@ -49,7 +65,11 @@ same-length-3 : tie.Need-same-length-3
 same-length-3 c = search needs
 
 returns-2 : tie.Need-returns-2
-returns-2 c = back-go (c .before .before .before .before .before .before .before .before .pre .0) (c .before .before .before .before .before .before .before .before .args .word) (c .before .before .before .before .before .before .before .before .pre .1 .1) (c .before .next-label .result) (c .before .next-label .ensures) (search needs)
+returns-2 c =
+    let start = c .before .before .before .before .before .before .before .before in
+    let word = start .args .word in
+    back-go (start .pre .0) word (start .pre .1 .1) (c .before .next-label .result) (c .before .next-label .ensures)
+    (search needs)
 
 pub tick-back-spec : {M : Type 1} → statement M
 tick-back-spec =

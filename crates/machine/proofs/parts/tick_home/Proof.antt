@@ -14,13 +14,18 @@ cast-places : tie.Need-cast-places
 cast-places c = search needs
 
 slice-write-places : tie.Need-slice-write-places
-slice-write-places c = omega (arith, depth-some (c .before .before .before .before .pre .0), depth-most (c .before .before .before .before .pre .0), (c .before .before .before .before .pre .0) .places)
+slice-write-places c =
+    let asked = c .before .before .before .before .pre in
+    omega (arith, depth-some (asked .0), depth-most (asked .0), (asked .0) .places)
 
 same-length : tie.Need-same-length
 same-length c = search needs
 
 returns : tie.Need-returns
-returns c = home-go (c .before .before .before .before .pre .0) (c .before .before .before .before .args .word) (c .before .before .before .before .pre .1) _ (c .byte .ensures)
+returns c =
+    let start = c .before .before .before .before in
+    let word = start .args .word in
+    home-go (start .pre .0) word (start .pre .1) _ (c .byte .ensures)
 
 pub tick-home-spec : {M : Type 1} → statement M
 tick-home-spec =

@@ -11,7 +11,9 @@ cast-l : tie.Need-cast-l
 cast-l c = search needs
 
 slice-read-l : tie.Need-slice-read-l
-slice-read-l c = omega (arith, depth-some (c .before .before .before .before .before .pre .0), depth-most (c .before .before .before .before .before .pre .0), (c .before .before .before .before .before .pre .0) .places)
+slice-read-l c =
+    let asked = c .before .before .before .before .before .pre in
+    omega (arith, depth-some (asked .0), depth-most (asked .0), (asked .0) .places)
 
 cast-l-2 : tie.Need-cast-l-2
 cast-l-2 c = omega (arith, top-small (c .before .before .before .before .before .pre .0))

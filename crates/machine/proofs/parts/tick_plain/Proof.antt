@@ -11,16 +11,24 @@ cast-top : tie.Need-cast-top
 cast-top c = search needs
 
 slice-read-label : tie.Need-slice-read-label
-slice-read-label c = omega (arith, depth-some (c .before .before .before .before .before .pre .0), depth-most (c .before .before .before .before .before .pre .0), (c .before .before .before .before .before .pre .0) .places)
+slice-read-label c =
+    let asked = c .before .before .before .before .before .pre in
+    omega (arith, depth-some (asked .0), depth-most (asked .0), (asked .0) .places)
 
 next-label-requires : tie.Need-next-label-requires
-next-label-requires c κs = (((c .before .before .before .before .before .before .pre .0) .accepted, top-low (c .before .before .before .before .before .before .pre .0)), (c .before .before .before .before .before .before .pre .1 .0, (top-called (c .before .before .before .before .before .before .pre .0), (c .before .before .before .before .before .before .pre .0) .bits)))
+next-label-requires c κs =
+    let asked = c .before .before .before .before .before .before .pre in
+    (((asked .0) .accepted, top-low (asked .0)), (asked .1 .0, (top-called (asked .0), (asked .0) .bits)))
 
 same-length : tie.Need-same-length
 same-length c = search needs
 
 returns : tie.Need-returns
-returns c = plain-stop (c .before .before .before .before .before .before .before .before .pre .0) (c .before .before .before .before .before .before .before .before .args .word) (c .before .before .before .before .before .before .before .before .pre .1 .1) (c .before .next-label .result) (c .before .next-label .ensures) (search needs)
+returns c =
+    let start = c .before .before .before .before .before .before .before .before in
+    let word = start .args .word in
+    plain-stop (start .pre .0) word (start .pre .1 .1) (c .before .next-label .result) (c .before .next-label .ensures)
+    (search needs)
 
 cast-l : tie.Need-cast-l
 cast-l c = omega (arith, top-small (c .before .before .before .before .before .before .before .before .pre .0))
@@ -35,13 +43,18 @@ label-byte-requires-2 : tie.Need-label-byte-requires-2
 label-byte-requires-2 c κs = (top-inside (c .before .before .before .before .before .before .before .before .before .before .pre .0), search needs)
 
 write-result-requires : tie.Need-write-result-requires
-write-result-requires c κs = let o = owner-range (c .before .before .before .before .before .before .before .before .before .before .before .before .pre .0) (omega (arith, (c .before .before .before .before .before .before .before .before .before .before .before .before .pre .1 .1))) in λ n. (omega (arith, (c .before .label-byte2 .ensures)), omega (arith, (c .before .before .before .before .before .before .before .before .before .before .before .before .pre .0) .bits, (c .before .label-byte2 .ensures)))
+write-result-requires c κs =
+    let asked = c .before .before .before .before .before .before .before .before .before .before .before .before .pre in
+    let o = owner-range (asked .0) (omega (arith, (asked .1 .1))) in
+    λ n. (omega (arith, (c .before .label-byte2 .ensures)), omega (arith, (asked .0) .bits, (c .before .label-byte2 .ensures)))
 
 cast-places : tie.Need-cast-places
 cast-places c = search needs
 
 slice-write-places : tie.Need-slice-write-places
-slice-write-places c = omega (arith, depth-some (c .before .before .before .before .before .before .before .before .before .before .before .before .before .before .before .pre .0), depth-most (c .before .before .before .before .before .before .before .before .before .before .before .before .before .before .before .pre .0), (c .before .before .before .before .before .before .before .before .before .before .before .before .before .before .before .pre .0) .places)
+slice-write-places c =
+    let asked = c .before .before .before .before .before .before .before .before .before .before .before .before .before .before .before .pre in
+    omega (arith, depth-some (asked .0), depth-most (asked .0), (asked .0) .places)
 
 same-length-2 : tie.Need-same-length-2
 same-length-2 c = search needs
@@ -50,7 +63,16 @@ same-length-3 : tie.Need-same-length-3
 same-length-3 c = search needs
 
 returns-2 : tie.Need-returns-2
-returns-2 c = plain-go (c .before .before .before .before .before .before .before .before .before .before .before .before .before .before .before .pre .0) (c .before .before .before .before .before .before .before .before .before .before .before .before .before .before .before .args .word) (c .before .before .before .before .before .before .before .before .before .before .before .before .before .before .before .pre .1 .1) (c .before .before .before .before .before .before .before .before .next-label .result) (c .before .before .before .before .before .before .before .before .next-label .ensures) (search needs) _ _ _ (c .before .before .before .before .before .before .label-mask .ensures) (c .before .before .before .before .before .label-byte .ensures) (c .before .before .before .before .label-byte2 .ensures) _ (c .before .before .write-result .ensures)
+returns-2 c =
+    let call = c .before .before .before .before in
+    let start = call .before .before .before .before .before .before .before .before .before .before .before in
+    let word = start .args .word in
+    let next-label = call .before .before .before .before .next-label in
+    let label-mask = call .before .before .label-mask in
+    let label-byte = call .before .label-byte in
+    let label-byte2 = call .label-byte2 in
+    plain-go (start .pre .0) word (start .pre .1 .1) (next-label .result) (next-label .ensures) (search needs) _ _ _
+    (label-mask .ensures) (label-byte .ensures) (label-byte2 .ensures) _ (c .before .before .write-result .ensures)
 
 pub tick-plain-spec : {M : Type 1} → statement M
 tick-plain-spec =

@@ -2,7 +2,7 @@ use borrow.Author.Needs.{needs}
 use mathlib.Core.Path.{_≡_, sym, _∙_}
 use Prim.Native.Nat.{_-_, _≤_}
 use Rattle.machine.specs.Tick.{firstRow}
-use Rattle.machine.proofs.RowCases.{rowsIn, find-here, find-on, find-over}
+use Rattle.machine.proofs.RowCases.{rowsIn, found-here, found-later, find-over}
 use Rattle.machine.proofs.rows.find_row.Statement.{statement}
 use Rattle.machine.proofs.rows.find_row.Tie as tie
 
@@ -19,7 +19,12 @@ is-fitting-requires : tie.Need-is-fitting-requires Inv-loop μ-loop
 is-fitting-requires c κs = search needs
 
 returns : tie.Need-returns Inv-loop μ-loop
-returns c = find-here (c .before .before .before .before .before .args .b .now) (c .before .before .before .before .before .args .label) (c .before .before .before .before .before .args .word) (c .before .before .before .before .before .args .bit) (c .before .before .before .before .before .args .end) (c .before .before .before .loop .f) (search needs) (sym (c .before .is-fitting .ensures) ∙ c .if1 .taken) ∙ c .before .before .before .loop .inv .1
+returns c =
+    let start = c .before .before .before .before .before in
+    let loop = c .before .before .before .loop in
+    found-here (start .args .b .now) (start .args .label) (start .args .word) (start .args .bit) (start .args .end)
+    (loop .f) _ (search needs) (c .before .is-fitting .ensures) (c .if1 .taken)
+    ∙ loop .inv .1
 
 add-f : tie.Need-add-f Inv-loop μ-loop
 add-f c = search needs
@@ -28,10 +33,20 @@ loop-less : tie.Need-loop-less Inv-loop μ-loop
 loop-less c = search needs
 
 loop-again : tie.Need-loop-again Inv-loop μ-loop
-loop-again c = (search needs, sym (find-on (c .before .before .before .before .before .args .b .now) (c .before .before .before .before .before .args .label) (c .before .before .before .before .before .args .word) (c .before .before .before .before .before .args .bit) (c .before .before .before .before .before .args .end) (c .before .before .before .loop .f) (search needs) (sym (c .before .is-fitting .ensures) ∙ c .if1 .left)) ∙ c .before .before .before .loop .inv .1)
+loop-again c =
+    let start = c .before .before .before .before .before in
+    let loop = c .before .before .before .loop in (
+      search needs,
+      sym (found-later (start .args .b .now) (start .args .label) (start .args .word) (start .args .bit) (start .args .end)
+          (loop .f) _ (search needs) (c .before .is-fitting .ensures) (c .if1 .left))
+          ∙ loop .inv .1,
+    )
 
 returns-2 : tie.Need-returns-2 Inv-loop μ-loop
-returns-2 c = find-over (c .before .before .before .args .b .now) (c .before .before .before .args .label) (c .before .before .before .args .word) (c .before .before .before .args .bit) (c .before .before .before .args .end) (c .before .loop .f) (search needs) ∙ c .before .loop .inv .1
+returns-2 c =
+    let start = c .before .before .before in
+    find-over (start .args .b .now) (start .args .label) (start .args .word) (start .args .bit) (start .args .end)
+    (c .before .loop .f) (search needs) ∙ c .before .loop .inv .1
 
 pub find-row-spec : {M : Type 1} → statement M
 find-row-spec =

@@ -22,7 +22,14 @@ skip-below-requires : tie.Need-skip-below-requires Inv-loop μ-loop
 skip-below-requires c κs = (c .before .loop .inv .inside, search needs)
 
 cast-firsts : tie.Need-cast-firsts Inv-loop μ-loop
-cast-firsts c = omega (arith, frame-small _ (c .before .before .before .before .before .before .pre .0) _ _ _ _ (c .before .before .loop .inv) _ (c .skip-below .ensures) (omega (arith, c .before .before .before .before .before .shared-slice-known .given 2)))
+cast-firsts c =
+    let asked = c .before .before .before .before .before .before .pre in
+    let shared-slice-known = c .before .before .before .before .before .shared-slice-known in
+    omega (
+      arith,
+      frame-small _ (asked .0) _ _ _ _ (c .before .before .loop .inv) _ (c .skip-below .ensures)
+          (omega (arith, shared-slice-known .given 2)),
+    )
 
 mul-firsts : tie.Need-mul-firsts Inv-loop μ-loop
 mul-firsts c = search needs
@@ -37,13 +44,17 @@ loop-less : tie.Need-loop-less Inv-loop μ-loop
 loop-less c = search needs
 
 loop-again : tie.Need-loop-again Inv-loop μ-loop
-loop-again c = index-on _ (c .before .before .before .before .before .before .pre .0) _ _ _ _ (c .before .before .loop .inv) _ (c .skip-below .ensures) (c .before .before .before .before .before .before .pre .1) (search needs)
+loop-again c =
+    let asked = c .before .before .before .before .before .before .pre in
+    index-on _ (asked .0) _ _ _ _ (c .before .before .loop .inv) _ (c .skip-below .ensures) (asked .1) (search needs)
 
 same-length : tie.Need-same-length Inv-loop μ-loop
 same-length c = c .before .loop .inv .values .size
 
 returns : tie.Need-returns Inv-loop μ-loop
-returns c = index-all _ (c .before .before .before .before .before .pre .0) _ _ _ _ (c .before .loop .inv) (c .before .before .before .before .before .pre .1) (search needs)
+returns c =
+    let asked = c .before .before .before .before .before .pre in
+    index-all _ (asked .0) _ _ _ _ (c .before .loop .inv) (asked .1) (search needs)
 
 pub index-rows-spec : {M : Type 1} → statement M
 index-rows-spec =

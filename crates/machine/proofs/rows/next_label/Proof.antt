@@ -5,7 +5,11 @@ use Rattle.machine.proofs.rows.next_label.Statement.{statement}
 use Rattle.machine.proofs.rows.next_label.Tie as tie
 
 label-byte-requires : tie.Need-label-byte-requires
-label-byte-requires c κs = (label-inside (c .before .before .before .args .b .now) (c .before .before .before .pre .0 .0) (c .before .before .before .args .label) (c .before .before .before .pre .0 .1), search needs)
+label-byte-requires c κs =
+    let start = c .before .before .before in
+    let b = start .args .b .now in
+    let label = start .args .label in
+    (label-inside b (start .pre .0 .0) label (start .pre .0 .1), search needs)
 
 result-of-requires : tie.Need-result-of-requires
 result-of-requires c κs = search needs
@@ -14,13 +18,31 @@ next-by-requires : tie.Need-next-by-requires
 next-by-requires c κs = search needs
 
 returns : tie.Need-returns
-returns c = chosen (c .before .before .before .before .before .before .before .args .b .now) (c .before .before .before .before .before .before .before .pre .0 .0) (c .before .before .before .before .before .before .before .args .label) (c .before .before .before .before .before .before .before .args .word) (c .before .before .before .before .before .before .before .pre .0 .1) (c .before .before .before .before .before .before .before .args .bits .now) (c .before .before .before .label-byte .result) (c .before .before .result-of .result) (c .before .before .before .label-byte .ensures) (c .before .before .result-of .ensures) true (c .before .if1 .taken) (c .next-by .result) (c .next-by .ensures)
+returns c =
+    let start = c .before .before .before .before .before .before .before in
+    let b = start .args .b .now in
+    let label = start .args .label in
+    let word = start .args .word in
+    let bits = start .args .bits .now in
+    let label-byte = c .before .before .before .label-byte in
+    chosen b (start .pre .0 .0) label word (start .pre .0 .1) bits (label-byte .result)
+    (c .before .before .result-of .result) (label-byte .ensures) (c .before .before .result-of .ensures) true
+    (c .before .if1 .taken) (c .next-by .result) (c .next-by .ensures)
 
 next-by-requires-2 : tie.Need-next-by-requires-2
 next-by-requires-2 c κs = search needs
 
 returns-2 : tie.Need-returns-2
-returns-2 c = chosen (c .before .before .before .before .before .before .before .args .b .now) (c .before .before .before .before .before .before .before .pre .0 .0) (c .before .before .before .before .before .before .before .args .label) (c .before .before .before .before .before .before .before .args .word) (c .before .before .before .before .before .before .before .pre .0 .1) (c .before .before .before .before .before .before .before .args .bits .now) (c .before .before .before .label-byte .result) (c .before .before .result-of .result) (c .before .before .before .label-byte .ensures) (c .before .before .result-of .ensures) false (c .before .if1 .left) (c .next-by2 .result) (c .next-by2 .ensures)
+returns-2 c =
+    let start = c .before .before .before .before .before .before .before in
+    let b = start .args .b .now in
+    let label = start .args .label in
+    let word = start .args .word in
+    let bits = start .args .bits .now in
+    let label-byte = c .before .before .before .label-byte in
+    chosen b (start .pre .0 .0) label word (start .pre .0 .1) bits (label-byte .result)
+    (c .before .before .result-of .result) (label-byte .ensures) (c .before .before .result-of .ensures) false
+    (c .before .if1 .left) (c .next-by2 .result) (c .next-by2 .ensures)
 
 pub next-label-spec : {M : Type 1} → statement M
 next-label-spec =

@@ -25,7 +25,12 @@ cast-if1 : tie.Need-cast-if1 Inv-loop μ-loop
 cast-if1 c = search needs
 
 returns : tie.Need-returns Inv-loop μ-loop
-returns c = sym (lowest-here (reached (c .before .before .before .before .before .args .b .now) (c .before .before .before .before .before .args .l)) _ _ (search needs) (le-leb (c .before .before .before .before .before .args .l) (field (c .before .before .before .before .before .args .b .now) (c .before .before .before .loop .f) 1) (search needs))) ∙ c .before .before .before .loop .inv .1
+returns c =
+    let start = c .before .before .before .before .before in
+    let b = start .args .b .now in
+    let l = start .args .l in
+    let loop = c .before .before .before .loop in
+    sym (lowest-here (reached b l) _ _ (search needs) (le-leb l (field b (loop .f) 1) (search needs))) ∙ loop .inv .1
 
 add-f : tie.Need-add-f Inv-loop μ-loop
 add-f c = search needs
@@ -34,7 +39,14 @@ loop-less : tie.Need-loop-less Inv-loop μ-loop
 loop-less c = search needs
 
 loop-again : tie.Need-loop-again Inv-loop μ-loop
-loop-again c = (search needs, sym (lowest-on (reached (c .before .before .before .before .before .args .b .now) (c .before .before .before .before .before .args .l)) _ _ (search needs) (lt-leb (c .before .before .before .before .before .args .l) (field (c .before .before .before .before .before .args .b .now) (c .before .before .before .loop .f) 1) (search needs))) ∙ c .before .before .before .loop .inv .1)
+loop-again c =
+    let start = c .before .before .before .before .before in
+    let b = start .args .b .now in
+    let l = start .args .l in
+    let loop = c .before .before .before .loop in (
+      search needs,
+      sym (lowest-on (reached b l) _ _ (search needs) (lt-leb l (field b (loop .f) 1) (search needs))) ∙ loop .inv .1,
+    )
 
 returns-2 : tie.Need-returns-2 Inv-loop μ-loop
 returns-2 c = sym (lowest-over _ _ _ (search needs)) ∙ c .before .loop .inv .1

@@ -17,19 +17,61 @@ enum-told-2 : tie.Need-enum-told-2
 enum-told-2 c = search needs
 
 returns : tie.Need-returns
-returns c = image-refused (c .before .before .before .before .before .before .before .before .before .args .image .now) (c .before .before .before .before .before .before .before .before .before .args .state) (c .before .before .before .before .before .before .before .before .before .args .words .now) (c .before .before .before .before .before .before .before .before .before .args .masks .now) (c .before .before .before .before .before .before .before .before .before .args .codes .now) (c .before .before .before .read-image .result) (c .before .before .before .read-image .ensures .0) (c .enum-told2 .given .0 .0) (c .enum-told2 .given .0 .1 .0) (c .enum-told2 .given .0 .1 .1 .0) (c .enum-told2 .given .1)
+returns c =
+    let start = c .before .before .before .before .before .before .before .before .before in
+    let image = start .args .image .now in
+    let state = start .args .state in
+    let words = start .args .words .now in
+    let masks = start .args .masks .now in
+    let codes = start .args .codes .now in
+    let read-image = c .before .before .before .read-image in
+    image-refused image state words masks codes (read-image .result) (read-image .ensures .0) (c .enum-told2 .given .0 .0)
+    (c .enum-told2 .given .0 .1 .0) (c .enum-told2 .given .0 .1 .1 .0) (c .enum-told2 .given .1)
 
 mul-n : tie.Need-mul-n
 mul-n c = search needs
 
 array-share-prefix-table : tie.Need-array-share-prefix-table
-array-share-prefix-table c = omega (arith, front-short (c .before .before .before .before .before .before .before .before .before .args .image .now) (c .before .before .before .before .before .before .before .before .before .args .state) (c .before .before .before .before .before .before .before .before .before .args .words .now) (c .before .before .before .before .before .before .before .before .before .args .masks .now) (c .before .before .before .before .before .before .before .before .before .args .codes .now) (c .before .before .before .read-image .result) (c .before .before .before .read-image .ensures .0) (c .enum-told .given .0 .0) (c .enum-told .given .1) _ (c .before .before .before .read-image .last .1 .0) (c .before .before .before .read-image .ensures .1), (c .before .before .before .read-image .kept .1 .0))
+array-share-prefix-table c =
+    let start = c .before .before .before .before .before .before .before .before .before in
+    let image = start .args .image .now in
+    let state = start .args .state in
+    let words = start .args .words .now in
+    let masks = start .args .masks .now in
+    let codes = start .args .codes .now in
+    let read-image = c .before .before .before .read-image in
+    omega (
+      arith,
+      front-short image state words masks codes (read-image .result) (read-image .ensures .0) (c .enum-told .given .0 .0)
+          (c .enum-told .given .1) _ (read-image .last .1 .0) (read-image .ensures .1),
+      (read-image .kept .1 .0),
+    )
 
 slice-aggregate-run-table : tie.Need-slice-aggregate-run-table
-slice-aggregate-run-table c = front-long (c .before .before .before .before .before .before .before .before .before .before .args .image .now) (c .before .before .before .before .before .before .before .before .before .before .args .state) (c .before .before .before .before .before .before .before .before .before .before .args .words .now) (c .before .before .before .before .before .before .before .before .before .before .args .masks .now) (c .before .before .before .before .before .before .before .before .before .before .args .codes .now) (c .before .before .before .before .read-image .result) (c .before .before .before .before .read-image .ensures .0) (c .before .enum-told .given .0 .0) (c .before .enum-told .given .1) _ (c .before .before .before .before .read-image .last .1 .0) (c .before .before .before .before .read-image .ensures .1)
+slice-aggregate-run-table c =
+    let start = c .before .before .before .before .before .before .before .before .before .before in
+    let image = start .args .image .now in
+    let state = start .args .state in
+    let words = start .args .words .now in
+    let masks = start .args .masks .now in
+    let codes = start .args .codes .now in
+    let read-image = c .before .before .before .before .read-image in
+    front-long image state words masks codes (read-image .result) (read-image .ensures .0)
+    (c .before .enum-told .given .0 .0) (c .before .enum-told .given .1) _ (read-image .last .1 .0)
+    (read-image .ensures .1)
 
 run-table-requires : tie.Need-run-table-requires
-run-table-requires c κs = front-fine (c .before .before .before .before .before .before .before .before .before .before .before .before .args .image .now) (c .before .before .before .before .before .before .before .before .before .before .before .before .args .state) (c .before .before .before .before .before .before .before .before .before .before .before .before .args .words .now) (c .before .before .before .before .before .before .before .before .before .before .before .before .args .masks .now) (c .before .before .before .before .before .before .before .before .before .before .before .before .args .codes .now) (c .before .before .before .before .before .before .read-image .result) (c .before .before .before .before .before .before .read-image .ensures .0) (c .before .before .before .enum-told .given .0 .0) (c .before .before .before .enum-told .given .1) _ (c .before .before .before .before .before .before .read-image .last .1 .0) (c .before .before .before .before .before .before .read-image .ensures .1)
+run-table-requires c κs =
+    let start = c .before .before .before .before .before .before .before .before .before .before .before .before in
+    let image = start .args .image .now in
+    let state = start .args .state in
+    let words = start .args .words .now in
+    let masks = start .args .masks .now in
+    let codes = start .args .codes .now in
+    let read-image = c .before .before .before .before .before .before .read-image in
+    let enum-told = c .before .before .before .enum-told in
+    front-fine image state words masks codes (read-image .result) (read-image .ensures .0) (enum-told .given .0 .0)
+    (enum-told .given .1) _ (read-image .last .1 .0) (read-image .ensures .1)
 
 same-length : tie.Need-same-length
 same-length c = search needs
@@ -38,7 +80,19 @@ same-length-2 : tie.Need-same-length-2
 same-length-2 c = search needs
 
 returns-2 : tie.Need-returns-2
-returns-2 c = image-run (c .before .before .before .before .before .before .before .before .before .before .before .before .before .before .before .before .before .args .image .now) (c .before .before .before .before .before .before .before .before .before .before .before .before .before .before .before .before .before .args .state) (c .before .before .before .before .before .before .before .before .before .before .before .before .before .before .before .before .before .args .words .now) (c .before .before .before .before .before .before .before .before .before .before .before .before .before .before .before .before .before .args .masks .now) (c .before .before .before .before .before .before .before .before .before .before .before .before .before .before .before .before .before .args .codes .now) (c .before .before .before .before .before .before .before .before .before .before .before .read-image .result) (c .before .before .before .before .before .before .before .before .before .before .before .read-image .ensures .0) (c .before .before .before .before .before .before .before .before .enum-told .given .0 .0) (c .before .before .before .before .before .before .before .before .enum-told .given .1) _ (c .before .before .before .before .before .before .before .before .before .before .before .read-image .last .1 .0) (c .before .before .before .before .before .before .before .before .before .before .before .read-image .ensures .1) (c .before .before .before .before .run-table .result) _ _ (c .before .before .before .before .run-table .ensures)
+returns-2 c =
+    let call = c .before .before .before .before in
+    let start = call .before .before .before .before .before .before .before .before .before .before .before .before .before in
+    let image = start .args .image .now in
+    let state = start .args .state in
+    let words = start .args .words .now in
+    let masks = start .args .masks .now in
+    let codes = start .args .codes .now in
+    let read-image = call .before .before .before .before .before .before .before .read-image in
+    let enum-told = call .before .before .before .before .enum-told in
+    let run-table = call .run-table in
+    image-run image state words masks codes (read-image .result) (read-image .ensures .0) (enum-told .given .0 .0)
+    (enum-told .given .1) _ (read-image .last .1 .0) (read-image .ensures .1) (run-table .result) _ _ (run-table .ensures)
 
 pub run-spec : {M : Type 1} → statement M
 run-spec =

@@ -10,16 +10,52 @@ is-unfit-requires : tie.Need-is-unfit-requires
 is-unfit-requires c κs = rows-inside (c .before .before .before .before .args .b .now) (c .before .before .before .before .pre)
 
 returns : tie.Need-returns
-returns c = unfit-runs (c .before .before .before .before .before .before .args .b .now) (c .before .before .before .before .before .before .args .state) (c .before .before .before .before .before .before .args .words .now) (c .before .before .before .before .before .before .args .masks .now) (c .before .before .before .before .before .before .args .codes .now) (sym (c .before .is-unfit .ensures) ∙ (c .if1 .taken))
+returns c =
+    let start = c .before .before .before .before .before .before in
+    let b = start .args .b .now in
+    let state = start .args .state in
+    let words = start .args .words .now in
+    let masks = start .args .masks .now in
+    let codes = start .args .codes .now in
+    unfit-runs b state words masks codes (sym (c .before .is-unfit .ensures) ∙ (c .if1 .taken))
 
 returns-2 : tie.Need-returns-2
-returns-2 c = masks-short (c .before .before .before .before .before .before .before .args .b .now) (c .before .before .before .before .before .before .before .args .state) (c .before .before .before .before .before .before .before .args .words .now) (c .before .before .before .before .before .before .before .args .masks .now) (c .before .before .before .before .before .before .before .args .codes .now) (sym (c .before .before .is-unfit .ensures) ∙ (c .before .if1 .left)) (search needs)
+returns-2 c =
+    let start = c .before .before .before .before .before .before .before in
+    let b = start .args .b .now in
+    let state = start .args .state in
+    let words = start .args .words .now in
+    let masks = start .args .masks .now in
+    let codes = start .args .codes .now in
+    masks-short b state words masks codes (sym (c .before .before .is-unfit .ensures) ∙ (c .before .if1 .left))
+    (search needs)
 
 returns-3 : tie.Need-returns-3
-returns-3 c = codes-short (c .before .before .before .before .before .before .before .before .args .b .now) (c .before .before .before .before .before .before .before .before .args .state) (c .before .before .before .before .before .before .before .before .args .words .now) (c .before .before .before .before .before .before .before .before .args .masks .now) (c .before .before .before .before .before .before .before .before .args .codes .now) (sym (c .before .before .before .is-unfit .ensures) ∙ (c .before .before .if1 .left)) (search needs)
+returns-3 c =
+    let start = c .before .before .before .before .before .before .before .before in
+    let b = start .args .b .now in
+    let state = start .args .state in
+    let words = start .args .words .now in
+    let masks = start .args .masks .now in
+    let codes = start .args .codes .now in
+    codes-short b state words masks codes
+    (sym (c .before .before .before .is-unfit .ensures) ∙ (c .before .before .if1 .left)) (search needs)
 
 run-ticks-requires : tie.Need-run-ticks-requires
-run-ticks-requires c κs = (record { bytes = λ k. omega (arith, (c .before .before .before .before .before .before .before .before .before .shared-slice-known .given) k); accepted = (c .before .before .before .before .before .before .before .before .before .before .pre); fits = sym (c .before .before .before .before .before .is-unfit .ensures) ∙ (c .before .before .before .before .if1 .left); places = search needs; bits = search needs }, (search needs, search needs))
+run-ticks-requires c κs =
+    let asked = c .before .before .before .before .before .before .before .before .before .before .pre in
+    let shared-slice-known = c .before .before .before .before .before .before .before .before .before .shared-slice-known in
+    let is-unfit = c .before .before .before .before .before .is-unfit in
+    let if1 = c .before .before .before .before .if1 in (
+      record {
+        bytes = λ k. omega (arith, (shared-slice-known .given) k);
+        accepted = asked;
+        fits = sym (is-unfit .ensures) ∙ (if1 .left);
+        places = search needs;
+        bits = search needs;
+      },
+      (search needs, search needs),
+    )
 
 same-length : tie.Need-same-length
 same-length c = search needs

@@ -28,7 +28,17 @@ same-length-2 : tie.Need-same-length-2
 same-length-2 c = search needs
 
 returns : tie.Need-returns
-returns c = all-done (c .before .before .before .before .before .before .before .before .before .before .before .before .before .before .before .before .before .before .before .before .before .before .args .b .now) (c .before .before .before .before .before .before .before .before .before .before .before .before .before .before .before .before .before .before .before .before .before .before .args .state) (c .before .before .before .before .before .before .before .before .before .before .before .before .before .before .before .before .before .before .before .before .before .before .args .words .now) (c .before .before .before .before .before .before .before .before .before .before .before .before .before .before .before .before .before .before .before .before .before .before .args .masks .now) (c .before .before .before .before .before .before .before .before .before .before .before .before .before .before .before .before .before .before .before .before .before .before .args .codes .now) (c .before .before .before .before .before .before .before .before .before .before .before .before .before .before .before .before .before .before .before .before .before .before .pre .0 .fits) (c .before .before .before .before .before .before .before .before .before .before .before .before .before .before .before .before .before .before .before .before .before .before .pre .1 .0) (c .before .before .before .before .before .before .before .before .before .before .before .before .before .before .before .before .before .before .before .before .before .before .pre .1 .1) (c .before .before .before .before .before .before .before .tick-all .result) _ _ _ _ (c .before .before .before .before .before .before .before .tick-all .ensures) (c .if1 .taken)
+returns c =
+    let call = c .before .before .before .before .before .before .before in
+    let start = call .before .before .before .before .before .before .before .before .before .before .before .before .before .before .before in
+    let b = start .args .b .now in
+    let state = start .args .state in
+    let words = start .args .words .now in
+    let masks = start .args .masks .now in
+    let codes = start .args .codes .now in
+    let tick-all = call .tick-all in
+    all-done b state words masks codes (start .pre .0 .fits) (start .pre .1 .0) (start .pre .1 .1) (tick-all .result) _ _
+    _ _ (tick-all .ensures) (c .if1 .taken)
 
 same-length-3 : tie.Need-same-length-3
 same-length-3 c = search needs
@@ -37,7 +47,17 @@ same-length-4 : tie.Need-same-length-4
 same-length-4 c = search needs
 
 returns-2 : tie.Need-returns-2
-returns-2 c = some-done (c .before .before .before .before .before .before .before .before .before .before .before .before .before .before .before .before .before .before .before .before .before .before .args .b .now) (c .before .before .before .before .before .before .before .before .before .before .before .before .before .before .before .before .before .before .before .before .before .before .args .state) (c .before .before .before .before .before .before .before .before .before .before .before .before .before .before .before .before .before .before .before .before .before .before .args .words .now) (c .before .before .before .before .before .before .before .before .before .before .before .before .before .before .before .before .before .before .before .before .before .before .args .masks .now) (c .before .before .before .before .before .before .before .before .before .before .before .before .before .before .before .before .before .before .before .before .before .before .args .codes .now) (c .before .before .before .before .before .before .before .before .before .before .before .before .before .before .before .before .before .before .before .before .before .before .pre .0 .fits) (c .before .before .before .before .before .before .before .before .before .before .before .before .before .before .before .before .before .before .before .before .before .before .pre .1 .0) (c .before .before .before .before .before .before .before .before .before .before .before .before .before .before .before .before .before .before .before .before .before .before .pre .1 .1) (c .before .before .before .before .before .before .before .tick-all .result) _ _ _ _ (c .before .before .before .before .before .before .before .tick-all .ensures) (c .if1 .left)
+returns-2 c =
+    let call = c .before .before .before .before .before .before .before in
+    let start = call .before .before .before .before .before .before .before .before .before .before .before .before .before .before .before in
+    let b = start .args .b .now in
+    let state = start .args .state in
+    let words = start .args .words .now in
+    let masks = start .args .masks .now in
+    let codes = start .args .codes .now in
+    let tick-all = call .tick-all in
+    some-done b state words masks codes (start .pre .0 .fits) (start .pre .1 .0) (start .pre .1 .1) (tick-all .result) _ _
+    _ _ (tick-all .ensures) (c .if1 .left)
 
 pub run-ticks-spec : {M : Type 1} → statement M
 run-ticks-spec =

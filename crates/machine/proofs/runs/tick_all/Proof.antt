@@ -25,13 +25,26 @@ shared-slice-read-tick-parts : tie.Need-shared-slice-read-tick-parts Inv-loop μ
 shared-slice-read-tick-parts c = search needs
 
 tick-parts-requires : tie.Need-tick-parts-requires Inv-loop μ-loop
-tick-parts-requires c κs = (c .before .before .before .before .loop .inv .ready, c .before .before .before .before .before .before .before .before .before .before .before .before .pre .1 .0)
+tick-parts-requires c κs =
+    let asked = c .before .before .before .before .before .before .before .before .before .before .before .before .pre in
+    let loop = c .before .before .before .before .loop in
+    (loop .inv .ready, asked .1 .0)
 
 same-length : tie.Need-same-length Inv-loop μ-loop
-same-length c = (c .before .before .before .before .before .tick-parts .kept .1 .1 .1 .1 .0) ∙ (c .before .before .before .before .before .before .before .before .before .before .loop .inv .ready .places) ∙ sym (c .before .before .before .before .before .before .before .before .before .before .before .before .before .before .before .before .before .before .pre .0 .places)
+same-length c =
+    let turn = c .before .before .before .before .before .before .before .before .before .before in
+    let asked = turn .before .before .before .before .before .before .before .before .pre in
+    let loop = turn .loop in
+    let tick-parts = c .before .before .before .before .before .tick-parts in
+    (tick-parts .kept .1 .1 .1 .1 .0) ∙ (loop .inv .ready .places) ∙ sym (asked .0 .places)
 
 same-length-2 : tie.Need-same-length-2 Inv-loop μ-loop
-same-length-2 c = (c .before .before .before .before .before .tick-parts .kept .1 .1 .1 .1 .1 .0) ∙ (c .before .before .before .before .before .before .before .before .before .before .loop .inv .ready .bits) ∙ sym (c .before .before .before .before .before .before .before .before .before .before .before .before .before .before .before .before .before .before .pre .0 .bits)
+same-length-2 c =
+    let turn = c .before .before .before .before .before .before .before .before .before .before in
+    let asked = turn .before .before .before .before .before .before .before .before .pre in
+    let loop = turn .loop in
+    let tick-parts = c .before .before .before .before .before .tick-parts in
+    (tick-parts .kept .1 .1 .1 .1 .1 .0) ∙ (loop .inv .ready .bits) ∙ sym (asked .0 .bits)
 
 same-length-3 : tie.Need-same-length-3 Inv-loop μ-loop
 same-length-3 c = (c .before .before .before .before .before .before .before .before .before .before .loop .inv .sizeMasks)
@@ -40,16 +53,30 @@ same-length-4 : tie.Need-same-length-4 Inv-loop μ-loop
 same-length-4 c = (c .before .before .before .before .before .before .before .before .before .before .loop .inv .sizeCodes)
 
 returns : tie.Need-returns Inv-loop μ-loop
-returns c = turn-stood (c .before .before .before .before .before .before .before .before .before .before .loop .inv) (c .before .before .before .before .before .before .before .before .before .before .before .before .before .before .before .before .before .before .pre .1 .1 .0) (c .before .before .before .before .before .before .before .before .before .before .before .before .before .before .before .before .before .before .pre .1 .1 .1) (search needs) (c .before .before .before .before .before .tick-parts .result) _ _ (c .before .before .before .before .before .tick-parts .ensures) refl (c .if1 .taken)
+returns c =
+    let turn = c .before .before .before .before .before .before .before .before .before .before in
+    let asked = turn .before .before .before .before .before .before .before .before .pre in
+    let loop = turn .loop in
+    let tick-parts = c .before .before .before .before .before .tick-parts in
+    turn-stood (loop .inv) (asked .1 .1 .0) (asked .1 .1 .1) (search needs) (tick-parts .result) _ _ (tick-parts .ensures)
+    refl (c .if1 .taken)
 
 mul-masks : tie.Need-mul-masks Inv-loop μ-loop
 mul-masks c = search needs
 
 slice-write-masks : tie.Need-slice-write-masks Inv-loop μ-loop
-slice-write-masks c = omega (arith, (c .before .before .before .before .before .before .before .before .before .before .loop .inv .sizeMasks), (c .before .before .before .before .before .before .before .before .before .before .before .before .before .before .before .before .before .before .pre .1 .1 .0))
+slice-write-masks c =
+    let turn = c .before .before .before .before .before .before .before .before .before .before in
+    let asked = turn .before .before .before .before .before .before .before .before .pre in
+    let loop = turn .loop in
+    omega (arith, (loop .inv .sizeMasks), (asked .1 .1 .0))
 
 slice-write-codes : tie.Need-slice-write-codes Inv-loop μ-loop
-slice-write-codes c = omega (arith, (c .before .before .before .before .before .before .before .before .before .before .loop .inv .sizeCodes), (c .before .before .before .before .before .before .before .before .before .before .before .before .before .before .before .before .before .before .pre .1 .1 .1))
+slice-write-codes c =
+    let turn = c .before .before .before .before .before .before .before .before .before .before in
+    let asked = turn .before .before .before .before .before .before .before .before .pre in
+    let loop = turn .loop in
+    omega (arith, (loop .inv .sizeCodes), (asked .1 .1 .1))
 
 add-i : tie.Need-add-i Inv-loop μ-loop
 add-i c = search needs
@@ -58,7 +85,13 @@ loop-less : tie.Need-loop-less Inv-loop μ-loop
 loop-less c = search needs
 
 loop-again : tie.Need-loop-again Inv-loop μ-loop
-loop-again c = turn-on (c .before .before .before .before .before .before .before .before .before .before .loop .inv) (c .before .before .before .before .before .before .before .before .before .before .before .before .before .before .before .before .before .before .pre .1 .1 .0) (c .before .before .before .before .before .before .before .before .before .before .before .before .before .before .before .before .before .before .pre .1 .1 .1) (search needs) (c .before .before .before .before .before .tick-parts .result) _ _ (c .before .before .before .before .before .tick-parts .ensures) (c .if1 .left)
+loop-again c =
+    let turn = c .before .before .before .before .before .before .before .before .before .before in
+    let asked = turn .before .before .before .before .before .before .before .before .pre in
+    let loop = turn .loop in
+    let tick-parts = c .before .before .before .before .before .tick-parts in
+    turn-on (loop .inv) (asked .1 .1 .0) (asked .1 .1 .1) (search needs) (tick-parts .result) _ _ (tick-parts .ensures)
+    (c .if1 .left)
 
 same-length-5 : tie.Need-same-length-5 Inv-loop μ-loop
 same-length-5 c = (c .before .loop .inv .ready .places) ∙ sym (c .before .before .before .before .before .before .before .before .before .pre .0 .places)
@@ -73,7 +106,9 @@ same-length-8 : tie.Need-same-length-8 Inv-loop μ-loop
 same-length-8 c = (c .before .loop .inv .sizeCodes)
 
 returns-2 : tie.Need-returns-2 Inv-loop μ-loop
-returns-2 c = turn-over (c .before .loop .inv) (c .before .before .before .before .before .before .before .before .before .pre .1 .1 .0) (c .before .before .before .before .before .before .before .before .before .pre .1 .1 .1) refl (search needs)
+returns-2 c =
+    let asked = c .before .before .before .before .before .before .before .before .before .pre in
+    turn-over (c .before .loop .inv) (asked .1 .1 .0) (asked .1 .1 .1) refl (search needs)
 
 pub tick-all-spec : {M : Type 1} → statement M
 tick-all-spec =
