@@ -51,10 +51,12 @@ pub record Read (t held : List ℕ) (n : ℕ) : Type 0 where
   pub chart : take (10 * n) held ≡ contents t
   pub long : length (contents t) ≡ 10 * n
 
-pub read-told : (t zeros : List ℕ) (a : Answer) (n : ℕ) (held : List ℕ) → reply a ≡ readChart t zeros .reply → a ≡ Done n → held ≡ readChart t zeros .buffer → Read t held n
+pub read-told : (t zeros : List ℕ) (a : Answer) (n : ℕ) (held : List ℕ) → reply a ≡ readChart t zeros .reply → a ≡ Done n
+    → held ≡ readChart t zeros .buffer → Read t held n
 unfolding readChart
 read-told t zeros a n held e d b =
-    let s : Success (readVerdict t) 10 (contents t) zeros n (readChart t zeros) = lent-told (readVerdict t) 10 (λ _. contents t) zeros n (sym e ∙ ap reply d) in
+    let s : Success (readVerdict t) 10 (contents t) zeros n (readChart t zeros) =
+    lent-told (readVerdict t) 10 (λ _. contents t) zeros n (sym e ∙ ap reply d) in
     let c : Accepted (contents t) = accepted t (s .accepted) in
     let l : length (contents t) ≡ 10 * n = omega (arith, c .whole, s .count) in
     record {
@@ -75,9 +77,11 @@ module _ (t held : List ℕ) (n : ℕ) (r : Read t held n) where
   unfolding translate translateVerdict
   same out =
       ap (λ (c : List ℕ). imageLent c out) (r .chart)
-      ∙ ap (λ v. lent v 1 (λ _. imageText (table (contents t))) out) (sym (next-on (readVerdict t) (λ _. when 10 (ltb 1024 (length (rows (contents t))))) (r .accepted)))
+      ∙ ap (λ v. lent v 1 (λ _. imageText (table (contents t))) out)
+      (sym (next-on (readVerdict t) (λ _. when 10 (ltb 1024 (length (rows (contents t))))) (r .accepted)))
 
-  pub translated : (out out′ : List ℕ) (x : Reply) → (x ≡ imageLent (take (10 * n) held) out .reply) × (out′ ≡ imageLent (take (10 * n) held) out .buffer)
+  pub translated : (out out′ : List ℕ) (x : Reply)
+      → (x ≡ imageLent (take (10 * n) held) out .reply) × (out′ ≡ imageLent (take (10 * n) held) out .buffer)
       → (x ≡ translate t out .reply) × (out′ ≡ translate t out .buffer)
   translated out out′ x p = (p .0 ∙ ap (λ (l : Lent). l .reply) (same out), p .1 ∙ ap (λ (l : Lent). l .buffer) (same out))
 

@@ -51,35 +51,48 @@ entries-from c i (suc n) =
 
 -- ---- labels
 module _ (c : Chart) where
-  labels-from : (i n : ℕ) → framesText (mapFrom labelFrame (2 + count (numbered c) 0 i) (map (labelOf c) (filter (numbered c) (range i n)))) ≡ concatMap (nodeLabelText c) (range i n)
+  labels-from : (i n : ℕ)
+      → framesText (mapFrom labelFrame (2 + count (numbered c) 0 i) (map (labelOf c) (filter (numbered c) (range i n))))
+      ≡ concatMap (nodeLabelText c) (range i n)
   labels-from i zero = unfold mapFrom concatMap filter in refl
   labels-from i (suc n) = go (numbered c i) refl (labels-from (suc i) n)
     where
       go : (b : Bool) → numbered c i ≡ b
-          → framesText (mapFrom labelFrame (2 + count (numbered c) 0 (suc i)) (map (labelOf c) (filter (numbered c) (range (suc i) n)))) ≡ concatMap (nodeLabelText c) (range (suc i) n)
-          → framesText (mapFrom labelFrame (2 + count (numbered c) 0 i) (map (labelOf c) (filter (numbered c) (range i (suc n))))) ≡ concatMap (nodeLabelText c) (range i (suc n))
+          → framesText (mapFrom labelFrame (2 + count (numbered c) 0 (suc i)) (map (labelOf c) (filter (numbered c) (range (suc i) n))))
+          ≡ concatMap (nodeLabelText c) (range (suc i) n)
+          → framesText (mapFrom labelFrame (2 + count (numbered c) 0 i) (map (labelOf c) (filter (numbered c) (range i (suc n)))))
+          ≡ concatMap (nodeLabelText c) (range i (suc n))
       go true e ih =
-          let p : pick {A = ℕ} (numbered c (0 + i)) 1 0 ≡ 1 = ap (λ (j : ℕ). pick {A = ℕ} (numbered c j) 1 0) (zero-add i) ∙ yes-pick (numbered c i) 1 0 e in
+          let p : pick {A = ℕ} (numbered c (0 + i)) 1 0 ≡ 1 =
+          ap (λ (j : ℕ). pick {A = ℕ} (numbered c j) 1 0) (zero-add i) ∙ yes-pick (numbered c i) 1 0 e in
           let s : suc (2 + count (numbered c) 0 i) ≡ 2 + count (numbered c) 0 (suc i) = omega (arith, count-snoc (numbered c) 0 i, p) in
-          ap (λ (vs : List ℕ). framesText (mapFrom labelFrame (2 + count (numbered c) 0 i) (map (labelOf c) vs))) (filter-yes (numbered c) i (range (suc i) n) e)
+          ap (λ (vs : List ℕ). framesText (mapFrom labelFrame (2 + count (numbered c) 0 i) (map (labelOf c) vs)))
+          (filter-yes (numbered c) i (range (suc i) n) e)
           ∙ ap framesText (from-cons labelFrame (2 + count (numbered c) 0 i) (labelOf c i) (map (labelOf c) (filter (numbered c) (range (suc i) n))))
-          ∙ concat-cons frameText (labelFrame (2 + count (numbered c) 0 i) (labelOf c i)) (mapFrom labelFrame (suc (2 + count (numbered c) 0 i)) (map (labelOf c) (filter (numbered c) (range (suc i) n))))
+          ∙ concat-cons frameText (labelFrame (2 + count (numbered c) 0 i) (labelOf c i))
+          (mapFrom labelFrame (suc (2 + count (numbered c) 0 i)) (map (labelOf c) (filter (numbered c) (range (suc i) n))))
           ∙ ap₂ (λ (x y : List ℕ). x ++ y)
-          (ap (λ (l : ℕ). frameText (labelFrame l (labelOf c i))) (sym (label-own c i e)) ∙ sym (yes-pick (numbered c i) (frameText (labelFrame (label c i) (labelOf c i))) [] e))
+          (ap (λ (l : ℕ). frameText (labelFrame l (labelOf c i))) (sym (label-own c i e))
+          ∙ sym (yes-pick (numbered c i) (frameText (labelFrame (label c i) (labelOf c i))) [] e))
           (ap (λ (l : ℕ). framesText (mapFrom labelFrame l (map (labelOf c) (filter (numbered c) (range (suc i) n))))) s ∙ ih)
           ∙ sym (concat-cons (nodeLabelText c) i (range (suc i) n))
       go false e ih =
-          let p : pick {A = ℕ} (numbered c (0 + i)) 1 0 ≡ 0 = ap (λ (j : ℕ). pick {A = ℕ} (numbered c j) 1 0) (zero-add i) ∙ no-pick (numbered c i) 1 0 e in
+          let p : pick {A = ℕ} (numbered c (0 + i)) 1 0 ≡ 0 =
+          ap (λ (j : ℕ). pick {A = ℕ} (numbered c j) 1 0) (zero-add i) ∙ no-pick (numbered c i) 1 0 e in
           let s : 2 + count (numbered c) 0 i ≡ 2 + count (numbered c) 0 (suc i) = omega (arith, count-snoc (numbered c) 0 i, p) in
-          ap (λ (vs : List ℕ). framesText (mapFrom labelFrame (2 + count (numbered c) 0 i) (map (labelOf c) vs))) (filter-no (numbered c) i (range (suc i) n) e)
+          ap (λ (vs : List ℕ). framesText (mapFrom labelFrame (2 + count (numbered c) 0 i) (map (labelOf c) vs)))
+          (filter-no (numbered c) i (range (suc i) n) e)
           ∙ ap (λ (l : ℕ). framesText (mapFrom labelFrame l (map (labelOf c) (filter (numbered c) (range (suc i) n))))) s ∙ ih
-          ∙ sym (concat-cons (nodeLabelText c) i (range (suc i) n) ∙ ap (λ (x : List ℕ). x ++ concatMap (nodeLabelText c) (range (suc i) n)) (no-pick (numbered c i) (frameText (labelFrame (label c i) (labelOf c i))) [] e))
+          ∙ sym (concat-cons (nodeLabelText c) i (range (suc i) n)
+          ∙ ap (λ (x : List ℕ). x ++ concatMap (nodeLabelText c) (range (suc i) n))
+          (no-pick (numbered c i) (frameText (labelFrame (label c i) (labelOf c i))) [] e))
 
   none-before : 2 + count (numbered c) 0 0 ≡ 2
   unfolding count
   none-before = refl
 
-  labels-text : framesText (mapFrom labelFrame 0 (homeLabel ∷ returnLabel ∷ map (labelOf c) (numberedNodes c))) ≡ fixedText ++ upTo (nodeLabelText c) (size c)
+  labels-text : framesText (mapFrom labelFrame 0 (homeLabel ∷ returnLabel ∷ map (labelOf c) (numberedNodes c)))
+      ≡ fixedText ++ upTo (nodeLabelText c) (size c)
   labels-text =
       ap framesText (from-cons labelFrame 0 homeLabel (returnLabel ∷ map (labelOf c) (numberedNodes c)))
       ∙ concat-cons frameText (labelFrame 0 homeLabel) (mapFrom labelFrame 1 (returnLabel ∷ map (labelOf c) (numberedNodes c)))
@@ -102,7 +115,9 @@ module _ (c : Chart) where
 
   -- ---- the whole
   abbrev pub parts : ℕ → ℕ → ℕ → List ℕ
-  parts highest last n = headerText highest last n ++ (upTo (entryText c) highest ++ (fixedText ++ (upTo (nodeLabelText c) (size c) ++ upTo (nodeRowsText c) (size c))))
+  parts highest last n =
+      headerText highest last n
+      ++ (upTo (entryText c) highest ++ (fixedText ++ (upTo (nodeLabelText c) (size c) ++ upTo (nodeRowsText c) (size c))))
 
   pub image-parts : (highest own n : ℕ) → highest ≡ schemes c → own ≡ count (numbered c) 0 (size c) → n ≡ length (rows c)
       → imageText (table c) ≡ parts highest (own + 1) n
@@ -131,14 +146,19 @@ module _ (c : Chart) where
       go : (b : Bool) → numbered c i ≡ b → length (concatMap (nodeLabelText c) (range (suc i) n)) ≡ 23 * count (numbered c) (suc i) n
           → length (concatMap (nodeLabelText c) (range i (suc n))) ≡ 23 * count (numbered c) i (suc n)
       go true e ih =
-          let p : length (nodeLabelText c i) ≡ 23 = ap (λ (x : List ℕ). length x) (yes-pick (numbered c i) (frameText (labelFrame (label c i) (labelOf c i))) [] e) ∙ length-frame (labelFrame (label c i) (labelOf c i)) refl in
+          let p : length (nodeLabelText c i) ≡ 23 =
+          ap (λ (x : List ℕ). length x) (yes-pick (numbered c i) (frameText (labelFrame (label c i) (labelOf c i))) [] e)
+          ∙ length-frame (labelFrame (label c i) (labelOf c i)) refl in
           let q : pick {A = ℕ} (numbered c i) 1 0 ≡ 1 = yes-pick (numbered c i) 1 0 e in
-          ap (λ (x : List ℕ). length x) (concat-cons (nodeLabelText c) i (range (suc i) n)) ∙ length-append (nodeLabelText c i) (concatMap (nodeLabelText c) (range (suc i) n))
+          ap (λ (x : List ℕ). length x) (concat-cons (nodeLabelText c) i (range (suc i) n))
+          ∙ length-append (nodeLabelText c i) (concatMap (nodeLabelText c) (range (suc i) n))
           ∙ omega (arith, p, q, ih, count-suc (numbered c) i n)
       go false e ih =
-          let p : length (nodeLabelText c i) ≡ 0 = ap (λ (x : List ℕ). length x) (no-pick (numbered c i) (frameText (labelFrame (label c i) (labelOf c i))) [] e) in
+          let p : length (nodeLabelText c i) ≡ 0 =
+          ap (λ (x : List ℕ). length x) (no-pick (numbered c i) (frameText (labelFrame (label c i) (labelOf c i))) [] e) in
           let q : pick {A = ℕ} (numbered c i) 1 0 ≡ 0 = no-pick (numbered c i) 1 0 e in
-          ap (λ (x : List ℕ). length x) (concat-cons (nodeLabelText c) i (range (suc i) n)) ∙ length-append (nodeLabelText c i) (concatMap (nodeLabelText c) (range (suc i) n))
+          ap (λ (x : List ℕ). length x) (concat-cons (nodeLabelText c) i (range (suc i) n))
+          ∙ length-append (nodeLabelText c i) (concatMap (nodeLabelText c) (range (suc i) n))
           ∙ omega (arith, p, q, ih, count-suc (numbered c) i n)
 
   pub labels-long : length (upTo (nodeLabelText c) (size c)) ≡ 23 * count (numbered c) 0 (size c)
@@ -159,8 +179,10 @@ fixed-long =
     ∙ omega (arith, length-frame (labelFrame 0 homeLabel) refl, length-frame (labelFrame 1 returnLabel) refl)
 
 -- five texts, each written where the one before ends
-chain : (out o₁ o₂ o₃ o₄ o₅ a b d e f : List ℕ) (p q r s : ℕ) → p ≡ length a → q ≡ p + length b → r ≡ q + length d → s ≡ r + length e → s + length f ≤ length out
-    → o₁ ≡ written out 0 a → o₂ ≡ written o₁ p b → o₃ ≡ written o₂ q d → o₄ ≡ written o₃ r e → o₅ ≡ written o₄ s f → o₅ ≡ written out 0 (a ++ (b ++ (d ++ (e ++ f))))
+chain : (out o₁ o₂ o₃ o₄ o₅ a b d e f : List ℕ) (p q r s : ℕ) → p ≡ length a → q ≡ p + length b → r ≡ q + length d
+    → s ≡ r + length e → s + length f ≤ length out
+    → o₁ ≡ written out 0 a → o₂ ≡ written o₁ p b → o₃ ≡ written o₂ q d → o₄ ≡ written o₃ r e
+    → o₅ ≡ written o₄ s f → o₅ ≡ written out 0 (a ++ (b ++ (d ++ (e ++ f))))
 chain out o₁ o₂ o₃ o₄ o₅ a b d e f p q r s ep eq er es room e₁ e₂ e₃ e₄ e₅ =
     let n₂ : length (a ++ b) ≡ length a + length b = length-append a b in
     let n₃ : length ((a ++ b) ++ d) ≡ length (a ++ b) + length d = length-append (a ++ b) d in
@@ -168,7 +190,8 @@ chain out o₁ o₂ o₃ o₄ o₅ a b d e f p q r s ep eq er es room e₁ e₂ 
     let w₂ : o₂ ≡ written out 0 (a ++ b) = written-more out 0 a b o₁ o₂ p (omega arith) (omega arith) e₁ e₂ in
     let w₃ : o₃ ≡ written out 0 ((a ++ b) ++ d) = written-more out 0 (a ++ b) d o₂ o₃ q (omega arith) (omega arith) w₂ e₃ in
     let w₄ : o₄ ≡ written out 0 (((a ++ b) ++ d) ++ e) = written-more out 0 ((a ++ b) ++ d) e o₃ o₄ r (omega arith) (omega arith) w₃ e₄ in
-    let w₅ : o₅ ≡ written out 0 ((((a ++ b) ++ d) ++ e) ++ f) = written-more out 0 (((a ++ b) ++ d) ++ e) f o₄ o₅ s (omega arith) (omega arith) w₄ e₅ in
+    let w₅ : o₅ ≡ written out 0 ((((a ++ b) ++ d) ++ e) ++ f) =
+    written-more out 0 (((a ++ b) ++ d) ++ e) f o₄ o₅ s (omega arith) (omega arith) w₄ e₅ in
     let g : (((a ++ b) ++ d) ++ e) ++ f ≡ a ++ (b ++ (d ++ (e ++ f))) = simp append-assoc in
     w₅ ∙ ap (written out 0) g
 
@@ -182,7 +205,8 @@ module _ (c : Chart) (highest own n : ℕ) (s : Sizes c highest own n) where
   pub image-long : length (imageText (table c)) ≡ 23 * (3 + highest + own + n)
   image-long =
       ap (λ (x : List ℕ). length x) (image-parts c highest own n (s .schemed) (s .owned) (s .rowed))
-      ∙ length-append (headerText highest (own + 1) n) (upTo (entryText c) highest ++ (fixedText ++ (upTo (nodeLabelText c) (size c) ++ upTo (nodeRowsText c) (size c))))
+      ∙ length-append (headerText highest (own + 1) n)
+      (upTo (entryText c) highest ++ (fixedText ++ (upTo (nodeLabelText c) (size c) ++ upTo (nodeRowsText c) (size c))))
       ∙ omega (
         arith,
         length-frame (15 ∷ highest ∷ (own + 1) ∷ n / 256 ∷ n % 256 ∷ 0 ∷ 0 ∷ 0 ∷ 0 ∷ 0 ∷ []) refl,
@@ -199,15 +223,19 @@ module _ (c : Chart) (highest own n : ℕ) (s : Sizes c highest own n) where
 
   -- the parts, each written where the one before ends
   pub image-done : (out o₁ o₂ o₃ o₄ o₅ : List ℕ) → 23 * (3 + highest + own + n) ≤ length out
-      → o₁ ≡ written out 0 (headerText highest (own + 1) n) → o₂ ≡ written o₁ 23 (upTo (entryText c) highest) → o₃ ≡ written o₂ (23 + 23 * highest) fixedText
-      → o₄ ≡ written o₃ (23 + 23 * highest + 46) (upTo (nodeLabelText c) (size c)) → o₅ ≡ written o₄ (23 + 23 * highest + 46 + 23 * own) (upTo (nodeRowsText c) (size c))
+      → o₁ ≡ written out 0 (headerText highest (own + 1) n) → o₂ ≡ written o₁ 23 (upTo (entryText c) highest)
+      → o₃ ≡ written o₂ (23 + 23 * highest) fixedText
+      → o₄ ≡ written o₃ (23 + 23 * highest + 46) (upTo (nodeLabelText c) (size c))
+      → o₅ ≡ written o₄ (23 + 23 * highest + 46 + 23 * own) (upTo (nodeRowsText c) (size c))
       → o₅ ≡ written out 0 (imageText (table c))
   image-done out o₁ o₂ o₃ o₄ o₅ room e₁ e₂ e₃ e₄ e₅ =
-      let a : length (headerText highest (own + 1) n) ≡ 23 = length-frame (15 ∷ highest ∷ (own + 1) ∷ n / 256 ∷ n % 256 ∷ 0 ∷ 0 ∷ 0 ∷ 0 ∷ 0 ∷ []) refl in
+      let a : length (headerText highest (own + 1) n) ≡ 23 =
+      length-frame (15 ∷ highest ∷ (own + 1) ∷ n / 256 ∷ n % 256 ∷ 0 ∷ 0 ∷ 0 ∷ 0 ∷ 0 ∷ []) refl in
       let b : length (upTo (entryText c) highest) ≡ 23 * highest = entries-long c highest in
       let d : length (upTo (nodeLabelText c) (size c)) ≡ 23 * own = labels-long c ∙ ap (λ (k : ℕ). 23 * k) (sym (s .owned)) in
       let e : length (upTo (nodeRowsText c) (size c)) ≡ 23 * n = rows-long c ∙ ap (λ (k : ℕ). 23 * k) (sym (s .rowed)) in
-      chain out o₁ o₂ o₃ o₄ o₅ (headerText highest (own + 1) n) (upTo (entryText c) highest) fixedText (upTo (nodeLabelText c) (size c)) (upTo (nodeRowsText c) (size c))
+      chain out o₁ o₂ o₃ o₄ o₅ (headerText highest (own + 1) n) (upTo (entryText c) highest) fixedText
+      (upTo (nodeLabelText c) (size c)) (upTo (nodeRowsText c) (size c))
       23 (23 + 23 * highest) (23 + 23 * highest + 46) (23 + 23 * highest + 46 + 23 * own)
       (omega arith) (omega arith) (omega (arith, fixed-long)) (omega arith) (omega (arith, fixed-long)) e₁ e₂ e₃ e₄ e₅
       ∙ ap (written out 0) (sym (image-parts c highest own n (s .schemed) (s .owned) (s .rowed)))
@@ -230,14 +258,18 @@ module _ (c : Chart) (old : List ℕ) (total : ℕ) (counted : total ≡ min 102
     allowed = when-fails 10 (ltb 1024 (length (rows c))) (le-ltb 1024 (length (rows c)) (omega arith))
 
     pub image-short : length old < 23 * (3 + highest + own + total) → (refusal 16 0 0 ≡ imageLent c old .reply) × (old ≡ imageLent c old .buffer)
-    image-short h = lent-short (when 10 (ltb 1024 (length (rows c)))) 1 (λ _. imageText (table c)) old allowed (omega (arith, image-long c highest own total sizes))
+    image-short h =
+        lent-short (when 10 (ltb 1024 (length (rows c)))) 1 (λ _. imageText (table c)) old allowed
+        (omega (arith, image-long c highest own total sizes))
 
     pub image-fits : 23 * (3 + highest + own + total) ≤ length old → (out : List ℕ) → out ≡ written old 0 (imageText (table c))
         → (success (23 * (3 + highest + own + total)) ≡ imageLent c old .reply) × (out ≡ imageLent c old .buffer)
     image-fits h out e =
         let n : length (imageText (table c)) ≡ 23 * (3 + highest + own + total) = image-long c highest own total sizes in
-        lent-done (when 10 (ltb 1024 (length (rows c)))) 1 (λ _. imageText (table c)) old allowed (omega arith) (23 * (3 + highest + own + total)) (omega arith) out
+        lent-done (when 10 (ltb 1024 (length (rows c)))) 1 (λ _. imageText (table c)) old allowed (omega arith)
+        (23 * (3 + highest + own + total)) (omega arith) out
         (e ∙ written-front old (imageText (table c)))
 
-pub labelled-local : (c : Chart) (labels : List ℕ) → Facts c → labels ≡ written (replicate 256 0) 0 (map (label c) (range 0 (size c))) → Labelled c labels
+pub labelled-local : (c : Chart) (labels : List ℕ) → Facts c
+    → labels ≡ written (replicate 256 0) 0 (map (label c) (range 0 (size c))) → Labelled c labels
 labelled-local c labels F e = let n : length (replicate {A = ℕ} 256 0) ≡ 256 = refl in labelled c (replicate 256 0) labels (omega (arith, F .few)) e

@@ -53,7 +53,9 @@ few-numbered c F =
     let e = F .ends 1 (omega arith) (F .first) in
     count-miss2 (numbered c) (size c) (begin c 1) (end c 1) (b .0) (e .0)
     (λ q. omega (arith, ap (kind c) q, b .1, e .1))
-    (ap (λ x. x && not (is c 1 (begin c 1))) (stops-begin c (begin c 1) (b .1) ∙ ap (λ x. not x && is c 3 (next0 c (begin c 1))) (eq-eqb (scheme c (begin c 1)) 1 (b .2))))
+    (ap (λ x. x && not (is c 1 (begin c 1)))
+    (stops-begin c (begin c 1) (b .1)
+    ∙ ap (λ x. not x && is c 3 (next0 c (begin c 1))) (eq-eqb (scheme c (begin c 1)) 1 (b .2))))
     (no-end (end c 1) (e .1))
   where
     no-end : (v : ℕ) → kind c v ≡ 1 → numbered c v ≡ false
@@ -88,7 +90,8 @@ pub record Labelling (c : Chart) (old labels : List ℕ) (own v : ℕ) : Type 0 
 pub labelling-start : (c : Chart) (old : List ℕ) → Labelling c old old 0 0
 labelling-start c old = record { within = omega arith; owned = unfold count in refl; few = omega arith; long = refl; done = sym (written-none old 0) }
 
-module _ (c : Chart) (old labels : List ℕ) (own v : ℕ) (room : size c ≤ length old) (t : Labelling c old labels own v) (l : v < size c) (x : ℕ) (e : x ≡ label c v) where
+module _ (c : Chart) (old labels : List ℕ) (own v : ℕ) (room : size c ≤ length old) (t : Labelling c old labels own v)
+    (l : v < size c) (x : ℕ) (e : x ≡ label c v) where
   labels-more : set labels v x ≡ written old 0 (map (label c) (range 0 (v + 1)))
   labels-more =
       let n : length (map (label c) (range 0 v)) ≡ v = length-map-range (label c) 0 v in
@@ -102,13 +105,15 @@ module _ (c : Chart) (old labels : List ℕ) (own v : ℕ) (room : size c ≤ le
   counted b q = ap (count (numbered c) 0) (add-one v) ∙ count-snoc (numbered c) 0 v
       ∙ omega (arith, t .owned, ap (λ (y : Bool). pick {A = ℕ} y 1 0) (ap (numbered c) (zero-add v) ∙ q))
 
-  pub labelling-on : (own′ : ℕ) → ((2 ≤ x) × (own′ ≡ own + 1)) ⊎ ((x < 2) × (own′ ≡ own)) → Labelling c old (set labels v x) own′ (v + 1)
+  pub labelling-on : (own′ : ℕ) → ((2 ≤ x) × (own′ ≡ own + 1)) ⊎ ((x < 2) × (own′ ≡ own))
+      → Labelling c old (set labels v x) own′ (v + 1)
   labelling-on own′ came = record {
     within = omega arith;
     owned = ⊎-elim
         (λ (p : (2 ≤ x) × (own′ ≡ own + 1)). omega (arith, counted true (own-label c v (omega arith)), p .1))
         (λ (p : (x < 2) × (own′ ≡ own)). omega (arith, counted false (no-own-label c v (omega arith)), p .1)) came;
-    few = ⊎-elim (λ (p : (2 ≤ x) × (own′ ≡ own + 1)). omega (arith, t .few, p .1)) (λ (p : (x < 2) × (own′ ≡ own)). omega (arith, t .few, p .1)) came;
+    few = ⊎-elim (λ (p : (2 ≤ x) × (own′ ≡ own + 1)). omega (arith, t .few, p .1))
+        (λ (p : (x < 2) × (own′ ≡ own)). omega (arith, t .few, p .1)) came;
     long = length-set labels v x ∙ t .long;
     done = labels-more;
   }
@@ -120,13 +125,20 @@ labelling-done c old labels own v n t e l =
     (t .owned ∙ ap (count (numbered c) 0) q, t .done ∙ ap (λ (k : ℕ). written old 0 (map (label c) (range 0 k))) q)
 
 -- what the functions that read the labels ask
-pub labelled : (c : Chart) (old labels : List ℕ) → size c ≤ length old → labels ≡ written old 0 (map (label c) (range 0 (size c))) → Labelled c labels
+pub labelled : (c : Chart) (old labels : List ℕ) → size c ≤ length old → labels ≡ written old 0 (map (label c) (range 0 (size c)))
+    → Labelled c labels
 labelled c old labels room e =
     let xs : List ℕ = map (label c) (range 0 (size c)) in
     let n : length (map (label c) (range 0 (size c))) ≡ size c = length-map-range (label c) 0 (size c) in
     let q : labels ≡ over (map (label c) (range 0 (size c))) old = e ∙ written-front old (map (label c) (range 0 (size c))) in
     record {
-      long = omega (arith, ap (λ (l : List ℕ). length l) q, lib.ListN.length-append (map (label c) (range 0 (size c))) (lib.ListN.drop (length (map (label c) (range 0 (size c)))) old), lib.ListN.length-drop (length (map (label c) (range 0 (size c)))) old);
+      long = omega (
+        arith,
+        ap (λ (l : List ℕ). length l) q,
+        lib.ListN.length-append (map (label c) (range 0 (size c)))
+            (lib.ListN.drop (length (map (label c) (range 0 (size c)))) old),
+        lib.ListN.length-drop (length (map (label c) (range 0 (size c)))) old,
+      );
       at = λ v l.
           ap (λ (ls : List ℕ). getD ls v 0) q
           ∙ lib.ListN.List·getD-append (map (label c) (range 0 (size c))) (lib.ListN.drop (length (map (label c) (range 0 (size c)))) old) 0 v (omega arith)

@@ -15,7 +15,8 @@ use Rattle.lists.proofs.Ranges.{filter-yes, filter-no, map-append}
 use Rattle.lists.proofs.Joins.{concat-cons}
 use Rattle.lists.proofs.Filters.{filter-none, filter-append}
 use Rattle.bits.specs.Word.{bit, agrees}
-use Rattle.bits.proofs.BitLaws.{bit-cases, Mask, Agree, Clash, agree-match, clash-match, mask-0, mask-1, agree-0, agree-1, clash-0, clash-1, clash-here-0, clash-here-1}
+use Rattle.bits.proofs.BitLaws.{bit-cases, Mask, Agree, Clash, agree-match, clash-match, mask-0}
+use Rattle.bits.proofs.BitLaws.{mask-1, agree-0, agree-1, clash-0, clash-1, clash-here-0, clash-here-1}
 use Rattle.charts.specs.Chart.{Chart, kind, argument, next0, next1, taken}
 use Rattle.charts.proofs.Accepted.{Sound}
 use Rattle.charts.proofs.Nodes.{Target, conditions}
@@ -42,12 +43,15 @@ module _ (l w b : ℕ) where
   pub targets-append : (xs ys : List Row) → targets l w b (xs ++ ys) ≡ targets l w b xs ++ targets l w b ys
   unfolding targets
   targets-append xs ys =
-      ap (map (λ (r : Row). r .next)) (filter-append (matching l w b) xs ys) ∙ map-append (λ (r : Row). r .next) (filter (matching l w b) xs) (filter (matching l w b) ys)
+      ap (map (λ (r : Row). r .next)) (filter-append (matching l w b) xs ys)
+      ∙ map-append (λ (r : Row). r .next) (filter (matching l w b) xs) (filter (matching l w b) ys)
 
   pub targets-concat : {A : Type 0} (f : A → List Row) (xs : List A) → targets l w b (concatMap f xs) ≡ concatMap (λ x. targets l w b (f x)) xs
   targets-concat f [] = unfold concatMap in targets-none
   targets-concat f (x ∷ xs) =
-      ap (targets l w b) (concat-cons f x xs) ∙ targets-append (f x) (concatMap f xs) ∙ ap (λ (ys : List ℕ). targets l w b (f x) ++ ys) (targets-concat f xs)
+      ap (targets l w b) (concat-cons f x xs)
+      ∙ targets-append (f x) (concatMap f xs)
+      ∙ ap (λ (ys : List ℕ). targets l w b (f x) ++ ys) (targets-concat f xs)
       ∙ sym (concat-cons (λ x. targets l w b (f x)) x xs)
 
   -- of two lists just one has a match
@@ -79,7 +83,9 @@ module _ (n : ℕ) (c : Chart) (l f care values v : ℕ) where
   paths-known e k = rw (paths, e, eq-eqb (bit care (argument c v)) 1 k)
 
   paths-new : stops c v ≡ false → bit care (argument c v) ≡ 0
-      → paths (suc n) c l f care values v ≡ paths n c l f (care + 2 ^ argument c v) values (next0 c v) ++ paths n c l f (care + 2 ^ argument c v) (values + 2 ^ argument c v) (next1 c v)
+      → paths (suc n) c l f care values v
+      ≡ paths n c l f (care + 2 ^ argument c v) values (next0 c v)
+      ++ paths n c l f (care + 2 ^ argument c v) (values + 2 ^ argument c v) (next1 c v)
   unfolding paths
   paths-new e k = rw (paths, e, ne-eqb (bit care (argument c v)) 1 (λ q. omega arith))
 
@@ -91,7 +97,9 @@ paths-none (suc n) c l m w f b q care values v = go (cases (stops c v)) (bit-cas
   where
     go : (stops c v ≡ true) ⊎ (stops c v ≡ false) → (bit care (argument c v) ≡ 0) ⊎ (bit care (argument c v) ≡ 1)
         → ((care values v : ℕ) → targets m w b (paths n c l f care values v) ≡ []) → targets m w b (paths (suc n) c l f care values v) ≡ []
-    go (inl s) x ih = ap (targets m w b) (paths-stop n c l f care values v s) ∙ one-no m w b (rowAt c l f care values v) (q (rowAt c l f care values v) refl refl)
+    go (inl s) x ih =
+        ap (targets m w b) (paths-stop n c l f care values v s)
+        ∙ one-no m w b (rowAt c l f care values v) (q (rowAt c l f care values v) refl refl)
     go (inr s) (inr k) ih = ap (targets m w b) (paths-known n c l f care values v s k) ∙ ih care values (taken c values v)
     go (inr s) (inl k) ih =
         let i : ℕ = argument c v in
@@ -101,7 +109,8 @@ paths-none (suc n) c l m w f b q care values v = go (cases (stops c v)) (bit-cas
 
 module _ (c : Chart) (a : Sound c) (l w f b : ℕ) where
   -- a word that has not the values of the path so far matches none of its rows
-  pub paths-miss : (n h care values v : ℕ) → Target c h v → Mask care values → Clash w care values → targets l w b (paths n c l f care values v) ≡ []
+  pub paths-miss : (n h care values v : ℕ) → Target c h v → Mask care values → Clash w care values
+      → targets l w b (paths n c l f care values v) ≡ []
   paths-miss zero h care values v t m k = unfold paths in targets-none l w b
   paths-miss (suc n) h care values v t m k = go (cases (stops c v)) (bit-cases care (argument c v)) (paths-miss n h)
     where
@@ -136,8 +145,10 @@ module _ (c : Chart) (a : Sound c) (l w f b : ℕ) where
       lower : kind c v ≡ 3 → (u : ℕ) → taken c w v ≡ u → rank c u ≤ n
       lower e u q = omega (arith, ap (rank c) q, taken-falls c a w v (t .inside) e)
 
-      go : (stops c v ≡ true) ⊎ (stops c v ≡ false) → (bit care (argument c v) ≡ 0) ⊎ (bit care (argument c v) ≡ 1) → (bit w (argument c v) ≡ 0) ⊎ (bit w (argument c v) ≡ 1)
-          → ((care values v : ℕ) → Target c h v → rank c v ≤ n → Mask care values → Agree w care values → targets l w b (paths n c l f care values v) ≡ label c (follow n c w v) ∷ [])
+      go : (stops c v ≡ true) ⊎ (stops c v ≡ false) → (bit care (argument c v) ≡ 0) ⊎ (bit care (argument c v) ≡ 1)
+          → (bit w (argument c v) ≡ 0) ⊎ (bit w (argument c v) ≡ 1)
+          → ((care values v : ℕ) → Target c h v → rank c v ≤ n → Mask care values → Agree w care values
+          → targets l w b (paths n c l f care values v) ≡ label c (follow n c w v) ∷ [])
           → targets l w b (paths (suc n) c l f care values v) ≡ label c (follow (suc n) c w v) ∷ []
       go (inl s) x y ih =
           let z : matching l w b (rowAt c l f care values v) ≡ true =
@@ -156,9 +167,12 @@ module _ (c : Chart) (a : Sound c) (l w f b : ℕ) where
           let small : i ≤ 15 = conditions c a v (t .inside) e in
           let q : taken c w v ≡ next0 c v = takes-0 c w v w0 in
           ap (targets l w b) (paths-new n c l f care values v s z)
-          ∙ in-first l w b (paths n c l f (care + 2 ^ i) values (next0 c v)) (paths n c l f (care + 2 ^ i) (values + 2 ^ i) (next1 c v)) (label c (follow n c w (next0 c v)))
-          (ih (care + 2 ^ i) values (next0 c v) (condition-arc0 c a h v t e) (lower e (next0 c v) q) (mask-0 care values i z m small) (agree-0 care values i z m w g w0))
-          (paths-miss n h (care + 2 ^ i) (values + 2 ^ i) (next1 c v) (condition-arc1 c a h v t e) (mask-1 care values i z m small) (clash-here-1 care values i z m w w0))
+          ∙ in-first l w b (paths n c l f (care + 2 ^ i) values (next0 c v))
+          (paths n c l f (care + 2 ^ i) (values + 2 ^ i) (next1 c v)) (label c (follow n c w (next0 c v)))
+          (ih (care + 2 ^ i) values (next0 c v) (condition-arc0 c a h v t e) (lower e (next0 c v) q)
+          (mask-0 care values i z m small) (agree-0 care values i z m w g w0))
+          (paths-miss n h (care + 2 ^ i) (values + 2 ^ i) (next1 c v) (condition-arc1 c a h v t e)
+          (mask-1 care values i z m small) (clash-here-1 care values i z m w w0))
           ∙ on s (next0 c v) q
       go (inr s) (inl z) (inr w1) ih =
           let i : ℕ = argument c v in
@@ -166,7 +180,9 @@ module _ (c : Chart) (a : Sound c) (l w f b : ℕ) where
           let small : i ≤ 15 = conditions c a v (t .inside) e in
           let q : taken c w v ≡ next1 c v = takes-1 c w v w1 in
           ap (targets l w b) (paths-new n c l f care values v s z)
-          ∙ in-second l w b (paths n c l f (care + 2 ^ i) values (next0 c v)) (paths n c l f (care + 2 ^ i) (values + 2 ^ i) (next1 c v)) (label c (follow n c w (next1 c v)) ∷ [])
+          ∙ in-second l w b (paths n c l f (care + 2 ^ i) values (next0 c v))
+          (paths n c l f (care + 2 ^ i) (values + 2 ^ i) (next1 c v)) (label c (follow n c w (next1 c v)) ∷ [])
           (paths-miss n h (care + 2 ^ i) values (next0 c v) (condition-arc0 c a h v t e) (mask-0 care values i z m small) (clash-here-0 care values i z m w w1))
-          (ih (care + 2 ^ i) (values + 2 ^ i) (next1 c v) (condition-arc1 c a h v t e) (lower e (next1 c v) q) (mask-1 care values i z m small) (agree-1 care values i z m w g w1))
+          (ih (care + 2 ^ i) (values + 2 ^ i) (next1 c v) (condition-arc1 c a h v t e) (lower e (next1 c v) q)
+          (mask-1 care values i z m small) (agree-1 care values i z m w g w1))
           ∙ on s (next1 c v) q

@@ -36,7 +36,8 @@ unfolding nodeOf
 search-start c h = record { within = omega arith; all = refl; left = lowest-start (isOf c 0 h) (size c) }
 
 -- ---- stops
-pub begin-asks : (c : Chart) → Facts c → (v k : ℕ) → v < size c → k ≡ kind c v → k ≡ 0 → (10 * v + 3 < length c) × (10 * next0 c v < length c)
+pub begin-asks : (c : Chart) → Facts c → (v k : ℕ) → v < size c → k ≡ kind c v → k ≡ 0
+    → (10 * v + 3 < length c) × (10 * next0 c v < length c)
 begin-asks c F v k l e z =
     let t = F .arc0 v l (λ q. omega arith) in
     (omega (arith, F .whole), omega (arith, F .whole, t .inside))

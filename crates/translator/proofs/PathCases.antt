@@ -44,7 +44,9 @@ module _ (c : Chart) (labels : List ℕ) (ok : Labelled c labels) (v k : ℕ) (t
       go : (s : Bool) → stops c v ≡ s → leb 2 (getD labels v 0) ≡ stops c v
       go true s = le-leb 2 (getD labels v 0) (omega (arith, ok .at v (t .inside), label-own c v (plain ∙ s))) ∙ sym s
       go false s = ⊎-elim
-          (λ (y : leb 2 (getD labels v 0) ≡ true). no-both (stops c v) (sym plain ∙ own-label c v (omega (arith, ok .at v (t .inside), leb-true 2 (getD labels v 0) y))) s)
+          (λ (y : leb 2 (getD labels v 0) ≡ true).
+          no-both (stops c v) (sym plain ∙ own-label c v (omega (arith, ok .at v (t .inside), leb-true 2 (getD labels v 0) y)))
+          s)
           (λ (y : leb 2 (getD labels v 0) ≡ false). y ∙ sym s) (cases (leb 2 (getD labels v 0)))
 
 -- ---- conditions met before
@@ -137,7 +139,8 @@ module _ (c : Chart) (ready : Ready c) (care values v u : ℕ) (st : Settled c c
           st .passed .same l f ∙ at-new c ready l f care values u (st .passed .entered) s new
           ∙ ap₂ (λ (a b : List Row). a ++ b)
           (ap₂ (λ (a b : ℕ). paths (size c) c l f a values b) t (sym e0))
-          (ap (λ (a : ℕ). paths (size c) c l f a (values + 2 ^ argument c u) (next1 c u)) t ∙ ap₂ (λ (a b : ℕ). paths (size c) c l f tested a b) x (sym e1))
+          (ap (λ (a : ℕ). paths (size c) c l f a (values + 2 ^ argument c u) (next1 c u)) t
+          ∙ ap₂ (λ (a b : ℕ). paths (size c) c l f tested a b) x (sym e1))
 
       pub fork : (w0 w1 : ℕ) → w0 ≡ next0 c u → w1 ≡ next1 c u → Fork c care values v tested valued w0 w1
       fork w0 w1 e0 e1 = record {
@@ -158,7 +161,8 @@ module _ (c : Chart) (care values v most : ℕ) where
   pub count-none : most ≡ 0 → (l f : ℕ) → 0 ≡ min most (length (P care values v l f))
   count-none z l f = omega arith
 
-  pub count-stop : (row : ℕ → ℕ → Row) → (most ≡ 0 → ⊥) → ((l f : ℕ) → P care values v l f ≡ row l f ∷ []) → (l f : ℕ) → 1 ≡ min most (length (P care values v l f))
+  pub count-stop : (row : ℕ → ℕ → Row) → (most ≡ 0 → ⊥) → ((l f : ℕ) → P care values v l f ≡ row l f ∷ [])
+      → (l f : ℕ) → 1 ≡ min most (length (P care values v l f))
   count-stop row n e l f = omega (arith, ap (λ (rs : List Row). length rs) (e l f))
 
   pub count-fork : (tested valued w0 w1 low high : ℕ) → Fork c care values v tested valued w0 w1
@@ -170,7 +174,11 @@ module _ (c : Chart) (care values v most : ℕ) where
 -- ---- the arc of a condition
 module _ (c : Chart) (w v i b r : ℕ) (e : i ≡ argument c v) (eb : b ≡ bit w i) where
   pub taken-zero : b ≡ 0 → r ≡ next0 c v → r ≡ taken c w v
-  taken-zero z q = q ∙ sym (yes-pick (eqb (bit w (argument c v)) 0) (next0 c v) (next1 c v) (eq-eqb (bit w (argument c v)) 0 (ap (bit w) (sym e) ∙ sym eb ∙ z)))
+  taken-zero z q =
+      q ∙ sym (yes-pick (eqb (bit w (argument c v)) 0) (next0 c v) (next1 c v)
+      (eq-eqb (bit w (argument c v)) 0 (ap (bit w) (sym e) ∙ sym eb ∙ z)))
 
   pub taken-one : (b ≡ 0 → ⊥) → r ≡ next1 c v → r ≡ taken c w v
-  taken-one n q = q ∙ sym (no-pick (eqb (bit w (argument c v)) 0) (next0 c v) (next1 c v) (ne-eqb (bit w (argument c v)) 0 (λ z. n (eb ∙ ap (bit w) e ∙ z))))
+  taken-one n q =
+      q ∙ sym (no-pick (eqb (bit w (argument c v)) 0) (next0 c v) (next1 c v)
+      (ne-eqb (bit w (argument c v)) 0 (λ z. n (eb ∙ ap (bit w) e ∙ z))))

@@ -33,7 +33,9 @@ module _ (n : ℕ) (c : Chart) (l f care values v : ℕ) where
   step-known e k = rw (paths, e, eq-eqb (bit care (argument c v)) 1 k)
 
   step-new : stops c v ≡ false → (bit care (argument c v) ≡ 1 → ⊥)
-      → paths (suc n) c l f care values v ≡ paths n c l f (care + 2 ^ argument c v) values (next0 c v) ++ paths n c l f (care + 2 ^ argument c v) (values + 2 ^ argument c v) (next1 c v)
+      → paths (suc n) c l f care values v
+      ≡ paths n c l f (care + 2 ^ argument c v) values (next0 c v)
+      ++ paths n c l f (care + 2 ^ argument c v) (values + 2 ^ argument c v) (next1 c v)
   unfolding paths
   step-new e k = rw (paths, e, ne-eqb (bit care (argument c v)) 1 k)
 
@@ -70,7 +72,8 @@ module _ (c : Chart) (ready : Ready c) where
     same (suc n) (suc m) care values v t a b = go (stops c v) refl (ℕ-discrete (bit care (argument c v)) 1) (same n m)
       where
         go : (s : Bool) → stops c v ≡ s → Dec (bit care (argument c v) ≡ 1)
-            → ((care values v : ℕ) → Entered c v → rank c v ≤ n → rank c v ≤ m → P n care values v ≡ P m care values v) → P (suc n) care values v ≡ P (suc m) care values v
+            → ((care values v : ℕ) → Entered c v → rank c v ≤ n → rank c v ≤ m → P n care values v ≡ P m care values v)
+            → P (suc n) care values v ≡ P (suc m) care values v
         go true s d ih = step-stop n c l f care values v s ∙ sym (step-stop m c l f care values v s)
         go false s (yes k) ih =
             let three : kind c v ≡ 3 = goes-on c v (t .noBegin) s in
@@ -100,5 +103,6 @@ module _ (c : Chart) (ready : Ready c) where
       at-known s k = more ∙ step-known (size c) c l f care values v s k
 
       pub at-new : stops c v ≡ false → (bit care (argument c v) ≡ 1 → ⊥)
-          → P (size c) care values v ≡ P (size c) (care + 2 ^ argument c v) values (next0 c v) ++ P (size c) (care + 2 ^ argument c v) (values + 2 ^ argument c v) (next1 c v)
+          → P (size c) care values v
+          ≡ P (size c) (care + 2 ^ argument c v) values (next0 c v) ++ P (size c) (care + 2 ^ argument c v) (values + 2 ^ argument c v) (next1 c v)
       at-new s k = more ∙ step-new (size c) c l f care values v s k

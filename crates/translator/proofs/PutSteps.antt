@@ -40,9 +40,13 @@ module _ (out out₁ out₂ a b t : List ℕ) (at mid r : ℕ) (e : t ≡ a ++ b
   pub both-second : (n m : ℕ) → at + length t ≤ n → mid ≡ at + length a → m ≡ n → mid + length b ≤ m
   both-second n m h p q = omega (arith, lengths)
 
-  pub both-done : at + length t ≤ length out → mid ≡ at + length a → out₁ ≡ written out at a → r ≡ mid + length b → out₂ ≡ written out₁ mid b
+  pub both-done : at + length t ≤ length out → mid ≡ at + length a → out₁ ≡ written out at a → r ≡ mid + length b
+      → out₂ ≡ written out₁ mid b
       → (r ≡ at + length t) × (out₂ ≡ written out at t)
-  both-done h p e₁ q e₂ = (omega (arith, lengths), written-more out at a b out₁ out₂ mid p (omega (arith, lengths)) e₁ e₂ ∙ ap (written out at) (sym e))
+  both-done h p e₁ q e₂ = (
+    omega (arith, lengths),
+    written-more out at a b out₁ out₂ mid p (omega (arith, lengths)) e₁ e₂ ∙ ap (written out at) (sym e),
+  )
 
 pub nothing-put : (out t : List ℕ) (at : ℕ) → t ≡ [] → (at ≡ at + length t) × (out ≡ written out at t)
 nothing-put out t at e = (omega (arith, ap (λ (x : List ℕ). length x) e), sym (written-none out at) ∙ ap (written out at) (sym e))
@@ -54,7 +58,8 @@ rows-append a b = ap framesText (map-append rowFrame a b) ∙ concat-append fram
 pub row-alone : (r : Row) → rowsText (r ∷ []) ≡ frameText (rowFrame r)
 row-alone r = concat-cons frameText (rowFrame r) [] ∙ (unfold concatMap in append-nil (frameText (rowFrame r)))
 
-module _ (c : Chart) (ready : Ready c) (labels : List ℕ) (ok : Labelled c labels) (care values v u : ℕ) (st : Settled c care values v u) (s : stops c u ≡ true) (l f : ℕ) where
+module _ (c : Chart) (ready : Ready c) (labels : List ℕ) (ok : Labelled c labels) (care values v u : ℕ)
+    (st : Settled c care values v u) (s : stops c u ≡ true) (l f : ℕ) where
   leaf-text : rowsText (paths (size c) c l f care values v) ≡ frameText (rowFrame (rowOf l care values f (label c u)))
   leaf-text = ap rowsText (stop-paths c ready care values v u st s l f) ∙ row-alone (rowOf l care values f (label c u))
 
@@ -65,22 +70,34 @@ module _ (c : Chart) (ready : Ready c) (labels : List ℕ) (ok : Labelled c labe
   leaf-room at n h = omega (arith, leaf-length)
 
   pub leaf-done : (out out′ : List ℕ) (at : ℕ) → out′ ≡ written out at (frameText (rowFrame (rowOf l care values f (getD labels u 0))))
-      → (at + 23 ≡ at + length (rowsText (paths (size c) c l f care values v))) × (out′ ≡ written out at (rowsText (paths (size c) c l f care values v)))
+      → (at + 23 ≡ at + length (rowsText (paths (size c) c l f care values v)))
+      × (out′ ≡ written out at (rowsText (paths (size c) c l f care values v)))
   leaf-done out out′ at e = (
     omega (arith, leaf-length),
-    e ∙ ap (λ (x : ℕ). written out at (frameText (rowFrame (rowOf l care values f x)))) (ok .at u (st .passed .entered .inside)) ∙ ap (written out at) (sym leaf-text),
+    e ∙ ap (λ (x : ℕ). written out at (frameText (rowFrame (rowOf l care values f x))))
+        (ok .at u (st .passed .entered .inside))
+        ∙ ap (written out at) (sym leaf-text),
   )
 
 module _ (c : Chart) (care values v tested valued w0 w1 : ℕ) (k : Fork c care values v tested valued w0 w1) (l f : ℕ) where
-  pub fork-text : rowsText (paths (size c) c l f care values v) ≡ rowsText (paths (size c) c l f tested values w0) ++ rowsText (paths (size c) c l f tested valued w1)
+  pub fork-text : rowsText (paths (size c) c l f care values v)
+      ≡ rowsText (paths (size c) c l f tested values w0) ++ rowsText (paths (size c) c l f tested valued w1)
   fork-text = ap rowsText (k .all l f) ∙ rows-append (paths (size c) c l f tested values w0) (paths (size c) c l f tested valued w1)
 
-  pub fork-first : (at n : ℕ) → at + length (rowsText (paths (size c) c l f care values v)) ≤ n → at + length (rowsText (paths (size c) c l f tested values w0)) ≤ n
-  fork-first at n h = both-first [] [] [] (rowsText (paths (size c) c l f tested values w0)) (rowsText (paths (size c) c l f tested valued w1)) (rowsText (paths (size c) c l f care values v)) at 0 0 fork-text n h
+  pub fork-first : (at n : ℕ) → at + length (rowsText (paths (size c) c l f care values v)) ≤ n
+      → at + length (rowsText (paths (size c) c l f tested values w0)) ≤ n
+  fork-first at n h =
+      both-first [] [] [] (rowsText (paths (size c) c l f tested values w0))
+      (rowsText (paths (size c) c l f tested valued w1)) (rowsText (paths (size c) c l f care values v)) at 0 0 fork-text n
+      h
 
-  pub fork-second : (at mid n m : ℕ) → at + length (rowsText (paths (size c) c l f care values v)) ≤ n → mid ≡ at + length (rowsText (paths (size c) c l f tested values w0)) → m ≡ n
+  pub fork-second : (at mid n m : ℕ) → at + length (rowsText (paths (size c) c l f care values v)) ≤ n
+      → mid ≡ at + length (rowsText (paths (size c) c l f tested values w0)) → m ≡ n
       → mid + length (rowsText (paths (size c) c l f tested valued w1)) ≤ m
-  fork-second at mid n m h p q = both-second [] [] [] (rowsText (paths (size c) c l f tested values w0)) (rowsText (paths (size c) c l f tested valued w1)) (rowsText (paths (size c) c l f care values v)) at mid 0 fork-text n m h p q
+  fork-second at mid n m h p q =
+      both-second [] [] [] (rowsText (paths (size c) c l f tested values w0))
+      (rowsText (paths (size c) c l f tested valued w1)) (rowsText (paths (size c) c l f care values v)) at mid 0 fork-text
+      n m h p q
 
 -- ---- pieces of any length, one a node
 pub record Appended (piece : ℕ → List ℕ) (out₀ out : List ℕ) (at place n v : ℕ) : Type 0 where
@@ -110,12 +127,18 @@ module _ (piece : ℕ → List ℕ) where
       upper =
           let m : v + 1 + (n - (v + 1)) ≡ n = omega arith in
           let e : upTo piece (v + 1 + (n - (v + 1))) ≡ upTo piece n = ap (upTo piece) m in
-          omega (arith, up-mono (v + 1) (n - (v + 1)), ap (λ (x : List ℕ). length x) e, ap (λ (x : List ℕ). length x) (up-more v) ∙ length-append (upTo piece v) (piece v))
+          omega (
+            arith,
+            up-mono (v + 1) (n - (v + 1)),
+            ap (λ (x : List ℕ). length x) e,
+            ap (λ (x : List ℕ). length x) (up-more v) ∙ length-append (upTo piece v) (piece v),
+          )
 
       pub appended-room : place + length (piece v) ≤ length out
       appended-room = omega (arith, upper, t .here, t .size)
 
-      pub appended-on : (out′ : List ℕ) (place′ : ℕ) → length out′ ≡ length out → place′ ≡ place + length (piece v) → out′ ≡ written out place (piece v)
+      pub appended-on : (out′ : List ℕ) (place′ : ℕ) → length out′ ≡ length out → place′ ≡ place + length (piece v)
+          → out′ ≡ written out place (piece v)
           → Appended piece out₀ out′ at place′ n (v + 1)
       appended-on out′ place′ k p e =
           let q = both-done out₀ out out′ (upTo piece v) (piece v) (upTo piece (v + 1)) at place place′ (up-more v)
@@ -133,7 +156,8 @@ numbered-stop c v n = ap (λ x. stops c v && not x) (ne-eqb (kind c v) 1 n) ∙ 
     unit true = refl
     unit false = refl
 
-module _ (c : Chart) (ready : Ready c) (labels : List ℕ) (ok : Labelled c labels) (h v : ℕ) (low : 1 ≤ h) (high : h ≤ schemes c) (e : v ≡ begin c h) where
+module _ (c : Chart) (ready : Ready c) (labels : List ℕ) (ok : Labelled c labels) (h v : ℕ) (low : 1 ≤ h)
+    (high : h ≤ schemes c) (e : v ≡ begin c h) where
   begin-inside : v < size c
   begin-inside = omega (arith, ready .facts .begins h low high .0)
 
@@ -168,14 +192,17 @@ module _ (c : Chart) (ready : Ready c) (labels : List ℕ) (ok : Labelled c labe
       ap (λ (x : ℕ). getD labels x 0) q ∙ ok .at (next0 c v) i
       ∙ ap (label c) (sym (starts false (sym stop-by ∙ no-own-label c v (omega arith))))
 
-pub entries-turn : (c : Chart) (out₀ out out′ : List ℕ) (at n k place l : ℕ) → Pieces (entryText c) 23 out₀ out at n k → k < n → place ≡ at + 23 * k → at + 23 * n ≤ length out₀
-    → length out′ ≡ length out → l ≡ entry c (k + 1) → out′ ≡ written out place (frameText (entryFrame (k + 1) l)) → Pieces (entryText c) 23 out₀ out′ at n (k + 1)
+pub entries-turn : (c : Chart) (out₀ out out′ : List ℕ) (at n k place l : ℕ) → Pieces (entryText c) 23 out₀ out at n k → k < n
+    → place ≡ at + 23 * k → at + 23 * n ≤ length out₀
+    → length out′ ≡ length out → l ≡ entry c (k + 1) → out′ ≡ written out place (frameText (entryFrame (k + 1) l))
+    → Pieces (entryText c) 23 out₀ out′ at n (k + 1)
 entries-turn c out₀ out out′ at n k place l w h p room s m e =
     pieces-turn (entryText c) 23 out₀ at n (λ j. length-frame (entryFrame (j + 1) (entry c (j + 1))) refl) out out′ k place w h p (omega arith) s
     (e ∙ ap (λ (x : ℕ). written out place (frameText (entryFrame (k + 1) x))) m)
 
 -- ---- labels
-pub fixed-done : (out out₁ out₂ a b : List ℕ) (at : ℕ) → length a ≡ 23 → at + 46 ≤ length out → out₁ ≡ written out at a → out₂ ≡ written out₁ (at + 23) b → out₂ ≡ written out at (a ++ b)
+pub fixed-done : (out out₁ out₂ a b : List ℕ) (at : ℕ) → length a ≡ 23 → at + 46 ≤ length out
+    → out₁ ≡ written out at a → out₂ ≡ written out₁ (at + 23) b → out₂ ≡ written out at (a ++ b)
 fixed-done out out₁ out₂ a b at n h e₁ e₂ = written-more out at a b out₁ out₂ (at + 23) (omega arith) (omega arith) e₁ e₂
 
 quad-bytes : (a b d e : ℕ) → a < 256 → b < 256 → d < 256 → e < 256 → quad ((a * 256 + b) * 65536 + (d * 256 + e)) ≡ a ∷ b ∷ d ∷ e ∷ []
@@ -196,24 +223,29 @@ module _ (c : Chart) (v l : ℕ) where
   other-label : (kind c v ≡ 2 → ⊥) → (kind c v ≡ 4 → ⊥) → labelOf c v ≡ labelWith 0 0 (scheme c v) 0 0
   other-label n m = rw (ne-eqb (kind c v) 4 m, ne-eqb (kind c v) 2 n)
 
-  pub operation-bytes : Ready c → kind c v ≡ 2 → (t g o r m0 m1 m2 m3 : ℕ) → t ≡ pick (not (eqb g 0)) 1 0 → g ≡ argument c v → o ≡ scheme c v → r ≡ result c v
+  pub operation-bytes : Ready c → kind c v ≡ 2 → (t g o r m0 m1 m2 m3 : ℕ) → t ≡ pick (not (eqb g 0)) 1 0 → g ≡ argument c v
+      → o ≡ scheme c v → r ≡ result c v
       → m0 ≡ getD c (10 * v + 6) 0 → m1 ≡ getD c (10 * v + 7) 0 → m2 ≡ getD c (10 * v + 8) 0 → m3 ≡ getD c (10 * v + 9) 0
       → (17 ∷ l ∷ t ∷ g ∷ o ∷ r ∷ m0 ∷ m1 ∷ m2 ∷ m3 ∷ []) ≡ labelFrame l (labelOf c v)
   operation-bytes ready k t g o r m0 m1 m2 m3 et eg eo er e0 e1 e2 e3 =
       let B : (j : ℕ) → getD c j 0 < 256 = ready .facts .bytes in
       let q : quad (mask c v) ≡ m0 ∷ m1 ∷ m2 ∷ m3 ∷ [] =
       quad-bytes (getD c (10 * v + 6) 0) (getD c (10 * v + 7) 0) (getD c (10 * v + 8) 0) (getD c (10 * v + 9) 0) (B _) (B _) (B _) (B _)
-      ∙ ap₂ (λ (x : ℕ) (xs : List ℕ). x ∷ xs) (sym e0) (ap₂ (λ (x : ℕ) (xs : List ℕ). x ∷ xs) (sym e1) (ap₂ (λ (x y : ℕ). x ∷ y ∷ []) (sym e2) (sym e3))) in
+      ∙ ap₂ (λ (x : ℕ) (xs : List ℕ). x ∷ xs) (sym e0)
+      (ap₂ (λ (x : ℕ) (xs : List ℕ). x ∷ xs) (sym e1) (ap₂ (λ (x y : ℕ). x ∷ y ∷ []) (sym e2) (sym e3))) in
       let p : t ≡ pick (not (eqb (argument c v) 0)) 1 0 = et ∙ ap (λ (x : ℕ). pick {A = ℕ} (not (eqb x 0)) 1 0) eg in
       ap (λ (xs : List ℕ). 17 ∷ l ∷ t ∷ g ∷ o ∷ r ∷ xs) (sym q)
       ∙ ap₂ (λ (x y : ℕ). 17 ∷ l ∷ x ∷ y ∷ o ∷ r ∷ quad (mask c v)) p eg
       ∙ ap₂ (λ (x y : ℕ). 17 ∷ l ∷ pick (not (eqb (argument c v) 0)) 1 0 ∷ argument c v ∷ x ∷ y ∷ quad (mask c v)) eo er
       ∙ ap (labelFrame l) (sym (operation-label k))
 
-  pub function-bytes : kind c v ≡ 4 → (g o : ℕ) → g ≡ argument c v → o ≡ scheme c v → (17 ∷ l ∷ 2 ∷ g ∷ o ∷ 0 ∷ 0 ∷ 0 ∷ 0 ∷ 0 ∷ []) ≡ labelFrame l (labelOf c v)
-  function-bytes k g o eg eo = ap₂ (λ (x y : ℕ). 17 ∷ l ∷ 2 ∷ x ∷ y ∷ 0 ∷ 0 ∷ 0 ∷ 0 ∷ 0 ∷ []) eg eo ∙ ap (labelFrame l) (sym (function-label k))
+  pub function-bytes : kind c v ≡ 4 → (g o : ℕ) → g ≡ argument c v → o ≡ scheme c v
+      → (17 ∷ l ∷ 2 ∷ g ∷ o ∷ 0 ∷ 0 ∷ 0 ∷ 0 ∷ 0 ∷ []) ≡ labelFrame l (labelOf c v)
+  function-bytes k g o eg eo =
+      ap₂ (λ (x y : ℕ). 17 ∷ l ∷ 2 ∷ x ∷ y ∷ 0 ∷ 0 ∷ 0 ∷ 0 ∷ 0 ∷ []) eg eo ∙ ap (labelFrame l) (sym (function-label k))
 
-  pub other-bytes : (kind c v ≡ 2 → ⊥) → (kind c v ≡ 4 → ⊥) → (o : ℕ) → o ≡ scheme c v → (17 ∷ l ∷ 0 ∷ 0 ∷ o ∷ 0 ∷ 0 ∷ 0 ∷ 0 ∷ 0 ∷ []) ≡ labelFrame l (labelOf c v)
+  pub other-bytes : (kind c v ≡ 2 → ⊥) → (kind c v ≡ 4 → ⊥) → (o : ℕ) → o ≡ scheme c v
+      → (17 ∷ l ∷ 0 ∷ 0 ∷ o ∷ 0 ∷ 0 ∷ 0 ∷ 0 ∷ 0 ∷ []) ≡ labelFrame l (labelOf c v)
   other-bytes n m o eo = ap (λ (x : ℕ). 17 ∷ l ∷ 0 ∷ 0 ∷ x ∷ 0 ∷ 0 ∷ 0 ∷ 0 ∷ 0 ∷ []) eo ∙ ap (labelFrame l) (sym (other-label n m))
 
 module _ (c : Chart) (labels : List ℕ) (ok : Labelled c labels) (v : ℕ) (inside : v < size c) where
@@ -231,7 +263,8 @@ module _ (c : Chart) (labels : List ℕ) (ok : Labelled c labels) (v : ℕ) (ins
   pub label-room : 2 ≤ getD labels v 0 → (at n : ℕ) → at + length (nodeLabelText c v) ≤ n → at + 23 ≤ n
   label-room h at n r = omega (arith, label-long h)
 
-  pub label-done : 2 ≤ getD labels v 0 → (out out′ : List ℕ) (at : ℕ) → out′ ≡ written out at (frameText (labelFrame (getD labels v 0) (labelOf c v)))
+  pub label-done : 2 ≤ getD labels v 0 → (out out′ : List ℕ) (at : ℕ)
+      → out′ ≡ written out at (frameText (labelFrame (getD labels v 0) (labelOf c v)))
       → (at + 23 ≡ at + length (nodeLabelText c v)) × (out′ ≡ written out at (nodeLabelText c v))
   label-done h out out′ at e = (
     omega (arith, label-long h),
@@ -242,7 +275,8 @@ module _ (c : Chart) (labels : List ℕ) (ok : Labelled c labels) (v : ℕ) (ins
 pub room-as : (t u : List ℕ) (at n : ℕ) → t ≡ u → at + length t ≤ n → at + length u ≤ n
 room-as t u at n e h = omega (arith, ap (λ (x : List ℕ). length x) e)
 
-pub done-as : (t u out out′ : List ℕ) (at r : ℕ) → t ≡ u → (r ≡ at + length u) × (out′ ≡ written out at u) → (r ≡ at + length t) × (out′ ≡ written out at t)
+pub done-as : (t u out out′ : List ℕ) (at r : ℕ) → t ≡ u → (r ≡ at + length u) × (out′ ≡ written out at u)
+    → (r ≡ at + length t) × (out′ ≡ written out at t)
 done-as t u out out′ at r e q = (omega (arith, ap (λ (x : List ℕ). length x) e, q .0), q .1 ∙ ap (written out at) (sym e))
 
 pub node-none : (c : Chart) (v : ℕ) → nodeRows c v ≡ [] → nodeRowsText c v ≡ []
@@ -255,21 +289,29 @@ module _ (c : Chart) (v k : ℕ) (ek : k ≡ kind c v) (own : nodeRows c v ≡ r
   pub node-condition : k ≡ 3 → (o : ℕ) → o ≡ 2 ^ argument c v → nodeRowsText c v ≡ rowsText (sides c (label c v) 2 2 o o v)
   node-condition e o m = ap rowsText (own ∙ rows-condition c v k ek e ∙ ap (λ (x : ℕ). sides c (label c v) 2 2 x x v) (sym m))
 
-  pub node-other : (k ≡ 4 → ⊥) → (k ≡ 3 → ⊥) → (l w : ℕ) → l ≡ label c v → w ≡ next0 c v → nodeRowsText c v ≡ rowsText (paths (size c) c l 2 0 0 w)
+  pub node-other : (k ≡ 4 → ⊥) → (k ≡ 3 → ⊥) → (l w : ℕ) → l ≡ label c v → w ≡ next0 c v
+      → nodeRowsText c v ≡ rowsText (paths (size c) c l 2 0 0 w)
   node-other n m l w el ew =
       ap rowsText (own ∙ rows-other c v k ek n m ∙ ap₂ (λ (x y : ℕ). paths (size c) c x 2 0 0 y) (sym el) (sym ew))
 
 module _ (c : Chart) (v f g care values l w0 w1 : ℕ) (el : l ≡ label c v) (e0 : w0 ≡ next0 c v) (e1 : w1 ≡ next1 c v) where
-  pub sides-text : rowsText (sides c (label c v) f g care values v) ≡ rowsText (paths (size c) c l f care 0 w0) ++ rowsText (paths (size c) c l g care values w1)
+  pub sides-text : rowsText (sides c (label c v) f g care values v)
+      ≡ rowsText (paths (size c) c l f care 0 w0) ++ rowsText (paths (size c) c l g care values w1)
   sides-text =
       rows-append (paths (size c) c (label c v) f care 0 (next0 c v)) (paths (size c) c (label c v) g care values (next1 c v))
       ∙ ap₂ (λ (x y : List ℕ). x ++ y)
       (ap₂ (λ (x y : ℕ). rowsText (paths (size c) c x f care 0 y)) (sym el) (sym e0))
       (ap₂ (λ (x y : ℕ). rowsText (paths (size c) c x g care values y)) (sym el) (sym e1))
 
-  pub sides-first : (at n : ℕ) → at + length (rowsText (sides c (label c v) f g care values v)) ≤ n → at + length (rowsText (paths (size c) c l f care 0 w0)) ≤ n
-  sides-first at n h = both-first [] [] [] (rowsText (paths (size c) c l f care 0 w0)) (rowsText (paths (size c) c l g care values w1)) (rowsText (sides c (label c v) f g care values v)) at 0 0 sides-text n h
+  pub sides-first : (at n : ℕ) → at + length (rowsText (sides c (label c v) f g care values v)) ≤ n
+      → at + length (rowsText (paths (size c) c l f care 0 w0)) ≤ n
+  sides-first at n h =
+      both-first [] [] [] (rowsText (paths (size c) c l f care 0 w0)) (rowsText (paths (size c) c l g care values w1))
+      (rowsText (sides c (label c v) f g care values v)) at 0 0 sides-text n h
 
-  pub sides-second : (at mid n m : ℕ) → at + length (rowsText (sides c (label c v) f g care values v)) ≤ n → mid ≡ at + length (rowsText (paths (size c) c l f care 0 w0)) → m ≡ n
+  pub sides-second : (at mid n m : ℕ) → at + length (rowsText (sides c (label c v) f g care values v)) ≤ n
+      → mid ≡ at + length (rowsText (paths (size c) c l f care 0 w0)) → m ≡ n
       → mid + length (rowsText (paths (size c) c l g care values w1)) ≤ m
-  sides-second at mid n m h p q = both-second [] [] [] (rowsText (paths (size c) c l f care 0 w0)) (rowsText (paths (size c) c l g care values w1)) (rowsText (sides c (label c v) f g care values v)) at mid 0 sides-text n m h p q
+  sides-second at mid n m h p q =
+      both-second [] [] [] (rowsText (paths (size c) c l f care 0 w0)) (rowsText (paths (size c) c l g care values w1))
+      (rowsText (sides c (label c v) f g care values v)) at mid 0 sides-text n m h p q

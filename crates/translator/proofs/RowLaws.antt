@@ -38,7 +38,9 @@ module _ (c : Chart) (v : ℕ) where
   rows-function k = rw (rowsOf, eq-eqb (kind c v) 4 k)
 
   pub rows-condition : kind c v ≡ 3
-      → rowsOf c v ≡ paths (size c) c (label c v) 2 (2 ^ argument c v) 0 (next0 c v) ++ paths (size c) c (label c v) 2 (2 ^ argument c v) (2 ^ argument c v) (next1 c v)
+      → rowsOf c v
+      ≡ paths (size c) c (label c v) 2 (2 ^ argument c v) 0 (next0 c v)
+      ++ paths (size c) c (label c v) 2 (2 ^ argument c v) (2 ^ argument c v) (next1 c v)
   unfolding rowsOf
   rows-condition k = rw (rowsOf, ne-eqb (kind c v) 4 (λ e. omega arith), eq-eqb (kind c v) 3 k)
 
@@ -51,7 +53,9 @@ rows-other : (c : Chart) (u m w b : ℕ) → (label c u ≡ m → ⊥) → targe
 rows-other c u m w b ne = go (ℕ-discrete (kind c u) 4) (ℕ-discrete (kind c u) 3)
   where
     elsewhere : (r : Row) → r .from ≡ label c u → matching m w b r ≡ false
-    elsewhere r e = ap (λ (x : Bool). x && (agrees w (r .care) (r .values) && (eqb (r .bit) 2 || eqb (r .bit) b))) (ne-eqb (r .from) m (λ q. ne (sym e ∙ q)))
+    elsewhere r e =
+        ap (λ (x : Bool). x && (agrees w (r .care) (r .values) && (eqb (r .bit) 2 || eqb (r .bit) b)))
+        (ne-eqb (r .from) m (λ q. ne (sym e ∙ q)))
 
     none : (f care values v : ℕ) → targets m w b (paths (size c) c (label c u) f care values v) ≡ []
     none f = paths-none (size c) c (label c u) m w f b (λ r e x. elsewhere r e)
@@ -59,11 +63,13 @@ rows-other c u m w b ne = go (ℕ-discrete (kind c u) 4) (ℕ-discrete (kind c u
     go : Dec (kind c u ≡ 4) → Dec (kind c u ≡ 3) → targets m w b (rowsOf c u) ≡ []
     go (yes k) x =
         ap (targets m w b) (rows-function c u k)
-        ∙ in-second m w b (paths (size c) c (label c u) 0 0 0 (next0 c u)) (paths (size c) c (label c u) 1 0 0 (next1 c u)) [] (none 0 0 0 (next0 c u)) (none 1 0 0 (next1 c u))
+        ∙ in-second m w b (paths (size c) c (label c u) 0 0 0 (next0 c u)) (paths (size c) c (label c u) 1 0 0 (next1 c u)) []
+        (none 0 0 0 (next0 c u)) (none 1 0 0 (next1 c u))
     go (no n) (yes k) =
         let p : ℕ = 2 ^ argument c u in
         ap (targets m w b) (rows-condition c u k)
-        ∙ in-second m w b (paths (size c) c (label c u) 2 p 0 (next0 c u)) (paths (size c) c (label c u) 2 p p (next1 c u)) [] (none 2 p 0 (next0 c u)) (none 2 p p (next1 c u))
+        ∙ in-second m w b (paths (size c) c (label c u) 2 p 0 (next0 c u)) (paths (size c) c (label c u) 2 p p (next1 c u)) []
+        (none 2 p 0 (next0 c u)) (none 2 p p (next1 c u))
     go (no n) (no k) = ap (targets m w b) (rows-plain c u n k) ∙ none 2 0 0 (next0 c u)
 
 -- so among all rows those of the node itself decide
@@ -79,7 +85,8 @@ numbered-stop c v s n = and-true (stops c v) (not (is c 1 v)) s (ap not (ne-eqb 
 
 module _ (c : Chart) (a : Sound c) where
   -- all paths from an arc's end, with nothing tested yet
-  from-arc : (l w f b : ℕ) → (eqb f 2 || eqb f b) ≡ true → (h u : ℕ) → Target c h u → targets l w b (paths (size c) c l f 0 0 u) ≡ label c (byArc c w u) ∷ []
+  from-arc : (l w f b : ℕ) → (eqb f 2 || eqb f b) ≡ true → (h u : ℕ) → Target c h u
+      → targets l w b (paths (size c) c l f 0 0 u) ≡ label c (byArc c w u) ∷ []
   from-arc l w f b suits h u t = paths-hit c a l w f b suits (size c) h 0 0 u t (rank-le c u) mask-none (agree-none w)
 
   -- a stop with one arc: an operation or a Begin
@@ -87,14 +94,17 @@ module _ (c : Chart) (a : Sound c) where
       → targets (label c v) w b (rows c) ≡ label c (byArc c w (next0 c v)) ∷ []
   row-straight v w b l e n k =
       rows-here c v w b l e ∙ ap (targets (label c v) w b) (rows-plain c v n k)
-      ∙ from-arc (label c v) w 2 b refl (scheme c v) (next0 c v) (arc0 c a v l (eqb-false (kind c v) 1 (not-true (is c 1 v) (and-r (stops c v) (not (is c 1 v)) e))))
+      ∙ from-arc (label c v) w 2 b refl (scheme c v) (next0 c v)
+      (arc0 c a v l (eqb-false (kind c v) 1 (not-true (is c 1 v) (and-r (stops c v) (not (is c 1 v)) e))))
 
   pub row-plain : (v w b : ℕ) → v < size c → kind c v ≡ 2 → targets (label c v) w b (rows c) ≡ label c (byArc c w (next0 c v)) ∷ []
   row-plain v w b l k =
-      row-straight v w b l (numbered-stop c v (stops-other c v (λ e. omega arith) (λ e. omega arith)) (λ e. omega arith)) (λ e. omega arith) (λ e. omega arith)
+      row-straight v w b l (numbered-stop c v (stops-other c v (λ e. omega arith) (λ e. omega arith)) (λ e. omega arith))
+      (λ e. omega arith) (λ e. omega arith)
 
   -- the node after a stopping Begin is a condition that is no stop
-  pub row-begin : (v w b : ℕ) → v < size c → kind c v ≡ 0 → stops c v ≡ true → targets (label c v) w b (rows c) ≡ label c (byWord c w (next0 c v)) ∷ []
+  pub row-begin : (v w b : ℕ) → v < size c → kind c v ≡ 0 → stops c v ≡ true
+      → targets (label c v) w b (rows c) ≡ label c (byWord c w (next0 c v)) ∷ []
   row-begin v w b l k s =
       let t : Target c (scheme c v) (next0 c v) = arc0 c a v l (λ e. omega arith) in
       let x : (not (eqb (scheme c v) 1) && is c 3 (next0 c v)) ≡ true = sym (stops-begin c v k) ∙ s in
@@ -105,7 +115,8 @@ module _ (c : Chart) (a : Sound c) where
       row-straight v w b l (numbered-stop c v s (λ e. omega arith)) (λ e. omega arith) (λ e. omega arith)
       ∙ ap (λ (u : ℕ). label c u ∷ []) (follow-condition c a (next0 c v) w (t .inside) k₃ on)
 
-  pub row-condition : (v w b : ℕ) → v < size c → kind c v ≡ 3 → stops c v ≡ true → targets (label c v) w b (rows c) ≡ label c (byWord c w v) ∷ []
+  pub row-condition : (v w b : ℕ) → v < size c → kind c v ≡ 3 → stops c v ≡ true
+      → targets (label c v) w b (rows c) ≡ label c (byWord c w v) ∷ []
   row-condition v w b l k s =
       rows-here c v w b l (numbered-stop c v s (λ e. omega arith)) ∙ ap (targets (label c v) w b) (rows-condition c v k) ∙ go (bit-cases w (argument c v))
     where
@@ -131,17 +142,21 @@ module _ (c : Chart) (a : Sound c) where
       mask₁ = subst (λ (x : ℕ). Mask x x) two (mask-1 0 0 (argument c v) free mask-none small)
 
       go : (bit w (argument c v) ≡ 0) ⊎ (bit w (argument c v) ≡ 1)
-          → targets (label c v) w b (paths (size c) c (label c v) 2 (2 ^ argument c v) 0 (next0 c v) ++ paths (size c) c (label c v) 2 (2 ^ argument c v) (2 ^ argument c v) (next1 c v))
+          → targets (label c v) w b (paths (size c) c (label c v) 2 (2 ^ argument c v) 0 (next0 c v)
+          ++ paths (size c) c (label c v) 2 (2 ^ argument c v) (2 ^ argument c v) (next1 c v))
           ≡ label c (byWord c w v) ∷ []
       go (inl z) =
-          in-first (label c v) w b (paths (size c) c (label c v) 2 (2 ^ argument c v) 0 (next0 c v)) (paths (size c) c (label c v) 2 (2 ^ argument c v) (2 ^ argument c v) (next1 c v)) (label c (byArc c w (next0 c v)))
+          in-first (label c v) w b (paths (size c) c (label c v) 2 (2 ^ argument c v) 0 (next0 c v))
+          (paths (size c) c (label c v) 2 (2 ^ argument c v) (2 ^ argument c v) (next1 c v)) (label c (byArc c w (next0 c v)))
           (paths-hit c a (label c v) w 2 b refl (size c) (scheme c v) (2 ^ argument c v) 0 (next0 c v) t₀ (rank-le c (next0 c v)) mask₀
           (subst (λ (x : ℕ). Agree w x 0) two (agree-0 0 0 (argument c v) free mask-none w (agree-none w) z)))
           (paths-miss c a (label c v) w 2 b (size c) (scheme c v) (2 ^ argument c v) (2 ^ argument c v) (next1 c v) t₁ mask₁
           (subst (λ (x : ℕ). Clash w x x) two (clash-here-1 0 0 (argument c v) free mask-none w z)))
           ∙ ap (λ (u : ℕ). label c (byArc c w u) ∷ []) (sym (takes-0 c w v z))
       go (inr o) =
-          in-second (label c v) w b (paths (size c) c (label c v) 2 (2 ^ argument c v) 0 (next0 c v)) (paths (size c) c (label c v) 2 (2 ^ argument c v) (2 ^ argument c v) (next1 c v)) (label c (byArc c w (next1 c v)) ∷ [])
+          in-second (label c v) w b (paths (size c) c (label c v) 2 (2 ^ argument c v) 0 (next0 c v))
+          (paths (size c) c (label c v) 2 (2 ^ argument c v) (2 ^ argument c v) (next1 c v))
+          (label c (byArc c w (next1 c v)) ∷ [])
           (paths-miss c a (label c v) w 2 b (size c) (scheme c v) (2 ^ argument c v) 0 (next0 c v) t₀ mask₀
           (subst (λ (x : ℕ). Clash w x 0) two (clash-here-0 0 0 (argument c v) free mask-none w o)))
           (paths-hit c a (label c v) w 2 b refl (size c) (scheme c v) (2 ^ argument c v) (2 ^ argument c v) (next1 c v) t₁ (rank-le c (next1 c v)) mask₁
@@ -168,11 +183,13 @@ module _ (c : Chart) (a : Sound c) where
       go : (b : Bool) → targets (label c v) w (pick b 1 0) (paths (size c) c (label c v) 0 0 0 (next0 c v) ++ paths (size c) c (label c v) 1 0 0 (next1 c v))
           ≡ label c (byArc c w (pick b (next1 c v) (next0 c v))) ∷ []
       go false =
-          in-first (label c v) w 0 (paths (size c) c (label c v) 0 0 0 (next0 c v)) (paths (size c) c (label c v) 1 0 0 (next1 c v)) (label c (byArc c w (next0 c v)))
+          in-first (label c v) w 0 (paths (size c) c (label c v) 0 0 0 (next0 c v))
+          (paths (size c) c (label c v) 1 0 0 (next1 c v)) (label c (byArc c w (next0 c v)))
           (from-arc (label c v) w 0 0 refl (scheme c v) (next0 c v) (arc0 c a v l (λ e. omega arith)))
           (paths-none (size c) c (label c v) (label c v) w 1 0 (off 1 0 refl) 0 0 (next1 c v))
       go true =
-          in-second (label c v) w 1 (paths (size c) c (label c v) 0 0 0 (next0 c v)) (paths (size c) c (label c v) 1 0 0 (next1 c v)) (label c (byArc c w (next1 c v)) ∷ [])
+          in-second (label c v) w 1 (paths (size c) c (label c v) 0 0 0 (next0 c v))
+          (paths (size c) c (label c v) 1 0 0 (next1 c v)) (label c (byArc c w (next1 c v)) ∷ [])
           (paths-none (size c) c (label c v) (label c v) w 0 1 (off 0 1 refl) 0 0 (next0 c v))
           (from-arc (label c v) w 1 1 refl (scheme c v) (next1 c v) (arc1 c a v l (omega arith)))
 
@@ -193,11 +210,15 @@ module _ (c : Chart) (a : Sound c) (v w : ℕ) (b : Bool) (l : v < size c) (e : 
           ∙ ap (λ (u : ℕ). label c u ∷ []) (sym (yes-pick (is c 4 v) (byArc c w (pick b (next1 c v) (next0 c v))) _ (eq-eqb (kind c v) 4 k)))
       go (no n) (yes k) =
           row-condition c a v w (pick b 1 0) l k (and-l (stops c v) (not (is c 1 v)) e)
-          ∙ ap (λ (u : ℕ). label c u ∷ []) (sym (no-pick (is c 4 v) (byArc c w (pick b (next1 c v) (next0 c v))) (pick (is c 3 v) (byWord c w v) (byArc c w (next0 c v))) (ne-eqb (kind c v) 4 n)
+          ∙ ap (λ (u : ℕ). label c u ∷ [])
+          (sym (no-pick (is c 4 v) (byArc c w (pick b (next1 c v) (next0 c v)))
+          (pick (is c 3 v) (byWord c w v) (byArc c w (next0 c v))) (ne-eqb (kind c v) 4 n)
           ∙ yes-pick (is c 3 v) (byWord c w v) (byArc c w (next0 c v)) (eq-eqb (kind c v) 3 k)))
       go (no n) (no k) =
           row-straight c a v w (pick b 1 0) l e n k
-          ∙ ap (λ (u : ℕ). label c u ∷ []) (sym (no-pick (is c 4 v) (byArc c w (pick b (next1 c v) (next0 c v))) (pick (is c 3 v) (byWord c w v) (byArc c w (next0 c v))) (ne-eqb (kind c v) 4 n)
+          ∙ ap (λ (u : ℕ). label c u ∷ [])
+          (sym (no-pick (is c 4 v) (byArc c w (pick b (next1 c v) (next0 c v)))
+          (pick (is c 3 v) (byWord c w v) (byArc c w (next0 c v))) (ne-eqb (kind c v) 4 n)
           ∙ no-pick (is c 3 v) (byWord c w v) (byArc c w (next0 c v)) (ne-eqb (kind c v) 3 k)))
 
   -- so two rows that match are the same row
@@ -205,4 +226,8 @@ module _ (c : Chart) (a : Sound c) (v w : ℕ) (b : Bool) (l : v < size c) (e : 
       → matching (label c v) w (pick b 1 0) (getD (rows c) j noRow) ≡ true → i ≡ j
   unfolding targets
   same-row = one-passes (matching (label c v) w (pick b 1 0)) noRow (rows c)
-      (omega (arith, sym (length-map (filter (matching (label c v) w (pick b 1 0)) (rows c)) (λ (r : Row). r .next)) ∙ ap (λ (us : List ℕ). length us) one-row))
+      (omega (
+        arith,
+        sym (length-map (filter (matching (label c v) w (pick b 1 0)) (rows c)) (λ (r : Row). r .next))
+            ∙ ap (λ (us : List ℕ). length us) one-row,
+      ))

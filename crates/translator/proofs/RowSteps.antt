@@ -36,7 +36,8 @@ module _ (c : Chart) (ready : Ready c) (v w0 w1 : ℕ) (l : v < size c) (k : 3 �
   side-entered1 e = subst (Entered c) (sym e) (entered1 c ready v l k)
 
 pub count-sides : (c : Chart) (v care values most w0 w1 low high : ℕ) → w0 ≡ next0 c v → w1 ≡ next1 c v
-    → ((l f : ℕ) → low ≡ min most (length (paths (size c) c l f care 0 w0))) → ((l f : ℕ) → high ≡ min (most - low) (length (paths (size c) c l f care values w1)))
+    → ((l f : ℕ) → low ≡ min most (length (paths (size c) c l f care 0 w0)))
+    → ((l f : ℕ) → high ≡ min (most - low) (length (paths (size c) c l f care values w1)))
     → (l f g : ℕ) → low + high ≡ min most (length (sides c l f g care values v))
 count-sides c v care values most w0 w1 low high e0 e1 a b l f g =
     let p : paths (size c) c l f care 0 w0 ≡ paths (size c) c l f care 0 (next0 c v) = ap (paths (size c) c l f care 0) e0 in
@@ -76,12 +77,14 @@ module _ (c : Chart) (v k most r : ℕ) (ek : k ≡ kind c v) where
   pub count-function : k ≡ 4 → ((l f g : ℕ) → r ≡ min most (length (sides c l f g 0 0 v))) → r ≡ min most (length (rowsOf c v))
   count-function e q = q (label c v) 0 1 ∙ ap (λ (rs : List Row). min most (length rs)) (sym (rows-function c v k ek e))
 
-  pub count-condition : k ≡ 3 → (own : ℕ) → own ≡ 2 ^ argument c v → ((l f g : ℕ) → r ≡ min most (length (sides c l f g own own v))) → r ≡ min most (length (rowsOf c v))
+  pub count-condition : k ≡ 3 → (own : ℕ) → own ≡ 2 ^ argument c v
+      → ((l f g : ℕ) → r ≡ min most (length (sides c l f g own own v))) → r ≡ min most (length (rowsOf c v))
   count-condition e own m q =
       q (label c v) 2 2 ∙ ap (λ (o : ℕ). min most (length (sides c (label c v) 2 2 o o v))) m
       ∙ ap (λ (rs : List Row). min most (length rs)) (sym (rows-condition c v k ek e))
 
-  pub count-other : (k ≡ 4 → ⊥) → (k ≡ 3 → ⊥) → (w : ℕ) → w ≡ next0 c v → ((l f : ℕ) → r ≡ min most (length (paths (size c) c l f 0 0 w))) → r ≡ min most (length (rowsOf c v))
+  pub count-other : (k ≡ 4 → ⊥) → (k ≡ 3 → ⊥) → (w : ℕ) → w ≡ next0 c v
+      → ((l f : ℕ) → r ≡ min most (length (paths (size c) c l f 0 0 w))) → r ≡ min most (length (rowsOf c v))
   count-other n m w e q =
       q (label c v) 2 ∙ ap (λ (u : ℕ). min most (length (paths (size c) c (label c v) 2 0 0 u))) e
       ∙ ap (λ (rs : List Row). min most (length rs)) (sym (rows-other c v k ek n m))
@@ -111,7 +114,8 @@ pub below-more : (c : Chart) (v : ℕ) → rowsBelow c (v + 1) ≡ rowsBelow c v
 below-more c v = ap (rowsBelow c) (add-one v) ∙ concat-range-snoc (nodeRows c) 0 v ∙ ap (λ (k : ℕ). rowsBelow c v ++ nodeRows c k) (zero-add v)
 
 -- the nodes without a label add nothing
-picked : {A : Type 0} (p : ℕ → Bool) (f : ℕ → List A) (i n : ℕ) → concatMap (λ v. pick (p v) (f v) []) (range i n) ≡ concatMap f (filter p (range i n))
+picked : {A : Type 0} (p : ℕ → Bool) (f : ℕ → List A) (i n : ℕ)
+    → concatMap (λ v. pick (p v) (f v) []) (range i n) ≡ concatMap f (filter p (range i n))
 picked p f i zero = unfold concatMap filter in refl
 picked {A} p f i (suc n) = go (p i) refl (picked p f (suc i) n)
   where
@@ -136,7 +140,8 @@ pub record Counting (c : Chart) (most total v : ℕ) : Type 0 where
 pub counting-start : (c : Chart) (most : ℕ) → Counting c most 0 0
 counting-start c most = record { within = omega arith; limited = omega arith; counted = unfold concatMap in omega arith }
 
-pub counting-on : (c : Chart) (most total v more : ℕ) → Counting c most total v → v < size c → more ≡ min (most - total) (length (nodeRows c v)) → Counting c most (total + more) (v + 1)
+pub counting-on : (c : Chart) (most total v more : ℕ) → Counting c most total v → v < size c
+    → more ≡ min (most - total) (length (nodeRows c v)) → Counting c most (total + more) (v + 1)
 counting-on c most total v more t l e = record {
   within = omega arith;
   limited = omega (arith, t .limited);

@@ -61,7 +61,8 @@ module _ (c : Chart) (F : Facts c) where
   pick-target h true u v s t = s
   pick-target h false u v s t = t
 
-  paths-good : (n l f h care values v : ℕ) → care < 65536 → bitAnd values care ≡ values → Target c h v → All (PathRow c l f h) (paths n c l f care values v)
+  paths-good : (n l f h care values v : ℕ) → care < 65536 → bitAnd values care ≡ values → Target c h v
+      → All (PathRow c l f h) (paths n c l f care values v)
   unfolding paths
   paths-good zero l f h care values v s w t = tt
   paths-good (suc n) l f h care values v s w t =
@@ -119,7 +120,8 @@ module _ (c : Chart) (F : Facts c) where
           p .leaving,
         )
 
-    of-paths : (f care values u : ℕ) → f ≤ 2 → (f < 2 → is c 4 v ≡ true) → care < 65536 → bitAnd values care ≡ values → Target c (scheme c v) u
+    of-paths : (f care values u : ℕ) → f ≤ 2 → (f < 2 → is c 4 v ≡ true) → care < 65536 → bitAnd values care ≡ values
+        → Target c (scheme c v) u
         → All Good (paths (size c) c (label c v) f care values u)
     of-paths f care values u m four s w t =
         all-of (PathRow c (label c v) f (scheme c v)) Good (row-good f m four) (paths (size c) c (label c v) f care values u)
@@ -163,7 +165,8 @@ numbered-nodes c = all-filter (λ v. v < size c) (numbered c) (range 0 (size c))
 pub rows-sound : (c : Chart) → Facts c → All (SoundRow (table c)) (rows c)
 unfolding rows
 rows-sound c F = all-concat (SoundRow (table c)) (rowsOf c) (numberedNodes c)
-    (all-of (λ v. (v < size c) × (numbered c v ≡ true)) (λ v. All (SoundRow (table c)) (rowsOf c v)) (λ v p. rows-of-sound c F v (p .0) (p .1)) (numberedNodes c) (numbered-nodes c))
+    (all-of (λ v. (v < size c) × (numbered c v ≡ true)) (λ v. All (SoundRow (table c)) (rowsOf c v))
+    (λ v p. rows-of-sound c F v (p .0) (p .1)) (numberedNodes c) (numbered-nodes c))
 
 -- rows whose labels do not fall, the first at least m
 abbrev Rising : ℕ → List Row → Type 0

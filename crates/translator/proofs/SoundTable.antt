@@ -100,7 +100,8 @@ module _ (c : Chart) (F : Facts c) where
       let m : l - 2 < length (numberedNodes c) = omega (arith, labels-count) in
       let v : ℕ = getD (numberedNodes c) (l - 2) 0 in
       let e : nthLabel (table c) l ≡ labelOf c v = ap (nthLabel (table c)) (omega arith) ∙ label-at (l - 2) m in
-      let g : (v < size c) × (numbered c v ≡ true) = all-at (λ v. (v < size c) × (numbered c v ≡ true)) 0 (numberedNodes c) (numbered-nodes c) (l - 2) m in
+      let g : (v < size c) × (numbered c v ≡ true) =
+      all-at (λ v. (v < size c) × (numbered c v ≡ true)) 0 (numberedNodes c) (numbered-nodes c) (l - 2) m in
       subst (SoundLabel (schemes c)) (sym e) (label-sound v (g .0))
 
   -- ---- the whole table

@@ -19,28 +19,51 @@ enum-told : tie.Need-enum-told
 enum-told c = search needs
 
 returns : tie.Need-returns
-returns c = read-refused _ _ zeros-long _ (c .before .before .before .read-chart .ensures .0) _ (c .enum-told .given .0 .0) (c .enum-told .given .0 .1 .0) (c .enum-told .given .0 .1 .1 .0) (c .enum-told .given .1)
+returns c =
+    read-refused _ _ zeros-long _ (c .before .before .before .read-chart .ensures .0) _ (c .enum-told .given .0 .0)
+    (c .enum-told .given .0 .1 .0) (c .enum-told .given .0 .1 .1 .0) (c .enum-told .given .1)
 
 mul-end : tie.Need-mul-end
-mul-end c = omega (arith, (read-told _ _ _ _ _ (c .before .before .before .before .read-chart .ensures .0) (c .before .read .given .1) (c .before .before .before .before .read-chart .ensures .1)) .few)
+mul-end c =
+    let read-chart = c .before .before .before .before .read-chart in
+    omega
+    (arith, (read-told _ _ _ _ _ (read-chart .ensures .0) (c .before .read .given .1) (read-chart .ensures .1)) .few)
 
 array-share-prefix-held : tie.Need-array-share-prefix-held
-array-share-prefix-held c = omega (arith, (read-told _ _ _ _ _ (c .before .before .before .before .read-chart .ensures .0) (c .before .read .given .1) (c .before .before .before .before .read-chart .ensures .1)) .few, c .before .before .before .before .read-chart .kept .1 .0)
+array-share-prefix-held c =
+    let read-chart = c .before .before .before .before .read-chart in
+    omega (
+      arith,
+      (read-told _ _ _ _ _ (read-chart .ensures .0) (c .before .read .given .1) (read-chart .ensures .1)) .few,
+      read-chart .kept .1 .0,
+    )
 
 slice-aggregate-records : tie.Need-slice-aggregate-records
-slice-aggregate-records c = sym (read-long _ _ _ (read-told _ _ _ _ _ (c .before .before .before .before .before .read-chart .ensures .0) (c .before .before .read .given .1) (c .before .before .before .before .before .read-chart .ensures .1)))
+slice-aggregate-records c =
+    let read-chart = c .before .before .before .before .before .read-chart in
+    sym (read-long _ _ _
+    (read-told _ _ _ _ _ (read-chart .ensures .0) (c .before .before .read .given .1) (read-chart .ensures .1)))
 
 highest-scheme-requires : tie.Need-highest-scheme-requires
 highest-scheme-requires c κs = search needs
 
 write-image-requires : tie.Need-write-image-requires
-write-image-requires c κs = (read-ready _ _ _ (read-told _ _ _ _ _ (c .before .before .before .before .before .before .before .read-chart .ensures .0) (c .before .before .before .before .read .given .1) (c .before .before .before .before .before .before .before .read-chart .ensures .1)), c .before .highest-scheme .ensures)
+write-image-requires c κs =
+    let read-chart = c .before .before .before .before .before .before .before .read-chart in
+    let read = c .before .before .before .before .read in (
+      read-ready _ _ _ (read-told _ _ _ _ _ (read-chart .ensures .0) (read .given .1) (read-chart .ensures .1)),
+      c .before .highest-scheme .ensures,
+    )
 
 same-length : tie.Need-same-length
 same-length c = search needs
 
 returns-2 : tie.Need-returns-2
-returns-2 c = translated _ _ _ (read-told _ _ _ _ _ (c .before .before .before .before .before .before .before .before .before .before .read-chart .ensures .0) (c .before .before .before .before .before .before .before .read .given .1) (c .before .before .before .before .before .before .before .before .before .before .read-chart .ensures .1)) _ _ _ (c .before .before .write-image .ensures)
+returns-2 c =
+    let read-chart = c .before .before .before .before .before .before .before .before .before .before .read-chart in
+    let read = c .before .before .before .before .before .before .before .read in
+    translated _ _ _ (read-told _ _ _ _ _ (read-chart .ensures .0) (read .given .1) (read-chart .ensures .1)) _ _ _
+    (c .before .before .write-image .ensures)
 
 pub translate-spec : {M : Type 1} → statement M
 translate-spec =

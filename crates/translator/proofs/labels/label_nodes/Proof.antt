@@ -20,7 +20,9 @@ loop-holds : tie.Need-loop-holds Inv-loop μ-loop
 loop-holds c = labelling-start _ _
 
 label-of-requires : tie.Need-label-of-requires Inv-loop μ-loop
-label-of-requires c κs = (c .before .before .before .before .before .pre .0, (c .before .before .first-node .ensures, (c .before .loop .inv .owned, search needs)))
+label-of-requires c κs =
+    let asked = c .before .before .before .before .before .pre in
+    (asked .0, (c .before .before .first-node .ensures, (c .before .loop .inv .owned, search needs)))
 
 slice-write-labels : tie.Need-slice-write-labels Inv-loop μ-loop
 slice-write-labels c = search needs
@@ -35,7 +37,10 @@ loop-less : tie.Need-loop-less Inv-loop μ-loop
 loop-less c = search needs
 
 loop-again : tie.Need-loop-again Inv-loop μ-loop
-loop-again c = labelling-on _ _ _ _ _ (c .before .before .before .before .before .before .before .pre .1) (c .before .before .before .loop .inv) (search needs) _ (c .before .label-of .ensures) _ (⊎-elim (λ w. inl (w .0 .taken, w .1)) (λ w. inr (w .0 .left, w .1)) (c .if1 .came))
+loop-again c =
+    let asked = c .before .before .before .before .before .before .before .pre in
+    labelling-on _ _ _ _ _ (asked .1) (c .before .before .before .loop .inv) (search needs) _
+    (c .before .label-of .ensures) _ (⊎-elim (λ w. inl (w .0 .taken, w .1)) (λ w. inr (w .0 .left, w .1)) (c .if1 .came))
 
 same-length : tie.Need-same-length Inv-loop μ-loop
 same-length c = c .before .loop .inv .long

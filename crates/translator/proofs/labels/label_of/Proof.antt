@@ -10,10 +10,20 @@ is-numbered-requires : tie.Need-is-numbered-requires
 is-numbered-requires c κs = search needs
 
 add-result : tie.Need-add-result
-add-result c = omega (arith, own-small _ (c .before .before .before .pre .0) _ _ (c .before .before .before .pre .1 .1 .1) (c .before .before .before .pre .1 .1 .0) (sym (c .before .is-numbered .ensures) ∙ c .if1 .taken))
+add-result c =
+    let asked = c .before .before .before .pre in
+    omega (
+      arith,
+      own-small _ (asked .0) _ _ (asked .1 .1 .1) (asked .1 .1 .0) (sym (c .before .is-numbered .ensures) ∙ c .if1 .taken),
+    )
 
 cast-result : tie.Need-cast-result
-cast-result c = omega (arith, own-small _ (c .before .before .before .pre .0) _ _ (c .before .before .before .pre .1 .1 .1) (c .before .before .before .pre .1 .1 .0) (sym (c .before .is-numbered .ensures) ∙ c .if1 .taken))
+cast-result c =
+    let asked = c .before .before .before .pre in
+    omega (
+      arith,
+      own-small _ (asked .0) _ _ (asked .1 .1 .1) (asked .1 .1 .0) (sym (c .before .is-numbered .ensures) ∙ c .if1 .taken),
+    )
 
 returns : tie.Need-returns
 returns c = own-done _ _ _ (c .before .before .before .pre .1 .1 .0) (sym (c .before .is-numbered .ensures) ∙ c .if1 .taken)
@@ -22,10 +32,14 @@ field-requires : tie.Need-field-requires
 field-requires c κs = search needs
 
 returns-2 : tie.Need-returns-2
-returns-2 c = first-done _ _ (sym (c .before .before .before .is-numbered .ensures) ∙ c .before .before .if1 .left) (sym (c .before .field .ensures) ∙ c .if2 .taken)
+returns-2 c =
+    first-done _ _ (sym (c .before .before .before .is-numbered .ensures) ∙ c .before .before .if1 .left)
+    (sym (c .before .field .ensures) ∙ c .if2 .taken)
 
 returns-3 : tie.Need-returns-3
-returns-3 c = other-done _ _ (sym (c .before .before .before .is-numbered .ensures) ∙ c .before .before .if1 .left) (λ e. c .if2 .left (c .before .field .ensures ∙ e))
+returns-3 c =
+    other-done _ _ (sym (c .before .before .before .is-numbered .ensures) ∙ c .before .before .if1 .left)
+    (λ e. c .if2 .left (c .before .field .ensures ∙ e))
 
 pub label-of-spec : {M : Type 1} → statement M
 label-of-spec =

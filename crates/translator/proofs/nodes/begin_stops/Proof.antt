@@ -17,10 +17,19 @@ field-requires-3 : tie.Need-field-requires-3
 field-requires-3 c κs = search needs
 
 returns : tie.Need-returns
-returns c = begin-second (c .before .before .before .before .before .args .records .now) (c .before .before .before .before .before .args .v) _ _ (c .before .before .before .field .ensures) (c .before .before .field2 .ensures) _ (c .field3 .ensures) (c .before .if1 .taken)
+returns c =
+    let start = c .before .before .before .before .before in
+    let records = start .args .records .now in
+    let v = start .args .v in
+    begin-second records v _ _ (c .before .before .before .field .ensures) (c .before .before .field2 .ensures) _
+    (c .field3 .ensures) (c .before .if1 .taken)
 
 returns-2 : tie.Need-returns-2
-returns-2 c = begin-first (c .before .before .before .before .args .records .now) (c .before .before .before .before .args .v) _ _ (c .before .before .field .ensures) (c .before .field2 .ensures) (c .if1 .left)
+returns-2 c =
+    let start = c .before .before .before .before in
+    let records = start .args .records .now in
+    let v = start .args .v in
+    begin-first records v _ _ (c .before .before .field .ensures) (c .before .field2 .ensures) (c .if1 .left)
 
 pub begin-stops-spec : {M : Type 1} → statement M
 begin-stops-spec =

@@ -15,7 +15,10 @@ field-requires-2 : tie.Need-field-requires-2
 field-requires-2 c κs = search needs
 
 returns : tie.Need-returns
-returns c = and-second _ _ _ (eq-eqb _ _ (sym (c .before .before .field .ensures) ∙ c .before .if1 .taken)) (ap (λ (x : ℕ). eqb x (c .before .before .before .before .args .scheme)) (c .field2 .ensures))
+returns c =
+    let scheme = c .before .before .before .before .args .scheme in
+    and-second _ _ _ (eq-eqb _ _ (sym (c .before .before .field .ensures) ∙ c .before .if1 .taken))
+    (ap (λ (x : ℕ). eqb x scheme) (c .field2 .ensures))
 
 returns-2 : tie.Need-returns-2
 returns-2 c = and-first _ _ _ (ne-eqb _ _ (λ e. c .if1 .left (c .before .field .ensures ∙ e))) (ap (λ (x : ℕ). eqb x 0) (c .before .field .ensures))

@@ -40,7 +40,13 @@ count-paths-returns : (t : ℕ) → count-paths-lts.Need-returns (
   count-paths-below t,
   count-paths.Post,
 ) (count-paths-at t) count-paths.Post
-count-paths-returns t c = count-none (c .before .before .before .args .records .now) (c .before .before .before .args .care) (c .before .before .before .args .values) (c .before .before .before .args .node) _ (c .if1 .taken)
+count-paths-returns t c =
+    let start = c .before .before .before in
+    let records = start .args .records .now in
+    let care = start .args .care in
+    let values = start .args .values in
+    let node = start .args .node in
+    count-none records care values node _ (c .if1 .taken)
 
 count-paths-settle-requires : (t : ℕ) → count-paths-lts.Need-settle-requires (
   settle-reads.Asked,
@@ -54,7 +60,9 @@ count-paths-settle-requires : (t : ℕ) → count-paths-lts.Need-settle-requires
   count-paths-below t,
   count-paths.Post,
 ) (count-paths-at t) count-paths.Post
-count-paths-settle-requires t c κs = (c .before .before .before .pre .1 .0, (c .before .before .before .pre .1 .1 .0, c .before .before .before .pre .1 .1 .1 .0))
+count-paths-settle-requires t c κs =
+    let asked = c .before .before .before .pre in
+    (asked .1 .0, (asked .1 .1 .0, asked .1 .1 .1 .0))
 
 count-paths-ends-path-requires : (t : ℕ) → count-paths-lts.Need-ends-path-requires (
   settle-reads.Asked,
@@ -68,7 +76,9 @@ count-paths-ends-path-requires : (t : ℕ) → count-paths-lts.Need-ends-path-re
   count-paths-below t,
   count-paths.Post,
 ) (count-paths-at t) count-paths.Post
-count-paths-ends-path-requires t c κs = (c .before .before .before .before .pre .1 .0, (c .before .before .before .before .pre .1 .1 .0, c .settle .ensures .passed .entered))
+count-paths-ends-path-requires t c κs =
+    let asked = c .before .before .before .before .pre in
+    (asked .1 .0, (asked .1 .1 .0, c .settle .ensures .passed .entered))
 
 count-paths-returns-2 : (t : ℕ) → count-paths-lts.Need-returns-2 (
   settle-reads.Asked,
@@ -82,7 +92,15 @@ count-paths-returns-2 : (t : ℕ) → count-paths-lts.Need-returns-2 (
   count-paths-below t,
   count-paths.Post,
 ) (count-paths-at t) count-paths.Post
-count-paths-returns-2 t c = count-stop (c .before .before .before .before .before .before .args .records .now) (c .before .before .before .before .before .before .args .care) (c .before .before .before .before .before .before .args .values) (c .before .before .before .before .before .before .args .node) _ _ (c .before .before .before .if1 .left) (stop-paths _ (c .before .before .before .before .before .before .pre .1 .0) _ _ _ _ (c .before .before .settle .ensures) (sym (c .before .ends-path .ensures) ∙ c .if2 .taken))
+count-paths-returns-2 t c =
+    let start = c .before .before .before .before .before .before in
+    let records = start .args .records .now in
+    let care = start .args .care in
+    let values = start .args .values in
+    let node = start .args .node in
+    count-stop records care values node _ _ (c .before .before .before .if1 .left)
+    (stop-paths _ (start .pre .1 .0) _ _ _ _ (c .before .before .settle .ensures)
+    (sym (c .before .ends-path .ensures) ∙ c .if2 .taken))
 
 count-paths-cast-v : (t : ℕ) → count-paths-lts.Need-cast-v (
   settle-reads.Asked,
@@ -124,7 +142,10 @@ count-paths-with-bit-requires : (t : ℕ) → count-paths-lts.Need-with-bit-requ
   count-paths-below t,
   count-paths.Post,
 ) (count-paths-at t) count-paths.Post
-count-paths-with-bit-requires t c κs = fork-number _ (c .before .before .before .before .before .before .before .pre .1 .0) _ _ _ _ (c .before .before .before .settle .ensures) (sym (c .before .before .ends-path .ensures) ∙ c .before .if2 .left) (c .before .before .before .before .before .before .before .pre .1 .1 .1 .1) _ (c .field .ensures)
+count-paths-with-bit-requires t c κs =
+    let asked = c .before .before .before .before .before .before .before .pre in
+    fork-number _ (asked .1 .0) _ _ _ _ (c .before .before .before .settle .ensures)
+    (sym (c .before .before .ends-path .ensures) ∙ c .before .if2 .left) (asked .1 .1 .1 .1) _ (c .field .ensures)
 
 count-paths-field-requires-2 : (t : ℕ) → count-paths-lts.Need-field-requires-2 (
   settle-reads.Asked,
@@ -152,7 +173,15 @@ count-paths-count-paths-requires : (t : ℕ) → count-paths-lts.Need-count-path
   count-paths-below t,
   count-paths.Post,
 ) (count-paths-at t) count-paths.Post
-count-paths-count-paths-requires t c κs = let k = fork _ (c .before .before .before .before .before .before .before .before .before .pre .1 .0) _ _ _ _ (c .before .before .before .before .before .settle .ensures) (sym (c .before .before .before .before .ends-path .ensures) ∙ c .before .before .before .if2 .left) (c .before .before .before .before .before .before .before .before .before .pre .1 .1 .1 .1) _ _ _ (c .before .before .field .ensures) (c .before .with-bit .ensures) refl _ _ (c .field2 .ensures) refl in (omega (arith, k .falls0, c .before .before .before .before .before .before .before .before .before .pre .0), (c .before .before .before .before .before .before .before .before .before .pre .1 .0, (c .before .before .before .before .before .before .before .before .before .pre .1 .1 .0, (k .entered0, k .within0))))
+count-paths-count-paths-requires t c κs =
+    let asked = c .before .before .before .before .before .before .before .before .before .pre in
+    let settle = c .before .before .before .before .before .settle in
+    let ends-path = c .before .before .before .before .ends-path in
+    let k =
+    fork _ (asked .1 .0) _ _ _ _ (settle .ensures) (sym (ends-path .ensures) ∙ c .before .before .before .if2 .left)
+    (asked .1 .1 .1 .1) _ _ _ (c .before .before .field .ensures) (c .before .with-bit .ensures) refl _ _
+    (c .field2 .ensures) refl in
+    (omega (arith, k .falls0, asked .0), (asked .1 .0, (asked .1 .1 .0, (k .entered0, k .within0))))
 
 count-paths-field-requires-3 : (t : ℕ) → count-paths-lts.Need-field-requires-3 (
   settle-reads.Asked,
@@ -180,7 +209,14 @@ count-paths-with-bit-requires-2 : (t : ℕ) → count-paths-lts.Need-with-bit-re
   count-paths-below t,
   count-paths.Post,
 ) (count-paths-at t) count-paths.Post
-count-paths-with-bit-requires-2 t c κs = fork-number _ (c .before .before .before .before .before .before .before .before .before .before .before .pre .1 .0) _ _ _ _ (c .before .before .before .before .before .before .before .settle .ensures) (sym (c .before .before .before .before .before .before .ends-path .ensures) ∙ c .before .before .before .before .before .if2 .left) (c .before .before .before .before .before .before .before .before .before .before .before .pre .1 .1 .1 .1) _ (c .before .before .before .before .field .ensures)
+count-paths-with-bit-requires-2 t c κs =
+    let asked = c .before .before .before .before .before .before .before .before .before .before .before .pre in
+    let settle = c .before .before .before .before .before .before .before .settle in
+    let ends-path = c .before .before .before .before .before .before .ends-path in
+    let if2 = c .before .before .before .before .before .if2 in
+    let field = c .before .before .before .before .field in
+    fork-number _ (asked .1 .0) _ _ _ _ (settle .ensures) (sym (ends-path .ensures) ∙ if2 .left) (asked .1 .1 .1 .1) _
+    (field .ensures)
 
 count-paths-sub-count-paths : (t : ℕ) → count-paths-lts.Need-sub-count-paths (
   settle-reads.Asked,
@@ -208,7 +244,18 @@ count-paths-count-paths-requires-2 : (t : ℕ) → count-paths-lts.Need-count-pa
   count-paths-below t,
   count-paths.Post,
 ) (count-paths-at t) count-paths.Post
-count-paths-count-paths-requires-2 t c κs = let k = fork _ (c .before .before .before .before .before .before .before .before .before .before .before .before .pre .1 .0) _ _ _ _ (c .before .before .before .before .before .before .before .before .settle .ensures) (sym (c .before .before .before .before .before .before .before .ends-path .ensures) ∙ c .before .before .before .before .before .before .if2 .left) (c .before .before .before .before .before .before .before .before .before .before .before .before .pre .1 .1 .1 .1) _ _ _ (c .before .before .before .before .before .field .ensures) (c .before .before .before .before .with-bit .ensures) (c .with-bit2 .ensures) _ _ (c .before .before .before .field2 .ensures) (c .before .field3 .ensures) in (omega (arith, k .falls1, c .before .before .before .before .before .before .before .before .before .before .before .before .pre .0), (c .before .before .before .before .before .before .before .before .before .before .before .before .pre .1 .0, (c .before .before .before .before .before .before .before .before .before .before .before .before .pre .1 .1 .0, (k .entered1, k .within1))))
+count-paths-count-paths-requires-2 t c κs =
+    let asked = c .before .before .before .before .before .before .before .before .before .before .before .before .pre in
+    let settle = c .before .before .before .before .before .before .before .before .settle in
+    let ends-path = c .before .before .before .before .before .before .before .ends-path in
+    let if2 = c .before .before .before .before .before .before .if2 in
+    let field = c .before .before .before .before .before .field in
+    let with-bit = c .before .before .before .before .with-bit in
+    let k =
+    fork _ (asked .1 .0) _ _ _ _ (settle .ensures) (sym (ends-path .ensures) ∙ if2 .left) (asked .1 .1 .1 .1) _ _ _
+    (field .ensures) (with-bit .ensures) (c .with-bit2 .ensures) _ _ (c .before .before .before .field2 .ensures)
+    (c .before .field3 .ensures) in
+    (omega (arith, k .falls1, asked .0), (asked .1 .0, (asked .1 .1 .0, (k .entered1, k .within1))))
 
 count-paths-add-result : (t : ℕ) → count-paths-lts.Need-add-result (
   settle-reads.Asked,
@@ -222,7 +269,9 @@ count-paths-add-result : (t : ℕ) → count-paths-lts.Need-add-result (
   count-paths-below t,
   count-paths.Post,
 ) (count-paths-at t) count-paths.Post
-count-paths-add-result t c = omega (arith, c .before .before .before .count-paths .ensures 0 0, c .count-paths2 .ensures 0 0, c .before .before .before .before .before .before .before .before .before .before .before .before .before .good .1 .1 .1 .1 .1)
+count-paths-add-result t c =
+    let good = c .before .before .before .before .before .before .before .before .before .before .before .before .before .good in
+    omega (arith, c .before .before .before .count-paths .ensures 0 0, c .count-paths2 .ensures 0 0, good .1 .1 .1 .1 .1)
 
 count-paths-returns-3 : (t : ℕ) → count-paths-lts.Need-returns-3 (
   settle-reads.Asked,
@@ -236,7 +285,20 @@ count-paths-returns-3 : (t : ℕ) → count-paths-lts.Need-returns-3 (
   count-paths-below t,
   count-paths.Post,
 ) (count-paths-at t) count-paths.Post
-count-paths-returns-3 t c = count-fork _ _ _ _ _ _ _ _ _ _ _ (fork _ (c .before .before .before .before .before .before .before .before .before .before .before .before .before .pre .1 .0) _ _ _ _ (c .before .before .before .before .before .before .before .before .before .settle .ensures) (sym (c .before .before .before .before .before .before .before .before .ends-path .ensures) ∙ c .before .before .before .before .before .before .before .if2 .left) (c .before .before .before .before .before .before .before .before .before .before .before .before .before .pre .1 .1 .1 .1) _ _ _ (c .before .before .before .before .before .before .field .ensures) (c .before .before .before .before .before .with-bit .ensures) (c .before .with-bit2 .ensures) _ _ (c .before .before .before .before .field2 .ensures) (c .before .before .field3 .ensures)) (c .before .before .before .count-paths .ensures) (c .count-paths2 .ensures)
+count-paths-returns-3 t c =
+    let call = c .before .before .before .before in
+    let asked = call .before .before .before .before .before .before .before .before .before .pre in
+    let settle = call .before .before .before .before .before .settle in
+    let ends-path = call .before .before .before .before .ends-path in
+    let if2 = call .before .before .before .if2 in
+    let field = call .before .before .field in
+    let with-bit = call .before .with-bit in
+    let field2 = call .field2 in
+    count-fork _ _ _ _ _ _ _ _ _ _ _
+    (fork _ (asked .1 .0) _ _ _ _ (settle .ensures) (sym (ends-path .ensures) ∙ if2 .left) (asked .1 .1 .1 .1) _ _ _
+    (field .ensures) (with-bit .ensures) (c .before .with-bit2 .ensures) _ _ (field2 .ensures)
+    (c .before .before .field3 .ensures))
+    (c .before .before .before .count-paths .ensures) (c .count-paths2 .ensures)
 
 pub +count-paths-spec : {M : Type 1} → statement M
 +count-paths-spec = close μ-count-paths λ t. count-paths-lts.spec (

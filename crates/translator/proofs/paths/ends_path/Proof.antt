@@ -8,13 +8,17 @@ field-requires : tie.Need-field-requires
 field-requires c κs = search needs
 
 returns : tie.Need-returns
-returns c = ends-other _ _ (c .before .before .before .before .pre .1 .0) _ _ (c .before .before .before .before .pre .1 .1) (c .before .field .ensures) (c .if1 .taken)
+returns c =
+    let asked = c .before .before .before .before .pre in
+    ends-other _ _ (asked .1 .0) _ _ (asked .1 .1) (c .before .field .ensures) (c .if1 .taken)
 
 shared-slice-read-result : tie.Need-shared-slice-read-result
 shared-slice-read-result c = search needs
 
 returns-2 : tie.Need-returns-2
-returns-2 c = ends-condition _ _ (c .before .before .before .before .before .pre .1 .0) _ _ (c .before .before .before .before .before .pre .1 .1) (c .before .before .field .ensures) (c .before .if1 .left)
+returns-2 c =
+    let asked = c .before .before .before .before .before .pre in
+    ends-condition _ _ (asked .1 .0) _ _ (asked .1 .1) (c .before .before .field .ensures) (c .before .if1 .left)
 
 pub ends-path-spec : {M : Type 1} → statement M
 ends-path-spec = tie.close (tie.spec field-requires returns shared-slice-read-result returns-2)

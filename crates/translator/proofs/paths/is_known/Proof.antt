@@ -18,10 +18,16 @@ field-requires : tie.Need-field-requires
 field-requires c κs = search needs
 
 bit-requires : tie.Need-bit-requires
-bit-requires c κs = small-on-path _ (c .before .before .before .before .before .pre .0) _ _ (c .before .before .before .before .before .pre .1 .1) (sym (c .before .before .ends-path .ensures) ∙ c .before .if1 .left) (c .field .ensures)
+bit-requires c κs =
+    let asked = c .before .before .before .before .before .pre in
+    small-on-path _ (asked .0) _ _ (asked .1 .1) (sym (c .before .before .ends-path .ensures) ∙ c .before .if1 .left)
+    (c .field .ensures)
 
 returns-2 : tie.Need-returns-2
-returns-2 c = known-test _ _ _ _ (sym (c .before .before .before .ends-path .ensures) ∙ c .before .before .if1 .left) (ap (λ (x : ℕ). eqb x 1) (c .bit .ensures ∙ ap (bit (c .before .before .before .before .before .before .args .care)) (c .before .field .ensures)))
+returns-2 c =
+    let care = c .before .before .before .before .before .before .args .care in
+    known-test _ _ _ _ (sym (c .before .before .before .ends-path .ensures) ∙ c .before .before .if1 .left)
+    (ap (λ (x : ℕ). eqb x 1) (c .bit .ensures ∙ ap (bit care) (c .before .field .ensures)))
 
 pub is-known-spec : {M : Type 1} → statement M
 is-known-spec =

@@ -19,13 +19,24 @@ is-known-requires : tie.Need-is-known-requires Inv-loop μ-loop
 is-known-requires c κs = (c .before .before .before .pre .0, (c .before .before .before .pre .1 .0, c .loop .inv .entered))
 
 taken-requires : tie.Need-taken-requires Inv-loop μ-loop
-taken-requires c κs = (c .before .before .before .before .before .pre .0, (c .before .before .loop .inv .entered .inside, known-condition _ (c .before .before .before .before .before .pre .0) _ _ _ _ (c .before .before .loop .inv) (sym (c .before .is-known .ensures) ∙ c .if1 .taken)))
+taken-requires c κs = (
+  c .before .before .before .before .before .pre .0,
+  (
+    c .before .before .loop .inv .entered .inside,
+    known-condition _ (c .before .before .before .before .before .pre .0) _ _ _ _ (c .before .before .loop .inv)
+        (sym (c .before .is-known .ensures) ∙ c .if1 .taken),
+  ),
+)
 
 loop-less : tie.Need-loop-less Inv-loop μ-loop
-loop-less c = known-falls _ (c .before .before .before .before .before .before .pre .0) _ _ _ _ (c .before .before .before .loop .inv) (sym (c .before .before .is-known .ensures) ∙ c .before .if1 .taken) _ (c .taken .ensures)
+loop-less c =
+    known-falls _ (c .before .before .before .before .before .before .pre .0) _ _ _ _ (c .before .before .before .loop .inv)
+    (sym (c .before .before .is-known .ensures) ∙ c .before .if1 .taken) _ (c .taken .ensures)
 
 loop-again : tie.Need-loop-again Inv-loop μ-loop
-loop-again c = known-on _ (c .before .before .before .before .before .before .pre .0) _ _ _ _ (c .before .before .before .loop .inv) (sym (c .before .before .is-known .ensures) ∙ c .before .if1 .taken) _ (c .taken .ensures)
+loop-again c =
+    known-on _ (c .before .before .before .before .before .before .pre .0) _ _ _ _ (c .before .before .before .loop .inv)
+    (sym (c .before .before .is-known .ensures) ∙ c .before .if1 .taken) _ (c .taken .ensures)
 
 returns : tie.Need-returns Inv-loop μ-loop
 returns c = record { passed = c .before .before .loop .inv; fresh = sym (c .before .is-known .ensures) ∙ c .if1 .left }

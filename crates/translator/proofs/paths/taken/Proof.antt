@@ -15,13 +15,25 @@ field-requires-2 : tie.Need-field-requires-2
 field-requires-2 c κs = search needs
 
 returns : tie.Need-returns
-returns c = taken-zero (c .before .before .before .before .before .args .records .now) (c .before .before .before .before .before .args .values) (c .before .before .before .before .before .args .node) _ _ _ (c .before .before .before .field .ensures) (c .before .before .bit .ensures) (c .before .if1 .taken) (c .field2 .ensures)
+returns c =
+    let start = c .before .before .before .before .before in
+    let records = start .args .records .now in
+    let values = start .args .values in
+    let node = start .args .node in
+    taken-zero records values node _ _ _ (c .before .before .before .field .ensures) (c .before .before .bit .ensures)
+    (c .before .if1 .taken) (c .field2 .ensures)
 
 field-requires-3 : tie.Need-field-requires-3
 field-requires-3 c κs = search needs
 
 returns-2 : tie.Need-returns-2
-returns-2 c = taken-one (c .before .before .before .before .before .args .records .now) (c .before .before .before .before .before .args .values) (c .before .before .before .before .before .args .node) _ _ _ (c .before .before .before .field .ensures) (c .before .before .bit .ensures) (c .before .if1 .left) (c .field3 .ensures)
+returns-2 c =
+    let start = c .before .before .before .before .before in
+    let records = start .args .records .now in
+    let values = start .args .values in
+    let node = start .args .node in
+    taken-one records values node _ _ _ (c .before .before .before .field .ensures) (c .before .before .bit .ensures)
+    (c .before .if1 .left) (c .field3 .ensures)
 
 pub taken-spec : {M : Type 1} → statement M
 taken-spec =

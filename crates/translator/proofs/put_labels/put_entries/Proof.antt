@@ -25,7 +25,9 @@ cast-scheme : tie.Need-cast-scheme Inv-loop μ-loop
 cast-scheme c = search needs
 
 entry-of-requires : tie.Need-entry-of-requires Inv-loop μ-loop
-entry-of-requires c κs = (c .before .before .before .before .before .pre .0, (c .before .before .before .before .before .pre .1 .0, (omega arith, omega (arith, c .before .before .before .before .before .pre .1 .1 .0))))
+entry-of-requires c κs =
+    let asked = c .before .before .before .before .before .pre in
+    (asked .0, (asked .1 .0, (omega arith, omega (arith, asked .1 .1 .0))))
 
 mul-put-entry : tie.Need-mul-put-entry Inv-loop μ-loop
 mul-put-entry c = search needs
@@ -43,7 +45,12 @@ loop-less : tie.Need-loop-less Inv-loop μ-loop
 loop-less c = search needs
 
 loop-again : tie.Need-loop-again Inv-loop μ-loop
-loop-again c = entries-turn _ _ _ _ _ _ _ _ _ (c .before .before .before .before .before .before .loop .inv) (search needs) refl (c .before .before .before .before .before .before .before .before .before .before .pre .1 .1 .1) (c .before .before .put-entry .kept .0) (c .before .before .before .before .entry-of .ensures) (c .before .before .put-entry .ensures)
+loop-again c =
+    let asked = c .before .before .before .before .before .before .before .before .before .before .pre in
+    let loop = c .before .before .before .before .before .before .loop in
+    let entry-of = c .before .before .before .before .entry-of in
+    entries-turn _ _ _ _ _ _ _ _ _ (loop .inv) (search needs) refl (asked .1 .1 .1)
+    (c .before .before .put-entry .kept .0) (entry-of .ensures) (c .before .before .put-entry .ensures)
 
 same-length : tie.Need-same-length Inv-loop μ-loop
 same-length c = c .before .loop .inv .size

@@ -27,7 +27,11 @@ same-length : tie.Need-same-length
 same-length c = search needs
 
 returns : tie.Need-returns
-returns c = fixed-done _ _ _ _ _ _ (length-frame (labelFrame 0 homeLabel) refl) (c .before .before .before .before .before .before .before .before .before .before .before .pre) (c .before .before .before .before .before .before .before .put-frame .ensures) (c .before .before .put-frame2 .ensures)
+returns c =
+    let asked = c .before .before .before .before .before .before .before .before .before .before .before .pre in
+    let put-frame = c .before .before .before .before .before .before .before .put-frame in
+    fixed-done _ _ _ _ _ _ (length-frame (labelFrame 0 homeLabel) refl) asked (put-frame .ensures)
+    (c .before .before .put-frame2 .ensures)
 
 pub put-fixed-spec : {M : Type 1} → statement M
 put-fixed-spec =

@@ -43,13 +43,37 @@ same-length-2 : tie.Need-same-length-2
 same-length-2 c = search needs
 
 returns-2 : tie.Need-returns-2
-returns-2 c = c .before .before .put-frame .ensures ∙ ap (λ (bs : List ℕ). written (c .before .before .before .before .before .before .before .before .before .before .before .args .out .now) (c .before .before .before .before .before .before .before .before .before .before .before .args .at) (frameText bs)) (function-bytes (c .before .before .before .before .before .before .before .before .before .before .before .args .records .now) (c .before .before .before .before .before .before .before .before .before .before .before .args .v) _ (sym (c .before .before .before .before .before .before .before .field2 .ensures) ∙ c .before .before .before .before .before .before .match .keys2) _ _ (c .before .before .before .before .before .field3 .ensures) (c .before .before .before .before .before .before .before .before .field .ensures))
+returns-2 c =
+    let start = c .before .before .before .before .before .before .before .before .before .before .before in
+    let out = start .args .out .now in
+    let at = start .args .at in
+    let records = start .args .records .now in
+    let v = start .args .v in
+    let field = c .before .before .before .before .before .before .before .before .field in
+    let field2 = c .before .before .before .before .before .before .before .field2 in
+    let match = c .before .before .before .before .before .before .match in
+    let field3 = c .before .before .before .before .before .field3 in
+    c .before .before .put-frame .ensures
+    ∙ ap (λ (bs : List ℕ). written out at (frameText bs))
+    (function-bytes records v _ (sym (field2 .ensures) ∙ match .keys2) _ _ (field3 .ensures) (field .ensures))
 
 same-length-3 : tie.Need-same-length-3
 same-length-3 c = search needs
 
 returns-3 : tie.Need-returns-3
-returns-3 c = c .before .before .put-frame2 .ensures ∙ ap (λ (bs : List ℕ). written (c .before .before .before .before .before .before .before .before .before .before .args .out .now) (c .before .before .before .before .before .before .before .before .before .before .args .at) (frameText bs)) (other-bytes (c .before .before .before .before .before .before .before .before .before .before .args .records .now) (c .before .before .before .before .before .before .before .before .before .before .args .v) _ (λ e. c .before .before .before .before .before .match .rest .0 .1 (c .before .before .before .before .before .before .field2 .ensures ∙ e)) (λ e. c .before .before .before .before .before .match .rest .1 (c .before .before .before .before .before .before .field2 .ensures ∙ e)) _ (c .before .before .before .before .before .before .before .field .ensures))
+returns-3 c =
+    let start = c .before .before .before .before .before .before .before .before .before .before in
+    let out = start .args .out .now in
+    let at = start .args .at in
+    let records = start .args .records .now in
+    let v = start .args .v in
+    let field = c .before .before .before .before .before .before .before .field in
+    let field2 = c .before .before .before .before .before .before .field2 in
+    let match = c .before .before .before .before .before .match in
+    c .before .before .put-frame2 .ensures
+    ∙ ap (λ (bs : List ℕ). written out at (frameText bs))
+    (other-bytes records v _ (λ e. match .rest .0 .1 (field2 .ensures ∙ e)) (λ e. match .rest .1 (field2 .ensures ∙ e)) _
+    (field .ensures))
 
 pub put-label-spec : {M : Type 1} → statement M
 put-label-spec =

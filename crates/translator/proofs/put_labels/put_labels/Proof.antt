@@ -16,7 +16,11 @@ loop-holds : tie.Need-loop-holds Inv-loop μ-loop
 loop-holds c = appended-start _ _ _ _
 
 put-node-label-requires : tie.Need-put-node-label-requires Inv-loop μ-loop
-put-node-label-requires c κs = (c .before .before .before .before .before .before .pre .0, (c .before .before .before .before .before .before .pre .1 .0, (search needs, appended-room _ _ _ _ _ _ _ (c .before .before .loop .inv) (search needs) (c .before .before .before .before .before .before .pre .1 .1))))
+put-node-label-requires c κs =
+    let asked = c .before .before .before .before .before .before .pre in (
+      asked .0,
+      (asked .1 .0, (search needs, appended-room _ _ _ _ _ _ _ (c .before .before .loop .inv) (search needs) (asked .1 .1))),
+    )
 
 add-v : tie.Need-add-v Inv-loop μ-loop
 add-v c = search needs
@@ -25,7 +29,12 @@ loop-less : tie.Need-loop-less Inv-loop μ-loop
 loop-less c = search needs
 
 loop-again : tie.Need-loop-again Inv-loop μ-loop
-loop-again c = appended-on _ _ _ _ _ _ _ (c .before .before .before .before .before .loop .inv) (search needs) (c .before .before .before .before .before .before .before .before .before .pre .1 .1) _ _ (c .before .before .put-node-label .kept .1 .1 .1 .0) (c .before .before .put-node-label .ensures .0) (c .before .before .put-node-label .ensures .1)
+loop-again c =
+    let asked = c .before .before .before .before .before .before .before .before .before .pre in
+    let loop = c .before .before .before .before .before .loop in
+    appended-on _ _ _ _ _ _ _ (loop .inv) (search needs) (asked .1 .1) _ _
+    (c .before .before .put-node-label .kept .1 .1 .1 .0) (c .before .before .put-node-label .ensures .0)
+    (c .before .before .put-node-label .ensures .1)
 
 same-length : tie.Need-same-length Inv-loop μ-loop
 same-length c = c .before .loop .inv .size

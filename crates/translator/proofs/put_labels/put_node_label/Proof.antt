@@ -8,10 +8,16 @@ shared-slice-read-label : tie.Need-shared-slice-read-label
 shared-slice-read-label c = search needs
 
 returns : tie.Need-returns
-returns c = nothing-put _ _ _ (label-none _ _ (c .before .before .before .before .before .pre .1 .0) _ (c .before .before .before .before .before .pre .1 .1 .0) (c .if1 .taken))
+returns c =
+    let asked = c .before .before .before .before .before .pre in
+    nothing-put _ _ _ (label-none _ _ (asked .1 .0) _ (asked .1 .1 .0) (c .if1 .taken))
 
 put-label-requires : tie.Need-put-label-requires
-put-label-requires c κs = (c .before .before .before .before .before .before .pre .0, (c .before .before .before .before .before .before .pre .1 .1 .0, label-room _ _ (c .before .before .before .before .before .before .pre .1 .0) _ (c .before .before .before .before .before .before .pre .1 .1 .0) (c .before .if1 .left) _ _ (c .before .before .before .before .before .before .pre .1 .1 .1)))
+put-label-requires c κs =
+    let asked = c .before .before .before .before .before .before .pre in (
+      asked .0,
+      (asked .1 .1 .0, label-room _ _ (asked .1 .0) _ (asked .1 .1 .0) (c .before .if1 .left) _ _ (asked .1 .1 .1)),
+    )
 
 add-result : tie.Need-add-result
 add-result c = search needs
@@ -20,7 +26,10 @@ same-length : tie.Need-same-length
 same-length c = search needs
 
 returns-2 : tie.Need-returns-2
-returns-2 c = label-done _ _ (c .before .before .before .before .before .before .before .before .before .pre .1 .0) _ (c .before .before .before .before .before .before .before .before .before .pre .1 .1 .0) (c .before .before .before .before .if1 .left) _ _ _ (c .before .before .put-label .ensures)
+returns-2 c =
+    let asked = c .before .before .before .before .before .before .before .before .before .pre in
+    let if1 = c .before .before .before .before .if1 in
+    label-done _ _ (asked .1 .0) _ (asked .1 .1 .0) (if1 .left) _ _ _ (c .before .before .put-label .ensures)
 
 pub put-node-label-spec : {M : Type 1} → statement M
 put-node-label-spec =

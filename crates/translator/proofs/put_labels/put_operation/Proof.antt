@@ -43,7 +43,26 @@ same-length : tie.Need-same-length
 same-length c = search needs
 
 returns : tie.Need-returns
-returns c = c .before .before .put-frame .ensures ∙ ap (λ (bs : List ℕ). written (c .before .before .before .before .before .before .before .before .before .before .before .before .before .before .before .args .out .now) (c .before .before .before .before .before .before .before .before .before .before .before .before .before .before .before .args .at) (frameText bs)) (operation-bytes (c .before .before .before .before .before .before .before .before .before .before .before .before .before .before .before .args .records .now) (c .before .before .before .before .before .before .before .before .before .before .before .before .before .before .before .args .v) _ (c .before .before .before .before .before .before .before .before .before .before .before .before .before .before .before .pre .0) (c .before .before .before .before .before .before .before .before .before .before .before .before .before .before .before .pre .1 .1 .0) _ _ _ _ _ _ _ _ (c .before .before .before .before .before .before .before .before .before .before .before .call-kind .ensures) (c .before .before .before .before .before .before .before .before .before .before .before .before .field .ensures) (c .before .before .before .before .before .before .before .before .before .before .field2 .ensures) (c .before .before .before .before .before .before .before .before .before .field3 .ensures) (c .before .before .before .before .before .before .before .before .field4 .ensures) (c .before .before .before .before .before .before .before .field5 .ensures) (c .before .before .before .before .before .before .field6 .ensures) (c .before .before .before .before .before .field7 .ensures))
+returns c =
+    let call = c .before .before .before .before .before in
+    let start = call .before .before .before .before .before .before .before .before .before .before in
+    let out = start .args .out .now in
+    let at = start .args .at in
+    let records = start .args .records .now in
+    let v = start .args .v in
+    let field = call .before .before .before .before .before .before .before .field in
+    let call-kind = call .before .before .before .before .before .before .call-kind in
+    let field2 = call .before .before .before .before .before .field2 in
+    let field3 = call .before .before .before .before .field3 in
+    let field4 = call .before .before .before .field4 in
+    let field5 = call .before .before .field5 in
+    let field6 = call .before .field6 in
+    let field7 = call .field7 in
+    c .before .before .put-frame .ensures
+    ∙ ap (λ (bs : List ℕ). written out at (frameText bs))
+    (operation-bytes records v _ (start .pre .0) (start .pre .1 .1 .0) _ _ _ _ _ _ _ _ (call-kind .ensures)
+    (field .ensures) (field2 .ensures) (field3 .ensures) (field4 .ensures) (field5 .ensures) (field6 .ensures)
+    (field7 .ensures))
 
 pub put-operation-spec : {M : Type 1} → statement M
 put-operation-spec =

@@ -43,7 +43,9 @@ put-paths-settle-requires : (t : ℕ) → put-paths-lts.Need-settle-requires (
   put-paths-below t,
   put-paths.Post,
 ) (put-paths-at t) put-paths.Post
-put-paths-settle-requires t c κs = (c .before .before .before .pre .1 .0, (c .before .before .before .pre .1 .1 .0, c .before .before .before .pre .1 .1 .1 .0))
+put-paths-settle-requires t c κs =
+    let asked = c .before .before .before .pre in
+    (asked .1 .0, (asked .1 .1 .0, asked .1 .1 .1 .0))
 
 put-paths-cast-v : (t : ℕ) → put-paths-lts.Need-cast-v (
   settle-reads.Asked,
@@ -75,7 +77,9 @@ put-paths-ends-path-requires : (t : ℕ) → put-paths-lts.Need-ends-path-requir
   put-paths-below t,
   put-paths.Post,
 ) (put-paths-at t) put-paths.Post
-put-paths-ends-path-requires t c κs = (c .before .before .before .before .pre .1 .0, (c .before .before .before .before .pre .1 .1 .0, c .settle .ensures .passed .entered))
+put-paths-ends-path-requires t c κs =
+    let asked = c .before .before .before .before .pre in
+    (asked .1 .0, (asked .1 .1 .0, c .settle .ensures .passed .entered))
 
 put-paths-shared-slice-read-put-row : (t : ℕ) → put-paths-lts.Need-shared-slice-read-put-row (
   settle-reads.Asked,
@@ -91,7 +95,10 @@ put-paths-shared-slice-read-put-row : (t : ℕ) → put-paths-lts.Need-shared-sl
   put-paths-below t,
   put-paths.Post,
 ) (put-paths-at t) put-paths.Post
-put-paths-shared-slice-read-put-row t c = omega (arith, c .before .before .before .before .settle .ensures .passed .entered .inside, c .before .before .before .before .before .before .before .before .pre .1 .1 .0 .long)
+put-paths-shared-slice-read-put-row t c =
+    let asked = c .before .before .before .before .before .before .before .before .pre in
+    let settle = c .before .before .before .before .settle in
+    omega (arith, settle .ensures .passed .entered .inside, asked .1 .1 .0 .long)
 
 put-paths-put-row-requires : (t : ℕ) → put-paths-lts.Need-put-row-requires (
   settle-reads.Asked,
@@ -107,7 +114,11 @@ put-paths-put-row-requires : (t : ℕ) → put-paths-lts.Need-put-row-requires (
   put-paths-below t,
   put-paths.Post,
 ) (put-paths-at t) put-paths.Post
-put-paths-put-row-requires t c κs = leaf-room _ (c .before .before .before .before .before .before .before .before .pre .1 .0) _ (c .before .before .before .before .before .before .before .before .pre .1 .1 .0) _ _ _ _ (c .before .before .before .before .settle .ensures) (sym (c .before .before .before .ends-path .ensures) ∙ c .before .before .if1 .taken) _ _ _ _ (c .before .before .before .before .before .before .before .before .pre .1 .1 .1 .1 .1)
+put-paths-put-row-requires t c κs =
+    let asked = c .before .before .before .before .before .before .before .before .pre in
+    let settle = c .before .before .before .before .settle in
+    leaf-room _ (asked .1 .0) _ (asked .1 .1 .0) _ _ _ _ (settle .ensures)
+    (sym (c .before .before .before .ends-path .ensures) ∙ c .before .before .if1 .taken) _ _ _ _ (asked .1 .1 .1 .1 .1)
 
 put-paths-add-result : (t : ℕ) → put-paths-lts.Need-add-result (
   settle-reads.Asked,
@@ -123,7 +134,14 @@ put-paths-add-result : (t : ℕ) → put-paths-lts.Need-add-result (
   put-paths-below t,
   put-paths.Post,
 ) (put-paths-at t) put-paths.Post
-put-paths-add-result t c = omega (arith, leaf-room _ (c .before .before .before .before .before .before .before .before .before .before .before .pre .1 .0) _ (c .before .before .before .before .before .before .before .before .before .before .before .pre .1 .1 .0) _ _ _ _ (c .before .before .before .before .before .before .before .settle .ensures) (sym (c .before .before .before .before .before .before .ends-path .ensures) ∙ c .before .before .before .before .before .if1 .taken) _ _ _ _ (c .before .before .before .before .before .before .before .before .before .before .before .pre .1 .1 .1 .1 .1))
+put-paths-add-result t c = omega (
+  arith,
+  (let asked = c .before .before .before .before .before .before .before .before .before .before .before .pre in
+      let settle = c .before .before .before .before .before .before .before .settle in
+      let ends-path = c .before .before .before .before .before .before .ends-path in
+      leaf-room _ (asked .1 .0) _ (asked .1 .1 .0) _ _ _ _ (settle .ensures)
+      (sym (ends-path .ensures) ∙ c .before .before .before .before .before .if1 .taken) _ _ _ _ (asked .1 .1 .1 .1 .1)),
+)
 
 put-paths-same-length : (t : ℕ) → put-paths-lts.Need-same-length (
   settle-reads.Asked,
@@ -155,7 +173,13 @@ put-paths-returns : (t : ℕ) → put-paths-lts.Need-returns (
   put-paths-below t,
   put-paths.Post,
 ) (put-paths-at t) put-paths.Post
-put-paths-returns t c = leaf-done _ (c .before .before .before .before .before .before .before .before .before .before .before .pre .1 .0) _ (c .before .before .before .before .before .before .before .before .before .before .before .pre .1 .1 .0) _ _ _ _ (c .before .before .before .before .before .before .before .settle .ensures) (sym (c .before .before .before .before .before .before .ends-path .ensures) ∙ c .before .before .before .before .before .if1 .taken) _ _ _ _ _ (c .before .before .put-row .ensures)
+put-paths-returns t c =
+    let asked = c .before .before .before .before .before .before .before .before .before .before .before .pre in
+    let settle = c .before .before .before .before .before .before .before .settle in
+    let ends-path = c .before .before .before .before .before .before .ends-path in
+    let if1 = c .before .before .before .before .before .if1 in
+    leaf-done _ (asked .1 .0) _ (asked .1 .1 .0) _ _ _ _ (settle .ensures) (sym (ends-path .ensures) ∙ if1 .taken) _ _ _ _
+    _ (c .before .before .put-row .ensures)
 
 put-paths-field-requires : (t : ℕ) → put-paths-lts.Need-field-requires (
   settle-reads.Asked,
@@ -187,7 +211,10 @@ put-paths-with-bit-requires : (t : ℕ) → put-paths-lts.Need-with-bit-requires
   put-paths-below t,
   put-paths.Post,
 ) (put-paths-at t) put-paths.Post
-put-paths-with-bit-requires t c κs = fork-number _ (c .before .before .before .before .before .before .before .pre .1 .0) _ _ _ _ (c .before .before .before .settle .ensures) (sym (c .before .before .ends-path .ensures) ∙ c .before .if1 .left) (c .before .before .before .before .before .before .before .pre .1 .1 .1 .1 .0) _ (c .field .ensures)
+put-paths-with-bit-requires t c κs =
+    let asked = c .before .before .before .before .before .before .before .pre in
+    fork-number _ (asked .1 .0) _ _ _ _ (c .before .before .before .settle .ensures)
+    (sym (c .before .before .ends-path .ensures) ∙ c .before .if1 .left) (asked .1 .1 .1 .1 .0) _ (c .field .ensures)
 
 put-paths-with-bit-requires-2 : (t : ℕ) → put-paths-lts.Need-with-bit-requires-2 (
   settle-reads.Asked,
@@ -203,7 +230,12 @@ put-paths-with-bit-requires-2 : (t : ℕ) → put-paths-lts.Need-with-bit-requir
   put-paths-below t,
   put-paths.Post,
 ) (put-paths-at t) put-paths.Post
-put-paths-with-bit-requires-2 t c κs = fork-number _ (c .before .before .before .before .before .before .before .before .pre .1 .0) _ _ _ _ (c .before .before .before .before .settle .ensures) (sym (c .before .before .before .ends-path .ensures) ∙ c .before .before .if1 .left) (c .before .before .before .before .before .before .before .before .pre .1 .1 .1 .1 .0) _ (c .before .field .ensures)
+put-paths-with-bit-requires-2 t c κs =
+    let asked = c .before .before .before .before .before .before .before .before .pre in
+    let settle = c .before .before .before .before .settle in
+    fork-number _ (asked .1 .0) _ _ _ _ (settle .ensures)
+    (sym (c .before .before .before .ends-path .ensures) ∙ c .before .before .if1 .left) (asked .1 .1 .1 .1 .0) _
+    (c .before .field .ensures)
 
 put-paths-field-requires-2 : (t : ℕ) → put-paths-lts.Need-field-requires-2 (
   settle-reads.Asked,
@@ -251,7 +283,35 @@ put-paths-put-paths-requires : (t : ℕ) → put-paths-lts.Need-put-paths-requir
   put-paths-below t,
   put-paths.Post,
 ) (put-paths-at t) put-paths.Post
-put-paths-put-paths-requires t c κs = let k = fork _ (c .before .before .before .before .before .before .before .before .before .before .before .before .pre .1 .0) _ _ _ _ (c .before .before .before .before .before .before .before .before .settle .ensures) (sym (c .before .before .before .before .before .before .before .ends-path .ensures) ∙ c .before .before .before .before .before .before .if1 .left) (c .before .before .before .before .before .before .before .before .before .before .before .before .pre .1 .1 .1 .1 .0) _ _ _ (c .before .before .before .before .before .field .ensures) (c .before .before .before .before .with-bit .ensures) (c .before .before .before .with-bit2 .ensures) _ _ (c .before .before .field2 .ensures) (c .before .field3 .ensures) in (omega (arith, k .falls0, c .before .before .before .before .before .before .before .before .before .before .before .before .pre .0), (c .before .before .before .before .before .before .before .before .before .before .before .before .pre .1 .0, (c .before .before .before .before .before .before .before .before .before .before .before .before .pre .1 .1 .0, (k .entered0, (k .within0, fork-first _ _ _ _ _ _ _ _ (fork _ (c .before .before .before .before .before .before .before .before .before .before .before .before .pre .1 .0) _ _ _ _ (c .before .before .before .before .before .before .before .before .settle .ensures) (sym (c .before .before .before .before .before .before .before .ends-path .ensures) ∙ c .before .before .before .before .before .before .if1 .left) (c .before .before .before .before .before .before .before .before .before .before .before .before .pre .1 .1 .1 .1 .0) _ _ _ (c .before .before .before .before .before .field .ensures) (c .before .before .before .before .with-bit .ensures) (c .before .before .before .with-bit2 .ensures) _ _ (c .before .before .field2 .ensures) (c .before .field3 .ensures)) (c .before .before .before .before .before .before .before .before .before .before .before .before .args .from) (c .before .before .before .before .before .before .before .before .before .before .before .before .args .bit) _ _ (c .before .before .before .before .before .before .before .before .before .before .before .before .pre .1 .1 .1 .1 .1))))))
+put-paths-put-paths-requires t c κs =
+    let start = c .before .before .before .before .before .before .before .before .before .before .before .before in
+    let from = start .args .from in
+    let bit = start .args .bit in
+    let settle = c .before .before .before .before .before .before .before .before .settle in
+    let ends-path = c .before .before .before .before .before .before .before .ends-path in
+    let if1 = c .before .before .before .before .before .before .if1 in
+    let field = c .before .before .before .before .before .field in
+    let with-bit = c .before .before .before .before .with-bit in
+    let with-bit2 = c .before .before .before .with-bit2 in
+    let k =
+    fork _ (start .pre .1 .0) _ _ _ _ (settle .ensures) (sym (ends-path .ensures) ∙ if1 .left) (start .pre .1 .1 .1 .1 .0)
+    _ _ _ (field .ensures) (with-bit .ensures) (with-bit2 .ensures) _ _ (c .before .before .field2 .ensures)
+    (c .before .field3 .ensures) in (
+      omega (arith, k .falls0, start .pre .0),
+      (
+        start .pre .1 .0,
+        (
+          start .pre .1 .1 .0,
+          (
+            k .entered0,
+            (
+              k .within0,
+              fork-first _ _ _ _ _ _ _ _ k from bit _ _ (start .pre .1 .1 .1 .1 .1),
+            ),
+          ),
+        ),
+      ),
+    )
 
 put-paths-put-paths-requires-2 : (t : ℕ) → put-paths-lts.Need-put-paths-requires-2 (
   settle-reads.Asked,
@@ -267,7 +327,39 @@ put-paths-put-paths-requires-2 : (t : ℕ) → put-paths-lts.Need-put-paths-requ
   put-paths-below t,
   put-paths.Post,
 ) (put-paths-at t) put-paths.Post
-put-paths-put-paths-requires-2 t c κs = let k = fork _ (c .before .before .before .before .before .before .before .before .before .before .before .before .before .before .before .before .pre .1 .0) _ _ _ _ (c .before .before .before .before .before .before .before .before .before .before .before .before .settle .ensures) (sym (c .before .before .before .before .before .before .before .before .before .before .before .ends-path .ensures) ∙ c .before .before .before .before .before .before .before .before .before .before .if1 .left) (c .before .before .before .before .before .before .before .before .before .before .before .before .before .before .before .before .pre .1 .1 .1 .1 .0) _ _ _ (c .before .before .before .before .before .before .before .before .before .field .ensures) (c .before .before .before .before .before .before .before .before .with-bit .ensures) (c .before .before .before .before .before .before .before .with-bit2 .ensures) _ _ (c .before .before .before .before .before .before .field2 .ensures) (c .before .before .before .before .before .field3 .ensures) in (omega (arith, k .falls1, c .before .before .before .before .before .before .before .before .before .before .before .before .before .before .before .before .pre .0), (c .before .before .before .before .before .before .before .before .before .before .before .before .before .before .before .before .pre .1 .0, (c .before .before .before .before .before .before .before .before .before .before .before .before .before .before .before .before .pre .1 .1 .0, (k .entered1, (k .within1, fork-second _ _ _ _ _ _ _ _ (fork _ (c .before .before .before .before .before .before .before .before .before .before .before .before .before .before .before .before .pre .1 .0) _ _ _ _ (c .before .before .before .before .before .before .before .before .before .before .before .before .settle .ensures) (sym (c .before .before .before .before .before .before .before .before .before .before .before .ends-path .ensures) ∙ c .before .before .before .before .before .before .before .before .before .before .if1 .left) (c .before .before .before .before .before .before .before .before .before .before .before .before .before .before .before .before .pre .1 .1 .1 .1 .0) _ _ _ (c .before .before .before .before .before .before .before .before .before .field .ensures) (c .before .before .before .before .before .before .before .before .with-bit .ensures) (c .before .before .before .before .before .before .before .with-bit2 .ensures) _ _ (c .before .before .before .before .before .before .field2 .ensures) (c .before .before .before .before .before .field3 .ensures)) (c .before .before .before .before .before .before .before .before .before .before .before .before .before .before .before .before .args .from) (c .before .before .before .before .before .before .before .before .before .before .before .before .before .before .before .before .args .bit) _ _ _ _ (c .before .before .before .before .before .before .before .before .before .before .before .before .before .before .before .before .pre .1 .1 .1 .1 .1) (c .before .before .before .put-paths .ensures .0) (c .before .before .before .put-paths .kept .1 .1 .1 .1 .1 .1 .1 .0))))))
+put-paths-put-paths-requires-2 t c κs =
+    let call = c .before .before .before .before .before in
+    let start = call .before .before .before .before .before .before .before .before .before .before .before in
+    let from = start .args .from in
+    let bit = start .args .bit in
+    let settle = call .before .before .before .before .before .before .before .settle in
+    let ends-path = call .before .before .before .before .before .before .ends-path in
+    let if1 = call .before .before .before .before .before .if1 in
+    let field = call .before .before .before .before .field in
+    let with-bit = call .before .before .before .with-bit in
+    let with-bit2 = call .before .before .with-bit2 in
+    let field2 = call .before .field2 in
+    let field3 = call .field3 in
+    let put-paths = c .before .before .before .put-paths in
+    let k =
+    fork _ (start .pre .1 .0) _ _ _ _ (settle .ensures) (sym (ends-path .ensures) ∙ if1 .left) (start .pre .1 .1 .1 .1 .0)
+    _ _ _ (field .ensures) (with-bit .ensures) (with-bit2 .ensures) _ _ (field2 .ensures) (field3 .ensures) in (
+      omega (arith, k .falls1, start .pre .0),
+      (
+        start .pre .1 .0,
+        (
+          start .pre .1 .1 .0,
+          (
+            k .entered1,
+            (
+              k .within1,
+              fork-second _ _ _ _ _ _ _ _ k from bit _ _ _ _ (start .pre .1 .1 .1 .1 .1) (put-paths .ensures .0)
+                  (put-paths .kept .1 .1 .1 .1 .1 .1 .1 .0),
+            ),
+          ),
+        ),
+      ),
+    )
 
 put-paths-same-length-2 : (t : ℕ) → put-paths-lts.Need-same-length-2 (
   settle-reads.Asked,
@@ -283,7 +375,9 @@ put-paths-same-length-2 : (t : ℕ) → put-paths-lts.Need-same-length-2 (
   put-paths-below t,
   put-paths.Post,
 ) (put-paths-at t) put-paths.Post
-put-paths-same-length-2 t c = c .before .before .put-paths2 .kept .1 .1 .1 .1 .1 .1 .1 .0 ∙ c .before .before .before .before .before .before .put-paths .kept .1 .1 .1 .1 .1 .1 .1 .0
+put-paths-same-length-2 t c =
+    let put-paths = c .before .before .before .before .before .before .put-paths in
+    c .before .before .put-paths2 .kept .1 .1 .1 .1 .1 .1 .1 .0 ∙ put-paths .kept .1 .1 .1 .1 .1 .1 .1 .0
 
 put-paths-returns-2 : (t : ℕ) → put-paths-lts.Need-returns-2 (
   settle-reads.Asked,
@@ -299,7 +393,29 @@ put-paths-returns-2 : (t : ℕ) → put-paths-lts.Need-returns-2 (
   put-paths-below t,
   put-paths.Post,
 ) (put-paths-at t) put-paths.Post
-put-paths-returns-2 t c = both-done _ _ _ _ _ _ _ _ _ (fork-text _ _ _ _ _ _ _ _ (fork _ (c .before .before .before .before .before .before .before .before .before .before .before .before .before .before .before .before .before .before .before .pre .1 .0) _ _ _ _ (c .before .before .before .before .before .before .before .before .before .before .before .before .before .before .before .settle .ensures) (sym (c .before .before .before .before .before .before .before .before .before .before .before .before .before .before .ends-path .ensures) ∙ c .before .before .before .before .before .before .before .before .before .before .before .before .before .if1 .left) (c .before .before .before .before .before .before .before .before .before .before .before .before .before .before .before .before .before .before .before .pre .1 .1 .1 .1 .0) _ _ _ (c .before .before .before .before .before .before .before .before .before .before .before .before .field .ensures) (c .before .before .before .before .before .before .before .before .before .before .before .with-bit .ensures) (c .before .before .before .before .before .before .before .before .before .before .with-bit2 .ensures) _ _ (c .before .before .before .before .before .before .before .before .before .field2 .ensures) (c .before .before .before .before .before .before .before .before .field3 .ensures)) (c .before .before .before .before .before .before .before .before .before .before .before .before .before .before .before .before .before .before .before .args .from) (c .before .before .before .before .before .before .before .before .before .before .before .before .before .before .before .before .before .before .before .args .bit)) (c .before .before .before .before .before .before .before .before .before .before .before .before .before .before .before .before .before .before .before .pre .1 .1 .1 .1 .1) (c .before .before .before .before .before .before .put-paths .ensures .0) (c .before .before .before .before .before .before .put-paths .ensures .1) (c .before .before .put-paths2 .ensures .0) (c .before .before .put-paths2 .ensures .1)
+put-paths-returns-2 t c =
+    both-done _ _ _ _ _ _ _ _ _
+    (let call = c .before .before .before .before .before .before in
+    let start = call .before .before .before .before .before .before .before .before .before .before .before .before .before in
+    let from = start .args .from in
+    let bit = start .args .bit in
+    let settle = call .before .before .before .before .before .before .before .before .before .settle in
+    let ends-path = call .before .before .before .before .before .before .before .before .ends-path in
+    let if1 = call .before .before .before .before .before .before .before .if1 in
+    let field = call .before .before .before .before .before .before .field in
+    let with-bit = call .before .before .before .before .before .with-bit in
+    let with-bit2 = call .before .before .before .before .with-bit2 in
+    let field2 = call .before .before .before .field2 in
+    let field3 = call .before .before .field3 in
+    fork-text _ _ _ _ _ _ _ _
+    (fork _ (start .pre .1 .0) _ _ _ _ (settle .ensures) (sym (ends-path .ensures) ∙ if1 .left) (start .pre .1 .1 .1 .1 .0)
+    _ _ _ (field .ensures) (with-bit .ensures) (with-bit2 .ensures) _ _ (field2 .ensures) (field3 .ensures))
+    from bit)
+    (let call = c .before .before .before .before .before .before in
+    call .before .before .before .before .before .before .before .before .before .before .before .before .before .pre .1 .1 .1 .1 .1)
+    (c .before .before .before .before .before .before .put-paths .ensures .0)
+    (c .before .before .before .before .before .before .put-paths .ensures .1)
+    (c .before .before .put-paths2 .ensures .0) (c .before .before .put-paths2 .ensures .1)
 
 pub +put-paths-spec : {M : Type 1} → statement M
 +put-paths-spec = close μ-put-paths λ t. put-paths-lts.spec (

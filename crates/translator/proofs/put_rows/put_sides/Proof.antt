@@ -16,16 +16,73 @@ field-requires-2 : tie.Need-field-requires-2
 field-requires-2 c κs = search needs
 
 put-paths-requires : tie.Need-put-paths-requires
-put-paths-requires c κs = (c .before .before .before .before .before .before .before .pre .0, (c .before .before .before .before .before .before .before .pre .1 .0, (side-entered0 _ (c .before .before .before .before .before .before .before .pre .0) _ _ 0 (c .before .before .before .before .before .before .before .pre .1 .1 .0) (c .before .before .before .before .before .before .before .pre .1 .1 .1 .0) (c .before .before .field .ensures), (refl, sides-first (c .before .before .before .before .before .before .before .args .records .now) (c .before .before .before .before .before .before .before .args .v) (c .before .before .before .before .before .before .before .args .first) (c .before .before .before .before .before .before .before .args .second) (c .before .before .before .before .before .before .before .args .care) (c .before .before .before .before .before .before .before .args .values) _ _ _ (c .before .before .before .before .before .before .before .pre .1 .0 .at (c .before .before .before .before .before .before .before .args .v) (c .before .before .before .before .before .before .before .pre .1 .1 .0)) (c .before .before .field .ensures) (c .before .field2 .ensures) _ _ (c .before .before .before .before .before .before .before .pre .1 .1 .1 .1 .1)))))
+put-paths-requires c κs =
+    let start = c .before .before .before .before .before .before .before in
+    let records = start .args .records .now in
+    let v = start .args .v in
+    let first = start .args .first in
+    let second = start .args .second in
+    let care = start .args .care in
+    let values = start .args .values in (
+      start .pre .0,
+      (
+        start .pre .1 .0,
+        (
+          side-entered0 _ (start .pre .0) _ _ 0 (start .pre .1 .1 .0) (start .pre .1 .1 .1 .0)
+              (c .before .before .field .ensures),
+          (
+            refl,
+            sides-first records v first second care values _ _ _ (start .pre .1 .0 .at v (start .pre .1 .1 .0))
+                (c .before .before .field .ensures) (c .before .field2 .ensures) _ _ (start .pre .1 .1 .1 .1 .1),
+          ),
+        ),
+      ),
+    )
 
 put-paths-requires-2 : tie.Need-put-paths-requires-2
-put-paths-requires-2 c κs = (c .before .before .before .before .before .before .before .before .before .before .before .pre .0, (c .before .before .before .before .before .before .before .before .before .before .before .pre .1 .0, (side-entered1 _ (c .before .before .before .before .before .before .before .before .before .before .before .pre .0) _ 0 _ (c .before .before .before .before .before .before .before .before .before .before .before .pre .1 .1 .0) (c .before .before .before .before .before .before .before .before .before .before .before .pre .1 .1 .1 .0) (c .before .before .before .before .before .field2 .ensures), (c .before .before .before .before .before .before .before .before .before .before .before .pre .1 .1 .1 .1 .0, sides-second (c .before .before .before .before .before .before .before .before .before .before .before .args .records .now) (c .before .before .before .before .before .before .before .before .before .before .before .args .v) (c .before .before .before .before .before .before .before .before .before .before .before .args .first) (c .before .before .before .before .before .before .before .before .before .before .before .args .second) (c .before .before .before .before .before .before .before .before .before .before .before .args .care) (c .before .before .before .before .before .before .before .before .before .before .before .args .values) _ _ _ (c .before .before .before .before .before .before .before .before .before .before .before .pre .1 .0 .at (c .before .before .before .before .before .before .before .before .before .before .before .args .v) (c .before .before .before .before .before .before .before .before .before .before .before .pre .1 .1 .0)) (c .before .before .before .before .before .before .field .ensures) (c .before .before .before .before .before .field2 .ensures) _ _ _ _ (c .before .before .before .before .before .before .before .before .before .before .before .pre .1 .1 .1 .1 .1) (c .before .before .before .put-paths .ensures .0) (c .before .before .before .put-paths .kept .1 .1 .1 .1 .1 .1 .1 .0)))))
+put-paths-requires-2 c κs =
+    let start = c .before .before .before .before .before .before .before .before .before .before .before in
+    let records = start .args .records .now in
+    let v = start .args .v in
+    let first = start .args .first in
+    let second = start .args .second in
+    let care = start .args .care in
+    let values = start .args .values in
+    let field = c .before .before .before .before .before .before .field in
+    let field2 = c .before .before .before .before .before .field2 in
+    let put-paths = c .before .before .before .put-paths in (
+      start .pre .0,
+      (
+        start .pre .1 .0,
+        (
+          side-entered1 _ (start .pre .0) _ 0 _ (start .pre .1 .1 .0) (start .pre .1 .1 .1 .0) (field2 .ensures),
+          (
+            start .pre .1 .1 .1 .1 .0,
+            sides-second records v first second care values _ _ _ (start .pre .1 .0 .at v (start .pre .1 .1 .0)) (field .ensures)
+                (field2 .ensures) _ _ _ _ (start .pre .1 .1 .1 .1 .1) (put-paths .ensures .0)
+                (put-paths .kept .1 .1 .1 .1 .1 .1 .1 .0),
+          ),
+        ),
+      ),
+    )
 
 same-length : tie.Need-same-length
 same-length c = search needs
 
 returns : tie.Need-returns
-returns c = both-done _ _ _ _ _ _ _ _ _ (sides-text (c .before .before .before .before .before .before .before .before .before .before .before .before .before .before .args .records .now) (c .before .before .before .before .before .before .before .before .before .before .before .before .before .before .args .v) (c .before .before .before .before .before .before .before .before .before .before .before .before .before .before .args .first) (c .before .before .before .before .before .before .before .before .before .before .before .before .before .before .args .second) (c .before .before .before .before .before .before .before .before .before .before .before .before .before .before .args .care) (c .before .before .before .before .before .before .before .before .before .before .before .before .before .before .args .values) _ _ _ (c .before .before .before .before .before .before .before .before .before .before .before .before .before .before .pre .1 .0 .at (c .before .before .before .before .before .before .before .before .before .before .before .before .before .before .args .v) (c .before .before .before .before .before .before .before .before .before .before .before .before .before .before .pre .1 .1 .0)) (c .before .before .before .before .before .before .before .before .before .field .ensures) (c .before .before .before .before .before .before .before .before .field2 .ensures)) (c .before .before .before .before .before .before .before .before .before .before .before .before .before .before .pre .1 .1 .1 .1 .1) (c .before .before .before .before .before .before .put-paths .ensures .0) (c .before .before .before .before .before .before .put-paths .ensures .1) (c .before .before .put-paths2 .ensures .0) (c .before .before .put-paths2 .ensures .1)
+returns c =
+    both-done _ _ _ _ _ _ _ _ _
+    (let start = c .before .before .before .before .before .before .before .before .before .before .before .before .before .before in
+    let records = start .args .records .now in
+    let v = start .args .v in
+    let field = c .before .before .before .before .before .before .before .before .before .field in
+    let field2 = c .before .before .before .before .before .before .before .before .field2 in
+    sides-text records v (start .args .first) (start .args .second) (start .args .care) (start .args .values) _ _ _
+    (start .pre .1 .0 .at v (start .pre .1 .1 .0)) (field .ensures) (field2 .ensures))
+    (c .before .before .before .before .before .before .before .before .before .before .before .before .before .before .pre .1 .1 .1 .1 .1)
+    (c .before .before .before .before .before .before .put-paths .ensures .0)
+    (c .before .before .before .before .before .before .put-paths .ensures .1)
+    (c .before .before .put-paths2 .ensures .0) (c .before .before .put-paths2 .ensures .1)
 
 pub put-sides-spec : {M : Type 1} → statement M
 put-sides-spec =

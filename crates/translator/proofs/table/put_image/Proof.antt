@@ -10,13 +10,22 @@ add-put-header : tie.Need-add-put-header
 add-put-header c = search needs
 
 cast-put-header : tie.Need-cast-put-header
-cast-put-header c = omega (arith, few-numbered _ (c .before .before .before .before .pre .0 .facts), c .before .before .before .before .pre .0 .facts .few, c .before .before .before .before .pre .1 .1 .1 .0)
+cast-put-header c =
+    let asked = c .before .before .before .before .pre in
+    omega (arith, few-numbered _ (asked .0 .facts), asked .0 .facts .few, asked .1 .1 .1 .0)
 
 put-header-requires : tie.Need-put-header-requires
 put-header-requires c κs = search needs
 
 put-entries-requires : tie.Need-put-entries-requires
-put-entries-requires c κs = (c .before .before .before .before .before .before .before .before .pre .0, (c .before .before .before .before .before .before .before .before .pre .1 .0, (c .before .before .before .before .before .before .before .before .pre .1 .1 .0, omega (arith, c .before .before .before .before .before .before .before .before .pre .1 .1 .1 .1 .1 .1, c .before .before .before .put-header .kept .0))))
+put-entries-requires c κs =
+    let asked = c .before .before .before .before .before .before .before .before .pre in (
+      asked .0,
+      (
+        asked .1 .0,
+        (asked .1 .1 .0, omega (arith, asked .1 .1 .1 .1 .1 .1, c .before .before .before .put-header .kept .0)),
+      ),
+    )
 
 mul-fixed : tie.Need-mul-fixed
 mul-fixed c = search needs
@@ -31,7 +40,26 @@ add-first : tie.Need-add-first
 add-first c = search needs
 
 put-labels-requires : tie.Need-put-labels-requires
-put-labels-requires c κs = (c .before .before .before .before .before .before .before .before .before .before .before .before .before .before .before .before .pre .0, (c .before .before .before .before .before .before .before .before .before .before .before .before .before .before .before .before .pre .1 .0, omega (arith, labels-long (c .before .before .before .before .before .before .before .before .before .before .before .before .before .before .before .before .args .records .now), c .before .before .before .before .before .before .before .before .before .before .before .before .before .before .before .before .pre .1 .1 .1 .0, c .before .before .before .before .before .before .before .before .before .before .before .before .before .before .before .before .pre .1 .1 .1 .1 .1 .1, c .before .before .before .before .before .before .before .before .before .before .before .put-header .kept .0, c .before .before .before .before .before .before .before .put-entries .kept .1 .1 .1 .0, c .before .before .before .put-fixed .kept .0)))
+put-labels-requires c κs =
+    let call = c .before .before .before .before .before .before .before in
+    let start = call .before .before .before .before .before .before .before .before .before in
+    let records = start .args .records .now in
+    let put-header = call .before .before .before .before .put-header in
+    let put-entries = call .put-entries in (
+      start .pre .0,
+      (
+        start .pre .1 .0,
+        omega (
+          arith,
+          labels-long records,
+          start .pre .1 .1 .1 .0,
+          start .pre .1 .1 .1 .1 .1 .1,
+          put-header .kept .0,
+          put-entries .kept .1 .1 .1 .0,
+          c .before .before .before .put-fixed .kept .0,
+        ),
+      ),
+    )
 
 mul-put-rows : tie.Need-mul-put-rows
 mul-put-rows c = search needs
@@ -40,13 +68,44 @@ add-put-rows : tie.Need-add-put-rows
 add-put-rows c = search needs
 
 put-rows-requires : tie.Need-put-rows-requires
-put-rows-requires c κs = (c .before .before .before .before .before .before .before .before .before .before .before .before .before .before .before .before .before .before .before .before .pre .0, (c .before .before .before .before .before .before .before .before .before .before .before .before .before .before .before .before .before .before .before .before .pre .1 .0, omega (arith, rows-long (c .before .before .before .before .before .before .before .before .before .before .before .before .before .before .before .before .before .before .before .before .args .records .now), c .before .before .before .before .before .before .before .before .before .before .before .before .before .before .before .before .before .before .before .before .pre .1 .1 .1 .1 .0, c .before .before .before .before .before .before .before .before .before .before .before .before .before .before .before .before .before .before .before .before .pre .1 .1 .1 .1 .1 .1, c .before .before .before .before .before .before .before .before .before .before .before .before .before .before .before .put-header .kept .0, c .before .before .before .before .before .before .before .before .before .before .before .put-entries .kept .1 .1 .1 .0, c .before .before .before .before .before .before .before .put-fixed .kept .0, c .before .before .before .put-labels .kept .1 .1 .0)))
+put-rows-requires c κs =
+    let call = c .before .before .before .before .before .before .before in
+    let start = call .before .before .before .before .before .before .before .before .before .before .before .before .before in
+    let records = start .args .records .now in
+    let put-header = call .before .before .before .before .before .before .before .before .put-header in
+    let put-entries = call .before .before .before .before .put-entries in
+    let put-fixed = call .put-fixed in (
+      start .pre .0,
+      (
+        start .pre .1 .0,
+        omega (
+          arith,
+          rows-long records,
+          start .pre .1 .1 .1 .1 .0,
+          start .pre .1 .1 .1 .1 .1 .1,
+          put-header .kept .0,
+          put-entries .kept .1 .1 .1 .0,
+          put-fixed .kept .0,
+          c .before .before .before .put-labels .kept .1 .1 .0,
+        ),
+      ),
+    )
 
 same-length : tie.Need-same-length
 same-length c = search needs
 
 returns : tie.Need-returns
-returns c = image-done _ _ _ _ (record { schemed = c .before .before .before .before .before .before .before .before .before .before .before .before .before .before .before .before .before .before .before .before .before .before .before .pre .1 .1 .0; owned = c .before .before .before .before .before .before .before .before .before .before .before .before .before .before .before .before .before .before .before .before .before .before .before .pre .1 .1 .1 .0; rowed = c .before .before .before .before .before .before .before .before .before .before .before .before .before .before .before .before .before .before .before .before .before .before .before .pre .1 .1 .1 .1 .0 }) _ _ _ _ _ _ (c .before .before .before .before .before .before .before .before .before .before .before .before .before .before .before .before .before .before .before .before .before .before .before .pre .1 .1 .1 .1 .1 .1) (c .before .before .before .before .before .before .before .before .before .before .before .before .before .before .before .before .before .before .put-header .ensures) (c .before .before .before .before .before .before .before .before .before .before .before .before .before .before .put-entries .ensures) (c .before .before .before .before .before .before .before .before .before .before .put-fixed .ensures) (c .before .before .before .before .before .before .put-labels .ensures) (c .before .before .put-rows .ensures)
+returns c =
+    let call = c .before .before .before .before .before .before in
+    let asked =
+    call .before .before .before .before .before .before .before .before .before .before .before .before .before .before .before .before .before .pre in
+    let put-header = call .before .before .before .before .before .before .before .before .before .before .before .before .put-header in
+    let put-entries = call .before .before .before .before .before .before .before .before .put-entries in
+    let put-fixed = call .before .before .before .before .put-fixed in
+    let put-labels = call .put-labels in
+    image-done _ _ _ _ (record { schemed = asked .1 .1 .0; owned = asked .1 .1 .1 .0; rowed = asked .1 .1 .1 .1 .0 }) _ _
+    _ _ _ _ (asked .1 .1 .1 .1 .1 .1) (put-header .ensures) (put-entries .ensures) (put-fixed .ensures)
+    (put-labels .ensures) (c .before .before .put-rows .ensures)
 
 pub put-image-spec : {M : Type 1} → statement M
 put-image-spec =

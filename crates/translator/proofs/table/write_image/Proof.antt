@@ -16,7 +16,9 @@ slice-aggregate-count-rows : tie.Need-slice-aggregate-count-rows
 slice-aggregate-count-rows c = search needs
 
 count-rows-requires : tie.Need-count-rows-requires
-count-rows-requires c κs = (c .before .before .before .before .before .before .pre .0, labelled-local _ _ (c .before .before .before .before .before .before .pre .0 .facts) (c .before .before .label-nodes .ensures .1))
+count-rows-requires c κs =
+    let asked = c .before .before .before .before .before .before .pre in
+    (asked .0, labelled-local _ _ (asked .0 .facts) (c .before .before .label-nodes .ensures .1))
 
 returns : tie.Need-returns
 returns c = image-many _ _ _ (c .before .count-rows .ensures) (c .if1 .taken)
@@ -25,28 +27,66 @@ add-need : tie.Need-add-need
 add-need c = search needs
 
 add-need-2 : tie.Need-add-need-2
-add-need-2 c = omega (arith, few-numbered _ (c .before .before .before .before .before .before .before .before .pre .0 .facts), c .before .before .before .before .before .before .before .before .pre .0 .facts .few, c .before .before .before .before .label-nodes .ensures .0, c .if1 .left)
+add-need-2 c =
+    let asked = c .before .before .before .before .before .before .before .before .pre in
+    let label-nodes = c .before .before .before .before .label-nodes in
+    omega (arith, few-numbered _ (asked .0 .facts), asked .0 .facts .few, label-nodes .ensures .0, c .if1 .left)
 
 add-need-3 : tie.Need-add-need-3
-add-need-3 c = omega (arith, few-numbered _ (c .before .before .before .before .before .before .before .before .pre .0 .facts), c .before .before .before .before .before .before .before .before .pre .0 .facts .few, c .before .before .before .before .label-nodes .ensures .0, c .if1 .left)
+add-need-3 c =
+    let asked = c .before .before .before .before .before .before .before .before .pre in
+    let label-nodes = c .before .before .before .before .label-nodes in
+    omega (arith, few-numbered _ (asked .0 .facts), asked .0 .facts .few, label-nodes .ensures .0, c .if1 .left)
 
 mul-need : tie.Need-mul-need
-mul-need c = omega (arith, few-numbered _ (c .before .before .before .before .before .before .before .before .pre .0 .facts), c .before .before .before .before .before .before .before .before .pre .0 .facts .few, c .before .before .before .before .label-nodes .ensures .0, c .if1 .left)
+mul-need c =
+    let asked = c .before .before .before .before .before .before .before .before .pre in
+    let label-nodes = c .before .before .before .before .label-nodes in
+    omega (arith, few-numbered _ (asked .0 .facts), asked .0 .facts .few, label-nodes .ensures .0, c .if1 .left)
 
 returns-2 : tie.Need-returns-2
-returns-2 c = image-short _ _ _ (c .before .before .count-rows .ensures) (c .before .if1 .left) _ _ (c .before .before .before .before .before .before .before .before .before .pre .1) (c .before .before .before .before .before .label-nodes .ensures .0) (c .if2 .taken)
+returns-2 c =
+    let asked = c .before .before .before .before .before .before .before .before .before .pre in
+    let label-nodes = c .before .before .before .before .before .label-nodes in
+    image-short _ _ _ (c .before .before .count-rows .ensures) (c .before .if1 .left) _ _ (asked .1)
+    (label-nodes .ensures .0) (c .if2 .taken)
 
 slice-aggregate-put-image : tie.Need-slice-aggregate-put-image
 slice-aggregate-put-image c = search needs
 
 put-image-requires : tie.Need-put-image-requires
-put-image-requires c κs = (c .before .before .before .before .before .before .before .before .before .before .before .pre .0, (labelled-local _ _ (c .before .before .before .before .before .before .before .before .before .before .before .pre .0 .facts) (c .before .before .before .before .before .before .before .label-nodes .ensures .1), (c .before .before .before .before .before .before .before .before .before .before .before .pre .1, (c .before .before .before .before .before .before .before .label-nodes .ensures .0, (image-few _ (c .before .before .before .before .before .before .before .before .before .before .before .args .out .now) _ (c .before .before .before .before .count-rows .ensures) (c .before .before .before .if1 .left), (c .before .before .before .if1 .left, c .before .before .if2 .left))))))
+put-image-requires c κs =
+    let start = c .before .before .before .before .before .before .before .before .before .before .before in
+    let out = start .args .out .now in
+    let label-nodes = c .before .before .before .before .before .before .before .label-nodes in
+    let count-rows = c .before .before .before .before .count-rows in
+    let if1 = c .before .before .before .if1 in (
+      start .pre .0,
+      (
+        labelled-local _ _ (start .pre .0 .facts) (label-nodes .ensures .1),
+        (
+          start .pre .1,
+          (
+            label-nodes .ensures .0,
+            (image-few _ out _ (count-rows .ensures) (if1 .left), (if1 .left, c .before .before .if2 .left)),
+          ),
+        ),
+      ),
+    )
 
 same-length : tie.Need-same-length
 same-length c = search needs
 
 returns-3 : tie.Need-returns-3
-returns-3 c = image-fits _ _ _ (c .before .before .before .before .before .before .before .count-rows .ensures) (c .before .before .before .before .before .before .if1 .left) _ _ (c .before .before .before .before .before .before .before .before .before .before .before .before .before .before .pre .1) (c .before .before .before .before .before .before .before .before .before .before .label-nodes .ensures .0) (c .before .before .before .before .before .if2 .left) _ (c .before .before .put-image .ensures)
+returns-3 c =
+    let call = c .before .before .before .before .before in
+    let asked = call .before .before .before .before .before .before .before .before .before .pre in
+    let label-nodes = call .before .before .before .before .before .label-nodes in
+    let count-rows = call .before .before .count-rows in
+    let if1 = call .before .if1 in
+    let if2 = call .if2 in
+    image-fits _ _ _ (count-rows .ensures) (if1 .left) _ _ (asked .1) (label-nodes .ensures .0) (if2 .left) _
+    (c .before .before .put-image .ensures)
 
 pub write-image-spec : {M : Type 1} → statement M
 write-image-spec =
