@@ -42,7 +42,8 @@ pub bound-part : (n : ℕ) (ts us : List Tick) → bound n ts < length ts → bo
 bound-part n [] us h = absurd (omega arith)
 bound-part n (t ∷ ts) us h = go (bound-part n ts us) (isFullCall n t) refl
   where
-    go : (bound n ts < length ts → bound n (ts ++ us) ≡ bound n ts) → (r : Bool) → isFullCall n t ≡ r → bound n (t ∷ (ts ++ us)) ≡ bound n (t ∷ ts)
+    go : (bound n ts < length ts → bound n (ts ++ us) ≡ bound n ts) → (r : Bool) → isFullCall n t ≡ r
+        → bound n (t ∷ (ts ++ us)) ≡ bound n (t ∷ ts)
     go ih true e = bound-stop n t (ts ++ us) e ∙ sym (bound-stop n t ts e)
     go ih false e = let q : bound n ts < length ts = omega (arith, bound-go n t ts e) in
         omega (arith, bound-go n t (ts ++ us) e, bound-go n t ts e, ih q)

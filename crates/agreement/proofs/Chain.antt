@@ -67,7 +67,9 @@ replied-by false k = refl
 -- the fresh state is that of the position where the walk begins
 fresh-is : (n : ℕ) → 1 ≤ n → n ≤ 32 → freshState n .state ≡ fresh n
 unfolding freshState
-fresh-is n l h = ap (λ (t : Bool). pick {A = Made} t (record { reply = refusal 14 0 0; state = noState }) (record { reply = success 0; state = fresh n }) .state)
+fresh-is n l h =
+    ap (λ (t : Bool). pick {A = Made} t (record { reply = refusal 14 0 0; state = noState })
+    (record { reply = success 0; state = fresh n }) .state)
     (size-good n l h)
 
 home-is : (c : Chart) → Facts c → (n : ℕ) → fresh n ≡ stateOf c n (atHome c)
@@ -80,7 +82,8 @@ module _ (c : Chart) (facts : Facts c) (tableFacts : TableFacts c) (text : List 
   sound : Sound (table c)
   sound = subst Sound decodes (image-sound text passes)
 
-  chain-is : (asked : List Asked) (x : Position) → Stands c n x → Fits (table c) (stateOf c n x) → chain run text (stateOf c n x) asked ≡ Due c n x asked
+  chain-is : (asked : List Asked) (x : Position) → Stands c n x → Fits (table c) (stateOf c n x)
+      → chain run text (stateOf c n x) asked ≡ Due c n x asked
   unfolding chain expectedAll
   chain-is [] x s f = refl
   chain-is (a ∷ rest) x s f = go (chain-is rest) (short a) refl
@@ -96,7 +99,8 @@ module _ (c : Chart) (facts : Facts c) (tableFacts : TableFacts c) (text : List 
           let b : ℕ = bound n ts in
           let y : Position = stand c n (a .words) x in
           let made : ticks (table c) (stateOf c n x) (a .words) ≡ ranFrom c n (a .words) x = ticks-are c n facts n≤ tableFacts (a .words) x s in
-          let kept : Fits (table c) (stateOf c n y) = subst (λ (r : Ran). Fits (table c) (r .state)) made (ticks-keep (table c) sound (a .words) (stateOf c n x) f) in
+          let kept : Fits (table c) (stateOf c n y) =
+          subst (λ (r : Ran). Fits (table c) (r .state)) made (ticks-keep (table c) sound (a .words) (stateOf c n x) f) in
           chain-long text (table c) passes decodes (stateOf c n x) a rest f e made
           ∙ ap₂ (λ (r : Reply) (l : List Told). record {
             reply = r;

@@ -82,5 +82,6 @@ pub halted : (b : ℕ) (ts : List Tick) (p b′ : ℕ) (ts′ : List Tick) (p′
 unfolding expectedAll
 halted b ts p b′ ts′ p′ [] h h′ = refl
 halted b ts p b′ ts′ p′ (a ∷ rest) h h′ =
-    same-all b ts p b′ ts′ p′ a rest (expected-halted b ts p a h ∙ sym (expected-halted b′ ts′ p′ a h′)) (halted b ts p b′ ts′ p′ rest h h′)
+    same-all b ts p b′ ts′ p′ a rest (expected-halted b ts p a h ∙ sym (expected-halted b′ ts′ p′ a h′))
+    (halted b ts p b′ ts′ p′ rest h h′)
     (halted b ts (p + length (a .words)) b′ ts′ (p′ + length (a .words)) rest (omega arith) (omega arith))

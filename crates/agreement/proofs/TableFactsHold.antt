@@ -31,7 +31,8 @@ unfolding firstRow targets
 first-target l w b [] = ap (λ (rs : List Row). firstOf (map (λ (r : Row). r .next) rs)) (sym (filter-none (matching l w b)))
 first-target l w b (r ∷ rs) = go (first-target l w b rs) (matching l w b r) refl
   where
-    go : firstRow l w b rs ≡ firstOf (targets l w b rs) → (t : Bool) → matching l w b r ≡ t → firstRow l w b (r ∷ rs) ≡ firstOf (targets l w b (r ∷ rs))
+    go : firstRow l w b rs ≡ firstOf (targets l w b rs) → (t : Bool) → matching l w b r ≡ t
+        → firstRow l w b (r ∷ rs) ≡ firstOf (targets l w b (r ∷ rs))
     go ih true e = rw (firstRow, e) (ap (λ (rs : List Row). firstOf (map (λ (r : Row). r .next) rs)) (sym (filter-yes (matching l w b) r rs e)))
     go ih false e = rw (firstRow, e) (ih ∙ ap (λ (rs : List Row). firstOf (map (λ (r : Row). r .next) rs)) (sym (filter-no (matching l w b) r rs e)))
 

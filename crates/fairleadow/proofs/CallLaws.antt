@@ -22,7 +22,8 @@ pub record Runs (r : Run) (reply : Reply) (s : State) (masks codes : List ℕ) :
   pub codes-are : codes ≡ r .codes
 
 -- the run was handed the state that the bytes hold
-pub runs-for : (t b ws ms ks : List ℕ) {s u : State} {reply : Reply} {ms′ ks′ : List ℕ} → s ≡ stateOf b → Runs (run t s ws ms ks) reply u ms′ ks′
+pub runs-for : (t b ws ms ks : List ℕ) {s u : State} {reply : Reply} {ms′ ks′ : List ℕ} → s ≡ stateOf b
+    → Runs (run t s ws ms ks) reply u ms′ ks′
     → Runs (runFor t b ws ms ks) reply u ms′ ks′
 runs-for t b ws ms ks {u = u} {reply = reply} {ms′ = ms′} {ks′ = ks′} e r = subst (λ (x : State). Runs (run t x ws ms ks) reply u ms′ ks′) e r
 
@@ -30,7 +31,8 @@ module _ (b : List ℕ) (r : Run) {reply : Reply} {u : State} {ms ks : List ℕ}
   number-told : n ≡ number (r .reply)
   number-told = told .number-is ∙ ap number (done .reply-is)
 
-  pub run-done : (nb : List ℕ) → nb ≡ pick (leaves n) b (bytesOf u) → Told (r .reply) n i m × ((nb ≡ bytesAfter b r) × ((ms ≡ r .masks) × (ks ≡ r .codes)))
+  pub run-done : (nb : List ℕ) → nb ≡ pick (leaves n) b (bytesOf u)
+      → Told (r .reply) n i m × ((nb ≡ bytesAfter b r) × ((ms ≡ r .masks) × (ks ≡ r .codes)))
   unfolding bytesAfter
   run-done nb e = (
     told-as (done .reply-is) told,
@@ -49,7 +51,8 @@ pub ticks-for : (t b : List ℕ) (w : ℕ) {s u : State} {reply : Reply} {mask c
     → Ticks (tickFor t b w) reply mask code u
 ticks-for t b w {u = u} {reply = reply} {mask = mask} {code = code} e d = subst (λ (x : State). Ticks (advance t x w) reply mask code u) e d
 
-module _ (b : List ℕ) (a : Advance) {reply : Reply} {mask code : ℕ} {u : State} (done : Ticks a reply mask code u) {n i m : ℕ} (told : Told reply n i m) where
+module _ (b : List ℕ) (a : Advance) {reply : Reply} {mask code : ℕ} {u : State} (done : Ticks a reply mask code u)
+    {n i m : ℕ} (told : Told reply n i m) where
   tick-number : n ≡ number (a .reply)
   tick-number = told .number-is ∙ ap number (done .reply-is)
 
@@ -57,14 +60,16 @@ module _ (b : List ℕ) (a : Advance) {reply : Reply} {mask code : ℕ} {u : Sta
   refused new old h = sym (ap (λ x. pick x new old) (ne-eqb _ _ (λ e. h (tick-number ∙ e))))
 
   pub tick-refused : (mask₀ code₀ : ℕ) → (n ≡ 0 → ⊥)
-      → Told (a .reply) n i m × ((b ≡ ifTicked a (bytesOf (a .state)) b) × ((mask₀ ≡ ifTicked a (a .mask) mask₀) × (code₀ ≡ ifTicked a (a .code) code₀)))
+      → Told (a .reply) n i m
+      × ((b ≡ ifTicked a (bytesOf (a .state)) b) × ((mask₀ ≡ ifTicked a (a .mask) mask₀) × (code₀ ≡ ifTicked a (a .code) code₀)))
   tick-refused mask₀ code₀ h = (told-as (done .reply-is) told, (refused _ b h, (refused _ mask₀ h, refused _ code₀ h)))
 
   finished : {A : Type 0} (x new old : A) → n ≡ 0 → x ≡ new → x ≡ ifTicked a new old
   finished x new old z e = e ∙ sym (ap (λ y. pick y new old) (eq-eqb _ _ (sym tick-number ∙ z)))
 
   pub tick-done : (mask₀ code₀ : ℕ) (nb : List ℕ) → n ≡ 0 → nb ≡ bytesOf u
-      → Told (a .reply) n i m × ((nb ≡ ifTicked a (bytesOf (a .state)) b) × ((mask ≡ ifTicked a (a .mask) mask₀) × (code ≡ ifTicked a (a .code) code₀)))
+      → Told (a .reply) n i m
+      × ((nb ≡ ifTicked a (bytesOf (a .state)) b) × ((mask ≡ ifTicked a (a .mask) mask₀) × (code ≡ ifTicked a (a .code) code₀)))
   tick-done mask₀ code₀ nb z e = (
     told-as (done .reply-is) told,
     (finished nb _ b z (e ∙ ap bytesOf (done .state-is)), (finished mask _ mask₀ z (done .mask-is), finished code _ code₀ z (done .code-is))),

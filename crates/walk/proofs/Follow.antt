@@ -85,7 +85,9 @@ module _ (c : Chart) (a : Sound c) where
   follow-stop zero h w v t r = absurd (omega (arith, rank-some c v (t .inside)))
   follow-stop (suc n) h w v t r = go (stops c v) refl (follow-stop n h w (taken c w v))
     where
-      go : (b : Bool) → stops c v ≡ b → (Target c h (taken c w v) → rank c (taken c w v) ≤ n → StopOf c h (follow n c w (taken c w v))) → StopOf c h (follow (suc n) c w v)
+      go : (b : Bool) → stops c v ≡ b
+          → (Target c h (taken c w v) → rank c (taken c w v) ≤ n → StopOf c h (follow n c w (taken c w v)))
+          → StopOf c h (follow (suc n) c w v)
       go true s ih = subst (λ (u : ℕ). StopOf c h u) (sym (follow-stays n c w v s)) (stays h v t s)
       go false s ih =
           let k : kind c v ≡ 3 = goes-on c v (t .entered) s in
@@ -97,7 +99,9 @@ module _ (c : Chart) (a : Sound c) where
   follow-more zero h w v t r = absurd (omega (arith, rank-some c v (t .inside)))
   follow-more (suc n) h w v t r = go (stops c v) refl (follow-more n h w (taken c w v))
     where
-      go : (b : Bool) → stops c v ≡ b → (Target c h (taken c w v) → rank c (taken c w v) ≤ n → follow (suc n) c w (taken c w v) ≡ follow n c w (taken c w v)) → follow (suc (suc n)) c w v ≡ follow (suc n) c w v
+      go : (b : Bool) → stops c v ≡ b
+          → (Target c h (taken c w v) → rank c (taken c w v) ≤ n → follow (suc n) c w (taken c w v) ≡ follow n c w (taken c w v))
+          → follow (suc (suc n)) c w v ≡ follow (suc n) c w v
       go true s ih = follow-stays (suc n) c w v s ∙ sym (follow-stays n c w v s)
       go false s ih =
           let k : kind c v ≡ 3 = goes-on c v (t .entered) s in
@@ -128,7 +132,8 @@ module _ (c : Chart) (a : Sound c) where
   first-stop : (h v : ℕ) → TheNode c 0 h v → v ≡ begin c h → stops c v ≡ false → stops c (next0 c v) ≡ true
   first-stop h v b e s = go (arc0 c a v (b .inside) (λ q. omega (arith, b .kinded))) (ℕ-discrete (kind c (next0 c v)) 3) (cases (eqb (scheme c v) 1))
     where
-      go : Target c (scheme c v) (next0 c v) → Dec (kind c (next0 c v) ≡ 3) → (eqb (scheme c v) 1 ≡ true) ⊎ (eqb (scheme c v) 1 ≡ false) → stops c (next0 c v) ≡ true
+      go : Target c (scheme c v) (next0 c v) → Dec (kind c (next0 c v) ≡ 3)
+          → (eqb (scheme c v) 1 ≡ true) ⊎ (eqb (scheme c v) 1 ≡ false) → stops c (next0 c v) ≡ true
       go t (no n) x = stops-other c (next0 c v) (t .entered) n
       go t (yes k) (inl x) =
           let one : scheme c v ≡ 1 = eqb-true (scheme c v) 1 x in
@@ -136,7 +141,9 @@ module _ (c : Chart) (a : Sound c) where
           (eq-eqb (scheme c (next0 c v)) 1 (t .same ∙ one))
           (eq-eqb (next0 c (begin c 1)) (next0 c v) (ap (next0 c) (ap (begin c) (sym one ∙ b .same) ∙ sym e)))
       go t (yes k) (inr x) =
-          no-both (stops c v) (stops-begin c v (b .kinded) ∙ and-true (not (eqb (scheme c v) 1)) (is c 3 (next0 c v)) (ap not x) (eq-eqb (kind c (next0 c v)) 3 k)) s
+          no-both (stops c v) (stops-begin c v (b .kinded)
+          ∙ and-true (not (eqb (scheme c v) 1)) (is c 3 (next0 c v)) (ap not x) (eq-eqb (kind c (next0 c v)) 3 k))
+          s
 
   pub starts : (h : ℕ) → 1 ≤ h → h ≤ schemes c → StopOf c h (start c h)
   unfolding start
@@ -146,5 +153,6 @@ module _ (c : Chart) (a : Sound c) where
       (λ (s : stops c (begin c h) ≡ true). subst (λ (u : ℕ). StopOf c h u) (sym (yes-pick (stops c (begin c h)) (begin c h) (next0 c (begin c h)) s))
       (record { inside = b .inside; same = b .same; stopping = s }))
       (λ (s : stops c (begin c h) ≡ false). subst (λ (u : ℕ). StopOf c h u) (sym (no-pick (stops c (begin c h)) (begin c h) (next0 c (begin c h)) s))
-      (stays h (next0 c (begin c h)) (target-as c (b .same) (arc0 c a (begin c h) (b .inside) (λ q. omega (arith, b .kinded)))) (first-stop h (begin c h) b refl s)))
+      (stays h (next0 c (begin c h))
+      (target-as c (b .same) (arc0 c a (begin c h) (b .inside) (λ q. omega (arith, b .kinded)))) (first-stop h (begin c h) b refl s)))
       (cases (stops c (begin c h)))

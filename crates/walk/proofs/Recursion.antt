@@ -12,7 +12,8 @@ use Rattle.walk.specs.Stops.{Stop, plain, call, function, test, home, ba
 use Rattle.walk.specs.Walk.{Tick, tick, Course, spent, ended, ticksOf, after, Performer, resume, act, perform, walk}
 use Rattle.walk.proofs.Facts.{Facts}
 use Rattle.walk.proofs.Views.{View, a-plain, a-call, a-function, a-home, a-back, a-begin, a-condition}
-use Rattle.walk.proofs.Trace.{at, tickOf, resumedBy, resumed, returned, movedBy, trace, Under, Good, view-of, resumed-good, calling, moved-good, atHome, home-good}
+use Rattle.walk.proofs.Trace.{at, tickOf, resumedBy, resumed, returned, movedBy, trace, Under}
+use Rattle.walk.proofs.Trace.{Good, view-of, resumed-good, calling, moved-good, atHome, home-good}
 
 -- ---- a scheme that has ended leaves fewer than n words
 abbrev Shorter : ℕ → Course → Type 0

@@ -13,7 +13,8 @@ use Rattle.charts.specs.Chart.{Chart, kind, scheme, argument, next0, next1, sch
 use Rattle.walk.specs.Stops.{stops, start, byArc, byWord, Stop, plain, call, function, test, home, back, stopAt}
 use Rattle.walk.specs.Walk.{Tick}
 use Rattle.walk.proofs.Facts.{Target, StopOf, Facts}
-use Rattle.walk.proofs.Views.{View, a-plain, a-call, a-function, a-home, a-back, a-begin, a-condition, view, stop-call, stop-function, begin-leads, end-stops}
+use Rattle.walk.proofs.Views.{View, a-plain, a-call, a-function, a-home, a-back, a-begin}
+use Rattle.walk.proofs.Views.{a-condition, view, stop-call, stop-function, begin-leads, end-stops}
 
 -- the callers of unfinished calls, the last one first
 pub record Position : Type 0 where

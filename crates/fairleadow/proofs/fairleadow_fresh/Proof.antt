@@ -16,7 +16,11 @@ tell-requires : tie.Need-tell-requires
 tell-requires c κs = search needs
 
 returns : tie.Need-returns
-returns c = (told-as (c .before .before .before .before .before .fresh .ensures .0) (c .tell .ensures), c .before .before .before .bytes-of .ensures ∙ ap bytesOf (c .before .before .before .before .before .fresh .ensures .1))
+returns c =
+    let fresh = c .before .before .before .before .before .fresh in (
+      told-as (fresh .ensures .0) (c .tell .ensures),
+      c .before .before .before .bytes-of .ensures ∙ ap bytesOf (fresh .ensures .1),
+    )
 
 pub fairleadow-fresh-spec : {M : Type 1} → statement M
 fairleadow-fresh-spec = tie.close (tie.spec fresh-requires bytes-of-requires tell-requires returns)

@@ -14,7 +14,9 @@ same-length : tie.Need-same-length
 same-length c = search needs
 
 returns : tie.Need-returns
-returns c = (told-as (c .before .before .before .before .before .read-chart .ensures .0) (c .tell .ensures), c .before .before .before .before .before .read-chart .ensures .1)
+returns c =
+    let read-chart = c .before .before .before .before .before .read-chart in
+    (told-as (read-chart .ensures .0) (c .tell .ensures), read-chart .ensures .1)
 
 pub fairleadow-read-chart-spec : {M : Type 1} → statement M
 fairleadow-read-chart-spec =

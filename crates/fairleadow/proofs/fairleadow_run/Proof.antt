@@ -23,7 +23,17 @@ same-length-2 : tie.Need-same-length-2
 same-length-2 c = search needs
 
 returns : tie.Need-returns
-returns c = run-done _ _ (runs-for _ _ _ _ _ (c .before .before .before .before .before .before .before .before .before .before .before .before .state-of .ensures) (record { reply-is = (c .before .before .before .before .before .before .before .before .before .run .ensures .0); state-is = (c .before .before .before .before .before .before .before .before .before .run .ensures .1 .0); masks-are = (c .before .before .before .before .before .before .before .before .before .run .ensures .1 .1 .0); codes-are = (c .before .before .before .before .before .before .before .before .before .run .ensures .1 .1 .1) })) (c .before .tell .ensures) _ (c .bytes-after .ensures)
+returns c =
+    let state-of = c .before .before .before .before .before .before .before .before .before .before .before .before .state-of in
+    let run = c .before .before .before .before .before .before .before .before .before .run in
+    run-done _ _ (runs-for _ _ _ _ _ (state-of .ensures)
+    (record {
+      reply-is = (run .ensures .0);
+      state-is = (run .ensures .1 .0);
+      masks-are = (run .ensures .1 .1 .0);
+      codes-are = (run .ensures .1 .1 .1);
+    }))
+    (c .before .tell .ensures) _ (c .bytes-after .ensures)
 
 pub fairleadow-run-spec : {M : Type 1} → statement M
 fairleadow-run-spec =

@@ -15,9 +15,11 @@ tell-requires c κs = search needs
 
 returns : tie.Need-returns
 returns c =
-    let done = c .before .before .before .before .before .before .tick-image .ensures in
-    tick-refused _ _
-    (ticks-for _ _ _ (c .before .before .before .before .before .before .before .state-of .ensures) (record { reply-is = done .0 .0; mask-is = done .0 .1 .0; code-is = done .0 .1 .1; state-is = done .1 }))
+    let state-of = c .before .before .before .before .before .before .before .state-of in
+    let tick-image = c .before .before .before .before .before .before .tick-image in
+    let done = tick-image .ensures in
+    tick-refused _ _ (ticks-for _ _ _ (state-of .ensures)
+    (record { reply-is = done .0 .0; mask-is = done .0 .1 .0; code-is = done .0 .1 .1; state-is = done .1 }))
     (c .before .tell .ensures) _ _ (c .if1 .taken)
 
 bytes-of-requires : tie.Need-bytes-of-requires
@@ -25,9 +27,11 @@ bytes-of-requires c κs = search needs
 
 returns-2 : tie.Need-returns-2
 returns-2 c =
-    let done = c .before .before .before .before .before .before .before .tick-image .ensures in
-    tick-done _ _
-    (ticks-for _ _ _ (c .before .before .before .before .before .before .before .before .state-of .ensures) (record { reply-is = done .0 .0; mask-is = done .0 .1 .0; code-is = done .0 .1 .1; state-is = done .1 }))
+    let state-of = c .before .before .before .before .before .before .before .before .state-of in
+    let tick-image = c .before .before .before .before .before .before .before .tick-image in
+    let done = tick-image .ensures in
+    tick-done _ _ (ticks-for _ _ _ (state-of .ensures)
+    (record { reply-is = done .0 .0; mask-is = done .0 .1 .0; code-is = done .0 .1 .1; state-is = done .1 }))
     (c .before .before .tell .ensures) _ _ _ (c .before .if1 .left) (c .bytes-of .ensures)
 
 pub fairleadow-tick-spec : {M : Type 1} → statement M

@@ -14,7 +14,9 @@ same-length : tie.Need-same-length
 same-length c = search needs
 
 returns : tie.Need-returns
-returns c = (told-as (c .before .before .before .before .before .translate .ensures .0) (c .tell .ensures), c .before .before .before .before .before .translate .ensures .1)
+returns c =
+    let translate = c .before .before .before .before .before .translate in
+    (told-as (translate .ensures .0) (c .tell .ensures), translate .ensures .1)
 
 pub fairleadow-translate-spec : {M : Type 1} → statement M
 fairleadow-translate-spec =

@@ -14,7 +14,9 @@ same-length : tie.Need-same-length
 same-length c = search needs
 
 returns : tie.Need-returns
-returns c = (told-as (c .before .before .before .before .before .write-chart .ensures .0) (c .tell .ensures), c .before .before .before .before .before .write-chart .ensures .1)
+returns c =
+    let write-chart = c .before .before .before .before .before .write-chart in
+    (told-as (write-chart .ensures .0) (c .tell .ensures), write-chart .ensures .1)
 
 pub fairleadow-write-chart-spec : {M : Type 1} → statement M
 fairleadow-write-chart-spec =

@@ -35,10 +35,15 @@ returns : tie.Need-returns
 returns c = search needs
 
 array-share-prefix-image : tie.Need-array-share-prefix-image
-array-share-prefix-image c = done-fits _ _ (c .before .before .before .before .translate .last .1 .0) _ _ (c .before .before .before .before .translate .ensures .0) (c .before .answer .given .1) (c .before .before .before .before .translate .kept .1 .0)
+array-share-prefix-image c =
+    let translate = c .before .before .before .before .translate in
+    done-fits _ _ (translate .last .1 .0) _ _ (translate .ensures .0) (c .before .answer .given .1)
+    (translate .kept .1 .0)
 
 slice-aggregate-write-all : tie.Need-slice-aggregate-write-all
-slice-aggregate-write-all c = done-part _ _ _ _ _ (c .before .before .before .before .before .translate .ensures .0) (c .before .before .answer .given .1) (c .before .before .before .before .before .translate .kept .1 .0)
+slice-aggregate-write-all c =
+    let translate = c .before .before .before .before .before .translate in
+    done-part _ _ _ _ _ (translate .ensures .0) (c .before .before .answer .given .1) (translate .kept .1 .0)
 
 write-all-requires : tie.Need-write-all-requires
 write-all-requires c κs = search needs

@@ -23,10 +23,15 @@ returns : tie.Need-returns
 returns c = search needs
 
 array-share-prefix-image : tie.Need-array-share-prefix-image
-array-share-prefix-image c = done-fits _ _ (c .before .before .before .before .translate .last .1 .0) _ _ (c .before .before .before .before .translate .ensures .0) (c .before .answer .given .1) (c .before .before .before .before .translate .kept .1 .0)
+array-share-prefix-image c =
+    let translate = c .before .before .before .before .translate in
+    done-fits _ _ (translate .last .1 .0) _ _ (translate .ensures .0) (c .before .answer .given .1)
+    (translate .kept .1 .0)
 
 slice-aggregate-show : tie.Need-slice-aggregate-show
-slice-aggregate-show c = done-part _ _ _ _ _ (c .before .before .before .before .before .translate .ensures .0) (c .before .before .answer .given .1) (c .before .before .before .before .before .translate .kept .1 .0)
+slice-aggregate-show c =
+    let translate = c .before .before .before .before .before .translate in
+    done-part _ _ _ _ _ (translate .ensures .0) (c .before .before .answer .given .1) (translate .kept .1 .0)
 
 show-requires : tie.Need-show-requires
 show-requires c κs = search needs

@@ -14,7 +14,10 @@ bytes-of-requires : tie.Need-bytes-of-requires
 bytes-of-requires c κs = search needs
 
 returns : tie.Need-returns
-returns c = c .bytes-of .ensures ∙ sym (ap (λ (n : ℕ). pick (leaves n) (c .before .before .args .old) (bytesOf (c .before .before .args .s))) (c .before .if1 .taken))
+returns c =
+    c .bytes-of .ensures
+    ∙ sym (ap (λ (n : ℕ). pick (leaves n) (c .before .before .args .old) (bytesOf (c .before .before .args .s)))
+    (c .before .if1 .taken))
 
 returns-2 : tie.Need-returns-2
 returns-2 c = simp (le-leb 1 (c .before .before .args .number) (omega arith), le-leb _ _ (c .if2 .taken))

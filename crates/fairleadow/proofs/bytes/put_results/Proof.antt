@@ -37,7 +37,9 @@ loop-less : tie.Need-loop-less Inv-loop μ-loop
 loop-less c = search needs
 
 loop-again : tie.Need-loop-again Inv-loop μ-loop
-loop-again c = values-turn _ _ _ _ _ _ _ (search needs) (c .before .before .loop .inv) (search needs) (byte-is (getD (c .before .before .before .args .t2 .bits) (c .before .before .loop .k) false))
+loop-again c =
+    values-turn _ _ _ _ _ _ _ (search needs) (c .before .before .loop .inv) (search needs)
+    (byte-is (getD (c .before .before .before .args .t2 .bits) (c .before .before .loop .k) false))
 
 same-length : tie.Need-same-length Inv-loop μ-loop
 same-length c = search needs
