@@ -1,3 +1,4 @@
+-- `graph::mark` meets its contract: a mark that is there already, or out of range, adds none.
 use mathlib.Core.Path.{refl, sym, _∙_, ap}
 use mathlib.Core.Bool.{Bool}
 use native.Mathlib.Omega.{arith}

@@ -1,3 +1,4 @@
+-- `printing::refusal_line` meets its contract: a frame over an array of 23 bytes is the whole line.
 use borrow.Author.Needs.{needs}
 use Rattle.lists.specs.Sequences.{concatMap, written}
 use Rattle.frames.specs.Frame.{frameText}

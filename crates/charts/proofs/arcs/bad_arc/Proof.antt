@@ -1,3 +1,4 @@
+-- `charts::arcs::bad_arc` meets its contract: by the kind of the node.
 use mathlib.Core.Path.{_∙_, ap}
 use Rattle.charts.specs.Check.{badEnd}
 use Rattle.charts.proofs.Cases.{end-arc, single-arc, condition-arc, function-arc}

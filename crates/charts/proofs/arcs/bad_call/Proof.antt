@@ -1,3 +1,4 @@
+-- `charts::arcs::bad_call` meets its contract: by the kind of the node.
 use mathlib.Core.Path.{sym, _∙_}
 use borrow.Author.Tests.{eq-eqb, ne-eqb, le-leb, lt-leb}
 use Rattle.charts.proofs.Cases.{operation-call, function-call, no-call}

@@ -1,3 +1,4 @@
+-- `charts::arcs::bad_end` meets its contract: by its tests in turn.
 use borrow.Author.Tests.{ne-eqb, le-leb, lt-leb}
 use Rattle.charts.proofs.Cases.{end-inside}
 use borrow.Author.Needs.{needs}

@@ -1,3 +1,4 @@
+-- `charts::check::check_chart` meets its contract: 4 to 9 in turn, the first that refuses answers.
 use mathlib.Core.Path.{sym, _∙_, ap}
 use native.Mathlib.Omega.{arith}
 use Rattle.frames.specs.Frame.{size}

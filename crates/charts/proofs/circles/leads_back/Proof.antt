@@ -1,3 +1,4 @@
+-- `charts::circles::leads_back` meets its contract: the marks are those of the definition, read at the node.
 use mathlib.Core.Path.{refl, _∙_, ap}
 use mathlib.Core.Bool.{Bool, false, true}
 use mathlib.Core.List.{List}

@@ -1,3 +1,4 @@
+-- `charts::circles::lowest_circle` meets its contract: where all conditions have a rank there is no circle, else it is searched for.
 use Rattle.frames.specs.Frame.{size}
 use Rattle.charts.specs.Check.{onCircle}
 use Rattle.charts.proofs.MarkCases.{calm-lowest}

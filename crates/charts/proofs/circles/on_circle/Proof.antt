@@ -1,3 +1,4 @@
+-- `charts::circles::on_circle` meets its contract: a condition, and whether it leads back.
 use mathlib.Core.Path.{sym}
 use mathlib.Core.Bool.{false}
 use Rattle.frames.specs.Frame.{size}

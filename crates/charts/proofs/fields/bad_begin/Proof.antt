@@ -1,3 +1,4 @@
+-- `charts::fields::bad_begin` meets its contract: byte 2, then the bytes from 4 on.
 use borrow.Author.Tests.{eq-eqb, ne-eqb}
 use borrow.Author.Needs.{needs}
 use Rattle.charts.proofs.fields.bad_begin.Statement.{statement}

@@ -1,3 +1,4 @@
+-- `charts::fields::bad_condition` meets its contract: its number, then the bytes that it has no use for.
 use borrow.Author.Tests.{lt-ltb, le-ltb}
 use borrow.Author.Needs.{needs}
 use Rattle.charts.proofs.fields.bad_condition.Statement.{statement}

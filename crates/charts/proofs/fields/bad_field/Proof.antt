@@ -1,3 +1,4 @@
+-- `charts::fields::bad_field` meets its contract: the scheme, then the fields by the kind.
 use borrow.Author.Tests.{eq-eqb, ne-eqb, lt-ltb, le-ltb}
 use Rattle.charts.specs.Check.{badField}
 use borrow.Author.Needs.{needs}

@@ -1,3 +1,4 @@
+-- `charts::fields::bad_operation` meets its contract: byte 4, then the result.
 use borrow.Author.Tests.{eq-eqb, ne-eqb}
 use borrow.Author.Needs.{needs}
 use Rattle.charts.proofs.fields.bad_operation.Statement.{statement}

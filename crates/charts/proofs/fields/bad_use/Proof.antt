@@ -1,3 +1,4 @@
+-- `charts::fields::bad_use` meets its contract: by the kind.
 use Prim.Native.Nat.{ℕ}
 use mathlib.Core.Path.{sym, _∙_, ap}
 use Rattle.charts.specs.Check.{badUse}

@@ -1,3 +1,4 @@
+-- `charts::fields::filled_from` meets its contract: the loop keeps what is left to look at.
 use borrow.Author.Needs.{needs}
 use Prim.Native.Nat.{_-_, _≤_}
 use mathlib.Core.Path.{_≡_, refl, sym, _∙_, ap}

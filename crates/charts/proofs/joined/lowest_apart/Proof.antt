@@ -1,3 +1,4 @@
+-- `charts::joined::lowest_apart` meets its contract: the Begins are marked, the marks spread, the lowest node without one is found.
 use Prim.Native.Nat.{ℕ}
 use mathlib.Core.Path.{_∙_, ap}
 use mathlib.Core.Bool.{Bool, false, not}

@@ -1,3 +1,4 @@
+-- `charts::joined::lowest_cut_off` meets its contract: the marks of all Begins serve every scheme.
 use mathlib.Core.Path.{sym, _∙_}
 use mathlib.Core.Bool.{false}
 use Rattle.frames.specs.Frame.{size}

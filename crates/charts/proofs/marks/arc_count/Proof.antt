@@ -1,3 +1,4 @@
+-- `charts::marks::arc_count` meets its contract: by the kind of the node.
 use mathlib.Core.List.{List}
 use mathlib.Core.Path.{sym, ap}
 use Prim.Native.Nat.{ℕ}

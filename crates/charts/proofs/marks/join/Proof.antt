@@ -1,3 +1,4 @@
+-- `charts::marks::join` meets its contract: a pass that adds no mark has reached all.
 use Prim.Native.Nat.{_-_, _+_, min}
 use mathlib.Core.Path.{_≡_, sym, _∙_, subst}
 use mathlib.Core.Bool.{Bool}

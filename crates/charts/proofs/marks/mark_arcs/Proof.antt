@@ -1,3 +1,4 @@
+-- `charts::marks::mark_arcs` meets its contract: by how many arcs count.
 use native.Mathlib.Omega.{arith}
 use lib.ListN.{length}
 use Rattle.lists.proofs.Counts.{count-le}

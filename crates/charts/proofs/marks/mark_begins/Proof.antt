@@ -1,3 +1,4 @@
+-- `charts::marks::mark_begins` meets its contract: the nodes passed are marked as they should be.
 use borrow.Author.Needs.{needs}
 use Prim.Native.Nat.{_-_, _≤_}
 use mathlib.Core.Path.{_≡_, refl, sym, _∙_}

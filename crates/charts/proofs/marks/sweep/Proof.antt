@@ -1,3 +1,4 @@
+-- `charts::marks::sweep` meets its contract: the marks after the nodes passed, and how many were added.
 use borrow.Author.Needs.{needs}
 use Prim.Native.Nat.{ℕ, _-_, _+_, _≤_}
 use mathlib.Core.Bool.{Bool}

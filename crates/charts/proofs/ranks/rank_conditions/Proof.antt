@@ -1,3 +1,4 @@
+-- `charts::ranks::rank_conditions` meets its contract: each condition has a rank exactly where there is no circle.
 use mathlib.Core.Path.{sym, _∙_, ap}
 use mathlib.Core.Bool.{not}
 use native.Mathlib.Omega.{arith}

@@ -1,3 +1,4 @@
+-- `charts::ranks::rank_round` meets its contract: the ranks of the nodes passed are those after the round, the others those before it.
 use borrow.Author.Needs.{needs}
 use Prim.Native.Nat.{ℕ, _-_, _≤_}
 use mathlib.Core.Path.{_≡_, refl, sym, _∙_, ap}

@@ -1,3 +1,4 @@
+-- `charts::ranks::rank_rounds` meets its contract: a round that gives no rank is the last.
 use borrow.Author.Needs.{needs}
 use Prim.Native.Nat.{ℕ, _-_, _+_, _≤_}
 use mathlib.Core.Path.{_≡_, sym, _∙_, ap}

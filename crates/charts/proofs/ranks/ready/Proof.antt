@@ -1,3 +1,4 @@
+-- `charts::ranks::ready` meets its contract: by its tests in turn.
 use native.Mathlib.Omega.{arith}
 use Rattle.charts.proofs.Rounds.{within-long}
 use Rattle.charts.proofs.RankCases.{ready-other, ready-ranked, ready-not, ready-both}

@@ -1,3 +1,4 @@
+-- `charts::ranks::settled` meets its contract: by its tests in turn.
 use native.Mathlib.Omega.{arith}
 use Rattle.charts.proofs.Rounds.{within-long}
 use Rattle.charts.proofs.RankCases.{settled-out, settled-other, settled-none, settled-some}

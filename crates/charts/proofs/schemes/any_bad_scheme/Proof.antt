@@ -1,3 +1,4 @@
+-- `charts::schemes::any_bad_scheme` meets its contract: the counts are those of the definition.
 use borrow.Author.Needs.{needs}
 use mathlib.Core.Path.{_∙_}
 use Rattle.charts.proofs.SchemeCounts.{bad-counts}

@@ -1,3 +1,4 @@
+-- `charts::schemes::count_by_scheme` meets its contract: the counts are those of the nodes passed.
 use borrow.Author.Needs.{needs}
 use Prim.Native.Nat.{ℕ, _-_, _≤_}
 use mathlib.Core.Path.{_≡_, sym, _∙_, ap}

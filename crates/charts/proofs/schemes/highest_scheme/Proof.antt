@@ -1,3 +1,4 @@
+-- `charts::schemes::highest_scheme` meets its contract: the highest of the nodes passed.
 use borrow.Author.Needs.{needs}
 use Prim.Native.Nat.{ℕ, _-_, _≤_}
 use mathlib.Core.Path.{_≡_, refl, _∙_, ap}

@@ -1,3 +1,4 @@
+-- `image::check::check_table` meets its contract: 11 to 13 in turn, the first that refuses answers.
 use mathlib.Core.Path.{sym, _∙_}
 use native.Mathlib.Omega.{arith}
 use Rattle.image.proofs.TableCases.{header-size, table-header, table-stray, table-bad, table-good}

@@ -1,3 +1,4 @@
+-- `image::fields::bad_bit` meets its contract: 2 may stand anywhere, 0 and 1 by the label that the row leaves.
 use mathlib.Core.Path.{_∙_, ap}
 use Prim.Native.Nat.{ℕ, _+_, _-_}
 use lib.Dec.{eqb}

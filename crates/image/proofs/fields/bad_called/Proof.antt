@@ -1,3 +1,4 @@
+-- `image::fields::bad_called` meets its contract: by the kind.
 use mathlib.Core.Path.{_∙_, ap}
 use Prim.Native.Nat.{ℕ, _-_}
 use lib.Dec.{ltb, eqb}

@@ -1,3 +1,4 @@
+-- `image::fields::bad_content` meets its contract: by the position of the frame.
 use Prim.Native.Nat.{_-_}
 use native.Mathlib.Omega.{arith}
 use Rattle.image.proofs.PositionCases.{label-above, row-above}

@@ -1,3 +1,4 @@
+-- `image::fields::bad_entry` meets its contract: a needless byte, or a label of another scheme.
 use Rattle.image.proofs.FieldCases.{entry-within}
 use mathlib.Core.Path.{sym, _∙_}
 use borrow.Author.Needs.{needs}

@@ -1,3 +1,4 @@
+-- `image::fields::bad_label` meets its contract: labels 0 and 1 are fixed, the others are numbered.
 use mathlib.Core.Path.{sym, _∙_, ap}
 use Prim.Native.Nat.{ℕ, _-_}
 use Rattle.image.specs.Decode.{labelIn}

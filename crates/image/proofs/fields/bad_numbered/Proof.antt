@@ -1,3 +1,4 @@
+-- `image::fields::bad_numbered` meets its contract: the tests in turn, the first that holds settles it.
 use mathlib.Core.Path.{_∙_, ap}
 use Prim.Native.Nat.{ℕ, _-_}
 use lib.Dec.{ltb}

@@ -1,3 +1,4 @@
+-- `image::fields::bad_row` meets its contract: the tests in turn, the first that holds settles it.
 use borrow.Author.Tests.{not-true, not-false}
 use mathlib.Core.Path.{sym, _∙_}
 use Prim.Native.Nat.{_+_, _-_}

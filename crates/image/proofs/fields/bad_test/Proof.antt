@@ -1,3 +1,4 @@
+-- `image::fields::bad_test` meets its contract: the three tests in turn.
 use mathlib.Core.Path.{_∙_, ap}
 use Prim.Native.Nat.{ℕ, _-_}
 use lib.Dec.{eqb}

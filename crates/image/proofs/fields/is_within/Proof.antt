@@ -1,3 +1,4 @@
+-- `image::fields::is_within` meets its contract: by the label, its owner and where the scheme ends.
 use Rattle.image.proofs.FieldCases.{within-above, within-owned, within-one, within-other}
 use borrow.Author.Needs.{needs}
 use Rattle.image.proofs.fields.is_within.Statement.{statement}

@@ -1,3 +1,4 @@
+-- `image::fields::unlike` meets its contract: the five fields in turn.
 use mathlib.Core.Path.{_∙_, ap}
 use Prim.Native.Nat.{ℕ, _-_}
 use lib.Dec.{eqb}

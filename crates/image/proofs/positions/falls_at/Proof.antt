@@ -1,3 +1,4 @@
+-- `image::positions::falls_at` meets its contract: the first row falls below none.
 use Rattle.image.proofs.PositionCases.{falls-later}
 use borrow.Author.Needs.{needs}
 use Rattle.image.proofs.positions.falls_at.Statement.{statement}

@@ -1,3 +1,4 @@
+-- `image::positions::kind_at` meets its contract: by where entries, labels and rows begin.
 use Rattle.image.proofs.PositionCases.{kind-header, kind-entry, kind-label, kind-row}
 use borrow.Author.Needs.{needs}
 use Rattle.image.proofs.positions.kind_at.Statement.{statement}

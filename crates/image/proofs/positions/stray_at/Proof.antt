@@ -1,3 +1,4 @@
+-- `image::positions::stray_at` meets its contract: by the kind that the position asks for.
 use Prim.Native.Nat.{_-_}
 use native.Mathlib.Omega.{arith}
 use Rattle.image.proofs.PositionCases.{label-above, row-above, stray-entry-kind, stray-entry, stray-label-kind}

@@ -1,3 +1,4 @@
+-- `image::table::filled_to` meets its contract: the loop keeps what is left to look at.
 use borrow.Author.Needs.{needs}
 use mathlib.Core.Path.{_≡_, sym, _∙_}
 use Prim.Native.Nat.{_-_, _≤_}

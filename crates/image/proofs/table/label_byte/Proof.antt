@@ -1,3 +1,4 @@
+-- `image::table::label_byte` meets its contract: the frame of a label lies in the table.
 use mathlib.Core.Path.{_∙_, ap}
 use Prim.Native.Nat.{ℕ, _+_, _-_}
 use Rattle.frames.specs.Frame.{field}

@@ -1,3 +1,4 @@
+-- `machine::State::fresh` meets its contract: by whether the size is refused.
 use mathlib.Core.Path.{sym, _∙_}
 use borrow.Author.Needs.{needs}
 use Rattle.machine.specs.State.{freshState}

@@ -1,3 +1,4 @@
+-- `machine::advance::tick_image` meets its contract: a run of one word, read off its buffers.
 use Prim.Native.Nat.{ℕ}
 use mathlib.Core.Path.{ap}
 use mathlib.Core.List.{List}

@@ -1,3 +1,4 @@
+-- `machine::fit::bad_depth` meets its contract: by the three tests in turn.
 use mathlib.Core.Path.{sym, _∙_}
 use borrow.Author.Tests.{eq-eqb, ne-eqb}
 use borrow.Author.Needs.{needs}

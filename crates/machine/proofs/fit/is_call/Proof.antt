@@ -1,3 +1,4 @@
+-- `machine::fit::is_call` meets its contract: kinds 1 and 2.
 use Rattle.machine.proofs.FitCases.{call-first, call-second}
 use borrow.Author.Needs.{needs}
 use Rattle.machine.proofs.fit.is_call.Statement.{statement}

@@ -1,3 +1,4 @@
+-- `machine::fit::is_unfit` meets its contract: the four tests in turn, the first that holds settles it.
 use mathlib.Core.Path.{sym, _∙_}
 use Rattle.machine.proofs.FitCases.{depth-most, unfit-depth, unfit-places, unfit-bottom, unfit-above}
 use borrow.Author.Needs.{needs}

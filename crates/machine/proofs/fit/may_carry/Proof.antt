@@ -1,3 +1,4 @@
+-- `machine::fit::may_carry` meets its contract: a call, and what stands above it.
 use Rattle.machine.proofs.FitCases.{carry-return, carry-owned, carry-none}
 use borrow.Author.Needs.{needs}
 use Rattle.machine.proofs.fit.may_carry.Statement.{statement}

@@ -1,3 +1,4 @@
+-- `machine::fit::owner_of` meets its contract: a label above the last one has no owner.
 use Rattle.machine.proofs.FitCases.{owner-none, owner-some}
 use borrow.Author.Needs.{needs}
 use Rattle.machine.proofs.fit.owner_of.Statement.{statement}

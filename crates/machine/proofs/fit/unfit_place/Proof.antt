@@ -1,3 +1,4 @@
+-- `machine::fit::unfit_place` meets its contract: by its cases: no label of the image, the top, a label that is kept.
 use Rattle.machine.proofs.FitCases.{place-high, place-kept, place-top}
 use borrow.Author.Needs.{needs}
 use Rattle.machine.proofs.fit.unfit_place.Statement.{statement}

@@ -1,3 +1,4 @@
+-- `machine::fresh::bad_size` meets its contract: 0, or above 32.
 use borrow.Author.Tests.{eq-eqb, ne-eqb}
 use Rattle.machine.proofs.fresh.bad_size.Statement.{statement}
 use Rattle.machine.proofs.fresh.bad_size.Tie as tie

@@ -1,3 +1,4 @@
+-- `machine::parts::code_of` meets its contract: by the kind.
 use mathlib.Core.Path.{sym, ap}
 use Prim.Native.Nat.{ℕ, _-_}
 use Rattle.machine.specs.Parts.{codeOf}

@@ -1,3 +1,4 @@
+-- `machine::parts::tick_back` meets its contract: a return by its cases: a row is found or none is.
 use native.Mathlib.Omega.{arith}
 use Prim.Native.Nat.{_-_}
 use lib.ListN.{length-set}

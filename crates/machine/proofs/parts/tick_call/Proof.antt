@@ -1,3 +1,4 @@
+-- `machine::parts::tick_call` meets its contract: a call by its cases: there is a free place or none.
 use native.Mathlib.Omega.{arith}
 use Rattle.machine.proofs.TickCases.{depth-some, depth-most, depth-within, size-within, top-small, top-inside}
 use Rattle.machine.proofs.TickCases.{top-called, owner-range, entry-inside, call-stop, call-go}

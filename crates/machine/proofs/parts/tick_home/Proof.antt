@@ -1,3 +1,4 @@
+-- `machine::parts::tick_home` meets its contract: the entry of scheme 1 is put in the place of the top.
 use native.Mathlib.Omega.{arith}
 use Rattle.machine.proofs.TickCases.{depth-some, depth-most, first-inside, home-go}
 use borrow.Author.Needs.{needs}

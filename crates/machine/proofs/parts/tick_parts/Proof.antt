@@ -1,3 +1,4 @@
+-- `machine::parts::tick_parts` meets its contract: the tick by the kind of the top label.
 use native.Mathlib.Omega.{arith}
 use Rattle.machine.proofs.TickCases.{depth-some, depth-most, top-small, top-inside}
 use borrow.Author.Needs.{needs}

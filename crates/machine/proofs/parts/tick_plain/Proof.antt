@@ -1,3 +1,4 @@
+-- `machine::parts::tick_plain` meets its contract: a plain tick by its cases: a row is found or none is.
 use native.Mathlib.Omega.{arith}
 use Rattle.machine.proofs.TickCases.{depth-some, depth-most, top-small, top-low, top-inside, top-called, owner-range, plain-stop, plain-go}
 use borrow.Author.Needs.{needs}

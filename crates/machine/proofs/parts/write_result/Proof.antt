@@ -1,3 +1,4 @@
+-- `machine::parts::write_result` meets its contract: 0 keeps the bit, 1 and 2 write it.
 use mathlib.Core.Path.{sym}
 use native.Mathlib.Omega.{arith}
 use borrow.Author.Tests.{eq-eqb, ne-eqb}

@@ -1,3 +1,4 @@
+-- `machine::rows::find_row` meets its contract: the loop keeps what is left to search.
 use borrow.Author.Needs.{needs}
 use mathlib.Core.Path.{_≡_, sym, _∙_}
 use Prim.Native.Nat.{_-_, _≤_}

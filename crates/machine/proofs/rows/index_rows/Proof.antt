@@ -1,3 +1,4 @@
+-- `machine::rows::index_rows` meets its contract: the search for a label goes on where that for the label before it ended.
 use borrow.Author.Needs.{needs}
 use Prim.Native.Nat.{_-_}
 use native.Mathlib.Omega.{arith}

@@ -1,3 +1,4 @@
+-- `machine::rows::is_fitting` meets its contract: by the label, the values and the function bit.
 use mathlib.Core.Path.{sym, _∙_, ap}
 use Prim.Native.Nat.{ℕ, _-_}
 use borrow.Author.Tests.{eq-eqb, ne-eqb}

@@ -1,3 +1,4 @@
+-- `machine::rows::next_by` meets its contract: the rows between the two frames are all rows of the label.
 use Prim.Native.Nat.{_+_}
 use native.Mathlib.Omega.{arith}
 use Rattle.machine.proofs.RowRange.{firsts-long, range-lies, next-found, next-none}

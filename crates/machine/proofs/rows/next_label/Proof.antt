@@ -1,3 +1,4 @@
+-- `machine::rows::next_label` meets its contract: by the result bit of the scheme that the label calls.
 use mathlib.Core.Bool.{true, false}
 use Rattle.machine.proofs.RowCases.{label-inside, chosen}
 use borrow.Author.Needs.{needs}

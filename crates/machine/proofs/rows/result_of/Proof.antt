@@ -1,3 +1,4 @@
+-- `machine::rows::result_of` meets its contract: scheme 0 is read as the first bit, as the definition has it.
 use mathlib.Core.Path.{_≡_, ap}
 use Prim.Native.Nat.{ℕ, _-_}
 use native.Mathlib.Omega.{arith}

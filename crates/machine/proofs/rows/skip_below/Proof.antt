@@ -1,3 +1,4 @@
+-- `machine::rows::skip_below` meets its contract: the loop keeps what is left to search.
 use borrow.Author.Needs.{needs}
 use borrow.Author.Tests.{le-leb, lt-leb}
 use mathlib.Core.Path.{_≡_, sym, _∙_}

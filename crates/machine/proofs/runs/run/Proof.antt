@@ -1,3 +1,4 @@
+-- `machine::runs::run` meets its contract: the image is refused, or its table is run.
 use native.Mathlib.Omega.{arith}
 use Rattle.machine.proofs.RunCases.{image-refused, front-long, front-short, front-fine, image-run}
 use borrow.Author.Needs.{needs}

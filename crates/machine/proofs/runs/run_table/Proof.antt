@@ -1,3 +1,4 @@
+-- `machine::runs::run_table` meets its contract: 15 and 16 in turn, then the ticks.
 use native.Mathlib.Omega.{arith}
 use mathlib.Core.Path.{sym, _∙_}
 use Rattle.machine.proofs.RowCases.{rows-inside}

@@ -1,3 +1,4 @@
+-- `machine::runs::run_ticks` meets its contract: the state taken apart and put together again.
 use Rattle.machine.proofs.RunCases.{all-done, some-done}
 use borrow.Author.Needs.{needs}
 use Rattle.machine.proofs.runs.run_ticks.Statement.{statement}

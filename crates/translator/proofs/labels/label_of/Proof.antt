@@ -1,3 +1,4 @@
+-- `translator::labels::label_of` meets its contract: a label of its own, or 0 or 1 by the scheme.
 use native.Mathlib.Omega.{arith}
 -- `translator::label_of`: the next number for a node that has a label of its own, else 0 or 1 by the scheme.
 use mathlib.Core.Path.{sym, _∙_}

@@ -1,3 +1,4 @@
+-- `translator::nodes::begin_stops` meets its contract: the node after a Begin is one of the chart.
 use Rattle.translator.proofs.NodeSteps.{begin-second, begin-first}
 -- `translator::begin_stops`: its scheme, then the kind of the node that it leads to.
 use borrow.Author.Needs.{needs}

@@ -1,3 +1,4 @@
+-- `translator::nodes::stops` meets its contract: by the kind of the node.
 use Rattle.translator.proofs.NodeSteps.{condition-second, condition-first}
 -- `translator::stops`: by kind.
 use mathlib.Core.Path.{sym, _∙_}

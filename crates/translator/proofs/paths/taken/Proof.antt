@@ -1,3 +1,4 @@
+-- `translator::paths::taken` meets its contract: by the value of the condition.
 use Rattle.translator.proofs.PathCases.{taken-zero, taken-one}
 -- `translator::taken`: the arc on a 0 or on a 1.
 use Rattle.translator.proofs.PathCases.{small-number}
