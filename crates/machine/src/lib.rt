@@ -12,7 +12,8 @@ pub use advance::tick;
 pub use advance::tick_image;
 pub use runs::run;
 
-// Places hold labels, the bottom first, up to the depth, and 0 above it; scheme h's result bit stands at h - 1.
+// Places (the paper's word for the entries of the stack) hold labels, the bottom first, up to the depth, and 0 above it;
+// scheme h's result bit stands at h - 1.
 pub struct State {
     pub size: u8,
     pub depth: u8,

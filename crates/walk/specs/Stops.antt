@@ -1,4 +1,4 @@
--- Stops (the nodes that take a tick) and the way from one to the next.
+-- Stops (the paper's word for the nodes that take a tick) and the way from one to the next.
 use Prim.Native.Nat.{ℕ, zero, suc}
 use mathlib.Core.Bool.{Bool, true, false, _&&_, not}
 use lib.Dec.{eqb}

@@ -1,4 +1,5 @@
--- The walk: schemes performed recursively, one tick a word. It knows charts and nothing of labels, rows or a stack.
+-- The walk (the paper's word for what a chart does by itself): schemes performed recursively, one tick a word.
+-- It knows charts and nothing of labels, rows or a stack.
 use Prim.Native.Nat.{ℕ, zero, suc, _+_}
 use mathlib.Core.List.{List, [], _∷_, _++_}
 use lib.ListN.{length}
