@@ -68,7 +68,8 @@ uint8_t fairleadow_fresh(size_t size, fairleadow_state *state, size_t *index, si
 uint8_t fairleadow_run(const uint8_t *image, size_t image_len, fairleadow_state *state, const uint16_t *words, size_t words_len,
                        uint32_t *masks, size_t masks_len, uint8_t *codes, size_t codes_len, size_t *index, size_t *count);
 
-/* One tick. Tries what a run tries but 16; counts 1. A refused tick counts 0 and leaves the state, *mask and *code as they were. */
+/* One tick. Tries what a run tries but 16; counts 1. A refused tick counts 0 and leaves the state, *mask and *code as they were.
+ * The image is checked anew at each tick, which takes most of its time; where several words are at hand, a run checks it once. */
 uint8_t fairleadow_tick(const uint8_t *image, size_t image_len, fairleadow_state *state, uint16_t word,
                         uint32_t *mask, uint8_t *code, size_t *index, size_t *count);
 
