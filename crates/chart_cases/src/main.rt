@@ -1,6 +1,6 @@
 // The chart reader and the chart writer on chart P of standard input: there and back, then one edit of it after the other.
 // Each call prints a frame: 00 for the reader and 01 for the writer, the number or 00, the index, the count, and how many bytes of
-// the lent buffer changed.
+// the lent buffer changed, which the first two calls leave out.
 use frames::Answer;
 
 // How many bytes of a buffer are not 170, which no record and no character here is.

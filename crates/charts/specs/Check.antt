@@ -1,4 +1,4 @@
--- Why a chart is turned back: refusals 4 to 9.
+-- Why a chart is refused: refusals 4 to 9.
 use Prim.Native.Nat.{ℕ, zero, suc, _-_}
 use mathlib.Core.Bool.{Bool, true, _&&_, _||_, not}
 use mathlib.Core.List.{List, [], _∷_}

@@ -40,7 +40,7 @@ ranksOf c = ranksAfter c 255
 abbrev pub unranked : Chart → List ℕ → ℕ → Bool
 unranked c ranks v = is c 3 v && eqb (getD ranks v 0) 0
 
--- what the ranks are for
+-- ranks that fall along each arc from a condition to a condition
 pub record Ranked (c : Chart) (ranks : List ℕ) : Type 0 where
   pub whole : length ranks ≡ 256
   pub falls : (v u : ℕ) → v < size c → kind c v ≡ 3 → member u (arcs c v) ≡ true → kind c u ≡ 3 → getD ranks u 0 < getD ranks v 0

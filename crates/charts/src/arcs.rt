@@ -47,7 +47,7 @@ fn bad_arc(records: &[u8], v: usize) -> bool
     }
 }
 
-// The lowest node that 6 turns back, or the number of nodes.
+// The lowest node that 6 refuses, or the number of nodes.
 pub fn lowest_arc(records: &[u8]) -> usize
     ensures { λ r. ⌜ r ≡ lowest (badArc (now (records .entry))) 0 (size (now (records .entry))) ⌝ }
 {
@@ -86,7 +86,7 @@ fn bad_call(records: &[u8], highest: u8, v: usize) -> bool
     }
 }
 
-// The lowest node that 7 turns back, or the number of nodes.
+// The lowest node that 7 refuses, or the number of nodes.
 pub fn lowest_call(records: &[u8], highest: u8) -> usize
     requires { ⌜ highest ≡ schemes (now records) ⌝ }
     ensures { λ r. ⌜ r ≡ lowest (badCall (now (records .entry))) 0 (size (now (records .entry))) ⌝ }

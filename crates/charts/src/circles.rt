@@ -52,7 +52,7 @@ fn search_circle(records: &[u8]) -> usize
     v
 }
 
-// The lowest node that 8 turns back, or the number of nodes. Where each condition gets a rank there is none, so only a refused chart is searched.
+// The lowest node that 8 refuses, or the number of nodes. Where each condition gets a rank there is none, so only a refused chart is searched.
 pub fn lowest_circle(records: &[u8]) -> usize
     requires { ⌜ (length (now records) ≡ 10 * size (now records)) × (size (now records) ≤ 256) ⌝ }
     ensures { λ r. ⌜ r ≡ lowest (onCircle (now (records .entry))) 0 (size (now (records .entry))) ⌝ }

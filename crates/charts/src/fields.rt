@@ -94,7 +94,7 @@ fn bad_field(records: &[u8], v: usize) -> bool
     bad_use(records, v, field(records, v, 0))
 }
 
-// The lowest node that 4 turns back, or the number of nodes.
+// The lowest node that 4 refuses, or the number of nodes.
 pub fn lowest_field(records: &[u8]) -> usize
     ensures { λ r. ⌜ r ≡ lowest (badField (now (records .entry))) 0 (size (now (records .entry))) ⌝ }
 {

@@ -22,7 +22,7 @@ fn lowest_apart(records: &[u8], marks: &mut [bool]) -> usize
     graph::lowest_unmarked(marks)
 }
 
-// The lowest node that 9 turns back, or the number of nodes. Arcs stay within a scheme, so the marks of all Begins serve every scheme.
+// The lowest node that 9 refuses, or the number of nodes. Arcs stay within a scheme, so the marks of all Begins serve every scheme.
 pub fn lowest_cut_off(records: &[u8]) -> usize
     requires { ⌜ size (now records) ≤ 256 ⌝ }
     requires { ⌜ size (now records) ≤ lowest (badField (now records)) 0 (size (now records)) ⌝ }

@@ -9,9 +9,7 @@ mod marks;
 mod ranks;
 mod schemes;
 
-pub use check::check_chart;
 pub use entry::read_chart;
 pub use entry::write_chart;
 pub use fields::field;
-pub use ranks::rank_conditions;
 pub use schemes::highest_scheme;

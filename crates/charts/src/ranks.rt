@@ -100,7 +100,7 @@ fn all_ranked(records: &[u8], ranks: &[u8]) -> bool
     true
 }
 
-// The rank of each condition, where no circle of conditions is in the way; whether none is.
+// The rank of each condition; whether all have one, which is so exactly where no circle of conditions is.
 pub fn rank_conditions(records: &[u8], ranks: &mut [u8]) -> bool
     requires { ⌜ (length (now records) ≡ 10 * size (now records)) × (size (now records) ≤ 256) ⌝ }
     requires { ⌜ now ranks ≡ replicate 256 0 ⌝ }

@@ -19,7 +19,7 @@ abbrev pub reply : Answer → Reply
 reply (Done n) = success n
 reply (Refused k i n) = refusal k i n
 
--- the number as printed, 0 for success, and the values beside it
+-- the number that C gets, 0 for success, and the values beside it
 abbrev pub number : Reply → ℕ
 number (success n) = 0
 number (refusal k i n) = k

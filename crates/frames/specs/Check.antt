@@ -1,4 +1,4 @@
--- Why a text is turned back: refusals 1 to 3.
+-- Why a text is refused: refusals 1 to 3.
 use Prim.Native.Nat.{ℕ, _+_, _*_, _%_}
 use mathlib.Core.Bool.{Bool, _||_, not}
 use mathlib.Core.List.{List}
@@ -13,7 +13,7 @@ use Rattle.frames.specs.Verdict.{Verdict, next, when, atLowest}
 abbrev pub badLength : ℕ → ℕ → ℕ → Bool
 badLength unit most n = eqb n 0 || not (eqb (n % unit) 0) || ltb most n
 
--- 2: a place of 0 to 21 that is no digit, or place 22 that is no line feed
+-- 2: a character of 0 to 21 that is no digit, or character 22 that is no line feed
 unfoldable pub badForm : List ℕ → ℕ → Bool
 badForm t f = any (λ k. leb 16 (digitOf (getD t (23 * f + k) 0))) 0 22 || not (eqb (getD t (23 * f + 22) 0) 10)
 

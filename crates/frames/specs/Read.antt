@@ -11,7 +11,7 @@ use Rattle.frames.specs.Digit.{digitOf}
 use Rattle.frames.specs.Frame.{byteAt, contents}
 use Rattle.frames.specs.Check.{badLength}
 
--- the byte of the two characters from a place on, and whether one of them is no digit
+-- the byte of the two characters from an offset on, and whether one of them is no digit
 abbrev pub byteFrom : List ℕ → ℕ → ℕ
 byteFrom t i = 16 * digitOf (getD t i 0) + digitOf (getD t (i + 1) 0)
 

@@ -34,7 +34,7 @@ struct Faults {
     sum: bool,
 }
 
-// The lowest frame that 2 turns back and the lowest that 3 turns back, or the number of frames.
+// The lowest frame that 2 refuses and the lowest that 3 refuses, or the number of frames.
 struct Lowest {
     form: usize,
     sum: usize,

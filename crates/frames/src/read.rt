@@ -17,7 +17,7 @@ ghost use Rattle.frames.specs.Check.{badForm, badSum, textVerdict};
 ghost use Rattle.frames.specs.Read.{byteFrom, badPair, storedOf, readInto};
 ghost use Rattle.frames.specs.Answer.{reply, judged};
 
-// The byte of the two characters from a place on.
+// The byte of the two characters from an offset on.
 fn byte_at(digits: &[u8], text: &[u8], at: usize) -> Byte
     requires { ⌜ now digits ≡ digitTable ⌝ }
     requires { ⌜ at + 2 ≤ length (now text) ⌝ }
@@ -82,7 +82,7 @@ fn read_frames(text: &[u8], n: usize, out: &mut [u8]) -> Lowest
     Lowest { form, sum }
 }
 
-// 1 to 3, each tried on the whole text before the next; else the number of frames.
+// 1 to 3, else the number of frames. A fault of form in any frame goes before a wrong sum in any.
 pub fn read_text(text: &[u8], most: usize, out: &mut [u8]) -> Answer
     requires { ⌜ 10 * most ≤ 23 * length (now out) ⌝ }
     ensures { λ r. ⌜ (reply r ≡ judged (textVerdict most (now (text .entry))) (frameCount (now (text .entry)))) × (now (out .exit) ≡ readInto most (now (text .entry)) (now (out .entry))) ⌝ }

@@ -8,7 +8,7 @@ ghost use Rattle.lists.specs.Sequences.{written};
 ghost use Rattle.frames.specs.Digit.{characterTable};
 ghost use Rattle.frames.specs.Frame.{byteText, frameText, textOf, size};
 
-// Bytes as they are, at a place.
+// Bytes as they are, from an offset on.
 pub fn put_bytes(out: &mut [u8], at: usize, bytes: &[u8])
     requires { ⌜ at + length (now bytes) ≤ length (now out) ⌝ }
     ensures { λ _. ⌜ now (out .exit) ≡ written (now (out .entry)) at (now (bytes .entry)) ⌝ }
@@ -21,7 +21,7 @@ pub fn put_bytes(out: &mut [u8], at: usize, bytes: &[u8])
     }
 }
 
-// The two characters of a byte, at a place.
+// The two characters of a byte, from an offset on.
 fn put_byte(characters: &[u8], out: &mut [u8], at: usize, b: u8)
     requires { ⌜ now characters ≡ characterTable ⌝ }
     requires { ⌜ at + 2 ≤ length (now out) ⌝ }
@@ -31,7 +31,7 @@ fn put_byte(characters: &[u8], out: &mut [u8], at: usize, b: u8)
     out[at + 1] = character(characters, b % 16);
 }
 
-// Ten bytes as a frame, at a place.
+// Ten bytes as a frame, from an offset on.
 pub fn put_frame(out: &mut [u8], at: usize, bytes: &[u8])
     requires { ⌜ at + 23 ≤ length (now out) ⌝ }
     requires { ⌜ length (now bytes) ≡ 10 ⌝ }
@@ -50,7 +50,7 @@ pub fn put_frame(out: &mut [u8], at: usize, bytes: &[u8])
     out[at + 22] = 10;
 }
 
-// The text of contents, at a place.
+// The text of contents, from an offset on.
 pub fn put_text(out: &mut [u8], at: usize, bytes: &[u8])
     requires { ⌜ at + 23 * size (now bytes) ≤ length (now out) ⌝ }
     ensures { λ _. ⌜ now (out .exit) ≡ written (now (out .entry)) at (textOf (now (bytes .entry))) ⌝ }

@@ -1,4 +1,4 @@
--- Why an image is turned back: refusals 1 to 3 and 11 to 13.
+-- Why an image is refused: refusals 1 to 3 and 11 to 13.
 use Prim.Native.Nat.{ℕ, zero, suc, _+_, _-_}
 use mathlib.Core.Bool.{Bool, false, _&&_, _||_, not}
 use mathlib.Core.List.{List}
@@ -33,7 +33,7 @@ pub data Position : Type 0 where
 unfoldable pub positionOf : List ℕ → ℕ → Position
 positionOf b f = pick (eqb f 0) header (pick (ltb f (labelsFrom b)) (entryAt f) (pick (ltb f (rowsFrom b)) (labelAt (f - labelsFrom b)) (rowAt (f - rowsFrom b))))
 
--- 12. The wrong kind or number for its position, or a row whose from-label is below the one before.
+-- 12. Byte 0 or byte 1 is not what the position asks for, or rows are out of order.
 abbrev pub falls : List ℕ → ℕ → Bool
 falls b zero = false
 falls b (suc k) = ltb (rowIn b (suc k) .from) (rowIn b k .from)
@@ -67,7 +67,7 @@ badLabel b zero x = not (isLabel 4 1 x)
 badLabel b (suc zero) x = not (isLabel 3 0 x)
 badLabel b (suc (suc l)) x = ltb 2 (x .kind) || eqb (x .owner) 0 || ltb (schemeCount b) (x .owner) || ltb 2 (x .result) || badCalled b x
 
--- 0 or 1 stands only in rows of a function call's label
+-- a bit other than 2 needs the label of a function call
 abbrev pub badBit : List ℕ → Row → Bool
 badBit b r = ltb 2 (r .bit) || (ltb (r .bit) 2 && not (eqb (labelIn b (r .from) .kind) 2))
 

@@ -65,8 +65,8 @@ fn unlike(table: &[u8], l: usize, kind: u8, owner: u8) -> bool
     label_mask(table, l) != 0
 }
 
-// Label l calls a scheme where its tick kind calls none, or none of 2 to H where it calls one; no such kind is above 2.
-fn bad_called(table: &[u8], l: usize) -> bool
+// The tick kind of label l is above 2, or the scheme called does not suit it: kind 0 calls none, 1 and 2 one of 2 to H.
+fn bad_kind(table: &[u8], l: usize) -> bool
     requires { ⌜ labelsFrom (now table) + l < size (now table) ⌝ }
     ensures { λ r. ⌜ r ≡ badKind (now (table .entry)) (labelIn (now (table .entry)) l) ⌝ }
 {
@@ -89,7 +89,7 @@ fn bad_numbered(table: &[u8], l: usize) -> bool
     requires { ⌜ (labelsFrom (now table) + l < size (now table)) × (2 ≤ l) ⌝ }
     ensures { λ r. ⌜ r ≡ badLabel (now (table .entry)) l (labelIn (now (table .entry)) l) ⌝ }
 {
-    if bad_called(table, l) {
+    if bad_kind(table, l) {
         return true;
     }
     let owner = label_byte(table, l, 4);
@@ -179,7 +179,7 @@ fn bad_content(table: &[u8], f: usize) -> bool
     }
 }
 
-// The lowest of n frames that 13 turns back, or n.
+// The lowest of n frames that 13 refuses, or n.
 pub fn lowest_bad(table: &[u8], n: usize) -> usize
     requires { ⌜ (rowsFrom (now table) ≤ size (now table)) × (n ≤ size (now table)) ⌝ }
     ensures { λ r. ⌜ r ≡ lowest (badContent (now (table .entry))) 0 n ⌝ }

@@ -106,7 +106,7 @@ fn stray_at(table: &[u8], f: usize) -> bool
     }
 }
 
-// The lowest of n frames that 12 turns back, or n.
+// The lowest of n frames that 12 refuses, or n.
 pub fn lowest_stray(table: &[u8], n: usize) -> usize
     requires { ⌜ n ≤ size (now table) ⌝ }
     ensures { λ r. ⌜ r ≡ lowest (stray (now (table .entry))) 0 n ⌝ }

@@ -25,6 +25,6 @@ mapFrom f i (x ∷ xs) = f i x ∷ mapFrom f (suc i) xs
 abbrev pub over : {A : Type 0} → List A → List A → List A
 over xs old = xs ++ drop (length xs) old
 
--- a buffer after xs was written from place i on
+-- a buffer after xs was written from offset i on
 unfoldable pub written : {A : Type 0} → List A → ℕ → List A → List A
 written old i xs = take i old ++ (xs ++ drop (i + length xs) old)

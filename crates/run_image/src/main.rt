@@ -1,5 +1,5 @@
 // Runs the image on standard input from a fresh state with 32 places, the words being 0 to 63.
-// Prints each code as two digits and a line feed; a refusal adds its frame.
+// One line a tick, its code; after a refusal its frame.
 use frames::Answer;
 use machine::State;
 use printing::code_line;

@@ -18,7 +18,7 @@ numbered c v = stops c v && not (is c 1 v)
 abbrev pub numberedNodes : Chart → List ℕ
 numberedNodes c = filter (numbered c) (range 0 (size c))
 
--- 0 is Begin and End of scheme 1, 1 every other End, and the numbered stops have 2, 3, ..
+-- the numbered stops have 2, 3, .., all other nodes 0 in scheme 1 and 1 elsewhere; of these only Begin and End are read as labels
 unfoldable pub label : Chart → ℕ → ℕ
 label c v = pick (numbered c v) (2 + count (numbered c) 0 v) (pick (eqb (scheme c v) 1) 0 1)
 

@@ -1,4 +1,4 @@
-// Nodes of an accepted chart: their fields, the Begin of a scheme, the stops.
+// Nodes of an accepted chart: the Begin of a scheme, the stops.
 use charts::field;
 ghost use mathlib.Core.Path.{_≡_};
 ghost use Prim.Native.Nat.{_+_, _*_, _<_};

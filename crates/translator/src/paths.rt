@@ -1,4 +1,4 @@
-// The paths on from a node through conditions that take no tick: counted, and written as rows.
+// The paths on from a node through conditions that take no tick, counted; and where such a path ends.
 use bits::bit;
 use bits::with_bit;
 use charts::field;

@@ -139,7 +139,7 @@ fn put_label(records: &[u8], v: usize, label: u8, out: &mut [u8], at: usize)
     }
 }
 
-// The label of a node, where it has one of its own; the place after it.
+// The label of a node, where it has one of its own; the offset after it.
 fn put_node_label(records: &[u8], labels: &[u8], v: usize, out: &mut [u8], at: usize) -> usize
     requires { ⌜ Ready (now records) ⌝ }
     requires { ⌜ Labelled (now records) (now labels) ⌝ }

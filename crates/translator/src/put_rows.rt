@@ -1,4 +1,4 @@
-// The rows of all labels, written as frames. Each function returns the place after what it wrote.
+// The rows of all labels, written as frames. Functions that return a number return the offset after what they wrote.
 use crate::paths::ends_path;
 use crate::paths::settle;
 use bits::with_bit;

@@ -6,7 +6,7 @@ use Rattle.lists.specs.Pick.{pick}
 use Rattle.frames.specs.Frame.{size}
 use Rattle.charts.specs.Chart.{Chart, scheme, argument, next0, next1, result, mask, is, begin, taken}
 
--- In scheme 1 the condition that Begin leads to stops; in other schemes a Begin that leads to a condition does.
+-- a condition stops only as the first node of scheme 1; a Begin only before a condition, and not in scheme 1
 unfoldable pub stops : Chart → ℕ → Bool
 stops c v = elim (is c 3 v) [
   | true ↦ eqb (scheme c v) 1 && eqb (next0 c (begin c 1)) v

@@ -8,8 +8,8 @@ use borrow.Author.Needs.{needs}
 use Rattle.image.proofs.fields.bad_numbered.Statement.{statement}
 use Rattle.image.proofs.fields.bad_numbered.Tie as tie
 
-bad-called-requires : tie.Need-bad-called-requires
-bad-called-requires c κs = search needs
+bad-kind-requires : tie.Need-bad-kind-requires
+bad-kind-requires c κs = search needs
 
 returns : tie.Need-returns
 returns c =
@@ -53,7 +53,7 @@ pub bad-numbered-spec : {M : Type 1} → statement M
 bad-numbered-spec =
     tie.close
     (tie.spec
-    bad-called-requires
+    bad-kind-requires
     returns
     label-byte-requires
     returns-2

@@ -1,4 +1,4 @@
--- `image::fields::bad_called` meets its contract: by the kind.
+-- `image::fields::bad_kind` meets its contract: by the kind.
 use mathlib.Core.Path.{_∙_, ap}
 use Prim.Native.Nat.{ℕ, _-_}
 use lib.Dec.{ltb, eqb}
@@ -7,8 +7,8 @@ use Rattle.frames.specs.Frame.{field}
 use Rattle.image.specs.Decode.{labelIn}
 use Rattle.image.proofs.FieldCases.{kind-plain, kind-low, kind-call, kind-none}
 use borrow.Author.Needs.{needs}
-use Rattle.image.proofs.fields.bad_called.Statement.{statement}
-use Rattle.image.proofs.fields.bad_called.Tie as tie
+use Rattle.image.proofs.fields.bad_kind.Statement.{statement}
+use Rattle.image.proofs.fields.bad_kind.Tie as tie
 
 label-byte-requires : tie.Need-label-byte-requires
 label-byte-requires c κs = search needs
@@ -50,8 +50,8 @@ returns-4 c =
     let l = start .args .l in
     kind-none b (labelIn b l) (search needs)
 
-pub bad-called-spec : {M : Type 1} → statement M
-bad-called-spec =
+pub bad-kind-spec : {M : Type 1} → statement M
+bad-kind-spec =
     tie.close
     (tie.spec
     label-byte-requires
