@@ -6,7 +6,8 @@
  * With refusals 1 to 16 no buffer and no state is changed; only 14 writes a state, of zeros. With success, and with 17 and 18,
  * nothing past the count is changed.
  * A buffer is a pointer and how many elements it has. No pointer is null, and nothing that a call writes may overlap anything
- * else that the call is given. Nothing is allocated and nothing is kept between calls.
+ * else that the call is given. Nothing is allocated and nothing is kept between calls. The archive is code for x86-64; it calls
+ * memcpy and memset and nothing else. There a translation takes 7,360 bytes of stack, a run or a tick 14,700.
  *
  * The refusals, tried in this order (docs/REFUSALS.md tells what to look for):
  *    1  the length of the text or of the records           10  more than 1,024 rows

@@ -1,5 +1,5 @@
 //! The deepest stack use of the C functions, measured on a stack of its own that is filled with one byte first. The
-//! lathe has 64 kilobytes: a translation has to leave room for the chart's text and the image's, a run for the image's.
+//! lathe has 64 kilobytes: each call has to leave room for the chart's text and the image's.
 
 use std::arch::asm;
 use std::ffi::c_void;
@@ -125,6 +125,19 @@ fn ticks(image: Vec<u8>) -> Ticks {
     Ticks { image, state, words, masks: vec![0; 500], codes: vec![0; 500], number: 0 }
 }
 
+/// Writes to 10,000 bytes of its stack.
+extern "C" fn write_ten_thousand(job: &mut u8) {
+    let mut held = [0u8; 10_000];
+    std::hint::black_box(&mut held).fill(*job);
+    *job = held[5_000];
+}
+
+#[test]
+fn the_depth_of_a_known_call_is_measured() {
+    let depth = depth(&mut 7, write_ten_thousand);
+    assert!((10_000..11_000).contains(&depth), "{depth}");
+}
+
 #[test]
 fn a_translation_fits_beside_both_texts() {
     let mut deepest = 0;
@@ -138,7 +151,7 @@ fn a_translation_fits_beside_both_texts() {
 }
 
 #[test]
-fn a_run_and_a_tick_fit_beside_the_image() {
+fn a_run_and_a_tick_fit_beside_both_texts() {
     let mut images: Vec<Vec<u8>> =
         worst_charts().iter().filter_map(|records| translated(&text_of(records)).ok()).collect();
     images.push(text_of(&samples::largest_image()));
@@ -153,7 +166,7 @@ fn a_run_and_a_tick_fit_beside_the_image() {
     }
     println!("run: {deepest_run} bytes of stack, tick: {deepest_tick}");
     assert!(
-        IMAGE_TEXT + deepest_run.max(deepest_tick) < MEMORY,
+        CHART_TEXT + IMAGE_TEXT + deepest_run.max(deepest_tick) < MEMORY,
         "run takes {deepest_run}, tick {deepest_tick}"
     );
 }

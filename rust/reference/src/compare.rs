@@ -1,4 +1,5 @@
-//! Compares a library with the reference on random inputs. Case k of seed s is case 0 of seed s + k.
+//! Compares a library with the reference on random inputs. Case k of seed s is case 0 of seed s + k, so that one case
+//! can be made again by its own seed; seeds that lie closer than the number of cases share cases.
 
 use std::collections::BTreeMap;
 use std::fmt;
@@ -77,6 +78,9 @@ struct Case<'a> {
 
 type Compared = Result<(), Box<Difference>>;
 
+/// The middle of a filled buffer is lent, so that a write beside it shows: so much is before it and behind it.
+const MARGIN: usize = 64;
+
 /// A call that reads one list of bytes and writes another.
 type Call<'a> = fn(&(dyn Library + 'a), &[u8], &mut [u8]) -> Answer;
 
@@ -145,10 +149,11 @@ impl<'a> Case<'a> {
         shown: fn(&[u8]) -> String,
     ) -> Compared {
         let length = runs::room(&mut self.random, needed);
-        let out = runs::bytes(&mut self.random, length);
+        let out = runs::bytes(&mut self.random, length + 2 * MARGIN);
+        let lent = MARGIN..MARGIN + length;
         let (mut wanted, mut given) = (out.clone(), out.clone());
-        let answer = call(&Reference, input, &mut wanted);
-        let got = call(self.library, input, &mut given);
+        let answer = call(&Reference, input, &mut wanted[lent.clone()]);
+        let got = call(self.library, input, &mut given[lent]);
         self.hold(name, answer, &(answer, wanted), &(got, given), || {
             format!("{}buffer of {}", shown(input), show::bytes(&out))
         })
@@ -218,9 +223,11 @@ impl<'a> Case<'a> {
         let run = runs::run(&mut self.random, words);
         let (mut masks, mut codes) = (run.masks.clone(), run.codes.clone());
         let (answer, after) = entry::run(&image, &state, &run.words, &mut masks, &mut codes);
-        let (mut got_masks, mut got_codes) = (run.masks.clone(), run.codes.clone());
-        let (got, got_after) = self.library.run(&image, &state, &run.words, &mut got_masks, &mut got_codes);
-        let wanted = (answer, after, masks, codes);
+        let (mut got_masks, mut got_codes) = (widened(&run.masks, 0xA5A5_A5A5), widened(&run.codes, 0xA5));
+        let (lent_masks, lent_codes) =
+            (&mut got_masks[MARGIN..][..masks.len()], &mut got_codes[MARGIN..][..codes.len()]);
+        let (got, got_after) = self.library.run(&image, &state, &run.words, lent_masks, lent_codes);
+        let wanted = (answer, after, widened(&masks, 0xA5A5_A5A5), widened(&codes, 0xA5));
         let given = (got, got_after, got_masks, got_codes);
         self.hold("run", answer, &wanted, &given, || {
             format!("image of {}state: {}\n{}", show::text(&image), show::state(&state), show_run(&run))
@@ -256,7 +263,7 @@ impl<'a> Case<'a> {
         let mut image_text = vec![0; text_of(&image.frames()).len()];
         let translation = self.library.translate(&text, &mut image_text);
         let translated = Answer::Done(image_text.len());
-        self.hold("runs", translated, &translated, &translation, || show::text(&text))?;
+        self.hold("translate", translated, &translated, &translation, || show::text(&text))?;
         let outcomes = expected(&chart, size, &list);
         let (_, mut state) = self.library.fresh(size);
         for (k, run) in list.iter().enumerate() {
@@ -271,6 +278,11 @@ impl<'a> Case<'a> {
         }
         Ok(())
     }
+}
+
+/// A buffer with margins on both sides.
+fn widened<T: Copy>(buffer: &[T], filler: T) -> Vec<T> {
+    [&[filler; MARGIN], buffer, &[filler; MARGIN]].concat()
 }
 
 fn show_run(run: &Run) -> String {

@@ -34,7 +34,7 @@ fn every_answer_is_met_and_no_other() {
 }
 
 /// Each feature that some generated chart must have, and whether this one has it.
-fn features(chart: &Chart) -> [(&'static str, bool); 15] {
+fn features(chart: &Chart) -> [(&'static str, bool); 16] {
     let nodes = &chart.nodes;
     let any = |test: &dyn Fn(usize) -> bool| (0..nodes.len()).any(test);
     let first = nodes[chart.begin(1)].on0;
@@ -44,6 +44,7 @@ fn features(chart: &Chart) -> [(&'static str, bool); 15] {
     let labels = translator::image_of(chart).map_or(0, |image| image.labels.len());
     [
         ("256 nodes", nodes.len() == 256),
+        ("192 to 255 nodes", (192..256).contains(&nodes.len())),
         ("Begin to End alone", nodes.len() == 2),
         ("16 schemes", chart.schemes() == 16),
         ("a scheme that calls itself", any(&|v| calls(chart, v, nodes[v].scheme))),

@@ -41,6 +41,12 @@ faults! {
     FullOnePlaceEarly,
     WritesTheResultOfAFullCall,
     KeepsDroppedPlaces,
+    ReadsIntoShortBuffers,
+    NamesTheFrameAfter,
+    WritesSmallDigits,
+    AcceptsAllImages,
+    FreshWith33Places,
+    WritesARefusedTick,
 }
 
 /// The reference with one fault. `calls` keeps the word and the result bit of each open call of the state that was
@@ -169,11 +175,25 @@ fn joined(image: &mut Image) {
 
 impl Library for Faulty {
     fn read_chart(&self, text: &[u8], out: &mut [u8]) -> Answer {
-        entry::read_chart(text, out)
+        let answer = entry::read_chart(text, out);
+        match (self.fault, answer) {
+            (ReadsIntoShortBuffers, Answer::Refused { number: 16, .. }) => {
+                out.iter_mut().for_each(|byte| *byte = 0);
+                answer
+            }
+            (NamesTheFrameAfter, Answer::Refused { number: number @ 2..=9, index, count }) => {
+                Answer::Refused { number, index: index + 1, count }
+            }
+            _ => answer,
+        }
     }
 
     fn write_chart(&self, records: &[u8], out: &mut [u8]) -> Answer {
-        entry::write_chart(records, out)
+        let answer = entry::write_chart(records, out);
+        if self.fault == WritesSmallDigits {
+            out[..answer.count()].make_ascii_lowercase();
+        }
+        answer
     }
 
     fn translate(&self, text: &[u8], out: &mut [u8]) -> Answer {
@@ -199,10 +219,16 @@ impl Library for Faulty {
     }
 
     fn check_image(&self, text: &[u8]) -> Answer {
+        if self.fault == AcceptsAllImages {
+            return Answer::Done(0);
+        }
         entry::check_image(text)
     }
 
     fn fresh(&self, size: usize) -> (Answer, State) {
+        if self.fault == FreshWith33Places && size == 33 {
+            return (Answer::Done(0), State { size: 33, depth: 1, ..State::NONE });
+        }
         let made = entry::fresh(size);
         *self.last.borrow_mut() = made.1;
         made
@@ -233,7 +259,11 @@ impl Library for Faulty {
     }
 
     fn tick(&self, image: &[u8], state: &mut State, word: u16) -> Ticked {
-        Reference.tick(image, state, word)
+        let mut ticked = Reference.tick(image, state, word);
+        if self.fault == WritesARefusedTick && ticked.answer.number() != 0 {
+            ticked.code = 4;
+        }
+        ticked
     }
 }
 

@@ -30,7 +30,7 @@ struct Settings {
 pub fn chart(random: &mut Random) -> Vec<Frame> {
     match random.below(16) {
         0 => ladders::chart(random),
-        1 => full(random),
+        1 => large(random),
         2..=4 => sized(random, 16, 12),
         5 | 6 => sized(random, 2, 3),
         _ => sized(random, 5, 8),
@@ -44,11 +44,12 @@ fn sized(random: &mut Random, most_schemes: usize, most_nodes: usize) -> Vec<Fra
     build(random, &bodies)
 }
 
-/// As many nodes as a chart can have, in 1 to 16 schemes.
-fn full(random: &mut Random) -> Vec<Frame> {
+/// Any number of nodes up to the most that a chart can have, often the most, in 1 to 16 schemes.
+fn large(random: &mut Random) -> Vec<Frame> {
     let schemes = random.pick(&[1, 2, 5, 16, 16]);
+    let nodes = if random.once_in(2) { 256 } else { random.within(2 * schemes, 256) };
     let mut bodies = vec![0; schemes];
-    for _ in 0..256 - 2 * schemes {
+    for _ in 0..nodes - 2 * schemes {
         let scheme = random.below(schemes);
         bodies[scheme] += 1;
     }

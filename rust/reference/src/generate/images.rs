@@ -3,7 +3,8 @@
 use super::{charts, damage, Random};
 use crate::check::chart_of;
 use crate::frames::{text_of, Frame};
-use crate::image::{Image, Label, Row, FUNCTION_CALL, PLAIN, ROWS};
+use crate::image::{image_of, Image, Label, Row, FUNCTION_CALL, PLAIN, ROWS};
+use crate::samples;
 use crate::translator;
 
 /// A chart that translates, and its image.
@@ -19,6 +20,9 @@ pub fn translated(random: &mut Random) -> (Vec<Frame>, Image) {
 
 /// An image that the check accepts, most often.
 pub fn accepted(random: &mut Random) -> Image {
+    if random.once_in(100) {
+        return image_of(&samples::largest_image()).expect("an accepted image");
+    }
     match random.below(3) {
         0 => translated(random).1,
         1 => {

@@ -20,12 +20,13 @@ pub fn state(random: &mut Random, image: &Image) -> State {
 pub fn fitting(random: &mut Random, image: &Image) -> State {
     let mut state = State { size: random.within(1, 32) as u8, depth: 1, ..State::NONE };
     state.bits = std::array::from_fn(|_| random.once_in(2));
+    let deep = random.once_in(4);
     let mut scheme = 1;
     loop {
-        let label = wanted(random, image, scheme);
+        let label = wanted(random, image, scheme, if deep { 40 } else { 4 });
         state.places[usize::from(state.depth) - 1] = label;
         let label = image.labels[usize::from(label)];
-        if !label.calls() || state.depth == state.size || random.once_in(8) {
+        if !label.calls() || state.depth == state.size || !deep && random.once_in(8) {
             return state;
         }
         scheme = label.called;
@@ -33,9 +34,9 @@ pub fn fitting(random: &mut Random, image: &Image) -> State {
     }
 }
 
-/// A label of the scheme, a call rather than another.
-fn wanted(random: &mut Random, image: &Image, scheme: u8) -> u8 {
-    for _ in 0..random.below(4) {
+/// A label of the scheme, a call rather than another if one is met in less than so many tries.
+fn wanted(random: &mut Random, image: &Image, scheme: u8, tries: usize) -> u8 {
+    for _ in 0..random.below(tries) {
         let label = owned(random, &image.labels, scheme);
         if image.labels[usize::from(label)].calls() {
             return label;
