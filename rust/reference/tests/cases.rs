@@ -1,7 +1,8 @@
-//! What the program `translate_cases` is expected to print is what the reference makes of its charts.
+//! What the program `translate_cases` is expected to print, and the images and codes of the example charts, are what
+//! the reference makes of their charts.
 
 use std::fs;
-use std::path::Path;
+use std::path::{Path, PathBuf};
 
 use reference::frames::CHARACTERS;
 use reference::programs;
@@ -9,15 +10,19 @@ use reference::programs;
 /// The longest image that is printed whole, in frames; of a longer one the first and the last frame are.
 const WHOLE: usize = 60;
 
-fn file(name: &str) -> Vec<u8> {
-    let path = Path::new(env!("CARGO_MANIFEST_DIR")).join("../../crates/translate_cases").join(name);
-    fs::read(&path).unwrap_or_else(|error| panic!("{}: {error}", path.display()))
+fn folder(name: &str) -> PathBuf {
+    Path::new(env!("CARGO_MANIFEST_DIR")).join("../..").join(name)
+}
+
+fn file(path: &Path) -> Vec<u8> {
+    fs::read(path).unwrap_or_else(|error| panic!("{}: {error}", path.display()))
 }
 
 #[test]
 fn translate_cases_expects_what_the_reference_prints() {
+    let cases = folder("crates/translate_cases");
     let mut expected = Vec::new();
-    for chart in file("stdin").split(|character| *character == b'-') {
+    for chart in file(&cases.join("stdin")).split(|character| *character == b'-') {
         let image = programs::translate(chart);
         if image.len() <= WHOLE * CHARACTERS {
             expected.extend(&image);
@@ -27,5 +32,14 @@ fn translate_cases_expects_what_the_reference_prints() {
         }
         expected.extend(b"-\n");
     }
-    assert_eq!(file("stdout").escape_ascii().to_string(), expected.escape_ascii().to_string());
+    assert_eq!(file(&cases.join("stdout")).escape_ascii().to_string(), expected.escape_ascii().to_string());
+}
+
+#[test]
+fn the_examples_are_what_the_reference_prints() {
+    for name in ["bore", "finishing", "home", "paper", "roughing"] {
+        let example = |kind: &str| file(&folder("examples").join(name).with_extension(kind));
+        assert!(programs::translate(&example("chart")) == example("image"), "{name}");
+        assert!(programs::run(&example("image")) == example("codes"), "{name}");
+    }
 }
