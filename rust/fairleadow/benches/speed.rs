@@ -12,7 +12,7 @@ use reference::entry::translated;
 use reference::fast::Fast;
 use reference::frames::{text_of, Frame, CHART_TEXT, IMAGE_TEXT, RECORDS};
 use reference::samples;
-use reference::{Library, State};
+use reference::{fresh_state, Library, State};
 
 /// Batches of each side, taken in turn; the fastest of each is kept.
 const BATCHES: usize = 15;
@@ -58,7 +58,7 @@ impl Input {
             seed = seed.wrapping_mul(1_664_525).wrapping_add(1_013_904_223);
             (seed >> 16) as u16
         });
-        let state = State::fresh(32).expect("a good size");
+        let state = fresh_state(32).expect("a good size");
         Input { name, chart, records: records.concat(), image, state, words: words.collect() }
     }
 

@@ -1,7 +1,7 @@
 //! Safe calls of the C functions. Each borrows its buffers for the call: no reference is null, and what is borrowed for
 //! writing overlaps nothing else, which is all that the header asks.
 
-use reference::{Answer, Library, State, Ticked};
+use interface::{Answer, Library, State, Ticked};
 
 use crate::c;
 

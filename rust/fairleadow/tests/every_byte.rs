@@ -7,7 +7,7 @@ use std::path::Path;
 use fairleadow::{Library, Proved};
 use reference::entry::{self, translated};
 use reference::frames::{text_of, Frame, CHARACTERS, IMAGE_TEXT};
-use reference::{samples, State};
+use reference::{fresh_state, samples};
 
 /// The words of the run that each damaged image is tried with.
 const WORDS: [u16; 6] = [0, 0, 1, 0xFFFF, 0, 2];
@@ -20,7 +20,7 @@ fn hold_chart(text: &[u8]) {
 }
 
 fn hold_image(text: &[u8]) {
-    let state = State::fresh(3).expect("a good size");
+    let state = fresh_state(3).expect("a good size");
     let (mut masks, mut codes) = ([7; WORDS.len()], [7; WORDS.len()]);
     let wanted = entry::run(text, &state, &WORDS, &mut masks, &mut codes);
     let (mut given_masks, mut given_codes) = ([7; WORDS.len()], [7; WORDS.len()]);

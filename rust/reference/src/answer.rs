@@ -1,32 +1,10 @@
-//! What an entry point answers.
+//! What an entry point answers, and how a refusal becomes that.
 
-/// The count that was made, or a refusal with its frame index and the ticks finished before it.
-#[derive(Clone, Copy, Debug, PartialEq, Eq)]
-pub enum Answer {
-    Done(usize),
-    Refused { number: u8, index: usize, count: usize },
-}
+pub use interface::Answer;
 
-impl Answer {
-    /// Success with this count, or the refusal.
-    pub fn of(counted: Result<usize, Refusal>) -> Answer {
-        counted.map_or_else(Answer::from, Answer::Done)
-    }
-
-    /// The refusal's number, 0 for success.
-    pub fn number(&self) -> u8 {
-        match *self {
-            Answer::Done(_) => 0,
-            Answer::Refused { number, .. } => number,
-        }
-    }
-
-    pub fn count(&self) -> usize {
-        match *self {
-            Answer::Done(count) => count,
-            Answer::Refused { count, .. } => count,
-        }
-    }
+/// Success with this count, or the refusal.
+pub fn answered(counted: Result<usize, Refusal>) -> Answer {
+    counted.map_or_else(Answer::from, Answer::Done)
 }
 
 /// A refusal found before anything is written: its count is 0.

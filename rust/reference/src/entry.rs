@@ -1,12 +1,12 @@
 //! The entry points: which refusals each tries, in order, and what it writes.
 
-use crate::answer::{refuse_if, Answer, Refusal};
+use crate::answer::{answered, refuse_if, Answer, Refusal};
 use crate::chart::Chart;
 use crate::check::chart_of;
 use crate::frames::{frames_of, text_of, Frame, CHART_TEXT, IMAGE_TEXT, RECORDS};
 use crate::image::{self, Image};
 use crate::machine;
-use crate::state::State;
+use crate::state::{fresh_state, State};
 use crate::translator;
 
 /// Writes all of it, or refuses with 16 and writes nothing.
@@ -34,7 +34,7 @@ pub fn image_from_text(text: &[u8]) -> Result<Image, Refusal> {
 
 /// Refusals 1 to 9 and 16; counts records.
 pub fn read_chart(text: &[u8], out: &mut [u8]) -> Answer {
-    Answer::of(chart_and_records(text).and_then(|(_, records)| {
+    answered(chart_and_records(text).and_then(|(_, records)| {
         put(&records.concat(), out)?;
         Ok(records.len())
     }))
@@ -50,7 +50,7 @@ fn records_of(bytes: &[u8]) -> Result<Vec<Frame>, Refusal> {
 
 /// Refusals 1, 4 to 9 and 16; counts characters.
 pub fn write_chart(bytes: &[u8], out: &mut [u8]) -> Answer {
-    Answer::of(records_of(bytes).and_then(|records| {
+    answered(records_of(bytes).and_then(|records| {
         chart_of(&records)?;
         let text = text_of(&records);
         put(&text, out)?;
@@ -66,7 +66,7 @@ pub fn translated(text: &[u8]) -> Result<Vec<u8>, Refusal> {
 
 /// Refusals 1 to 10 and 16; counts characters.
 pub fn translate(text: &[u8], out: &mut [u8]) -> Answer {
-    Answer::of(translated(text).and_then(|image| {
+    answered(translated(text).and_then(|image| {
         put(&image, out)?;
         Ok(image.len())
     }))
@@ -74,12 +74,12 @@ pub fn translate(text: &[u8], out: &mut [u8]) -> Answer {
 
 /// Refusals 1 to 3 and 11 to 13.
 pub fn check_image(text: &[u8]) -> Answer {
-    Answer::of(image_from_text(text).map(|_| 0))
+    answered(image_from_text(text).map(|_| 0))
 }
 
 /// Refusal 14.
 pub fn fresh(size: usize) -> (Answer, State) {
-    match State::fresh(size) {
+    match fresh_state(size) {
         Some(state) => (Answer::Done(0), state),
         None => (Refusal { number: 14, index: 0 }.into(), State::NONE),
     }

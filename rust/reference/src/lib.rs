@@ -22,4 +22,4 @@ pub mod walk;
 
 pub use answer::Answer;
 pub use library::{Library, Reference, Ticked};
-pub use state::State;
+pub use state::{fresh_state, State};

@@ -3,7 +3,7 @@
 use crate::answer::Answer;
 use crate::entry;
 use crate::frames::{digits, line};
-use crate::state::State;
+use crate::state::fresh_state;
 
 /// The frame that tells a refusal.
 fn refusal_line(number: u8, index: usize) -> Vec<u8> {
@@ -23,7 +23,7 @@ pub fn translate(input: &[u8]) -> Vec<u8> {
 pub fn run(input: &[u8]) -> Vec<u8> {
     let words: Vec<u16> = (0..64).collect();
     let (mut masks, mut codes) = ([0; 64], [0; 64]);
-    let state = State::fresh(32).expect("a good size");
+    let state = fresh_state(32).expect("a good size");
     let (answer, _) = entry::run(input, &state, &words, &mut masks, &mut codes);
     let mut printed = Vec::new();
     for code in &codes[..answer.count()] {

@@ -1,7 +1,7 @@
 //! The bench sheet, B1 to B10, run on the reference.
 
 use reference::frames::{text_of, Frame, IMAGE_TEXT};
-use reference::{entry, programs, walk, Answer, State};
+use reference::{entry, fresh_state, programs, walk, Answer};
 
 const CHART_P: &str = "\
 00010001000000000000FE
@@ -36,7 +36,7 @@ fn refused(number: u8, index: usize, count: usize) -> Answer {
 
 /// Answer, masks and codes of a run from a fresh state.
 fn run(image: &[u8], size: usize, words: &[u16]) -> (Answer, Vec<u32>, Vec<u8>) {
-    let state = State::fresh(size).unwrap();
+    let state = fresh_state(size).unwrap();
     let (mut masks, mut codes) = (vec![99; words.len()], vec![99; words.len()]);
     let (answer, _) = entry::run(image, &state, words, &mut masks, &mut codes);
     (answer, masks, codes)

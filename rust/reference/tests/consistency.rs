@@ -5,7 +5,7 @@ use reference::expectation::{expected, Outcome};
 use reference::frames::{frames_of, text_of, CHART_TEXT, IMAGE_TEXT};
 use reference::generate::{charts, images, ladders, runs, states, Random};
 use reference::image::FUNCTION_CALL;
-use reference::{entry, image, machine, translator, Answer, State};
+use reference::{entry, fresh_state, image, machine, translator, Answer};
 
 const CASES: u64 = 3_000;
 
@@ -113,7 +113,7 @@ fn lists_of_runs_tick_as_the_walk_does() {
         let size = random.pick(&[1, 2, 3, 5, 32]);
         let list = runs::list(&mut random);
         let wanted = expected(&chart_of(&records).unwrap(), size, &list);
-        let mut state = State::fresh(size).unwrap();
+        let mut state = fresh_state(size).unwrap();
         for (run, wanted) in list.iter().zip(&wanted) {
             let (mut masks, mut codes) = (run.masks.clone(), run.codes.clone());
             let (answer, after) = entry::run(&text, &state, &run.words, &mut masks, &mut codes);

@@ -7,7 +7,7 @@ mod image;
 mod machine;
 mod table;
 
-use crate::answer::{Answer, Refusal};
+use crate::answer::{answered, Answer, Refusal};
 use crate::frames::{Frame, CHARACTERS, CHART_TEXT, IMAGE_TEXT};
 use crate::library::Library;
 use crate::state::State;
@@ -72,20 +72,20 @@ pub struct Fast;
 
 impl Library for Fast {
     fn read_chart(&self, text: &[u8], out: &mut [u8]) -> Answer {
-        Answer::of(read(text, out))
+        answered(read(text, out))
     }
 
     fn write_chart(&self, records: &[u8], out: &mut [u8]) -> Answer {
-        Answer::of(write(records, out))
+        answered(write(records, out))
     }
 
     fn translate(&self, text: &[u8], out: &mut [u8]) -> Answer {
-        Answer::of(put_image(text, out))
+        answered(put_image(text, out))
     }
 
     fn check_image(&self, text: &[u8]) -> Answer {
         let mut frames = [[0; 10]; IMAGE_FRAMES];
-        Answer::of(accepted(text, &mut frames).map(|_| 0))
+        answered(accepted(text, &mut frames).map(|_| 0))
     }
 
     fn fresh(&self, size: usize) -> (Answer, State) {
