@@ -18,7 +18,7 @@ byteFrom t i = 16 * digitOf (getD t i 0) + digitOf (getD t (i + 1) 0)
 abbrev pub badPair : List ℕ → ℕ → Bool
 badPair t i = leb 16 (digitOf (getD t i 0)) || leb 16 (digitOf (getD t (i + 1) 0))
 
--- the ten bytes that are stored of frame f; they are the frame's own where 2 does not turn it back
+-- the ten bytes that are stored of frame f; they are the frame's own where 2 does not refuse it
 abbrev pub storedOf : List ℕ → ℕ → List ℕ
 storedOf t f = map (λ k. byteAt t f k % 256) (range 0 10)
 

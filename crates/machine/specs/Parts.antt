@@ -37,7 +37,7 @@ reached b l f = leb l (field b f 1)
 abbrev pub firstFrame : List ℕ → ℕ → ℕ
 firstFrame b l = lowest (reached b l) (rowsFrom b) (size b - rowsFrom b)
 
--- for 0 to 256; in an accepted table the rows of label l stand from the frame at place l up to that at place l + 1
+-- for 0 to 256; in an accepted table the rows of label l stand from the frame in entry l up to that in entry l + 1
 unfoldable pub firstFrames : List ℕ → List ℕ
 firstFrames b = tabulate (firstFrame b) 257
 

@@ -1,5 +1,5 @@
-//! Damage at every byte: each character of chart P, of the example charts and of their images, each byte of their
-//! frames with the sums right again, and each character of the largest image.
+//! Damage at every byte: each character of chart P, of its image and of the example charts, each byte of their frames
+//! with the sums right again, and each character of the largest image.
 
 use std::fs;
 use std::path::Path;
