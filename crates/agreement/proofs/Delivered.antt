@@ -7,15 +7,15 @@ use Rattle.frames.specs.Answer.{reply}
 use Rattle.machine.specs.declared.State.{State}
 use Rattle.machine.specs.declared.Answered.{Answered}
 use Rattle.machine.specs.State.{freshState}
-use Rattle.machine.specs.Run.{run}
+use Rattle.machine.specs.Run.{run, Runs}
 use Rattle.agreement.specs.Agreement.{Asked, Told, told, chain, Agreement}
-use Rattle.agreement.specs.Calls.{RunCall, RunCalls, none, more, Delivered}
+use Rattle.agreement.specs.Calls.{RunCalls, none, more, Delivered}
 use Rattle.agreement.proofs.Demand.{theorem}
 
 -- what one call hands back is what the definition gives
-one-told : (image : List ℕ) (s : State) (a : Asked) (ran : Answered) (masks codes : List ℕ) → RunCall image s a ran masks codes
+one-told : (image : List ℕ) (s : State) (a : Asked) (ran : Answered) (masks codes : List ℕ) → Runs (run image s (a .words) (a .masks) (a .codes)) ran masks codes
     → _≡_ {A = Told} (record { reply = reply (ran .answer); masks = masks; codes = codes }) (told (run image s (a .words) (a .masks) (a .codes)))
-one-told image s a ran masks codes c = let e = c .answered in let f = c .masked in let g = c .coded in cc
+one-told image s a ran masks codes c = let e = c .answered in let f = c .masks in let g = c .codes in cc
 
 calls-chain : (image : List ℕ) (s : State) (asked : List Asked) (tolds : List Told) → RunCalls image s asked tolds → tolds ≡ chain run image s asked
 unfolding chain

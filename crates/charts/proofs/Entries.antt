@@ -11,7 +11,7 @@ use Rattle.frames.specs.Frame.{contents, frameCount, size, textOf}
 use Rattle.frames.specs.Verdict.{Verdict, fine, when}
 use Rattle.frames.specs.Check.{badLength, textVerdict}
 use Rattle.frames.specs.Read.{readInto}
-use Rattle.frames.specs.Answer.{success, refusal, reply, judged}
+use Rattle.frames.specs.Answer.{refusal, reply, Lends, judged}
 use Rattle.frames.specs.declared.Answer.{Answer}
 use Rattle.frames.specs.declared.Answer.the-variants.{Done, Refused}
 use Rattle.frames.proofs.Chains.{when-holds, when-fails, next-refused, next-on, done-fine, refused-verdict}
@@ -67,30 +67,30 @@ chart-asked t c n F e =
 
 module _ (t out : List ℕ) where
   pub read-unformed : (a : Answer) → reply a ≡ judged (textVerdict 5888 t) (frameCount t) → (k i m : ℕ) → a ≡ Refused k i m
-      → (reply a ≡ readChart t out .reply) × (out ≡ readChart t out .buffer)
+      → Lends (readChart t out) a out
   unfolding readChart readVerdict
   read-unformed a e k i m q =
       lent-refused (readVerdict t) 10 (λ _. contents t) out k i
       (next-refused (textVerdict 5888 t) (λ _. chartVerdict (contents t)) k i (refused-verdict a (textVerdict 5888 t) (frameCount t) e k i m q .0))
-      (reply a) (refused-reply a (textVerdict 5888 t) (frameCount t) e k i m q)
+      a (refused-reply a (textVerdict 5888 t) (frameCount t) e k i m q)
 
   module _ (n : ℕ) (F : Formed t n) (c : Chart) (is : c ≡ contents t) (a : Answer) (e : reply a ≡ judged (chartVerdict c) 0) where
     rest : readVerdict t ≡ chartVerdict c
     unfolding readVerdict
     rest = next-on (textVerdict 5888 t) (λ _. chartVerdict (contents t)) (F .passed) ∙ ap chartVerdict (sym is)
 
-    pub read-unsound : (k i m : ℕ) → a ≡ Refused k i m → (reply a ≡ readChart t out .reply) × (out ≡ readChart t out .buffer)
+    pub read-unsound : (k i m : ℕ) → a ≡ Refused k i m → Lends (readChart t out) a out
     unfolding readChart
     read-unsound k i m q =
         lent-refused (readVerdict t) 10 (λ _. contents t) out k i (rest ∙ refused-verdict a (chartVerdict c) 0 e k i m q .0)
-        (reply a) (refused-reply a (chartVerdict c) 0 e k i m q)
+        a (refused-reply a (chartVerdict c) 0 e k i m q)
 
-    pub read-short : (m : ℕ) → a ≡ Done m → length out < 10 * n → (refusal 16 0 0 ≡ readChart t out .reply) × (out ≡ readChart t out .buffer)
+    pub read-short : (m : ℕ) → a ≡ Done m → length out < 10 * n → Lends (readChart t out) (Refused 16 0 0) out
     unfolding readChart
     read-short m q h = lent-short (readVerdict t) 10 (λ _. contents t) out (rest ∙ done-fine a (chartVerdict c) 0 e m q .0) (omega (arith, F .records))
 
     pub read-done : (m : ℕ) → a ≡ Done m → 10 * n ≤ length out → (out′ : List ℕ) → out′ ≡ written out 0 c
-        → (success n ≡ readChart t out .reply) × (out′ ≡ readChart t out .buffer)
+        → Lends (readChart t out) (Done n) out′
     unfolding readChart
     read-done m q h out′ o =
         lent-done (readVerdict t) 10 (λ _. contents t) out (rest ∙ done-fine a (chartVerdict c) 0 e m q .0) (omega (arith, F .records))
@@ -117,30 +117,30 @@ pub whole-asked : (c : Chart) → Whole c → (length c ≡ 10 * size c) × (siz
 whole-asked c w = (w .records, w .few)
 
 module _ (c : Chart) (out : List ℕ) where
-  pub write-unwhole : badLength 10 2560 (length c) ≡ true → (refusal 1 0 0 ≡ writeChart c out .reply) × (out ≡ writeChart c out .buffer)
+  pub write-unwhole : badLength 10 2560 (length c) ≡ true → Lends (writeChart c out) (Refused 1 0 0) out
   unfolding writeChart writeVerdict
   write-unwhole b =
       lent-refused (writeVerdict c) 1 (λ _. textOf c) out 1 0
-      (next-refused (when 1 (badLength 10 2560 (length c))) (λ _. chartVerdict c) 1 0 (when-holds 1 (badLength 10 2560 (length c)) b)) (refusal 1 0 0) refl
+      (next-refused (when 1 (badLength 10 2560 (length c))) (λ _. chartVerdict c) 1 0 (when-holds 1 (badLength 10 2560 (length c)) b)) (Refused 1 0 0) refl
 
   module _ (w : Whole c) (a : Answer) (e : reply a ≡ judged (chartVerdict c) 0) where
     on : writeVerdict c ≡ chartVerdict c
     unfolding writeVerdict
     on = next-on (when 1 (badLength 10 2560 (length c))) (λ _. chartVerdict c) (when-fails 1 (badLength 10 2560 (length c)) (w .passed))
 
-    pub write-unsound : (k i m : ℕ) → a ≡ Refused k i m → (reply a ≡ writeChart c out .reply) × (out ≡ writeChart c out .buffer)
+    pub write-unsound : (k i m : ℕ) → a ≡ Refused k i m → Lends (writeChart c out) a out
     unfolding writeChart
     write-unsound k i m q =
         lent-refused (writeVerdict c) 1 (λ _. textOf c) out k i (on ∙ refused-verdict a (chartVerdict c) 0 e k i m q .0)
-        (reply a) (refused-reply a (chartVerdict c) 0 e k i m q)
+        a (refused-reply a (chartVerdict c) 0 e k i m q)
 
     pub write-short : (m : ℕ) → a ≡ Done m → length out < 23 * size c
-        → (refusal 16 0 0 ≡ writeChart c out .reply) × (out ≡ writeChart c out .buffer)
+        → Lends (writeChart c out) (Refused 16 0 0) out
     unfolding writeChart
     write-short m q h = lent-short (writeVerdict c) 1 (λ _. textOf c) out (on ∙ done-fine a (chartVerdict c) 0 e m q .0) (omega (arith, length-text c))
 
     pub write-done : (m : ℕ) → a ≡ Done m → 23 * size c ≤ length out → (out′ : List ℕ) → out′ ≡ written out 0 (textOf c)
-        → (success (23 * size c) ≡ writeChart c out .reply) × (out′ ≡ writeChart c out .buffer)
+        → Lends (writeChart c out) (Done (23 * size c)) out′
     unfolding writeChart
     write-done m q h out′ o =
         lent-done (writeVerdict c) 1 (λ _. textOf c) out (on ∙ done-fine a (chartVerdict c) 0 e m q .0) (omega (arith, length-text c))

@@ -5,13 +5,12 @@ use frames::bad_length;
 use frames::put_bytes;
 use frames::put_text;
 use frames::read_text;
-ghost use mathlib.Core.Path.{_≡_};
-ghost use Rattle.frames.specs.Answer.{reply};
+ghost use Rattle.frames.specs.Answer.{Lends};
 ghost use Rattle.charts.specs.Entry.{readChart, writeChart};
 
 // A chart's text to its node records, ten bytes each: refusals 1 to 9 and 16, else the number of records.
 pub fn read_chart(text: &[u8], out: &mut [u8]) -> Answer
-    ensures { λ r. ⌜ (reply r ≡ readChart (now (text .entry)) (now (out .entry)) .reply) × (now (out .exit) ≡ readChart (now (text .entry)) (now (out .entry)) .buffer) ⌝ }
+    ensures { λ r. ⌜ Lends (readChart (now (text .entry)) (now (out .entry))) r (now (out .exit)) ⌝ }
 {
     let mut table = [0u8; 2560];
     let form = read_text(text, 5888, &mut table);
@@ -37,7 +36,7 @@ pub fn read_chart(text: &[u8], out: &mut [u8]) -> Answer
 
 // Node records to the chart's text: refusals 1, 4 to 9 and 16, else the number of characters.
 pub fn write_chart(records: &[u8], out: &mut [u8]) -> Answer
-    ensures { λ r. ⌜ (reply r ≡ writeChart (now (records .entry)) (now (out .entry)) .reply) × (now (out .exit) ≡ writeChart (now (records .entry)) (now (out .entry)) .buffer) ⌝ }
+    ensures { λ r. ⌜ Lends (writeChart (now (records .entry)) (now (out .entry))) r (now (out .exit)) ⌝ }
 {
     if bad_length(10, 2560, records.len()) {
         return Answer::Refused {

@@ -11,7 +11,9 @@ use borrow.Author.Tests.{lt-ltb, le-ltb, ltb-false}
 use Rattle.lists.specs.Pick.{pick}
 use Rattle.lists.specs.Sequences.{over}
 use Rattle.frames.specs.Verdict.{Verdict, fine, refused}
-use Rattle.frames.specs.Answer.{Reply, success, refusal, Lent, lent}
+use Rattle.frames.specs.Answer.{success, refusal, reply, Lent, Lends, lent}
+use Rattle.frames.specs.declared.Answer.{Answer}
+use Rattle.frames.specs.declared.Answer.the-variants.{Done, Refused}
 
 -- all of xs stands at the front, counted by units
 abbrev pub filledWith : ℕ → List ℕ → List ℕ → Lent
@@ -44,18 +46,21 @@ front n xs old e = take-at xs (drop (length xs) old) n (sym e)
 
 -- ---- how an entry point with a lent buffer answers: by a verdict's refusal, for want of room, or with all of it written
 module _ (v : Verdict) (unit : ℕ) (new : Unit {0} → List ℕ) (old : List ℕ) where
-  pub lent-refused : (k i : ℕ) → v ≡ refused k i → (r : Reply) → r ≡ refusal k i 0 → (r ≡ lent v unit new old .reply) × (old ≡ lent v unit new old .buffer)
-  lent-refused k i e r q = (q ∙ sym (ap (λ w. lent w unit new old .reply) e), sym (ap (λ w. lent w unit new old .buffer) e))
+  pub lent-refused : (k i : ℕ) → v ≡ refused k i → (a : Answer) → reply a ≡ refusal k i 0 → Lends (lent v unit new old) a old
+  lent-refused k i e a q = record {
+    answered = q ∙ sym (ap (λ w. lent w unit new old .reply) e);
+    written = sym (ap (λ w. lent w unit new old .buffer) e);
+  }
 
-  pub lent-short : v ≡ fine → length old < length (new tt) → (refusal 16 0 0 ≡ lent v unit new old .reply) × (old ≡ lent v unit new old .buffer)
+  pub lent-short : v ≡ fine → length old < length (new tt) → Lends (lent v unit new old) (Refused 16 0 0) old
   lent-short e h =
       let q : lent v unit new old ≡ record { reply = refusal 16 0 0; buffer = old } =
       ap (λ w. lent w unit new old) e
       ∙ ap (λ (b : Bool). pick b (record { reply = refusal 16 0 0; buffer = old }) (filledWith unit (new tt) old)) (lt-ltb (length old) (length (new tt)) h) in
-      (sym (ap (λ (l : Lent). l .reply) q), sym (ap (λ (l : Lent). l .buffer) q))
+      record { answered = sym (ap (λ (l : Lent). l .reply) q); written = sym (ap (λ (l : Lent). l .buffer) q) }
 
   pub lent-done : v ≡ fine → length (new tt) ≤ length old → (n : ℕ) → n ≡ length (new tt) / unit → (out : List ℕ) → out ≡ over (new tt) old
-      → (success n ≡ lent v unit new old .reply) × (out ≡ lent v unit new old .buffer)
+      → Lends (lent v unit new old) (Done n) out
   lent-done e h n m out o =
       let q : lent v unit new old ≡ filledWith unit (new tt) old = ap (λ w. lent w unit new old) e ∙ lent-fits unit new old h in
-      (ap success m ∙ sym (ap (λ (l : Lent). l .reply) q), o ∙ sym (ap (λ (l : Lent). l .buffer) q))
+      record { answered = ap success m ∙ sym (ap (λ (l : Lent). l .reply) q); written = o ∙ sym (ap (λ (l : Lent). l .buffer) q) }

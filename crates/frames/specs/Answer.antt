@@ -1,5 +1,6 @@
 -- What an entry point answers and leaves in the buffer lent to it, in the paper's numbers.
 use Prim.Native.Nat.{ℕ, _/_}
+use mathlib.Core.Path.{_≡_}
 use mathlib.Core.List.{List}
 use lib.Dec.{ltb}
 use lib.ListN.{length}
@@ -45,6 +46,11 @@ judged (refused k i) n = refusal k i 0
 pub record Lent : Type 0 where
   pub reply : Reply
   pub buffer : List ℕ
+
+-- what a function with one lent buffer promises: its answer, and what the buffer then holds
+pub record Lends (x : Lent) (answer : Answer) (after : List ℕ) : Type 0 where
+  pub answered : reply answer ≡ x .reply
+  pub written : after ≡ x .buffer
 
 -- a refusal leaves the buffer as it was; else its front is written, counted by units, or there is no room: 16
 abbrev pub lent : Verdict → ℕ → (Unit {0} → List ℕ) → List ℕ → Lent

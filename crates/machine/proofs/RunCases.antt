@@ -1,5 +1,5 @@
 -- The answers of a run and of one tick by value, by what their parts give.
-use mathlib.Core.Path.{_≡_, sym, _∙_, ap, ap₂}
+use mathlib.Core.Path.{_≡_, sym, _∙_, ap, ap₂, subst}
 use mathlib.Core.Bool.{Bool, true, false}
 use mathlib.Core.List.{List}
 use Prim.Native.Nat.{ℕ, _*_, _≤_, _<_}
@@ -27,8 +27,8 @@ use Rattle.machine.specs.declared.State.{State}
 use Rattle.machine.specs.declared.Ended.{Ended}
 use Rattle.machine.specs.declared.Answered.{Answered}
 use Rattle.machine.specs.State.{unfit}
-use Rattle.machine.specs.Run.{Ran, Run, ticks, noRoom, runVerdict, runOn, run}
-use Rattle.machine.specs.Parts.{stateOf, verdictOf, Ends, runTable, Runs}
+use Rattle.machine.specs.Run.{Ran, Run, Runs, ticks, noRoom, runVerdict, runOn, run}
+use Rattle.machine.specs.Parts.{stateOf, verdictOf, Ends, runTable}
 use Rattle.machine.proofs.TurnCases.{number-verdict}
 
 -- ---- on an accepted table
@@ -129,20 +129,18 @@ module _ (t : List ℕ) (s : State) (ws ms ks : List ℕ) where
       (λ _. ticks (decoded (contents t)) s ws) s ms ks)
       e
 
-  -- the four things that a run hands back, as the image check's answer decides
-  abbrev Handed : Answered → List ℕ → List ℕ → Type 0
-  Handed r us vs =
-      (reply (r .answer) ≡ run t s ws ms ks .reply)
-      × ((r .state ≡ run t s ws ms ks .state) × ((us ≡ run t s ws ms ks .masks) × (vs ≡ run t s ws ms ks .codes)))
-
+  -- as the image check's answer decides
   module _ (a : Answer) (gives : reply a ≡ judged (imageVerdict t) 0) where
-    pub image-refused : (k i m : ℕ) → a ≡ Refused k i m → Handed (record { answer = a; state = s }) ms ks
+    pub image-refused : (k i m : ℕ) → a ≡ Refused k i m → Runs (run t s ws ms ks) (record { answer = a; state = s }) ms ks
     image-refused k i m e =
         let v : imageVerdict t ≡ refused k i = refused-verdict a (imageVerdict t) 0 gives k i m e .0 in
-        let g : run t s ws ms ks ≡ record { reply = refusal k i 0; state = s; masks = ms; codes = ks } = run-refused k i v in (
-          gives ∙ ap (λ (w : Verdict). judged w 0) v ∙ sym (ap (λ (x : Run). x .reply) g),
-          (sym (ap (λ (x : Run). x .state) g), (sym (ap (λ (x : Run). x .masks) g), sym (ap (λ (x : Run). x .codes) g))),
-        )
+        let g : run t s ws ms ks ≡ record { reply = refusal k i 0; state = s; masks = ms; codes = ks } = run-refused k i v in
+        record {
+          answered = gives ∙ ap (λ (w : Verdict). judged w 0) v ∙ sym (ap (λ (x : Run). x .reply) g);
+          state = sym (ap (λ (x : Run). x .state) g);
+          masks = sym (ap (λ (x : Run). x .masks) g);
+          codes = sym (ap (λ (x : Run). x .codes) g);
+        }
 
     module _ (m : ℕ) (done : a ≡ Done m) (old table : List ℕ) (left : table ≡ readInto 29831 t old) where
       accepted : imageVerdict t ≡ fine
@@ -164,10 +162,7 @@ module _ (t : List ℕ) (s : State) (ws ms ks : List ℕ) where
       pub front-fine : tableVerdict (take (10 * frameCount t) table) ≡ fine
       front-fine = ap tableVerdict front-is ∙ image-table t accepted
 
-      pub image-run : (r : Answered) (us vs : List ℕ) → Runs (runTable (take (10 * frameCount t) table) s ws ms ks) r us vs → Handed r us vs
-      image-run r us vs R =
-          let g : runTable (take (10 * frameCount t) table) s ws ms ks ≡ run t s ws ms ks =
-          ap (λ (b : List ℕ). runTable b s ws ms ks) front-is ∙ sym (run-table accepted) in (
-            R .answered ∙ ap (λ (x : Run). x .reply) g,
-            (R .state ∙ ap (λ (x : Run). x .state) g, (R .masks ∙ ap (λ (x : Run). x .masks) g, R .codes ∙ ap (λ (x : Run). x .codes) g)),
-          )
+      pub image-run : (r : Answered) (us vs : List ℕ) → Runs (runTable (take (10 * frameCount t) table) s ws ms ks) r us vs
+          → Runs (run t s ws ms ks) r us vs
+      image-run r us vs runs =
+          subst (λ (x : Run). Runs x r us vs) (ap (λ (b : List ℕ). runTable b s ws ms ks) front-is ∙ sym (run-table accepted)) runs

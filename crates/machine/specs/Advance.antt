@@ -19,6 +19,9 @@ unfoldable pub advance : List ℕ → State → ℕ → Advance
 advance t s w = let r = run t s (w ∷ []) (0 ∷ []) (0 ∷ []) in
     record { reply = r .reply; mask = getD (r .masks) 0 0; code = getD (r .codes) 0 0; state = r .state }
 
--- a report says all but the state
-abbrev pub Reports : Advance → TickReport → Type 0
-Reports a r = (reply (r .answer) ≡ a .reply) × ((r .mask ≡ a .mask) × (r .code ≡ a .code))
+-- what a function that makes one tick promises: its report, and the state after it
+pub record Advances (x : Advance) (r : TickReport) (after : State) : Type 0 where
+  pub answered : reply (r .answer) ≡ x .reply
+  pub mask : r .mask ≡ x .mask
+  pub code : r .code ≡ x .code
+  pub state : after ≡ x .state

@@ -11,14 +11,12 @@ use Rattle.lists.specs.Sequences.{over}
 use Rattle.bits.specs.Results.{Results}
 use Rattle.frames.specs.Frame.{size, field, pairAt}
 use Rattle.frames.specs.Verdict.{Verdict, fine, refused, next, when}
-use Rattle.frames.specs.Answer.{reply}
 use Rattle.image.specs.Image.{Row}
 use Rattle.image.specs.Decode.{rowsFrom, decoded}
 use Rattle.image.specs.Check.{tableVerdict}
 use Rattle.machine.specs.declared.State.{State}
 use Rattle.machine.specs.declared.Stepped.{Stepped}
 use Rattle.machine.specs.declared.Ended.{Ended}
-use Rattle.machine.specs.declared.Answered.{Answered}
 use Rattle.machine.specs.State.{unfit}
 use Rattle.machine.specs.Tick.{matches, Found, found, missing, Ticked, ticked, stopped, tick}
 use Rattle.machine.specs.Run.{Run, ticks, noRoom, runOn}
@@ -103,10 +101,3 @@ pub record Ends (b : List ℕ) (s : State) (ws ms₀ ks₀ : List ℕ) (r : Ende
 unfoldable pub runTable : List ℕ → State → List ℕ → List ℕ → List ℕ → Run
 runTable b s ws ms ks =
     runOn (next (when 15 (unfit (decoded b) s)) λ _. when 16 (noRoom ws ms ks)) (λ _. ticks (decoded b) s ws) s ms ks
-
--- an answer with its state and what the two buffers then hold, as a run has them
-pub record Runs (x : Run) (r : Answered) (ms ks : List ℕ) : Type 0 where
-  pub answered : reply (r .answer) ≡ x .reply
-  pub state : r .state ≡ x .state
-  pub masks : ms ≡ x .masks
-  pub codes : ks ≡ x .codes

@@ -1,17 +1,19 @@
 -- A run: ticks over a list of words; what it answers, the state it hands back and what the two buffers then hold.
 use Prim.Native.Nat.{ℕ}
 use mathlib.Core.Bool.{Bool, _||_}
+use mathlib.Core.Path.{_≡_}
 use mathlib.Core.List.{List, [], _∷_}
 use lib.Dec.{ltb}
 use lib.ListN.{length}
 use Rattle.lists.specs.Sequences.{over}
 use Rattle.frames.specs.Frame.{contents}
 use Rattle.frames.specs.Verdict.{Verdict, fine, refused, next, when}
-use Rattle.frames.specs.Answer.{Reply, refusal, replied}
+use Rattle.frames.specs.Answer.{Reply, refusal, reply, replied}
 use Rattle.image.specs.Image.{Image}
 use Rattle.image.specs.Decode.{decoded}
 use Rattle.image.specs.Check.{imageVerdict}
 use Rattle.machine.specs.declared.State.{State}
+use Rattle.machine.specs.declared.Answered.{Answered}
 use Rattle.machine.specs.State.{unfit}
 use Rattle.machine.specs.Tick.{Ticked, ticked, stopped, tick}
 
@@ -35,6 +37,13 @@ pub record Run : Type 0 where
   pub state : State
   pub masks : List ℕ
   pub codes : List ℕ
+
+-- what a function that runs promises: its answer, the state handed back, and what the two buffers then hold
+pub record Runs (x : Run) (r : Answered) (ms ks : List ℕ) : Type 0 where
+  pub answered : reply (r .answer) ≡ x .reply
+  pub state : r .state ≡ x .state
+  pub masks : ms ≡ x .masks
+  pub codes : ks ≡ x .codes
 
 -- less room in a buffer than words
 abbrev pub noRoom : List ℕ → List ℕ → List ℕ → Bool

@@ -1,15 +1,17 @@
 -- The state: a fresh one (refusal 14), and whether one fits an image (refusal 15).
 use Prim.Native.Nat.{ℕ, _+_, _-_}
 use mathlib.Core.Bool.{Bool, _&&_, _||_, not}
+use mathlib.Core.Path.{_≡_}
 use mathlib.Core.List.{List}
 use lib.Dec.{leb, ltb, eqb}
 use lib.ListN.{length, getD, replicate}
 use Rattle.lists.specs.Pick.{pick}
 use Rattle.lists.specs.Numbers.{any}
 use Rattle.bits.specs.Results.{noResults}
-use Rattle.frames.specs.Answer.{Reply, success, refusal}
+use Rattle.frames.specs.Answer.{Reply, success, refusal, reply}
 use Rattle.image.specs.Image.{Image, Label}
 use Rattle.machine.specs.declared.State.{State}
+use Rattle.machine.specs.declared.Answered.{Answered}
 
 abbrev pub noPlaces : List ℕ
 noPlaces = replicate 32 0
@@ -28,6 +30,11 @@ badSize n = eqb n 0 || ltb 32 n
 pub record Made : Type 0 where
   pub reply : Reply
   pub state : State
+
+-- what a function that makes a state promises
+pub record Makes (x : Made) (r : Answered) : Type 0 where
+  pub answered : reply (r .answer) ≡ x .reply
+  pub state : r .state ≡ x .state
 
 unfoldable pub freshState : ℕ → Made
 freshState n = pick (badSize n) (record { reply = refusal 14 0 0; state = noState }) (record { reply = success 0; state = fresh n })

@@ -3,12 +3,11 @@ use super::Reported;
 use super::State;
 use super::TickReport;
 use crate::runs::run;
-ghost use mathlib.Core.Path.{_≡_};
-ghost use Rattle.machine.specs.Advance.{advance, Reports};
+ghost use Rattle.machine.specs.Advance.{advance, Advances};
 
 // A run of one word; refused, it hands back mask 0, code 0 and the state as it was.
 pub fn tick_image(image: &[u8], state: State, word: u16) -> Reported
-    ensures { λ r. ⌜ Reports (advance (now (image .entry)) state word) (r .report) × (r .state ≡ advance (now (image .entry)) state word .state) ⌝ }
+    ensures { λ r. ⌜ Advances (advance (now (image .entry)) state word) (r .report) (r .state) ⌝ }
 {
     let words = [word];
     let mut masks = [0u32; 1];
@@ -27,7 +26,7 @@ pub fn tick_image(image: &[u8], state: State, word: u16) -> Reported
 
 // The same on a state that the caller keeps: a refused tick leaves it as it was.
 pub fn tick(state: &mut State, image: &[u8], word: u16) -> TickReport
-    ensures { λ r. ⌜ Reports (advance (now (image .entry)) (now (state .entry)) word) r × (now (state .exit) ≡ advance (now (image .entry)) (now (state .entry)) word .state) ⌝ }
+    ensures { λ r. ⌜ Advances (advance (now (image .entry)) (now (state .entry)) word) r (now (state .exit)) ⌝ }
 {
     let old = *state;
     let done = tick_image(image, old, word);

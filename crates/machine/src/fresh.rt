@@ -3,8 +3,7 @@ use super::Answered;
 use super::State;
 use frames::Answer;
 ghost use mathlib.Core.Path.{_≡_};
-ghost use Rattle.frames.specs.Answer.{reply};
-ghost use Rattle.machine.specs.State.{badSize, freshState};
+ghost use Rattle.machine.specs.State.{badSize, freshState, Makes};
 
 // Whether a stack size lies outside 1 to 32.
 pub fn bad_size(size: usize) -> bool
@@ -19,7 +18,7 @@ pub fn bad_size(size: usize) -> bool
 impl State {
     // Depth 1 and label 0; a size outside 1 to 32 is refused with a state of nothing but 0.
     pub fn fresh(size: usize) -> Answered
-        ensures { λ r. ⌜ (reply (r .answer) ≡ freshState size .reply) × (r .state ≡ freshState size .state) ⌝ }
+        ensures { λ r. ⌜ Makes (freshState size) r ⌝ }
     {
         let places = [0u8; State::PLACES];
         let bits = [false; State::SCHEMES];

@@ -10,11 +10,10 @@ use image::read_image;
 ghost use mathlib.Core.Path.{_≡_};
 ghost use Prim.Native.Nat.{_≤_};
 ghost use lib.ListN.{length};
-ghost use Rattle.frames.specs.Answer.{reply};
 ghost use Rattle.frames.specs.Verdict.{fine};
 ghost use Rattle.image.specs.Check.{tableVerdict};
-ghost use Rattle.machine.specs.Run.{run};
-ghost use Rattle.machine.specs.Parts.{firstFrames, stateOf, Ready, Ends, runTable, Runs};
+ghost use Rattle.machine.specs.Run.{run, Runs};
+ghost use Rattle.machine.specs.Parts.{firstFrames, stateOf, Ready, Ends, runTable};
 
 // One tick a word, until one is stopped.
 fn tick_all(
@@ -162,7 +161,7 @@ pub fn run(
     masks: &mut [u32],
     codes: &mut [u8],
 ) -> Answered
-    ensures { λ r. ⌜ (reply (r .answer) ≡ run (now (image .entry)) state (now (words .entry)) (now (masks .entry)) (now (codes .entry)) .reply) × ((r .state ≡ run (now (image .entry)) state (now (words .entry)) (now (masks .entry)) (now (codes .entry)) .state) × ((now (masks .exit) ≡ run (now (image .entry)) state (now (words .entry)) (now (masks .entry)) (now (codes .entry)) .masks) × (now (codes .exit) ≡ run (now (image .entry)) state (now (words .entry)) (now (masks .entry)) (now (codes .entry)) .codes))) ⌝ }
+    ensures { λ r. ⌜ Runs (run (now (image .entry)) state (now (words .entry)) (now (masks .entry)) (now (codes .entry))) r (now (masks .exit)) (now (codes .exit)) ⌝ }
 {
     let mut table = [0u8; State::TABLE];
     let answer = read_image(image, &mut table);

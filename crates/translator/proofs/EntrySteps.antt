@@ -7,7 +7,7 @@ use lib.Dec.{ltb}
 use lib.ListN.{length, take, replicate}
 use Rattle.frames.specs.Frame.{contents}
 use Rattle.frames.specs.Verdict.{Verdict, fine, refused, when}
-use Rattle.frames.specs.Answer.{Reply, success, refusal, reply, Lent, lent}
+use Rattle.frames.specs.Answer.{success, refusal, reply, Lent, Lends, lent}
 use Rattle.frames.specs.declared.Answer.{Answer}
 use Rattle.frames.specs.declared.Answer.the-variants.{Done, Refused}
 use Rattle.frames.proofs.Chains.{next-refused, next-on}
@@ -35,14 +35,14 @@ chart-room t zeros h ok = let a : Accepted (contents t) = accepted t ok in omega
 
 module _ (t zeros : List ℕ) (room : 2560 ≤ length zeros) (a : Answer) (e : reply a ≡ readChart t zeros .reply) where
   -- the reader's refusal is the translator's
-  pub read-refused : (out : List ℕ) (k i m : ℕ) → a ≡ Refused k i m → (reply a ≡ translate t out .reply) × (out ≡ translate t out .buffer)
+  pub read-refused : (out : List ℕ) (k i m : ℕ) → a ≡ Refused k i m → Lends (translate t out) a out
   unfolding translate translateVerdict readChart
   read-refused out k i m q =
       let p : (readVerdict t ≡ refused k i) × (m ≡ 0) =
       lent-no (readVerdict t) 10 (λ _. contents t) zeros k i m (chart-room t zeros room) (sym e ∙ ap reply q) in
       lent-refused (translateVerdict t) 1 (λ _. imageText (table (contents t))) out k i
       (next-refused (readVerdict t) (λ _. when 10 (ltb 1024 (length (rows (contents t))))) k i (p .0))
-      (reply a) (ap reply q ∙ ap (refusal k i) (p .1))
+      a (ap reply q ∙ ap (refusal k i) (p .1))
 
 -- the chart was accepted and stands at the front of the table
 pub record Read (t held : List ℕ) (n : ℕ) : Type 0 where
@@ -80,10 +80,8 @@ module _ (t held : List ℕ) (n : ℕ) (r : Read t held n) where
       ∙ ap (λ v. lent v 1 (λ _. imageText (table (contents t))) out)
       (sym (next-on (readVerdict t) (λ _. when 10 (ltb 1024 (length (rows (contents t))))) (r .accepted)))
 
-  pub translated : (out out′ : List ℕ) (x : Reply)
-      → (x ≡ imageLent (take (10 * n) held) out .reply) × (out′ ≡ imageLent (take (10 * n) held) out .buffer)
-      → (x ≡ translate t out .reply) × (out′ ≡ translate t out .buffer)
-  translated out out′ x p = (p .0 ∙ ap (λ (l : Lent). l .reply) (same out), p .1 ∙ ap (λ (l : Lent). l .buffer) (same out))
+  pub translated : (out out′ : List ℕ) (a : Answer) → Lends (imageLent (take (10 * n) held) out) a out′ → Lends (translate t out) a out′
+  translated out out′ a lends = subst (λ (x : Lent). Lends x a out′) (same out) lends
 
 pub zeros-long : 2560 ≤ length (replicate {A = ℕ} 2560 0)
 zeros-long = let n : length (replicate {A = ℕ} 2560 0) ≡ 2560 = refl in omega arith

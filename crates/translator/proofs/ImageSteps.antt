@@ -19,7 +19,8 @@ use Rattle.lists.proofs.Joins.{concat-cons, concat-append, length-concat-range}
 use Rattle.lists.proofs.Written.{written-more, written-front}
 use Rattle.frames.specs.Frame.{size, frameText, framesText}
 use Rattle.frames.specs.Verdict.{fine, when}
-use Rattle.frames.specs.Answer.{success, refusal}
+use Rattle.frames.specs.Answer.{Lends}
+use Rattle.frames.specs.declared.Answer.the-variants.{Done, Refused}
 use Rattle.frames.proofs.FrameLoops.{length-frame}
 use Rattle.frames.proofs.Chains.{when-holds, when-fails}
 use Rattle.frames.proofs.Lent.{lent-refused, lent-short, lent-done}
@@ -242,10 +243,10 @@ module _ (c : Chart) (highest own n : ℕ) (s : Sizes c highest own n) where
 
 -- ---- 10 and 16
 module _ (c : Chart) (old : List ℕ) (total : ℕ) (counted : total ≡ min 1025 (length (rows c))) where
-  pub image-many : 1024 < total → (refusal 10 0 0 ≡ imageLent c old .reply) × (old ≡ imageLent c old .buffer)
+  pub image-many : 1024 < total → Lends (imageLent c old) (Refused 10 0 0) old
   image-many h =
       lent-refused (when 10 (ltb 1024 (length (rows c)))) 1 (λ _. imageText (table c)) old 10 0
-      (when-holds 10 (ltb 1024 (length (rows c))) (lt-ltb 1024 (length (rows c)) (omega arith))) (refusal 10 0 0) refl
+      (when-holds 10 (ltb 1024 (length (rows c))) (lt-ltb 1024 (length (rows c)) (omega arith))) (Refused 10 0 0) refl
 
   pub image-few : total ≤ 1024 → total ≡ length (rows c)
   image-few h = omega arith
@@ -257,13 +258,13 @@ module _ (c : Chart) (old : List ℕ) (total : ℕ) (counted : total ≡ min 102
     allowed : when 10 (ltb 1024 (length (rows c))) ≡ fine
     allowed = when-fails 10 (ltb 1024 (length (rows c))) (le-ltb 1024 (length (rows c)) (omega arith))
 
-    pub image-short : length old < 23 * (3 + highest + own + total) → (refusal 16 0 0 ≡ imageLent c old .reply) × (old ≡ imageLent c old .buffer)
+    pub image-short : length old < 23 * (3 + highest + own + total) → Lends (imageLent c old) (Refused 16 0 0) old
     image-short h =
         lent-short (when 10 (ltb 1024 (length (rows c)))) 1 (λ _. imageText (table c)) old allowed
         (omega (arith, image-long c highest own total sizes))
 
     pub image-fits : 23 * (3 + highest + own + total) ≤ length old → (out : List ℕ) → out ≡ written old 0 (imageText (table c))
-        → (success (23 * (3 + highest + own + total)) ≡ imageLent c old .reply) × (out ≡ imageLent c old .buffer)
+        → Lends (imageLent c old) (Done (23 * (3 + highest + own + total))) out
     image-fits h out e =
         let n : length (imageText (table c)) ≡ 23 * (3 + highest + own + total) = image-long c highest own total sizes in
         lent-done (when 10 (ltb 1024 (length (rows c)))) 1 (λ _. imageText (table c)) old allowed (omega arith)

@@ -3,13 +3,12 @@ use crate::table::write_image;
 use charts::highest_scheme;
 use charts::read_chart;
 use frames::Answer;
-ghost use mathlib.Core.Path.{_≡_};
-ghost use Rattle.frames.specs.Answer.{reply};
+ghost use Rattle.frames.specs.Answer.{Lends};
 ghost use Rattle.translator.specs.Entry.{translate};
 
 // Refusals 1 to 10 and 16, else the number of characters. Nothing is written before every refusal is settled.
 pub fn translate(text: &[u8], out: &mut [u8]) -> Answer
-    ensures { λ r. ⌜ (reply r ≡ translate (now (text .entry)) (now (out .entry)) .reply) × (now (out .exit) ≡ translate (now (text .entry)) (now (out .entry)) .buffer) ⌝ }
+    ensures { λ r. ⌜ Lends (translate (now (text .entry)) (now (out .entry))) r (now (out .exit)) ⌝ }
 {
     let mut held = [0u8; 2560];
     let read = read_chart(text, &mut held);

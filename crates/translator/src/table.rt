@@ -13,7 +13,7 @@ ghost use lib.ListN.{length};
 ghost use Rattle.lists.specs.Numbers.{count};
 ghost use Rattle.lists.specs.Sequences.{written};
 ghost use Rattle.frames.specs.Frame.{size};
-ghost use Rattle.frames.specs.Answer.{reply};
+ghost use Rattle.frames.specs.Answer.{Lends};
 ghost use Rattle.charts.specs.Chart.{schemes};
 ghost use Rattle.image.specs.Image.{imageText};
 ghost use Rattle.translator.specs.Labels.{numbered};
@@ -45,7 +45,7 @@ fn put_image(records: &[u8], labels: &[u8], highest: u8, own: usize, total: usiz
 pub fn write_image(records: &[u8], highest: u8, out: &mut [u8]) -> Answer
     requires { ⌜ Ready (now records) ⌝ }
     requires { ⌜ highest ≡ schemes (now records) ⌝ }
-    ensures { λ r. ⌜ (reply r ≡ imageLent (now (records .entry)) (now (out .entry)) .reply) × (now (out .exit) ≡ imageLent (now (records .entry)) (now (out .entry)) .buffer) ⌝ }
+    ensures { λ r. ⌜ Lends (imageLent (now (records .entry)) (now (out .entry))) r (now (out .exit)) ⌝ }
 {
     let mut labels = [0u8; 256];
     let own = label_nodes(records, &mut labels);

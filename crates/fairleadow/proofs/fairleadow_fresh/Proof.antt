@@ -18,8 +18,8 @@ tell-requires c κs = search needs
 returns : tie.Need-returns
 returns c =
     let fresh = c .before .before .before .before .before .fresh in (
-      told-as (fresh .ensures .0) (c .tell .ensures),
-      c .before .before .before .bytes-of .ensures ∙ ap bytesOf (fresh .ensures .1),
+      told-as (fresh .ensures .answered) (c .tell .ensures),
+      c .before .before .before .bytes-of .ensures ∙ ap bytesOf (fresh .ensures .state),
     )
 
 pub fairleadow-fresh-spec : {M : Type 1} → statement M

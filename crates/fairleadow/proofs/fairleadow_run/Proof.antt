@@ -26,14 +26,7 @@ returns : tie.Need-returns
 returns c =
     let state-of = c .before .before .before .before .before .before .before .before .before .before .before .before .state-of in
     let run = c .before .before .before .before .before .before .before .before .before .run in
-    run-done _ _ (runs-for _ _ _ _ _ (state-of .ensures)
-    (record {
-      reply-is = (run .ensures .0);
-      state-is = (run .ensures .1 .0);
-      masks-are = (run .ensures .1 .1 .0);
-      codes-are = (run .ensures .1 .1 .1);
-    }))
-    (c .before .tell .ensures) _ (c .bytes-after .ensures)
+    run-done _ _ (runs-for _ _ _ _ _ (state-of .ensures) (run .ensures)) (c .before .tell .ensures) _ (c .bytes-after .ensures)
 
 pub fairleadow-run-spec : {M : Type 1} → statement M
 fairleadow-run-spec =

@@ -1,6 +1,6 @@
 -- `fairleadow::fairleadow_tick` meets its contract: what the functions that it calls ensure, put together, refused or not.
 use borrow.Author.Needs.{needs}
-use Rattle.fairleadow.proofs.CallLaws.{ticks-for, tick-refused, tick-done}
+use Rattle.fairleadow.proofs.CallLaws.{advances-for, tick-refused, tick-done}
 use Rattle.fairleadow.proofs.fairleadow_tick.Statement.{statement}
 use Rattle.fairleadow.proofs.fairleadow_tick.Tie as tie
 
@@ -17,9 +17,7 @@ returns : tie.Need-returns
 returns c =
     let state-of = c .before .before .before .before .before .before .before .state-of in
     let tick-image = c .before .before .before .before .before .before .tick-image in
-    let done = tick-image .ensures in
-    tick-refused _ _ (ticks-for _ _ _ (state-of .ensures)
-    (record { reply-is = done .0 .0; mask-is = done .0 .1 .0; code-is = done .0 .1 .1; state-is = done .1 }))
+    tick-refused _ _ (advances-for _ _ _ (state-of .ensures) (tick-image .ensures))
     (c .before .tell .ensures) _ _ (c .if1 .taken)
 
 bytes-of-requires : tie.Need-bytes-of-requires
@@ -29,9 +27,7 @@ returns-2 : tie.Need-returns-2
 returns-2 c =
     let state-of = c .before .before .before .before .before .before .before .before .state-of in
     let tick-image = c .before .before .before .before .before .before .before .tick-image in
-    let done = tick-image .ensures in
-    tick-done _ _ (ticks-for _ _ _ (state-of .ensures)
-    (record { reply-is = done .0 .0; mask-is = done .0 .1 .0; code-is = done .0 .1 .1; state-is = done .1 }))
+    tick-done _ _ (advances-for _ _ _ (state-of .ensures) (tick-image .ensures))
     (c .before .before .tell .ensures) _ _ _ (c .before .if1 .left) (c .bytes-of .ensures)
 
 pub fairleadow-tick-spec : {M : Type 1} → statement M

@@ -37,13 +37,13 @@ returns c = search needs
 array-share-prefix-image : tie.Need-array-share-prefix-image
 array-share-prefix-image c =
     let translate = c .before .before .before .before .translate in
-    done-fits _ _ (translate .last .1 .0) _ _ (translate .ensures .0) (c .before .answer .given .1)
+    done-fits _ _ (translate .last .1 .0) _ _ (translate .ensures .answered) (c .before .answer .given .1)
     (translate .kept .1 .0)
 
 slice-aggregate-write-all : tie.Need-slice-aggregate-write-all
 slice-aggregate-write-all c =
     let translate = c .before .before .before .before .before .translate in
-    done-part _ _ _ _ _ (translate .ensures .0) (c .before .before .answer .given .1) (translate .kept .1 .0)
+    done-part _ _ _ _ _ (translate .ensures .answered) (c .before .before .answer .given .1) (translate .kept .1 .0)
 
 write-all-requires : tie.Need-write-all-requires
 write-all-requires c κs = search needs

@@ -40,7 +40,7 @@ use denote.Triple.Table.{entered, cited}
 use denote.Triple.Walked.{says, Stays, stay-ref, stay-none, stay-none-slice, walkOf, AllGo, goes-none, goes-none-slice, goes-ref, Walks, ends-at, walked, walk-meets}
 use denote.Triple.Clauses.{ensured, lasts}
 use denote.Exit.{yes}
-use Rattle.machine.specs.Advance.{advance, Reports}
+use Rattle.machine.specs.Advance.{advance, Advances}
 use Rattle.machine.specs.declared.Reported.{Reported}
 use Rattle.machine.specs.declared.State.{State}
 use Rattle.machine.specs.declared.TickReport.{TickReport}
@@ -92,7 +92,7 @@ module _ {M : Type 1} (𝓤 : URA M) (H : Heap 𝓤) (A : Atoms 𝓤) (W : Given
 
   -- what `tick_image` says of its answer
   abbrev Right : Reported → Type 0
-  Right r = Reports (advance (now s) h n) (r .report) × (r .state ≡ advance (now s) h n .state)
+  Right r = Advances (advance (now s) h n) (r .report) (r .state)
 
   abbrev Post : Val → SProp 𝓤
   Post = walkOf 𝓤 H A tick.ended stayed (tick.clauses 𝓤 H A at-mem run) .post (((κ, (κ₁, tt)), (q, (q₁, tt)), tt, x, at), tt)

@@ -28,16 +28,14 @@ array-read-code c = search needs
 
 returns : tie.Need-returns
 unfolding advance
-returns c = (
-  (
-    c .before .before .before .run .ensures .0,
-    (
-      ap (λ (ms : List ℕ). getD ms 0 0) (c .before .before .before .run .ensures .1 .1 .0),
-      ap (λ (ks : List ℕ). getD ks 0 0) (c .before .before .before .run .ensures .1 .1 .1),
-    ),
-  ),
-  c .before .before .before .run .ensures .1 .0,
-)
+returns c =
+    let run = c .before .before .before .run .ensures in
+    record {
+      answered = run .answered;
+      mask = ap (λ (ms : List ℕ). getD ms 0 0) (run .masks);
+      code = ap (λ (ks : List ℕ). getD ks 0 0) (run .codes);
+      state = run .state;
+    }
 
 pub tick-image-spec : {M : Type 1} → statement M
 tick-image-spec =

@@ -20,21 +20,21 @@ enum-told c = search needs
 
 returns : tie.Need-returns
 returns c =
-    read-refused _ _ zeros-long _ (c .before .before .before .read-chart .ensures .0) _ (c .enum-told .given .0 .0)
+    read-refused _ _ zeros-long _ (c .before .before .before .read-chart .ensures .answered) _ (c .enum-told .given .0 .0)
     (c .enum-told .given .0 .1 .0) (c .enum-told .given .0 .1 .1 .0) (c .enum-told .given .1)
 
 mul-end : tie.Need-mul-end
 mul-end c =
     let read-chart = c .before .before .before .before .read-chart in
     omega
-    (arith, (read-told _ _ _ _ _ (read-chart .ensures .0) (c .before .read .given .1) (read-chart .ensures .1)) .few)
+    (arith, (read-told _ _ _ _ _ (read-chart .ensures .answered) (c .before .read .given .1) (read-chart .ensures .written)) .few)
 
 array-share-prefix-held : tie.Need-array-share-prefix-held
 array-share-prefix-held c =
     let read-chart = c .before .before .before .before .read-chart in
     omega (
       arith,
-      (read-told _ _ _ _ _ (read-chart .ensures .0) (c .before .read .given .1) (read-chart .ensures .1)) .few,
+      (read-told _ _ _ _ _ (read-chart .ensures .answered) (c .before .read .given .1) (read-chart .ensures .written)) .few,
       read-chart .kept .1 .0,
     )
 
@@ -42,7 +42,7 @@ slice-aggregate-records : tie.Need-slice-aggregate-records
 slice-aggregate-records c =
     let read-chart = c .before .before .before .before .before .read-chart in
     sym (read-long _ _ _
-    (read-told _ _ _ _ _ (read-chart .ensures .0) (c .before .before .read .given .1) (read-chart .ensures .1)))
+    (read-told _ _ _ _ _ (read-chart .ensures .answered) (c .before .before .read .given .1) (read-chart .ensures .written)))
 
 highest-scheme-requires : tie.Need-highest-scheme-requires
 highest-scheme-requires c κs = search needs
@@ -51,7 +51,7 @@ write-image-requires : tie.Need-write-image-requires
 write-image-requires c κs =
     let read-chart = c .before .before .before .before .before .before .before .read-chart in
     let read = c .before .before .before .before .read in (
-      read-ready _ _ _ (read-told _ _ _ _ _ (read-chart .ensures .0) (read .given .1) (read-chart .ensures .1)),
+      read-ready _ _ _ (read-told _ _ _ _ _ (read-chart .ensures .answered) (read .given .1) (read-chart .ensures .written)),
       c .before .highest-scheme .ensures,
     )
 
@@ -62,7 +62,7 @@ returns-2 : tie.Need-returns-2
 returns-2 c =
     let read-chart = c .before .before .before .before .before .before .before .before .before .before .read-chart in
     let read = c .before .before .before .before .before .before .before .read in
-    translated _ _ _ (read-told _ _ _ _ _ (read-chart .ensures .0) (read .given .1) (read-chart .ensures .1)) _ _ _
+    translated _ _ _ (read-told _ _ _ _ _ (read-chart .ensures .answered) (read .given .1) (read-chart .ensures .written)) _ _ _
     (c .before .before .write-image .ensures)
 
 pub translate-spec : {M : Type 1} → statement M
