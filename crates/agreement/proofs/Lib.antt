@@ -11,3 +11,4 @@ pub mod Chain
 pub mod TableFactsHold
 pub mod Demand
 pub mod Delivered
+pub mod Attached
