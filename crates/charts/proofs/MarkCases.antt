@@ -1,7 +1,7 @@
 -- The arcs that marks follow, case by case, and the marks of Begins and of cut-off nodes.
 use mathlib.Core.Path.{_≡_, refl, sym, _∙_, ap}
 use mathlib.Core.Logic.{_⊎_, inl, inr}
-use mathlib.Core.Bool.{Bool, true, false, _&&_, not}
+use mathlib.Core.Bool.{Bool, true, false}
 use mathlib.Core.List.{List, [], _∷_, _++_, map, append-nil}
 use Prim.Native.Nat.{ℕ, zero, suc, _+_, _≤_, _<_}
 use native.Mathlib.Numerals.{add-one}
@@ -12,15 +12,12 @@ use lib.ListN.{length, getD, set, take, drop, replicate, drop-of-length-le, leng
 use lib.Seq.{drop-cons, set-at, append-snoc}
 use borrow.Author.Tests.{eq-eqb, ne-eqb}
 use Rattle.lists.specs.Pick.{pick}
-use Rattle.lists.specs.Numbers.{range, lowest, any}
-use Rattle.lists.proofs.Tests.{not-true}
-use Rattle.lists.proofs.Searches.{lowest-none, any-false}
+use Rattle.lists.specs.Numbers.{range}
 use Rattle.lists.proofs.Ranges.{length-map-range, map-range-snoc}
-use Rattle.graph.specs.Reach.{marked, joinedFrom}
-use Rattle.graph.specs.Sweep.{markAll}
+use Rattle.graph.specs.Marking.{markAll}
 use Rattle.frames.specs.Frame.{size}
 use Rattle.charts.specs.Chart.{Chart, kind, next0, next1, is}
-use Rattle.charts.specs.Check.{arcs, conditionArcs, onCircle}
+use Rattle.charts.specs.Check.{arcs, conditionArcs}
 use Rattle.charts.specs.Marks.{arcsBy, beginMarks}
 use Rattle.charts.proofs.Nodes.{arcs-end, arcs-one, arcs-condition, arcs-function}
 use Rattle.charts.proofs.Meaning.{condition-arcs, no-condition-arcs}
@@ -134,19 +131,3 @@ part-of (suc m) (suc n) a l = ap (λ xs. a ∷ xs) (part-of m n a (omega arith))
 
 pub part-long : {A : Type 0} (m n : ℕ) (a : A) → n ≤ m → length (take n (replicate m a)) ≡ n
 part-long m n a l = ap (λ xs. length xs) (part-of m n a l) ∙ length-replicate n a
-
--- ---- circles
-module _ (c : Chart) (v x : ℕ) (p : x ≡ kind c v) where
-  pub circle-other : (x ≡ 3 → ⊥) → false ≡ onCircle c v
-  circle-other n = sym (ap (λ b. b && marked (joinedFrom (size c) (conditionArcs c) (arcs c v)) v) (ne-eqb (kind c v) 3 (λ q. n (p ∙ q))))
-
-  pub circle-back : x ≡ 3 → (ms : List Bool) (r : Bool) → ms ≡ joinedFrom (size c) (conditionArcs c) (arcs c v)
-      → r ≡ marked ms v → r ≡ onCircle c v
-  circle-back q ms r e t =
-      t ∙ ap (λ (xs : List Bool). marked xs v) e
-      ∙ sym (ap (λ b. b && marked (joinedFrom (size c) (conditionArcs c) (arcs c v)) v) (eq-eqb (kind c v) 3 (sym p ∙ q)))
-
-pub calm-lowest : (p : ℕ → Bool) (n : ℕ) (r : Bool) → r ≡ not (any p 0 n) → r ≡ true → n ≡ lowest p 0 n
-calm-lowest p n r e t =
-    let f : any p 0 n ≡ false = not-true (any p 0 n) (sym e ∙ t) in
-    omega (arith, lowest-none p 0 n (λ k l. any-false p 0 n f (0 + k) (omega arith) (omega arith)))

@@ -6,8 +6,8 @@ mod entry;
 mod fields;
 mod joined;
 mod marks;
-mod ranks;
 mod schemes;
+mod settled;
 
 pub use entry::read_chart;
 pub use entry::write_chart;
