@@ -1,7 +1,7 @@
 -- The arcs that marks follow, case by case, and the marks of Begins and of cut-off nodes.
 use mathlib.Core.Path.{_≡_, refl, sym, _∙_, ap}
 use mathlib.Core.Logic.{_⊎_, inl, inr}
-use mathlib.Core.Bool.{Bool, true, false}
+use mathlib.Core.Bool.{Bool, true, false, _&&_}
 use mathlib.Core.List.{List, [], _∷_, _++_, map, append-nil}
 use Prim.Native.Nat.{ℕ, zero, suc, _+_, _≤_, _<_}
 use native.Mathlib.Numerals.{add-one}
@@ -14,11 +14,12 @@ use borrow.Author.Tests.{eq-eqb, ne-eqb}
 use Rattle.lists.specs.Pick.{pick}
 use Rattle.lists.specs.Numbers.{range}
 use Rattle.lists.proofs.Ranges.{length-map-range, map-range-snoc}
+use Rattle.graph.specs.Reach.{marked, joinedFrom}
 use Rattle.graph.specs.Marking.{markAll}
 use Rattle.frames.specs.Frame.{size}
 use Rattle.charts.specs.Chart.{Chart, kind, next0, next1, is}
-use Rattle.charts.specs.Check.{arcs, conditionArcs}
-use Rattle.charts.specs.Marks.{arcsBy, beginMarks}
+use Rattle.charts.specs.Check.{arcs, conditionArcs, onCircle}
+use Rattle.charts.specs.Marks.{arcsBy, kindMarks}
 use Rattle.charts.proofs.Nodes.{arcs-end, arcs-one, arcs-condition, arcs-function}
 use Rattle.charts.proofs.Meaning.{condition-arcs, no-condition-arcs}
 
@@ -101,26 +102,37 @@ module _ (c : Chart) (b : Bool) (v n : ℕ) (e : n ≡ length (arcsBy c b v)) (m
             eo ∙ ap (λ (x : List Bool). set x w true) (em ∙ ap (λ (u : ℕ). set ms u true) eu)
             ∙ ap (λ (w : ℕ). set (set ms (next0 c v) true) w true) ew ∙ sym (ap (λ (us : List ℕ). markAll us ms) q)
 
--- ---- the marks of Begins, written one after the other over old marks
-module _ (c : Chart) (old : List Bool) where
+-- ---- the marks of a kind, written one after the other over old marks
+module _ (c : Chart) (k : ℕ) (old : List Bool) where
   abbrev front : ℕ → List Bool
-  front v = map (is c 0) (range 0 v)
+  front v = map (is c k) (range 0 v)
 
-  pub begins-more : (v x : ℕ) (ms : List Bool) → v < length old → ms ≡ map (is c 0) (range 0 v) ++ drop v old → x ≡ kind c v
-      → set ms v (eqb x 0) ≡ map (is c 0) (range 0 (v + 1)) ++ drop (v + 1) old
-  begins-more v x ms l e k =
+  pub kinds-more : (v x : ℕ) (ms : List Bool) → v < length old → ms ≡ map (is c k) (range 0 v) ++ drop v old → x ≡ kind c v
+      → set ms v (eqb x k) ≡ map (is c k) (range 0 (v + 1)) ++ drop (v + 1) old
+  kinds-more v x ms l e q =
       let d : drop v old ≡ getD old v false ∷ drop (suc v) old = drop-cons old v false l in
-      ap (λ (xs : List Bool). set xs v (eqb x 0)) (e ∙ ap (λ (xs : List Bool). front v ++ xs) d)
-      ∙ set-at (front v) (getD old v false) (drop (suc v) old) (eqb x 0) v (length-map-range (is c 0) 0 v)
-      ∙ sym (append-snoc (front v) (eqb x 0) (drop (suc v) old))
-      ∙ ap (λ b. (front v ++ (b ∷ [])) ++ drop (suc v) old) (ap (λ (y : ℕ). eqb y 0) k ∙ ap (is c 0) (omega arith))
-      ∙ ap (λ (xs : List Bool). xs ++ drop (suc v) old) (sym (map-range-snoc (is c 0) 0 v))
-      ∙ ap (λ (j : ℕ). map (is c 0) (range 0 j) ++ drop j old) (sym (add-one v))
+      ap (λ (xs : List Bool). set xs v (eqb x k)) (e ∙ ap (λ (xs : List Bool). front v ++ xs) d)
+      ∙ set-at (front v) (getD old v false) (drop (suc v) old) (eqb x k) v (length-map-range (is c k) 0 v)
+      ∙ sym (append-snoc (front v) (eqb x k) (drop (suc v) old))
+      ∙ ap (λ b. (front v ++ (b ∷ [])) ++ drop (suc v) old) (ap (λ (y : ℕ). eqb y k) q ∙ ap (is c k) (omega arith))
+      ∙ ap (λ (xs : List Bool). xs ++ drop (suc v) old) (sym (map-range-snoc (is c k) 0 v))
+      ∙ ap (λ (j : ℕ). map (is c k) (range 0 j) ++ drop j old) (sym (add-one v))
 
-  pub begins-done : (v : ℕ) (ms : List Bool) → v ≡ size c → length old ≡ size c → ms ≡ map (is c 0) (range 0 v) ++ drop v old
-      → ms ≡ beginMarks c
-  begins-done v ms q l e =
+  pub kinds-done : (v : ℕ) (ms : List Bool) → v ≡ size c → length old ≡ size c → ms ≡ map (is c k) (range 0 v) ++ drop v old
+      → ms ≡ kindMarks c k
+  kinds-done v ms q l e =
       e ∙ ap (λ (xs : List Bool). front v ++ xs) (drop-of-length-le old {i = v} (omega arith)) ∙ append-nil (front v) ∙ ap (λ (j : ℕ). front j) q
+
+-- ---- a condition on a circle
+module _ (c : Chart) (v x : ℕ) (p : x ≡ kind c v) where
+  pub circle-other : (x ≡ 3 → ⊥) → false ≡ onCircle c v
+  circle-other n = sym (ap (λ b. b && marked (joinedFrom (size c) (conditionArcs c) (arcs c v)) v) (ne-eqb (kind c v) 3 (λ q. n (p ∙ q))))
+
+  pub circle-back : x ≡ 3 → (ms : List Bool) (r : Bool) → ms ≡ joinedFrom (size c) (conditionArcs c) (arcs c v)
+      → r ≡ marked ms v → r ≡ onCircle c v
+  circle-back q ms r e t =
+      t ∙ ap (λ (xs : List Bool). marked xs v) e
+      ∙ sym (ap (λ b. b && marked (joinedFrom (size c) (conditionArcs c) (arcs c v)) v) (eq-eqb (kind c v) 3 (sym p ∙ q)))
 
 -- ---- marks that a table of 256 lends
 pub part-of : {A : Type 0} (m n : ℕ) (a : A) → n ≤ m → take n (replicate m a) ≡ replicate n a

@@ -1,17 +1,18 @@
 // Refusal 8: a circle of conditions.
+use crate::fields::field;
+use crate::finished::finish_all;
 use crate::marks::follow;
 use crate::marks::join;
-use crate::settled::is_open;
-use crate::settled::settle_all;
+use crate::marks::mark_kind;
 ghost use mathlib.Core.Path.{_≡_};
 ghost use mathlib.Core.Bool.{false};
-ghost use Prim.Native.Nat.{_*_, _≤_, _<_};
+ghost use Prim.Native.Nat.{_≤_, _<_};
 ghost use lib.ListN.{length, replicate};
 ghost use Rattle.lists.specs.Numbers.{lowest};
 ghost use Rattle.graph.specs.Reach.{marked, joinedFrom};
 ghost use Rattle.frames.specs.Frame.{size};
 ghost use Rattle.charts.specs.Check.{arcs, conditionArcs, onCircle};
-ghost use Rattle.charts.specs.Settled.{Settled};
+ghost use Rattle.charts.specs.Finished.{Finished};
 
 // The nodes that arcs of conditions join from the next nodes of v are marked; whether v is one of them.
 fn leads_back(records: &[u8], v: usize, marks: &mut [bool], list: &mut [u8]) -> bool
@@ -24,62 +25,55 @@ fn leads_back(records: &[u8], v: usize, marks: &mut [bool], list: &mut [u8]) -> 
     marks[v]
 }
 
-// The same with marks that are all clear at first.
-fn comes_back(records: &[u8], v: usize, list: &mut [u8]) -> bool
+// 8: node v is a condition on a circle of conditions.
+fn on_circle(records: &[u8], v: usize, list: &mut [u8]) -> bool
     requires { ⌜ (v < size (now records)) × (size (now records) ≤ 256) × (size (now records) ≤ length (now list)) ⌝ }
-    ensures { λ r. ⌜ r ≡ marked (joinedFrom (size (now (records .entry))) (conditionArcs (now (records .entry))) (arcs (now (records .entry)) v)) v ⌝ }
+    ensures { λ r. ⌜ r ≡ onCircle (now (records .entry)) v ⌝ }
 {
+    if field(records, v, 0) != 3 {
+        return false;
+    }
     let n = records.len() / 10;
     let mut marks = [false; 256];
     leads_back(records, v, &mut marks[..n], list)
 }
 
-// 8: node v is a condition on a circle of conditions. A settled one is on none.
-fn on_circle(records: &[u8], done: &[bool], v: usize, list: &mut [u8]) -> bool
-    requires { ⌜ (v < size (now records)) × (size (now records) ≤ 256) × (size (now records) ≤ length (now list)) ⌝ }
-    requires { ⌜ Settled (now records) (now done) ⌝ }
-    ensures { λ r. ⌜ r ≡ onCircle (now (records .entry)) v ⌝ }
-{
-    if is_open(records, done, v) {
-        return comes_back(records, v, list);
-    }
-    false
-}
-
-// The lowest node on a circle, or the number of nodes, node by node.
-fn search_circle(records: &[u8], done: &[bool], list: &mut [u8]) -> usize
+// The lowest node on a circle, or the number of nodes. A finished node is on none, so only the others are tried.
+fn search_circle(records: &[u8], unfinished: &[bool], list: &mut [u8]) -> usize
     requires { ⌜ (size (now records) ≤ 256) × (size (now records) ≤ length (now list)) ⌝ }
-    requires { ⌜ Settled (now records) (now done) ⌝ }
+    requires { ⌜ Finished (now records) (now unfinished) ⌝ }
     ensures { λ r. ⌜ r ≡ lowest (onCircle (now (records .entry))) 0 (size (now (records .entry))) ⌝ }
 {
     let n = records.len() / 10;
     let mut v: usize = 0;
     while v < n {
-        if on_circle(records, done, v, list) {
-            return v;
+        if unfinished[v] {
+            if on_circle(records, v, list) {
+                return v;
+            }
         }
         v += 1;
     }
     v
 }
 
-// The lowest node on a circle, or the number of nodes: what can be settled is, and only the other conditions are searched.
-fn find_circle(records: &[u8], done: &mut [bool], list: &mut [u8]) -> usize
-    requires { ⌜ (size (now records) ≤ 256) × (size (now records) ≤ length (now list)) ⌝ }
-    requires { ⌜ Settled (now records) (now done) ⌝ }
+// The same, with what a search from each condition finishes. In an accepted chart that is all of them.
+fn find_circle(records: &[u8], unfinished: &mut [bool], list: &mut [u8]) -> usize
+    requires { ⌜ (length (now unfinished) ≡ size (now records)) × (size (now records) ≤ 256) × (size (now records) ≤ length (now list)) ⌝ }
     ensures { λ r. ⌜ r ≡ lowest (onCircle (now (records .entry))) 0 (size (now (records .entry))) ⌝ }
 {
-    settle_all(records, done, list);
-    search_circle(records, done, list)
+    mark_kind(records, 3, unfinished);
+    finish_all(records, unfinished, list);
+    search_circle(records, unfinished, list)
 }
 
-// The lowest node that 8 refuses, or the number of nodes. At first no condition is settled; in an accepted chart all are in the end, so only a refused one is searched.
+// The lowest node that 8 refuses, or the number of nodes.
 pub fn lowest_circle(records: &[u8]) -> usize
-    requires { ⌜ (length (now records) ≡ 10 * size (now records)) × (size (now records) ≤ 256) ⌝ }
+    requires { ⌜ size (now records) ≤ 256 ⌝ }
     ensures { λ r. ⌜ r ≡ lowest (onCircle (now (records .entry))) 0 (size (now (records .entry))) ⌝ }
 {
     let n = records.len() / 10;
-    let mut done = [false; 256];
+    let mut unfinished = [false; 256];
     let mut list = [0u8; 256];
-    find_circle(records, &mut done[..n], &mut list)
+    find_circle(records, &mut unfinished[..n], &mut list)
 }

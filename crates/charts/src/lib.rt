@@ -4,10 +4,10 @@ mod check;
 mod circles;
 mod entry;
 mod fields;
+mod finished;
 mod joined;
 mod marks;
 mod schemes;
-mod settled;
 
 pub use entry::read_chart;
 pub use entry::write_chart;

@@ -7,7 +7,7 @@ ghost use Rattle.graph.specs.Reach.{reach};
 ghost use Rattle.graph.specs.Marking.{markAll};
 ghost use Rattle.graph.specs.Listed.{Listed, Longer};
 ghost use Rattle.frames.specs.Frame.{size};
-ghost use Rattle.charts.specs.Marks.{arcsBy, beginMarks};
+ghost use Rattle.charts.specs.Marks.{arcsBy, kindMarks};
 
 // How many arcs of node v count.
 fn arc_count(records: &[u8], conditions: bool, v: usize) -> usize
@@ -71,15 +71,15 @@ pub fn join(records: &[u8], conditions: bool, marks: &mut [bool], list: &mut [u8
     }
 }
 
-// The Begins are marked, and no other node.
-pub fn mark_begins(records: &[u8], marks: &mut [bool])
+// The nodes of a kind are marked, and no others.
+pub fn mark_kind(records: &[u8], kind: u8, marks: &mut [bool])
     requires { ⌜ length (now marks) ≡ size (now records) ⌝ }
-    ensures { λ _. ⌜ now (marks .exit) ≡ beginMarks (now (records .entry)) ⌝ }
+    ensures { λ _. ⌜ now (marks .exit) ≡ kindMarks (now (records .entry)) kind ⌝ }
 {
     let n = records.len() / 10;
     let mut v: usize = 0;
     while v < n {
-        marks[v] = field(records, v, 0) == 0;
+        marks[v] = field(records, v, 0) == kind;
         v += 1;
     }
 }

@@ -7,6 +7,16 @@ ghost use Rattle.lists.specs.Numbers.{lowest};
 ghost use Rattle.graph.specs.Reach.{marked};
 ghost use Rattle.graph.specs.Listed.{Listed, Longer};
 
+// Node u has a mark; a number that is no node has none.
+pub fn is_marked(marks: &[bool], u: usize) -> bool
+    ensures { λ r. ⌜ r ≡ marked (now (marks .entry)) u ⌝ }
+{
+    if marks.len() <= u {
+        return false;
+    }
+    marks[u]
+}
+
 // Node u is marked, if it is one, and listed, if it was not; how many are listed then.
 pub fn enlist(marks: &mut [bool], list: &mut [u8], count: usize, u: u8) -> usize
     requires { ⌜ length (now marks) ≤ length (now list) ⌝ }

@@ -1,17 +1,14 @@
--- `charts::circles::lowest_circle` meets its contract: at first no condition is settled.
-use mathlib.Core.Path.{sym, subst}
-use mathlib.Core.Bool.{Bool, false}
-use mathlib.Core.List.{List}
+-- `charts::circles::lowest_circle` meets its contract: a table of 256 lends the marks.
+use mathlib.Core.Path.{sym}
+use mathlib.Core.Bool.{false}
 use Rattle.frames.specs.Frame.{size}
-use Rattle.charts.specs.Settled.{Settled}
-use Rattle.charts.proofs.MarkCases.{part-of, part-long}
-use Rattle.charts.proofs.SettledCases.{settled-none}
+use Rattle.charts.proofs.MarkCases.{part-long}
 use borrow.Author.Needs.{needs}
 use Rattle.charts.proofs.circles.lowest_circle.Statement.{statement}
 use Rattle.charts.proofs.circles.lowest_circle.Tie as tie
 
-array-borrow-prefix-done : tie.Need-array-borrow-prefix-done
-array-borrow-prefix-done c = search needs
+array-borrow-prefix-unfinished : tie.Need-array-borrow-prefix-unfinished
+array-borrow-prefix-unfinished c = search needs
 
 slice-aggregate-find-circle : tie.Need-slice-aggregate-find-circle
 slice-aggregate-find-circle c = sym (part-long 256 (size (c .before .before .args .records .now)) false (search needs))
@@ -20,11 +17,7 @@ slice-aggregate-find-circle-2 : tie.Need-slice-aggregate-find-circle-2
 slice-aggregate-find-circle-2 c = search needs
 
 find-circle-requires : tie.Need-find-circle-requires
-find-circle-requires c κs =
-    let records = c .before .before .before .args .records .now in (
-      (search needs, search needs),
-      subst (λ (xs : List Bool). Settled records xs) (sym (part-of 256 (size records) false (search needs))) (settled-none records),
-    )
+find-circle-requires c κs = (part-long 256 (size (c .before .before .before .args .records .now)) false (search needs), search needs, search needs)
 
 returns : tie.Need-returns
 returns c = search needs
@@ -33,7 +26,7 @@ pub lowest-circle-spec : {M : Type 1} → statement M
 lowest-circle-spec =
     tie.close
     (tie.spec
-    array-borrow-prefix-done
+    array-borrow-prefix-unfinished
     slice-aggregate-find-circle
     slice-aggregate-find-circle-2
     find-circle-requires

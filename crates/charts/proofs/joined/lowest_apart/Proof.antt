@@ -11,8 +11,8 @@ use borrow.Author.Needs.{needs}
 use Rattle.charts.proofs.joined.lowest_apart.Statement.{statement}
 use Rattle.charts.proofs.joined.lowest_apart.Tie as tie
 
-mark-begins-requires : tie.Need-mark-begins-requires
-mark-begins-requires c κs = search needs
+mark-kind-requires : tie.Need-mark-kind-requires
+mark-kind-requires c κs = search needs
 
 list-marked-requires : tie.Need-list-marked-requires
 list-marked-requires c κs = search needs
@@ -33,20 +33,20 @@ returns : tie.Need-returns
 returns c =
     let start = c .before .before .before .before .before .before .before .before .before .before .before .before .before .before .before .before .before .before .before .before .before in
     let records = start .args .records .now in
-    let mark-begins = c .before .before .before .before .before .before .before .before .before .before .before .before .before .before .before .before .mark-begins in
+    let mark-kind = c .before .before .before .before .before .before .before .before .before .before .before .before .before .before .before .before .mark-kind in
     let join = c .before .before .before .before .before .before .join in (
       join .ensures
-          ∙ ap (λ (xs : List Bool). reach (size records) (arcsBy records false) (size records) xs) (mark-begins .ensures),
+          ∙ ap (λ (xs : List Bool). reach (size records) (arcsBy records false) (size records) xs) (mark-kind .ensures),
       c .lowest-unmarked .ensures
           ∙ ap (λ (k : ℕ). lowest (λ v. not (marked (join .last .1 .1 .0) v)) 0 k)
-          (join .kept .1 .1 .0 ∙ mark-begins .kept .1 .0 ∙ start .pre .0),
+          (join .kept .1 .1 .0 ∙ mark-kind .kept .1 .1 .0 ∙ start .pre .0),
     )
 
 pub lowest-apart-spec : {M : Type 1} → statement M
 lowest-apart-spec =
     tie.close
     (tie.spec
-    mark-begins-requires
+    mark-kind-requires
     list-marked-requires
     join-requires
     lowest-unmarked-requires
