@@ -23,16 +23,14 @@ use Rattle.charts.specs.Marks.{kindMarks}
 use Rattle.charts.specs.Finished.{nextUnfinished, NoneAhead, Finished}
 use Rattle.charts.proofs.Nodes.{arcs-condition}
 use Rattle.charts.proofs.Meaning.{condition-arcs, leaves-condition, member-only}
-
-other-off : (c : Chart) (v : ℕ) → is c 3 v ≡ false → onCircle c v ≡ false
-other-off c v i = ap (λ b. b && marked (joinedFrom (size c) (conditionArcs c) (arcs c v)) v) i
+use Rattle.charts.proofs.MarkCases.{no-circle}
 
 -- at first all conditions are unfinished
 pub finished-none : (c : Chart) (ms : List Bool) → ms ≡ kindMarks c 3 → Finished c ms
 finished-none c ms e = subst (λ (xs : List Bool). Finished c xs) (sym e) (record {
   long = length-map-range (is c 3) 0 (size c);
   ahead = λ v l m u s. no-both (is c 3 v) (leaves-condition c v u s) (sym (marks-at (is c 3) (size c) v l) ∙ m);
-  off = λ v l m. other-off c v (sym (marks-at (is c 3) (size c) v l) ∙ m);
+  off = λ v l m. no-circle c v (sym (marks-at (is c 3) (size c) v l) ∙ m);
 })
 
 -- ---- the next nodes, the one on a 0 first
@@ -104,7 +102,7 @@ module _ (c : Chart) (ms : List Bool) (f : Finished c ms) where
     now-off = go (cases (is c 3 v)) (cases (marked ms v))
       where
         go : (is c 3 v ≡ true) ⊎ (is c 3 v ≡ false) → (marked ms v ≡ true) ⊎ (marked ms v ≡ false) → onCircle c v ≡ false
-        go (inr i) m = other-off c v i
+        go (inr i) m = no-circle c v i
         go (inl i) (inl m) = unfinished-off i m
         go (inl i) (inr m) = f .off v l m
 

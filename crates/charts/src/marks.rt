@@ -14,21 +14,16 @@ fn arc_count(records: &[u8], conditions: bool, v: usize) -> usize
     requires { ⌜ 10 * v + 10 ≤ length (now records) ⌝ }
     ensures { λ r. ⌜ r ≡ length (arcsBy (now (records .entry)) conditions v) ⌝ }
 {
-    match field(records, v, 0) {
+    let kind = field(records, v, 0);
+    if conditions {
+        if kind != 3 {
+            return 0;
+        }
+    }
+    match kind {
         1 => 0,
-        3 => 2,
-        4 => {
-            if conditions {
-                return 0;
-            }
-            2
-        }
-        _ => {
-            if conditions {
-                return 0;
-            }
-            1
-        }
+        3..=4 => 2,
+        _ => 1,
     }
 }
 
