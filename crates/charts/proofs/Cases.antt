@@ -1,15 +1,17 @@
 -- The checks of one node, case by case, as the code meets them.
 use mathlib.Core.Path.{_≡_, refl, sym, _∙_, ap}
+use mathlib.Core.Logic.{_⊎_, ⊎-elim}
 use mathlib.Core.Bool.{Bool, true, false, _&&_, _||_}
 use mathlib.Core.List.{[], _∷_}
-use Prim.Native.Nat.{ℕ, zero, suc, _<_}
+use Prim.Native.Nat.{ℕ, zero, suc, _≤_, _<_}
 use native.Mathlib.Omega.{arith}
 use lib.Dec.{leb, ltb, eqb}
 use borrow.Author.Tests.{eq-eqb, ne-eqb, lt-leb}
 use Rattle.lists.specs.Sequences.{some}
 use Rattle.frames.specs.Frame.{size}
 use Rattle.charts.specs.Chart.{Chart, kind, scheme, argument, next0, next1, schemes}
-use Rattle.charts.specs.Check.{badUse, arcs, badEnd, badArc, badCall}
+use Rattle.charts.specs.Check.{badUse, badEnd, badArc, badCall}
+use Rattle.charts.proofs.Nodes.{arcs-end, arcs-one, two-arcs}
 
 -- ---- 4
 -- a kind above 4
@@ -39,33 +41,20 @@ some-two : (p : ℕ → Bool) (x y : ℕ) → some p (x ∷ y ∷ []) ≡ (p x |
 unfolding some
 some-two p x y = ap (λ b. p x || b) (or-no (p y))
 
+-- a kind outside 3 to 4
+pub outside : (k : ℕ) → (k < 3) ⊎ (5 ≤ k) → (k ≡ 3 → ⊥) × (k ≡ 4 → ⊥)
+outside k o = (λ q. ⊎-elim (λ (h : k < 3). omega arith) (λ (h : 5 ≤ k). omega arith) o, λ q. ⊎-elim (λ (h : k < 3). omega arith) (λ (h : 5 ≤ k). omega arith) o)
+
 module _ (c : Chart) (v k : ℕ) (ek : k ≡ kind c v) where
-  no-arc : k ≡ 1 → arcs c v ≡ []
-  no-arc e = rw (eq-eqb (kind c v) 1 (sym ek ∙ e))
-
-  one-arc : (k ≡ 1 → ⊥) → (k ≡ 3 → ⊥) → (k ≡ 4 → ⊥) → arcs c v ≡ next0 c v ∷ []
-  one-arc a b d = rw (ne-eqb (kind c v) 1 (λ e. a (ek ∙ e)), ne-eqb (kind c v) 3 (λ e. b (ek ∙ e)), ne-eqb (kind c v) 4 (λ e. d (ek ∙ e)))
-
-  condition-arcs : k ≡ 3 → arcs c v ≡ next0 c v ∷ next1 c v ∷ []
-  condition-arcs e = simp (sym ek ∙ e)
-
-  function-arcs : k ≡ 4 → arcs c v ≡ next0 c v ∷ next1 c v ∷ []
-  function-arcs e = simp (sym ek ∙ e)
-
   pub end-arc : k ≡ 1 → false ≡ badArc c v
-  end-arc e = sym (ap (some (badEnd c v)) (no-arc e) ∙ (unfold some in refl))
+  end-arc e = sym (ap (some (badEnd c v)) (arcs-end c v (sym ek ∙ e)) ∙ (unfold some in refl))
 
-  pub single-arc : (k ≡ 1 → ⊥) → (k ≡ 3 → ⊥) → (k ≡ 4 → ⊥) → badEnd c v (next0 c v) ≡ badArc c v
-  single-arc a b d = sym (ap (some (badEnd c v)) (one-arc a b d) ∙ some-one (badEnd c v) (next0 c v))
+  pub single-arc : (k ≡ 1 → ⊥) → (k < 3) ⊎ (5 ≤ k) → badEnd c v (next0 c v) ≡ badArc c v
+  single-arc n o =
+      sym (ap (some (badEnd c v)) (arcs-one c v (λ q. n (ek ∙ q)) (λ q. outside k o .0 (ek ∙ q)) (λ q. outside k o .1 (ek ∙ q))) ∙ some-one (badEnd c v) (next0 c v))
 
-  pair : some (badEnd c v) (next0 c v ∷ next1 c v ∷ []) ≡ (badEnd c v (next0 c v) || badEnd c v (next1 c v))
-  pair = some-two (badEnd c v) (next0 c v) (next1 c v)
-
-  pub condition-arc : k ≡ 3 → (badEnd c v (next0 c v) || badEnd c v (next1 c v)) ≡ badArc c v
-  condition-arc e = sym (ap (some (badEnd c v)) (condition-arcs e) ∙ pair)
-
-  pub function-arc : k ≡ 4 → (badEnd c v (next0 c v) || badEnd c v (next1 c v)) ≡ badArc c v
-  function-arc e = sym (ap (some (badEnd c v)) (function-arcs e) ∙ pair)
+  pub double-arc : 3 ≤ k → k < 5 → (badEnd c v (next0 c v) || badEnd c v (next1 c v)) ≡ badArc c v
+  double-arc a b = sym (ap (some (badEnd c v)) (two-arcs c v (omega arith) (omega arith)) ∙ some-two (badEnd c v) (next0 c v) (next1 c v))
 
 module _ (c : Chart) (v u : ℕ) (r : Bool) (eu : u ≡ next0 c v) (er : r ≡ badEnd c v u) where
   pub pair-first : r ≡ true → true ≡ (badEnd c v (next0 c v) || badEnd c v (next1 c v))

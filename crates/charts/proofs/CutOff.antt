@@ -19,7 +19,7 @@ use Rattle.graph.proofs.Closure.{Closed, marked-below, reach-grow, reach-least,
 use Rattle.frames.specs.Frame.{size}
 use Rattle.charts.specs.Chart.{Chart, scheme, is, isOf, schemes, nodeOf, begin}
 use Rattle.charts.specs.Check.{badField, badScheme, arcs, badEnd, badArc, cutOff}
-use Rattle.charts.specs.Marks.{beginMarks}
+use Rattle.charts.specs.Marks.{kindMarks}
 use Rattle.charts.proofs.Nodes.{field-scheme, good-end, member-first}
 use Rattle.charts.proofs.Meaning.{member-only}
 
@@ -55,15 +55,15 @@ module _ (c : Chart) (fields : size c ≤ lowest (badField c) 0 (size c))
 
   -- ---- joined from all Begins, and from one
   abbrev joined : List Bool
-  joined = reach (size c) (arcs c) (size c) (beginMarks c)
+  joined = reach (size c) (arcs c) (size c) (kindMarks c 0)
 
   abbrev from : ℕ → List Bool
   from h = joinedFrom (size c) (arcs c) (begin c h ∷ [])
 
-  begins-long : length (beginMarks c) ≡ size c
+  begins-long : length (kindMarks c 0) ≡ size c
   begins-long = length-map-range (is c 0) 0 (size c)
 
-  begins-at : (v : ℕ) → v < size c → marked (beginMarks c) v ≡ is c 0 v
+  begins-at : (v : ℕ) → v < size c → marked (kindMarks c 0) v ≡ is c 0 v
   begins-at v l = getD-map-range (is c 0) false 0 (size c) v l ∙ ap (is c 0) (zero-add v)
 
   abbrev own : ℕ → Bool
@@ -76,14 +76,14 @@ module _ (c : Chart) (fields : size c ≤ lowest (badField c) 0 (size c))
   }
 
   to-own : (v : ℕ) → marked joined v ≡ true → own v ≡ true
-  to-own = reach-least (size c) (arcs c) own own-closed (size c) (beginMarks c)
-      (λ v m. let l : v < size c = marked-below (size c) (beginMarks c) v begins-long m in
+  to-own = reach-least (size c) (arcs c) own own-closed (size c) (kindMarks c 0)
+      (λ v m. let l : v < size c = marked-below (size c) (kindMarks c 0) v begins-long m in
       joined-first (size c) (arcs c) (begin c (scheme c v) ∷ []) v l
       (subst (λ (b : ℕ). member v (b ∷ []) ≡ true) (own-begin v l (sym (begins-at v l) ∙ m)) (member-first v [])))
 
   from-own : (v : ℕ) → v < size c → own v ≡ true → marked joined v ≡ true
-  from-own v l = joined-least (size c) (arcs c) (begin c (scheme c v) ∷ []) (marked joined) (reach-closed (size c) (arcs c) (beginMarks c) begins-long)
-      (λ w lw s. reach-grow (size c) (arcs c) (size c) (beginMarks c) begins-long w
+  from-own v l = joined-least (size c) (arcs c) (begin c (scheme c v) ∷ []) (marked joined) (reach-closed (size c) (arcs c) (kindMarks c 0) begins-long)
+      (λ w lw s. reach-grow (size c) (arcs c) (size c) (kindMarks c 0) begins-long w
       (begins-at w lw ∙ subst (λ (b : ℕ). is c 0 b ≡ true) (sym (member-only w (begin c (scheme c v)) s))
       (and-l (is c 0 (begin c (scheme c v))) (eqb (scheme c (begin c (scheme c v))) (scheme c v)) (the-begin v l .1)))) v
 

@@ -1,7 +1,7 @@
 -- The arcs that marks follow, case by case, and the marks of Begins and of cut-off nodes.
 use mathlib.Core.Path.{_≡_, refl, sym, _∙_, ap}
 use mathlib.Core.Logic.{_⊎_, inl, inr}
-use mathlib.Core.Bool.{Bool, true, false, _&&_, not}
+use mathlib.Core.Bool.{Bool, true, false, _&&_}
 use mathlib.Core.List.{List, [], _∷_, _++_, map, append-nil}
 use Prim.Native.Nat.{ℕ, zero, suc, _+_, _≤_, _<_}
 use native.Mathlib.Numerals.{add-one}
@@ -12,49 +12,50 @@ use lib.ListN.{length, getD, set, take, drop, replicate, drop-of-length-le, leng
 use lib.Seq.{drop-cons, set-at, append-snoc}
 use borrow.Author.Tests.{eq-eqb, ne-eqb}
 use Rattle.lists.specs.Pick.{pick}
-use Rattle.lists.specs.Numbers.{range, lowest, any}
-use Rattle.lists.proofs.Tests.{not-true}
-use Rattle.lists.proofs.Searches.{lowest-none, any-false}
+use Rattle.lists.specs.Numbers.{range}
+use Rattle.lists.proofs.Tests.{no-both}
 use Rattle.lists.proofs.Ranges.{length-map-range, map-range-snoc}
 use Rattle.graph.specs.Reach.{marked, joinedFrom}
-use Rattle.graph.specs.Sweep.{markAll}
+use Rattle.graph.specs.Marking.{markAll}
 use Rattle.frames.specs.Frame.{size}
 use Rattle.charts.specs.Chart.{Chart, kind, next0, next1, is}
 use Rattle.charts.specs.Check.{arcs, conditionArcs, onCircle}
-use Rattle.charts.specs.Marks.{arcsBy, beginMarks}
-use Rattle.charts.proofs.Nodes.{arcs-end, arcs-one, arcs-condition, arcs-function}
+use Rattle.charts.specs.Marks.{arcsBy, kindMarks}
+use Rattle.charts.proofs.Nodes.{arcs-end, arcs-one, arcs-condition, arcs-function, two-arcs}
+use Rattle.charts.proofs.Cases.{outside}
 use Rattle.charts.proofs.Meaning.{condition-arcs, no-condition-arcs}
 
 -- ---- arcs
-module _ (c : Chart) (b : Bool) (v k : ℕ) (e : k ≡ kind c v) where
-  pub by-none : b ≡ true → (k ≡ 3 → ⊥) → arcsBy c b v ≡ []
-  by-none t n = ap (λ b. pick b (conditionArcs c v) (arcs c v)) t ∙ no-condition-arcs c v (ne-eqb (kind c v) 3 (λ q. n (e ∙ q)))
+module _ (c : Chart) (b : Bool) (v : ℕ) where
+  by-none : b ≡ true → (kind c v ≡ 3 → ⊥) → arcsBy c b v ≡ []
+  by-none t n = ap (λ b. pick b (conditionArcs c v) (arcs c v)) t ∙ no-condition-arcs c v (ne-eqb (kind c v) 3 n)
 
-  by-all : b ≡ false → arcsBy c b v ≡ arcs c v
-  by-all t = ap (λ b. pick b (conditionArcs c v) (arcs c v)) t
-
-  pub by-end : k ≡ 1 → arcsBy c b v ≡ []
-  by-end q = go b refl
+  by-all : (b ≡ true → kind c v ≡ 3) → arcsBy c b v ≡ arcs c v
+  by-all h = go b refl
     where
-      go : (x : Bool) → b ≡ x → arcsBy c b v ≡ []
-      go true t = by-none t (λ z. omega arith)
-      go false t = by-all t ∙ arcs-end c v (sym e ∙ q)
+      go : (x : Bool) → b ≡ x → arcsBy c b v ≡ arcs c v
+      go true t = ap (λ b. pick b (conditionArcs c v) (arcs c v)) t ∙ condition-arcs c v (eq-eqb (kind c v) 3 (h t))
+      go false t = ap (λ b. pick b (conditionArcs c v) (arcs c v)) t
 
-  pub by-condition : k ≡ 3 → arcsBy c b v ≡ next0 c v ∷ next1 c v ∷ []
-  by-condition q = go b refl
-    where
-      go : (x : Bool) → b ≡ x → arcsBy c b v ≡ next0 c v ∷ next1 c v ∷ []
-      go true t =
-          ap (λ b. pick b (conditionArcs c v) (arcs c v)) t
-          ∙ condition-arcs c v (eq-eqb (kind c v) 3 (sym e ∙ q))
-          ∙ arcs-condition c v (sym e ∙ q)
-      go false t = by-all t ∙ arcs-condition c v (sym e ∙ q)
+  module _ (k : ℕ) (e : k ≡ kind c v) where
+    long : (us : List ℕ) → arcsBy c b v ≡ us → length us ≡ length (arcsBy c b v)
+    long us q = sym (ap (λ (xs : List ℕ). length xs) q)
 
-  pub by-function : b ≡ false → k ≡ 4 → arcsBy c b v ≡ next0 c v ∷ next1 c v ∷ []
-  by-function t q = by-all t ∙ arcs-function c v (sym e ∙ q)
+    pub count-none : b ≡ true → (k ≡ 3 → ⊥) → 0 ≡ length (arcsBy c b v)
+    count-none t n = long [] (by-none t (λ q. n (e ∙ q)))
 
-  pub by-one : b ≡ false → (k ≡ 1 → ⊥) → (k ≡ 3 → ⊥) → (k ≡ 4 → ⊥) → arcsBy c b v ≡ next0 c v ∷ []
-  by-one t n m o = by-all t ∙ arcs-one c v (λ q. n (e ∙ q)) (λ q. m (e ∙ q)) (λ q. o (e ∙ q))
+    module _ (h : b ≡ true → k ≡ 3) where
+      all : arcsBy c b v ≡ arcs c v
+      all = by-all (λ t. sym e ∙ h t)
+
+      pub count-end : k ≡ 1 → 0 ≡ length (arcsBy c b v)
+      count-end q = long [] (all ∙ arcs-end c v (sym e ∙ q))
+
+      pub count-two : 3 ≤ k → k < 5 → 2 ≡ length (arcsBy c b v)
+      count-two l m = long (next0 c v ∷ next1 c v ∷ []) (all ∙ two-arcs c v (omega arith) (omega arith))
+
+      pub count-one : (k ≡ 1 → ⊥) → (k < 3) ⊎ (5 ≤ k) → 1 ≡ length (arcsBy c b v)
+      count-one n o = long (next0 c v ∷ []) (all ∙ arcs-one c v (λ q. n (e ∙ q)) (λ q. outside k o .0 (e ∙ q)) (λ q. outside k o .1 (e ∙ q)))
 
 -- none, the first, or both
 abbrev Shape : Chart → ℕ → List ℕ → Type 0
@@ -64,11 +65,11 @@ shape : (c : Chart) (b : Bool) (v : ℕ) → Shape c v (arcsBy c b v)
 shape c b v = go b refl (ℕ-discrete (kind c v) 1) (ℕ-discrete (kind c v) 3) (ℕ-discrete (kind c v) 4)
   where
     go : (x : Bool) → b ≡ x → Dec (kind c v ≡ 1) → Dec (kind c v ≡ 3) → Dec (kind c v ≡ 4) → Shape c v (arcsBy c b v)
-    go x t (yes p) q r = inl (by-end c b v (kind c v) refl p)
-    go x t (no p) (yes q) r = inr (inr (by-condition c b v (kind c v) refl q))
-    go true t (no p) (no q) r = inl (by-none c b v (kind c v) refl t q)
-    go false t (no p) (no q) (yes r) = inr (inr (by-function c b v (kind c v) refl t r))
-    go false t (no p) (no q) (no r) = inr (inl (by-one c b v (kind c v) refl t p q r))
+    go x t p (yes q) r = inr (inr (by-all c b v (λ z. q) ∙ arcs-condition c v q))
+    go true t p (no q) r = inl (by-none c b v t q)
+    go false t (yes p) (no q) r = inl (by-all c b v (λ z. no-both b z t) ∙ arcs-end c v p)
+    go false t (no p) (no q) (yes r) = inr (inr (by-all c b v (λ z. no-both b z t) ∙ arcs-function c v r))
+    go false t (no p) (no q) (no r) = inr (inl (by-all c b v (λ z. no-both b z t) ∙ arcs-one c v p q r))
 
 module _ (c : Chart) (b : Bool) (v n : ℕ) (e : n ≡ length (arcsBy c b v)) (ms : List Bool) where
   as-long : (us : List ℕ) → arcsBy c b v ≡ us → n ≡ length us
@@ -104,26 +105,40 @@ module _ (c : Chart) (b : Bool) (v n : ℕ) (e : n ≡ length (arcsBy c b v)) (m
             eo ∙ ap (λ (x : List Bool). set x w true) (em ∙ ap (λ (u : ℕ). set ms u true) eu)
             ∙ ap (λ (w : ℕ). set (set ms (next0 c v) true) w true) ew ∙ sym (ap (λ (us : List ℕ). markAll us ms) q)
 
--- ---- the marks of Begins, written one after the other over old marks
-module _ (c : Chart) (old : List Bool) where
+-- ---- the marks of a kind, written one after the other over old marks
+module _ (c : Chart) (k : ℕ) (old : List Bool) where
   abbrev front : ℕ → List Bool
-  front v = map (is c 0) (range 0 v)
+  front v = map (is c k) (range 0 v)
 
-  pub begins-more : (v x : ℕ) (ms : List Bool) → v < length old → ms ≡ map (is c 0) (range 0 v) ++ drop v old → x ≡ kind c v
-      → set ms v (eqb x 0) ≡ map (is c 0) (range 0 (v + 1)) ++ drop (v + 1) old
-  begins-more v x ms l e k =
+  pub kinds-more : (v x : ℕ) (ms : List Bool) → v < length old → ms ≡ map (is c k) (range 0 v) ++ drop v old → x ≡ kind c v
+      → set ms v (eqb x k) ≡ map (is c k) (range 0 (v + 1)) ++ drop (v + 1) old
+  kinds-more v x ms l e q =
       let d : drop v old ≡ getD old v false ∷ drop (suc v) old = drop-cons old v false l in
-      ap (λ (xs : List Bool). set xs v (eqb x 0)) (e ∙ ap (λ (xs : List Bool). front v ++ xs) d)
-      ∙ set-at (front v) (getD old v false) (drop (suc v) old) (eqb x 0) v (length-map-range (is c 0) 0 v)
-      ∙ sym (append-snoc (front v) (eqb x 0) (drop (suc v) old))
-      ∙ ap (λ b. (front v ++ (b ∷ [])) ++ drop (suc v) old) (ap (λ (y : ℕ). eqb y 0) k ∙ ap (is c 0) (omega arith))
-      ∙ ap (λ (xs : List Bool). xs ++ drop (suc v) old) (sym (map-range-snoc (is c 0) 0 v))
-      ∙ ap (λ (j : ℕ). map (is c 0) (range 0 j) ++ drop j old) (sym (add-one v))
+      ap (λ (xs : List Bool). set xs v (eqb x k)) (e ∙ ap (λ (xs : List Bool). front v ++ xs) d)
+      ∙ set-at (front v) (getD old v false) (drop (suc v) old) (eqb x k) v (length-map-range (is c k) 0 v)
+      ∙ sym (append-snoc (front v) (eqb x k) (drop (suc v) old))
+      ∙ ap (λ b. (front v ++ (b ∷ [])) ++ drop (suc v) old) (ap (λ (y : ℕ). eqb y k) q ∙ ap (is c k) (omega arith))
+      ∙ ap (λ (xs : List Bool). xs ++ drop (suc v) old) (sym (map-range-snoc (is c k) 0 v))
+      ∙ ap (λ (j : ℕ). map (is c k) (range 0 j) ++ drop j old) (sym (add-one v))
 
-  pub begins-done : (v : ℕ) (ms : List Bool) → v ≡ size c → length old ≡ size c → ms ≡ map (is c 0) (range 0 v) ++ drop v old
-      → ms ≡ beginMarks c
-  begins-done v ms q l e =
+  pub kinds-done : (v : ℕ) (ms : List Bool) → v ≡ size c → length old ≡ size c → ms ≡ map (is c k) (range 0 v) ++ drop v old
+      → ms ≡ kindMarks c k
+  kinds-done v ms q l e =
       e ∙ ap (λ (xs : List Bool). front v ++ xs) (drop-of-length-le old {i = v} (omega arith)) ∙ append-nil (front v) ∙ ap (λ (j : ℕ). front j) q
+
+-- ---- a condition on a circle
+pub no-circle : (c : Chart) (v : ℕ) → is c 3 v ≡ false → onCircle c v ≡ false
+no-circle c v i = ap (λ b. b && marked (joinedFrom (size c) (conditionArcs c) (arcs c v)) v) i
+
+module _ (c : Chart) (v x : ℕ) (p : x ≡ kind c v) where
+  pub circle-other : (x ≡ 3 → ⊥) → false ≡ onCircle c v
+  circle-other n = sym (no-circle c v (ne-eqb (kind c v) 3 (λ q. n (p ∙ q))))
+
+  pub circle-back : x ≡ 3 → (ms : List Bool) (r : Bool) → ms ≡ joinedFrom (size c) (conditionArcs c) (arcs c v)
+      → r ≡ marked ms v → r ≡ onCircle c v
+  circle-back q ms r e t =
+      t ∙ ap (λ (xs : List Bool). marked xs v) e
+      ∙ sym (ap (λ b. b && marked (joinedFrom (size c) (conditionArcs c) (arcs c v)) v) (eq-eqb (kind c v) 3 (sym p ∙ q)))
 
 -- ---- marks that a table of 256 lends
 pub part-of : {A : Type 0} (m n : ℕ) (a : A) → n ≤ m → take n (replicate m a) ≡ replicate n a
@@ -134,19 +149,3 @@ part-of (suc m) (suc n) a l = ap (λ xs. a ∷ xs) (part-of m n a (omega arith))
 
 pub part-long : {A : Type 0} (m n : ℕ) (a : A) → n ≤ m → length (take n (replicate m a)) ≡ n
 part-long m n a l = ap (λ xs. length xs) (part-of m n a l) ∙ length-replicate n a
-
--- ---- circles
-module _ (c : Chart) (v x : ℕ) (p : x ≡ kind c v) where
-  pub circle-other : (x ≡ 3 → ⊥) → false ≡ onCircle c v
-  circle-other n = sym (ap (λ b. b && marked (joinedFrom (size c) (conditionArcs c) (arcs c v)) v) (ne-eqb (kind c v) 3 (λ q. n (p ∙ q))))
-
-  pub circle-back : x ≡ 3 → (ms : List Bool) (r : Bool) → ms ≡ joinedFrom (size c) (conditionArcs c) (arcs c v)
-      → r ≡ marked ms v → r ≡ onCircle c v
-  circle-back q ms r e t =
-      t ∙ ap (λ (xs : List Bool). marked xs v) e
-      ∙ sym (ap (λ b. b && marked (joinedFrom (size c) (conditionArcs c) (arcs c v)) v) (eq-eqb (kind c v) 3 (sym p ∙ q)))
-
-pub calm-lowest : (p : ℕ → Bool) (n : ℕ) (r : Bool) → r ≡ not (any p 0 n) → r ≡ true → n ≡ lowest p 0 n
-calm-lowest p n r e t =
-    let f : any p 0 n ≡ false = not-true (any p 0 n) (sym e ∙ t) in
-    omega (arith, lowest-none p 0 n (λ k l. any-false p 0 n f (0 + k) (omega arith) (omega arith)))

@@ -95,7 +95,7 @@ pub arcs-function : (c : Chart) (v : ℕ) → kind c v ≡ 4 → arcs c v ≡ ne
 arcs-function c v k = rw (ne-eqb (kind c v) 1 (λ q. omega arith), ne-eqb (kind c v) 3 (λ q. omega arith), eq-eqb (kind c v) 4 k)
 
 module _ (c : Chart) (v : ℕ) where
-  two-arcs : 3 ≤ kind c v → kind c v ≤ 4 → arcs c v ≡ next0 c v ∷ next1 c v ∷ []
+  pub two-arcs : 3 ≤ kind c v → kind c v ≤ 4 → arcs c v ≡ next0 c v ∷ next1 c v ∷ []
   two-arcs a b = go (ℕ-discrete (kind c v) 3)
     where
       go : Dec (kind c v ≡ 3) → arcs c v ≡ next0 c v ∷ next1 c v ∷ []

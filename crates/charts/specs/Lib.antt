@@ -1,6 +1,6 @@
 pub mod Chart
 pub mod Check
 pub mod Counts
-pub mod Rank
+pub mod Finished
 pub mod Marks
 pub mod Entry

@@ -12,6 +12,6 @@ use Rattle.charts.specs.Check.{arcs, conditionArcs}
 abbrev pub arcsBy : Chart → Bool → ℕ → List ℕ
 arcsBy c conditions v = pick conditions (conditionArcs c v) (arcs c v)
 
--- the Begins of all schemes
-abbrev pub beginMarks : Chart → List Bool
-beginMarks c = map (is c 0) (range 0 (size c))
+-- the nodes of kind k
+abbrev pub kindMarks : Chart → ℕ → List Bool
+kindMarks c k = map (is c k) (range 0 (size c))

@@ -41,8 +41,7 @@ fn bad_arc(records: &[u8], v: usize) -> bool
 {
     match field(records, v, 0) {
         1 => false,
-        3 => bad_pair(records, v),
-        4 => bad_pair(records, v),
+        3..=4 => bad_pair(records, v),
         _ => bad_end(records, v, field(records, v, 3) as usize),
     }
 }

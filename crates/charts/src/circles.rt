@@ -1,31 +1,33 @@
 // Refusal 8: a circle of conditions.
 use crate::fields::field;
+use crate::finished::finish_all;
+use crate::marks::follow;
 use crate::marks::join;
-use crate::marks::mark_arcs;
-use crate::ranks::rank_conditions;
+use crate::marks::mark_kind;
 ghost use mathlib.Core.Path.{_≡_};
 ghost use mathlib.Core.Bool.{false};
-ghost use Prim.Native.Nat.{_+_, _*_, _≤_, _<_};
+ghost use Prim.Native.Nat.{_≤_, _<_};
 ghost use lib.ListN.{length, replicate};
 ghost use Rattle.lists.specs.Numbers.{lowest};
 ghost use Rattle.graph.specs.Reach.{marked, joinedFrom};
 ghost use Rattle.frames.specs.Frame.{size};
 ghost use Rattle.charts.specs.Check.{arcs, conditionArcs, onCircle};
+ghost use Rattle.charts.specs.Finished.{Finished};
 
 // The nodes that arcs of conditions join from the next nodes of v are marked; whether v is one of them.
-fn leads_back(records: &[u8], v: usize, marks: &mut [bool]) -> bool
-    requires { ⌜ v < size (now records) ⌝ }
+fn leads_back(records: &[u8], v: usize, marks: &mut [bool], list: &mut [u8]) -> bool
+    requires { ⌜ (v < size (now records)) × (size (now records) ≤ length (now list)) ⌝ }
     requires { ⌜ now marks ≡ replicate (size (now records)) false ⌝ }
     ensures { λ r. ⌜ (now (marks .exit) ≡ joinedFrom (size (now (records .entry))) (conditionArcs (now (records .entry))) (arcs (now (records .entry)) v)) × (r ≡ marked (now (marks .exit)) v) ⌝ }
 {
-    mark_arcs(records, false, v, marks);
-    join(records, true, marks);
+    let count = follow(records, false, v, marks, list, 0);
+    join(records, true, marks, list, count);
     marks[v]
 }
 
 // 8: node v is a condition on a circle of conditions.
-fn on_circle(records: &[u8], v: usize) -> bool
-    requires { ⌜ (v < size (now records)) × (size (now records) ≤ 256) ⌝ }
+fn on_circle(records: &[u8], v: usize, list: &mut [u8]) -> bool
+    requires { ⌜ (v < size (now records)) × (size (now records) ≤ 256) × (size (now records) ≤ length (now list)) ⌝ }
     ensures { λ r. ⌜ r ≡ onCircle (now (records .entry)) v ⌝ }
 {
     if field(records, v, 0) != 3 {
@@ -33,33 +35,45 @@ fn on_circle(records: &[u8], v: usize) -> bool
     }
     let n = records.len() / 10;
     let mut marks = [false; 256];
-    leads_back(records, v, &mut marks[..n])
+    leads_back(records, v, &mut marks[..n], list)
 }
 
-// The lowest node on a circle, or the number of nodes, node by node.
-fn search_circle(records: &[u8]) -> usize
-    requires { ⌜ size (now records) ≤ 256 ⌝ }
+// The lowest node on a circle, or the number of nodes. A finished node is on none, so only the others are tried.
+fn search_circle(records: &[u8], unfinished: &[bool], list: &mut [u8]) -> usize
+    requires { ⌜ (size (now records) ≤ 256) × (size (now records) ≤ length (now list)) ⌝ }
+    requires { ⌜ Finished (now records) (now unfinished) ⌝ }
     ensures { λ r. ⌜ r ≡ lowest (onCircle (now (records .entry))) 0 (size (now (records .entry))) ⌝ }
 {
     let n = records.len() / 10;
     let mut v: usize = 0;
     while v < n {
-        if on_circle(records, v) {
-            return v;
+        if unfinished[v] {
+            if on_circle(records, v, list) {
+                return v;
+            }
         }
         v += 1;
     }
     v
 }
 
-// The lowest node that 8 refuses, or the number of nodes. Where each condition gets a rank there is none, so only a refused chart is searched.
-pub fn lowest_circle(records: &[u8]) -> usize
-    requires { ⌜ (length (now records) ≡ 10 * size (now records)) × (size (now records) ≤ 256) ⌝ }
+// The same, with what a search from each condition finishes. In an accepted chart that is all of them.
+fn find_circle(records: &[u8], unfinished: &mut [bool], list: &mut [u8]) -> usize
+    requires { ⌜ (length (now unfinished) ≡ size (now records)) × (size (now records) ≤ 256) × (size (now records) ≤ length (now list)) ⌝ }
     ensures { λ r. ⌜ r ≡ lowest (onCircle (now (records .entry))) 0 (size (now (records .entry))) ⌝ }
 {
-    let mut ranks = [0u8; 256];
-    if rank_conditions(records, &mut ranks) {
-        return records.len() / 10;
-    }
-    search_circle(records)
+    mark_kind(records, 3, unfinished);
+    finish_all(records, unfinished, list);
+    search_circle(records, unfinished, list)
+}
+
+// The lowest node that 8 refuses, or the number of nodes.
+pub fn lowest_circle(records: &[u8]) -> usize
+    requires { ⌜ size (now records) ≤ 256 ⌝ }
+    ensures { λ r. ⌜ r ≡ lowest (onCircle (now (records .entry))) 0 (size (now (records .entry))) ⌝ }
+{
+    let n = records.len() / 10;
+    let mut unfinished = [false; 256];
+    let mut list = [0u8; 256];
+    find_circle(records, &mut unfinished[..n], &mut list)
 }

@@ -1,6 +1,6 @@
 // Refusal 9: nodes that no arcs join from the Begin of their scheme.
 use crate::marks::join;
-use crate::marks::mark_begins;
+use crate::marks::mark_kind;
 ghost use mathlib.Core.Path.{_≡_};
 ghost use mathlib.Core.Bool.{false, not};
 ghost use Prim.Native.Nat.{_≤_};
@@ -10,15 +10,16 @@ ghost use Rattle.graph.specs.Reach.{marked, reach};
 ghost use Rattle.frames.specs.Frame.{size};
 ghost use Rattle.charts.specs.Chart.{schemes};
 ghost use Rattle.charts.specs.Check.{arcs, badField, badScheme, badArc, cutOff};
-ghost use Rattle.charts.specs.Marks.{beginMarks};
+ghost use Rattle.charts.specs.Marks.{kindMarks};
 
 // The nodes that arcs join from some Begin are marked; the lowest other one, or the number of nodes.
-fn lowest_apart(records: &[u8], marks: &mut [bool]) -> usize
-    requires { ⌜ length (now marks) ≡ size (now records) ⌝ }
-    ensures { λ r. ⌜ (now (marks .exit) ≡ reach (size (now (records .entry))) (arcs (now (records .entry))) (size (now (records .entry))) (beginMarks (now (records .entry)))) × (r ≡ lowest (λ v. not (marked (now (marks .exit)) v)) 0 (size (now (records .entry)))) ⌝ }
+fn lowest_apart(records: &[u8], marks: &mut [bool], list: &mut [u8]) -> usize
+    requires { ⌜ (length (now marks) ≡ size (now records)) × (size (now records) ≤ 256) × (size (now records) ≤ length (now list)) ⌝ }
+    ensures { λ r. ⌜ (now (marks .exit) ≡ reach (size (now (records .entry))) (arcs (now (records .entry))) (size (now (records .entry))) (kindMarks (now (records .entry)) 0)) × (r ≡ lowest (λ v. not (marked (now (marks .exit)) v)) 0 (size (now (records .entry)))) ⌝ }
 {
-    mark_begins(records, marks);
-    join(records, false, marks);
+    mark_kind(records, 0, marks);
+    let count = graph::list_marked(marks, list);
+    join(records, false, marks, list, count);
     graph::lowest_unmarked(marks)
 }
 
@@ -32,5 +33,6 @@ pub fn lowest_cut_off(records: &[u8]) -> usize
 {
     let n = records.len() / 10;
     let mut marks = [false; 256];
-    lowest_apart(records, &mut marks[..n])
+    let mut list = [0u8; 256];
+    lowest_apart(records, &mut marks[..n], &mut list)
 }

@@ -4,9 +4,9 @@ mod check;
 mod circles;
 mod entry;
 mod fields;
+mod finished;
 mod joined;
 mod marks;
-mod ranks;
 mod schemes;
 
 pub use entry::read_chart;

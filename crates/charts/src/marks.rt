@@ -1,90 +1,80 @@
 // Marks on the nodes of a chart, spread over all arcs or over the arcs of conditions alone.
 use crate::fields::field;
 ghost use mathlib.Core.Path.{_≡_};
-ghost use Prim.Native.Nat.{_+_, _*_, _≤_, _<_};
+ghost use Prim.Native.Nat.{_+_, _*_, _≤_};
 ghost use lib.ListN.{length};
 ghost use Rattle.graph.specs.Reach.{reach};
-ghost use Rattle.graph.specs.Sweep.{many, markAll, sweepTo};
+ghost use Rattle.graph.specs.Marking.{markAll};
+ghost use Rattle.graph.specs.Listed.{Listed, Longer};
 ghost use Rattle.frames.specs.Frame.{size};
-ghost use Rattle.charts.specs.Marks.{arcsBy, beginMarks};
+ghost use Rattle.charts.specs.Marks.{arcsBy, kindMarks};
 
 // How many arcs of node v count.
 fn arc_count(records: &[u8], conditions: bool, v: usize) -> usize
     requires { ⌜ 10 * v + 10 ≤ length (now records) ⌝ }
     ensures { λ r. ⌜ r ≡ length (arcsBy (now (records .entry)) conditions v) ⌝ }
 {
-    match field(records, v, 0) {
+    let kind = field(records, v, 0);
+    if conditions {
+        if kind != 3 {
+            return 0;
+        }
+    }
+    match kind {
         1 => 0,
-        3 => 2,
-        4 => {
-            if conditions {
-                return 0;
-            }
-            2
-        }
-        _ => {
-            if conditions {
-                return 0;
-            }
-            1
-        }
+        3..=4 => 2,
+        _ => 1,
     }
 }
 
-// The nodes that the arcs of node v lead to are marked; how many marks this adds.
-pub fn mark_arcs(records: &[u8], conditions: bool, v: usize, marks: &mut [bool]) -> usize
-    requires { ⌜ 10 * v + 10 ≤ length (now records) ⌝ }
-    ensures { λ r. ⌜ (now (marks .exit) ≡ markAll (arcsBy (now (records .entry)) conditions v) (now (marks .entry))) × (many (now (marks .exit)) ≡ many (now (marks .entry)) + r) ⌝ }
+// The nodes that the arcs of node v lead to are marked, and listed where they were not; how many are listed then.
+pub fn follow(
+    records: &[u8],
+    conditions: bool,
+    v: usize,
+    marks: &mut [bool],
+    list: &mut [u8],
+    count: usize,
+) -> usize
+    requires { ⌜ (10 * v + 10 ≤ length (now records)) × (length (now marks) ≤ length (now list)) ⌝ }
+    requires { ⌜ Listed (now marks) (now list) count ⌝ }
+    ensures { λ r. ⌜ now (marks .exit) ≡ markAll (arcsBy (now (records .entry)) conditions v) (now (marks .entry)) ⌝ }
+    ensures { λ r. ⌜ Listed (now (marks .exit)) (now (list .exit)) r × Longer (now (list .entry)) (now (list .exit)) count r ⌝ }
 {
-    let count = arc_count(records, conditions, v);
-    if count == 0 {
-        return 0;
+    let arcs = arc_count(records, conditions, v);
+    if arcs == 0 {
+        return count;
     }
-    let first = graph::mark(marks, field(records, v, 3) as usize);
-    if count == 1 {
+    let first = graph::enlist(marks, list, count, field(records, v, 3));
+    if arcs == 1 {
         return first;
     }
-    let second = graph::mark(marks, field(records, v, 4) as usize);
-    first + second
+    graph::enlist(marks, list, first, field(records, v, 4))
 }
 
-// One pass over all nodes; how many marks it adds.
-fn sweep(records: &[u8], conditions: bool, marks: &mut [bool]) -> usize
-    requires { ⌜ length (now marks) ≡ size (now records) ⌝ }
-    ensures { λ r. ⌜ (now (marks .exit) ≡ sweepTo (arcsBy (now (records .entry)) conditions) (now (marks .entry)) (size (now (records .entry)))) × (many (now (marks .exit)) ≡ many (now (marks .entry)) + r) ⌝ }
-{
-    let n = records.len() / 10;
-    let mut added: usize = 0;
-    let mut v: usize = 0;
-    while v < n {
-        if marks[v] {
-            added += mark_arcs(records, conditions, v, marks);
-        }
-        v += 1;
-    }
-    added
-}
-
-// Every node that arcs join from a marked one is marked.
-pub fn join(records: &[u8], conditions: bool, marks: &mut [bool])
-    requires { ⌜ length (now marks) ≡ size (now records) ⌝ }
+// Every node that arcs join from a marked one is marked; the first of the list are the marked ones.
+pub fn join(records: &[u8], conditions: bool, marks: &mut [bool], list: &mut [u8], count: usize)
+    requires { ⌜ (length (now marks) ≡ size (now records)) × (size (now records) ≤ length (now list)) ⌝ }
+    requires { ⌜ Listed (now marks) (now list) count ⌝ }
     ensures { λ _. ⌜ now (marks .exit) ≡ reach (size (now (records .entry))) (arcsBy (now (records .entry)) conditions) (size (now (records .entry))) (now (marks .entry)) ⌝ }
 {
-    let mut added: usize = 1;
-    while 0 < added {
-        added = sweep(records, conditions, marks);
+    let mut end = count;
+    let mut i: usize = 0;
+    while i < end {
+        end = follow(records, conditions, list[i] as usize, marks, list, end);
+        i += 1;
     }
 }
 
-// The Begins are marked, and no other node.
-pub fn mark_begins(records: &[u8], marks: &mut [bool])
+// The nodes of a kind are marked, and no others.
+pub fn mark_kind(records: &[u8], kind: u8, marks: &mut [bool])
     requires { ⌜ length (now marks) ≡ size (now records) ⌝ }
-    ensures { λ _. ⌜ now (marks .exit) ≡ beginMarks (now (records .entry)) ⌝ }
+    ensures { λ _. ⌜ now (marks .exit) ≡ kindMarks (now (records .entry)) kind ⌝ }
 {
     let n = records.len() / 10;
     let mut v: usize = 0;
     while v < n {
-        marks[v] = field(records, v, 0) == 0;
+        marks[v] = field(records, v, 0) == kind;
         v += 1;
     }
 }

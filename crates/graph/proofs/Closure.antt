@@ -17,7 +17,7 @@ use Rattle.lists.proofs.Ranges.{length-map-range, getD-map-range}
 use Rattle.graph.specs.Reach.{member, marked, only, spread, reach, joinedFrom}
 
 -- ---- marks
-marks-at : (f : ℕ → Bool) (n v : ℕ) → v < n → marked (map f (range 0 n)) v ≡ f v
+pub marks-at : (f : ℕ → Bool) (n v : ℕ) → v < n → marked (map f (range 0 n)) v ≡ f v
 marks-at f n v l = getD-map-range f false 0 n v l ∙ ap f (zero-add v)
 
 -- a mark stands below the length

@@ -1,4 +1,5 @@
 pub mod Closure
 pub mod Paths
 pub mod Rank
-pub mod Sweeps
+pub mod Marking
+pub mod Lists

@@ -118,6 +118,24 @@ module _ (p : ℕ → Bool) (n i : ℕ) where
 pub lowest-start : (p : ℕ → Bool) (n : ℕ) → lowest p 0 (n - 0) ≡ lowest p 0 n
 lowest-start p n = rw (sub-zero n)
 
+-- the loop has come to i, and the lowest of all n is the lowest of those left
+pub record Searching (p : ℕ → Bool) (n i : ℕ) : Type 0 where
+  pub inside : i ≤ n
+  pub left : lowest p i (n - i) ≡ lowest p 0 n
+
+pub searching-first : (p : ℕ → Bool) (n : ℕ) → Searching p n 0
+searching-first p n = record { inside = omega arith; left = lowest-start p n }
+
+module _ (p : ℕ → Bool) (n i : ℕ) (s : Searching p n i) where
+  pub searching-found : i < n → p i ≡ true → i ≡ lowest p 0 n
+  searching-found h t = sym (lowest-here p n i h t) ∙ s .left
+
+  pub searching-next : i < n → p i ≡ false → Searching p n (i + 1)
+  searching-next h t = record { inside = omega arith; left = sym (lowest-on p n i h t) ∙ s .left }
+
+  pub searching-over : n ≤ i → i ≡ lowest p 0 n
+  searching-over h = sym (lowest-over p n i h) ∙ s .left
+
 -- ---- a loop that adds or compares one more at the far end
 pub sum-snoc : (f : ℕ → ℕ) (i n : ℕ) → sum f i (suc n) ≡ sum f i n + f (i + n)
 unfolding sum

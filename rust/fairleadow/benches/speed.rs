@@ -39,9 +39,10 @@ impl Room {
     }
 }
 
-/// One chart with everything that is made of it.
+/// One chart with everything that is made of it, and the calls to measure.
 struct Input {
     name: &'static str,
+    calls: &'static [&'static str],
     chart: Vec<u8>,
     records: Vec<u8>,
     image: Vec<u8>,
@@ -59,7 +60,15 @@ impl Input {
             (seed >> 16) as u16
         });
         let state = fresh_state(32).expect("a good size");
-        Input { name, chart, records: records.concat(), image, state, words: words.collect() }
+        let (calls, words) = (&CALLS, words.collect());
+        Input { name, calls, chart, records: records.concat(), image, state, words }
+    }
+
+    /// A chart that is only read: it may be refused.
+    fn to_read(name: &'static str, records: &[Frame]) -> Input {
+        let state = fresh_state(32).expect("a good size");
+        let (chart, image, words) = (text_of(records), Vec::new(), Vec::new());
+        Input { name, calls: &CALLS[..1], chart, records: records.concat(), image, state, words }
     }
 
     fn call(&self, call: &str, library: &dyn Library, room: &mut Room) {
@@ -98,15 +107,17 @@ impl Input {
 
 const CALLS: [&str; 6] = ["read", "write", "translate", "check", "run of 64", "run of 65,536"];
 
-fn inputs() -> [Input; 6] {
-    [
+fn inputs() -> Vec<Input> {
+    let mut all = vec![
         Input::new("chart P", &samples::chart_p()),
         Input::new("200 labels", &samples::operations(198)),
         Input::new("256 labels", &samples::operations(254)),
         Input::new("16 schemes, 256 nodes", &samples::most_schemes()),
         Input::new("229 labels, 1,024 rows", &samples::most_rows()),
         Input::new("one label, 1,024 rows (B9)", &samples::one_label()),
-    ]
+    ];
+    all.extend(samples::slow_charts().iter().map(|slow| Input::to_read(slow.name, &slow.records)));
+    all
 }
 
 /// The library's name and that of the plain Rust, as this program is told them for one counted call.
@@ -132,7 +143,7 @@ fn counted_call(input: &Input, call: &str, library: &dyn Library, room: &mut Roo
 
 fn make_one_call(line: &str, name: &str) {
     for input in inputs() {
-        for call in CALLS {
+        for call in input.calls {
             if line == format!("{} | {call}", input.name) {
                 counted_call(&input, call, side(name), &mut Room::new());
             }
@@ -184,7 +195,7 @@ fn main() {
     println!("|---|---|---:|---:|---:|---:|---:|---:|");
     let mut rooms = [Room::new(), Room::new()];
     for input in &inputs() {
-        for call in CALLS {
+        for call in input.calls {
             let line = format!("{} | {call}", input.name);
             if words.iter().all(|word| word.starts_with("--") || line.contains(word)) {
                 print_line(input, call, &line, &mut rooms);

@@ -102,7 +102,7 @@ extern "C" fn tick(job: &mut Ticks) {
     };
 }
 
-/// Large charts, those with the longest paths, and random ones.
+/// Large charts, those with the longest paths, slow ones, most of which are refused, and random ones.
 fn worst_charts() -> Vec<Vec<Frame>> {
     let mut all =
         vec![samples::operations(254), samples::one_label(), samples::most_rows(), samples::most_schemes()];
@@ -111,6 +111,7 @@ fn worst_charts() -> Vec<Vec<Frame>> {
             all.push(samples::longest_path(before, different));
         }
     }
+    all.extend(samples::slow_charts().into_iter().map(|slow| slow.records));
     for seed in 0..300 {
         all.push(charts::chart(&mut Random::new(seed)));
     }
@@ -144,7 +145,7 @@ fn a_translation_fits_beside_both_texts() {
     for records in worst_charts() {
         let mut job = Translation { chart: text_of(&records), image: vec![0; IMAGE_TEXT], number: 0 };
         deepest = deepest.max(depth(&mut job, translate));
-        assert!(job.number == 0 || job.number == 10);
+        assert!(matches!(job.number, 0 | 8 | 9 | 10));
     }
     println!("translate: {deepest} bytes of stack");
     assert!(CHART_TEXT + IMAGE_TEXT + deepest < MEMORY, "translate takes {deepest} bytes of stack");

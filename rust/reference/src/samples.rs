@@ -1,4 +1,4 @@
-//! Charts and an image of chosen size, for benchmarks and the measure of memory.
+//! Charts and an image of chosen size, for benchmarks, the measure of memory and the comparison.
 
 use crate::frames::Frame;
 
@@ -125,6 +125,84 @@ pub fn longest_path(before: Before, different: u8) -> Vec<Frame> {
     records
 }
 
+/// The last node of a chart of 256.
+const TOP: u8 = 255;
+
+/// 256 nodes of one scheme: Begin leads to `first`, End is node 1, and of the others `next` tells the kind's arcs.
+fn all_of(kind: u8, first: u8, next: impl Fn(u8) -> [u8; 2]) -> Vec<Frame> {
+    let mut records = vec![[0, 1, 0, first, 0, 0, 0, 0, 0, 0], [1, 1, 0, 0, 0, 0, 0, 0, 0, 0]];
+    for at in 2..=TOP {
+        let [zero, one] = next(at);
+        let number = if kind == 3 { (at - 2) % 16 } else { 0 };
+        records.push([kind, 1, number, zero, one, 0, 0, 0, 0, 0]);
+    }
+    records
+}
+
+fn all_conditions(first: u8, next: impl Fn(u8) -> [u8; 2]) -> Vec<Frame> {
+    all_of(3, first, next)
+}
+
+fn all_operations(first: u8, next: impl Fn(u8) -> u8) -> Vec<Frame> {
+    all_of(2, first, |at| [next(at), 0])
+}
+
+/// A chart that takes long to search for circles or for nodes that are cut off, with its refusal and index if it has one.
+pub struct Slow {
+    pub name: &'static str,
+    pub records: Vec<Frame>,
+    pub refusal: Option<(u8, usize)>,
+}
+
+/// Lines of conditions and operations with the order of frames and against it, with circles before and behind them.
+pub fn slow_charts() -> Vec<Slow> {
+    let slow = |name, refusal, records| Slow { name, records, refusal };
+    vec![
+        slow(
+            "circle above falling conditions",
+            Some((8, 254)),
+            all_conditions(TOP, |at| match at {
+                TOP => [TOP - 1, TOP - 2],
+                254 => [TOP - 2, TOP],
+                _ => [at - 1; 2],
+            }),
+        ),
+        slow(
+            "early circle, then falling conditions",
+            Some((8, 254)),
+            all_conditions(2, |at| match at {
+                2 => [TOP, TOP - 2],
+                3 => [1; 2],
+                254 => [TOP, TOP - 2],
+                _ => [at - 1; 2],
+            }),
+        ),
+        slow("line to its own circle", Some((8, 255)), all_conditions(2, |at| [at.saturating_add(1); 2])),
+        slow(
+            "ladder to its own circle",
+            Some((8, 255)),
+            all_conditions(2, |at| if at == TOP { [TOP, 1] } else { [at + 1, at.saturating_add(2)] }),
+        ),
+        slow(
+            "line to a large circle",
+            Some((8, 129)),
+            all_conditions(2, |at| if at == TOP { [129; 2] } else { [at + 1; 2] }),
+        ),
+        slow(
+            "line of operations, End cut off",
+            Some((9, 1)),
+            all_operations(TOP, |at| if at == 2 { TOP } else { at - 1 }),
+        ),
+        slow("falling line of conditions", None, all_conditions(TOP, |at| [at - 1; 2])),
+        slow(
+            "rising line of conditions",
+            None,
+            all_conditions(2, |at| if at == TOP { [1; 2] } else { [at + 1; 2] }),
+        ),
+        slow("falling line of operations", None, all_operations(TOP, |at| at - 1)),
+    ]
+}
+
 /// The largest image: sixteen schemes, 256 labels, 1,024 rows. Label 2 calls itself through scheme 2 until the stack is
 /// full; the labels after it are plain.
 pub fn largest_image() -> Vec<Frame> {
@@ -159,7 +237,7 @@ pub fn largest_image() -> Vec<Frame> {
 #[cfg(test)]
 mod tests {
     use super::*;
-    use crate::entry::{image_from_text, translated};
+    use crate::entry::{chart_from_text, image_from_text, translated};
     use crate::frames::{text_of, CHARACTERS, IMAGE_TEXT};
 
     fn frame_count(records: &[Frame]) -> usize {
@@ -181,6 +259,15 @@ mod tests {
                 assert_eq!(records.len(), 256);
                 assert!(frame_count(&records) > 5);
             }
+        }
+    }
+
+    #[test]
+    fn the_slow_charts_are_large_and_refused_as_said() {
+        for slow in slow_charts() {
+            assert_eq!(slow.records.len(), 256, "{}", slow.name);
+            let refusal = chart_from_text(&text_of(&slow.records)).err().map(|r| (r.number, r.index));
+            assert_eq!(refusal, slow.refusal, "{}", slow.name);
         }
     }
 

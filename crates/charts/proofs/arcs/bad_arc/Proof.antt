@@ -1,7 +1,8 @@
 -- `charts::arcs::bad_arc` meets its contract: by the kind of the node.
 use mathlib.Core.Path.{_∙_, ap}
+use mathlib.Core.Logic.{inl, inr, ⊎-elim}
 use Rattle.charts.specs.Check.{badEnd}
-use Rattle.charts.proofs.Cases.{end-arc, single-arc, condition-arc, function-arc}
+use Rattle.charts.proofs.Cases.{end-arc, single-arc, double-arc}
 use borrow.Author.Needs.{needs}
 use Rattle.charts.proofs.arcs.bad_arc.Statement.{statement}
 use Rattle.charts.proofs.arcs.bad_arc.Tie as tie
@@ -11,9 +12,6 @@ field-requires c κs = search needs
 
 bad-pair-requires : tie.Need-bad-pair-requires
 bad-pair-requires c κs = search needs
-
-bad-pair-requires-2 : tie.Need-bad-pair-requires-2
-bad-pair-requires-2 c κs = search needs
 
 field-requires-2 : tie.Need-field-requires-2
 field-requires-2 c κs = search needs
@@ -29,26 +27,18 @@ returns c = end-arc (c .before .before .before .args .records .now) (c .before .
 
 returns-2 : tie.Need-returns-2
 returns-2 c =
-    let start = c .before .before .before .before in
-    let records = start .args .records .now in
-    let v = start .args .v in
-    c .bad-pair .ensures ∙ condition-arc records v _ (c .before .before .field .ensures) (c .before .match .keys2)
+    let start = c .before .before .before .before .before .before in
+    c .bad-pair .ensures
+    ∙ double-arc (start .args .records .now) (start .args .v) _ (c .before .before .before .before .field .ensures) (c .before .before .if1 .left) (c .before .if2 .taken)
 
 returns-3 : tie.Need-returns-3
 returns-3 c =
-    let start = c .before .before .before .before in
-    let records = start .args .records .now in
-    let v = start .args .v in
-    c .bad-pair2 .ensures ∙ function-arc records v _ (c .before .before .field .ensures) (c .before .match .keys3)
-
-returns-4 : tie.Need-returns-4
-returns-4 c =
-    let start = c .before .before .before .before .before in
+    let start = c .before .before .before .before .before .before in
     let records = start .args .records .now in
     let v = start .args .v in
     c .bad-end .ensures ∙ ap (badEnd records v) (c .before .field2 .ensures)
-    ∙ single-arc records v _ (c .before .before .before .field .ensures) (c .before .before .match .rest .0 .0 .1)
-    (c .before .before .match .rest .0 .1) (c .before .before .match .rest .1)
+    ∙ single-arc records v _ (c .before .before .before .before .field .ensures) (c .before .before .before .match .rest .1)
+    (⊎-elim (λ w. inl (w .taken)) (λ w. inr (w .1 .left)) (c .before .before .if1 .came))
 
 pub bad-arc-spec : {M : Type 1} → statement M
 bad-arc-spec =
@@ -56,11 +46,9 @@ bad-arc-spec =
     (tie.spec
     field-requires
     bad-pair-requires
-    bad-pair-requires-2
     field-requires-2
     cast-bad-end
     bad-end-requires
     returns
     returns-2
-    returns-3
-    returns-4)
+    returns-3)

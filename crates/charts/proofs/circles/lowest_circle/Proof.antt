@@ -1,34 +1,33 @@
--- `charts::circles::lowest_circle` meets its contract: where all conditions have a rank there is no circle, else it is searched for.
+-- `charts::circles::lowest_circle` meets its contract: a table of 256 lends the marks.
+use mathlib.Core.Path.{sym}
+use mathlib.Core.Bool.{false}
 use Rattle.frames.specs.Frame.{size}
-use Rattle.charts.specs.Check.{onCircle}
-use Rattle.charts.proofs.MarkCases.{calm-lowest}
+use Rattle.charts.proofs.MarkCases.{part-long}
 use borrow.Author.Needs.{needs}
 use Rattle.charts.proofs.circles.lowest_circle.Statement.{statement}
 use Rattle.charts.proofs.circles.lowest_circle.Tie as tie
 
-slice-aggregate-rank-conditions : tie.Need-slice-aggregate-rank-conditions
-slice-aggregate-rank-conditions c = search needs
+array-borrow-prefix-unfinished : tie.Need-array-borrow-prefix-unfinished
+array-borrow-prefix-unfinished c = search needs
 
-rank-conditions-requires : tie.Need-rank-conditions-requires
-rank-conditions-requires c κs = search needs
+slice-aggregate-find-circle : tie.Need-slice-aggregate-find-circle
+slice-aggregate-find-circle c = sym (part-long 256 (size (c .before .before .args .records .now)) false (search needs))
+
+slice-aggregate-find-circle-2 : tie.Need-slice-aggregate-find-circle-2
+slice-aggregate-find-circle-2 c = search needs
+
+find-circle-requires : tie.Need-find-circle-requires
+find-circle-requires c κs = (part-long 256 (size (c .before .before .before .args .records .now)) false (search needs), search needs, search needs)
 
 returns : tie.Need-returns
-returns c =
-    let records = c .before .before .before .before .before .args .records .now in
-    calm-lowest (onCircle records) (size records) _ (c .before .before .rank-conditions .ensures .0 .0) (c .if1 .taken)
-
-search-circle-requires : tie.Need-search-circle-requires
-search-circle-requires c κs = search needs
-
-returns-2 : tie.Need-returns-2
-returns-2 c = search needs
+returns c = search needs
 
 pub lowest-circle-spec : {M : Type 1} → statement M
 lowest-circle-spec =
     tie.close
     (tie.spec
-    slice-aggregate-rank-conditions
-    rank-conditions-requires
-    returns
-    search-circle-requires
-    returns-2)
+    array-borrow-prefix-unfinished
+    slice-aggregate-find-circle
+    slice-aggregate-find-circle-2
+    find-circle-requires
+    returns)

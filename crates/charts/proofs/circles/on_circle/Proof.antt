@@ -11,25 +11,28 @@ field-requires : tie.Need-field-requires
 field-requires c κs = search needs
 
 returns : tie.Need-returns
-returns c = circle-other (c .before .before .before .args .records .now) (c .before .before .before .args .v) _ (c .before .field .ensures) (c .if1 .taken)
+returns c =
+    let start = c .before .before .before .before in
+    circle-other (start .args .records .now) (start .args .v) _ (c .before .field .ensures) (c .if1 .taken)
 
 array-borrow-prefix-marks : tie.Need-array-borrow-prefix-marks
 array-borrow-prefix-marks c = search needs
 
 slice-aggregate-leads-back : tie.Need-slice-aggregate-leads-back
-slice-aggregate-leads-back c = sym (part-long 256 (size (c .before .before .before .before .args .records .now)) false (search needs))
+slice-aggregate-leads-back c = sym (part-long 256 (size (c .before .before .before .before .before .args .records .now)) false (search needs))
 
 leads-back-requires : tie.Need-leads-back-requires
-leads-back-requires c κs = (search needs, part-of 256 (size (c .before .before .before .before .args .records .now)) false (search needs))
+leads-back-requires c κs = ((search needs, search needs), part-of 256 (size (c .before .before .before .before .before .before .args .records .now)) false (search needs))
+
+same-length : tie.Need-same-length
+same-length c = search needs
 
 returns-2 : tie.Need-returns-2
 returns-2 c =
-    let start = c .before .before .before .before .before .before in
-    let records = start .args .records .now in
-    let v = start .args .v in
-    let field = c .before .before .before .before .field in
-    circle-back records v _ (field .ensures) (c .before .before .before .if1 .left) _ _
-    (c .before .leads-back .ensures .0) (c .before .leads-back .ensures .1)
+    let start = c .before .before .before .before .before .before .before .before .before .before in
+    let leads-back = c .before .before .before .leads-back in
+    circle-back (start .args .records .now) (start .args .v) _ (c .before .before .before .before .before .before .before .field .ensures)
+    (c .before .before .before .before .before .before .if1 .left) _ _ (leads-back .ensures .0) (leads-back .ensures .1)
 
 pub on-circle-spec : {M : Type 1} → statement M
 on-circle-spec =
@@ -40,4 +43,5 @@ on-circle-spec =
     array-borrow-prefix-marks
     slice-aggregate-leads-back
     leads-back-requires
+    same-length
     returns-2)

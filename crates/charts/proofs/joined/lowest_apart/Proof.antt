@@ -11,8 +11,11 @@ use borrow.Author.Needs.{needs}
 use Rattle.charts.proofs.joined.lowest_apart.Statement.{statement}
 use Rattle.charts.proofs.joined.lowest_apart.Tie as tie
 
-mark-begins-requires : tie.Need-mark-begins-requires
-mark-begins-requires c κs = search needs
+mark-kind-requires : tie.Need-mark-kind-requires
+mark-kind-requires c κs = search needs
+
+list-marked-requires : tie.Need-list-marked-requires
+list-marked-requires c κs = search needs
 
 join-requires : tie.Need-join-requires
 join-requires c κs = search needs
@@ -23,20 +26,30 @@ lowest-unmarked-requires c κs = search needs
 same-length : tie.Need-same-length
 same-length c = search needs
 
+same-length-2 : tie.Need-same-length-2
+same-length-2 c = search needs
+
 returns : tie.Need-returns
 returns c =
-    let start = c .before .before .before .before .before .before .before .before .before .before .before .before in
+    let start = c .before .before .before .before .before .before .before .before .before .before .before .before .before .before .before .before .before .before .before .before .before in
     let records = start .args .records .now in
-    let mark-begins = c .before .before .before .before .before .before .before .before .mark-begins in
-    let join = c .before .before .before .before .join in (
+    let mark-kind = c .before .before .before .before .before .before .before .before .before .before .before .before .before .before .before .before .mark-kind in
+    let join = c .before .before .before .before .before .before .join in (
       join .ensures
-          ∙ ap (λ (xs : List Bool). reach (size records) (arcsBy records false) (size records) xs) (mark-begins .ensures),
+          ∙ ap (λ (xs : List Bool). reach (size records) (arcsBy records false) (size records) xs) (mark-kind .ensures),
       c .lowest-unmarked .ensures
           ∙ ap (λ (k : ℕ). lowest (λ v. not (marked (join .last .1 .1 .0) v)) 0 k)
-          (join .kept .1 .1 .0 ∙ mark-begins .kept .1 .0 ∙ start .pre),
+          (join .kept .1 .1 .0 ∙ mark-kind .kept .1 .1 .0 ∙ start .pre .0),
     )
 
 pub lowest-apart-spec : {M : Type 1} → statement M
 lowest-apart-spec =
     tie.close
-    (tie.spec mark-begins-requires join-requires lowest-unmarked-requires same-length returns)
+    (tie.spec
+    mark-kind-requires
+    list-marked-requires
+    join-requires
+    lowest-unmarked-requires
+    same-length
+    same-length-2
+    returns)

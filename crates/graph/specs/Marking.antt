@@ -1,9 +1,8 @@
 -- Marks that are set one after the other, as the code does.
-use Prim.Native.Nat.{ℕ, zero, suc}
+use Prim.Native.Nat.{ℕ}
 use mathlib.Core.Bool.{Bool, true}
 use mathlib.Core.List.{List, [], _∷_}
 use lib.ListN.{length, set}
-use Rattle.lists.specs.Pick.{pick}
 use Rattle.lists.specs.Numbers.{count}
 use Rattle.graph.specs.Reach.{marked}
 
@@ -15,8 +14,3 @@ many ms = count (marked ms) 0 (length ms)
 unfoldable pub markAll : List ℕ → List Bool → List Bool
 markAll [] ms = ms
 markAll (u ∷ us) ms = markAll us (set ms u true)
-
--- one pass over the first i nodes: where node i is marked by now, the nodes that its arcs lead to are marked
-unfoldable pub sweepTo : (ℕ → List ℕ) → List Bool → ℕ → List Bool
-sweepTo arcs ms zero = ms
-sweepTo arcs ms (suc i) = let now = sweepTo arcs ms i in pick (marked now i) (markAll (arcs i) now) now

@@ -1,4 +1,4 @@
--- `charts::marks::mark_begins` meets its contract: the nodes passed are marked as they should be.
+-- `charts::marks::mark_kind` meets its contract: the nodes passed are marked as they should be.
 use borrow.Author.Needs.{needs}
 use Prim.Native.Nat.{_-_, _≤_}
 use mathlib.Core.Path.{_≡_, refl, sym, _∙_}
@@ -7,16 +7,16 @@ use lib.ListN.{length, drop, length-set}
 use Rattle.lists.specs.Numbers.{range}
 use Rattle.frames.specs.Frame.{size}
 use Rattle.charts.specs.Chart.{is}
-use Rattle.charts.proofs.MarkCases.{begins-more, begins-done}
-use Rattle.charts.proofs.marks.mark_begins.Statement.{statement}
-use Rattle.charts.proofs.marks.mark_begins.Tie as tie
+use Rattle.charts.proofs.MarkCases.{kinds-more, kinds-done}
+use Rattle.charts.proofs.marks.mark_kind.Statement.{statement}
+use Rattle.charts.proofs.marks.mark_kind.Tie as tie
 
 abbrev Inv-loop : tie.InvT-loop
-Inv-loop records marks₀ n v₀ marks v =
-    (v ≤ n) × (n ≡ size records) × (length marks ≡ n) × (marks ≡ map (is records 0) (range 0 v) ++ drop v marks₀)
+Inv-loop records kind marks₀ n v₀ marks v =
+    (v ≤ n) × (n ≡ size records) × (length marks ≡ n) × (marks ≡ map (is records kind) (range 0 v) ++ drop v marks₀)
 
 abbrev μ-loop : tie.MeasureT-loop
-μ-loop records marks₀ n v₀ marks v = n - v
+μ-loop records kind marks₀ n v₀ marks v = n - v
 
 loop-holds : tie.Need-loop-holds Inv-loop μ-loop
 loop-holds c = (search needs, search needs, search needs, refl)
@@ -37,11 +37,12 @@ loop-again : tie.Need-loop-again Inv-loop μ-loop
 loop-again c =
     let start = c .before .before .before .before .before in
     let records = start .args .records .now in
+    let kind = start .args .kind in
     let marks = start .args .marks .now in (
       search needs,
       search needs,
       length-set (c .before .before .loop .marks) _ _ ∙ c .before .before .loop .inv .2,
-      begins-more records marks (c .before .before .loop .v) _ _ (search needs) (c .before .before .loop .inv .3)
+      kinds-more records kind marks (c .before .before .loop .v) _ _ (search needs) (c .before .before .loop .inv .3)
           (c .field .ensures),
     )
 
@@ -52,11 +53,12 @@ returns : tie.Need-returns Inv-loop μ-loop
 returns c =
     let start = c .before .before .before .before in
     let records = start .args .records .now in
+    let kind = start .args .kind in
     let marks = start .args .marks .now in
-    begins-done records marks (c .before .loop .v) _ (search needs) (start .pre) (c .before .loop .inv .3)
+    kinds-done records kind marks (c .before .loop .v) _ (search needs) (start .pre) (c .before .loop .inv .3)
 
-pub mark-begins-spec : {M : Type 1} → statement M
-mark-begins-spec =
+pub mark-kind-spec : {M : Type 1} → statement M
+mark-kind-spec =
     tie.close
     (tie.spec
     Inv-loop
