@@ -28,7 +28,8 @@ abbrev count-paths-below : ℕ → In 2 count-paths-kinds.ps
 count-paths-below t =
     and 2 count-paths-kinds.ps (falls 2 count-paths-kinds.ps _<_ μ-count-paths t) count-paths.Pre
 
-count-paths-returns : (t : ℕ) → count-paths-lts.Need-returns (
+abbrev known : ℕ → count-paths-lts.Claims
+known t = (
   settle-reads.Asked,
   settle-reads.Learnt,
   ends-path-reads.Asked,
@@ -39,7 +40,9 @@ count-paths-returns : (t : ℕ) → count-paths-lts.Need-returns (
   with-bit-reads.Learnt,
   count-paths-below t,
   count-paths.Post,
-) (count-paths-at t) count-paths.Post
+)
+
+count-paths-returns : (t : ℕ) → count-paths-lts.Need-returns (known t) (count-paths-at t) count-paths.Post
 count-paths-returns t c =
     let start = c .before .before .before in
     let records = start .args .records .now in
@@ -48,50 +51,17 @@ count-paths-returns t c =
     let node = start .args .node in
     count-none records care values node _ (c .if1 .taken)
 
-count-paths-settle-requires : (t : ℕ) → count-paths-lts.Need-settle-requires (
-  settle-reads.Asked,
-  settle-reads.Learnt,
-  ends-path-reads.Asked,
-  ends-path-reads.Learnt,
-  field-reads.Asked,
-  field-reads.Learnt,
-  with-bit-reads.Asked,
-  with-bit-reads.Learnt,
-  count-paths-below t,
-  count-paths.Post,
-) (count-paths-at t) count-paths.Post
+count-paths-settle-requires : (t : ℕ) → count-paths-lts.Need-settle-requires (known t) (count-paths-at t) count-paths.Post
 count-paths-settle-requires t c κs =
     let asked = c .before .before .before .pre in
     (asked .1 .0, (asked .1 .1 .0, asked .1 .1 .1 .0))
 
-count-paths-ends-path-requires : (t : ℕ) → count-paths-lts.Need-ends-path-requires (
-  settle-reads.Asked,
-  settle-reads.Learnt,
-  ends-path-reads.Asked,
-  ends-path-reads.Learnt,
-  field-reads.Asked,
-  field-reads.Learnt,
-  with-bit-reads.Asked,
-  with-bit-reads.Learnt,
-  count-paths-below t,
-  count-paths.Post,
-) (count-paths-at t) count-paths.Post
+count-paths-ends-path-requires : (t : ℕ) → count-paths-lts.Need-ends-path-requires (known t) (count-paths-at t) count-paths.Post
 count-paths-ends-path-requires t c κs =
     let asked = c .before .before .before .before .pre in
     (asked .1 .0, (asked .1 .1 .0, c .settle .ensures .passed .entered))
 
-count-paths-returns-2 : (t : ℕ) → count-paths-lts.Need-returns-2 (
-  settle-reads.Asked,
-  settle-reads.Learnt,
-  ends-path-reads.Asked,
-  ends-path-reads.Learnt,
-  field-reads.Asked,
-  field-reads.Learnt,
-  with-bit-reads.Asked,
-  with-bit-reads.Learnt,
-  count-paths-below t,
-  count-paths.Post,
-) (count-paths-at t) count-paths.Post
+count-paths-returns-2 : (t : ℕ) → count-paths-lts.Need-returns-2 (known t) (count-paths-at t) count-paths.Post
 count-paths-returns-2 t c =
     let start = c .before .before .before .before .before .before in
     let records = start .args .records .now in
@@ -102,77 +72,22 @@ count-paths-returns-2 t c =
     (stop-paths _ (start .pre .1 .0) _ _ _ _ (c .before .before .settle .ensures)
     (sym (c .before .ends-path .ensures) ∙ c .if2 .taken))
 
-count-paths-cast-v : (t : ℕ) → count-paths-lts.Need-cast-v (
-  settle-reads.Asked,
-  settle-reads.Learnt,
-  ends-path-reads.Asked,
-  ends-path-reads.Learnt,
-  field-reads.Asked,
-  field-reads.Learnt,
-  with-bit-reads.Asked,
-  with-bit-reads.Learnt,
-  count-paths-below t,
-  count-paths.Post,
-) (count-paths-at t) count-paths.Post
+count-paths-cast-v : (t : ℕ) → count-paths-lts.Need-cast-v (known t) (count-paths-at t) count-paths.Post
 count-paths-cast-v t c = search needs
 
-count-paths-field-requires : (t : ℕ) → count-paths-lts.Need-field-requires (
-  settle-reads.Asked,
-  settle-reads.Learnt,
-  ends-path-reads.Asked,
-  ends-path-reads.Learnt,
-  field-reads.Asked,
-  field-reads.Learnt,
-  with-bit-reads.Asked,
-  with-bit-reads.Learnt,
-  count-paths-below t,
-  count-paths.Post,
-) (count-paths-at t) count-paths.Post
+count-paths-field-requires : (t : ℕ) → count-paths-lts.Need-field-requires (known t) (count-paths-at t) count-paths.Post
 count-paths-field-requires t c κs = search needs
 
-count-paths-with-bit-requires : (t : ℕ) → count-paths-lts.Need-with-bit-requires (
-  settle-reads.Asked,
-  settle-reads.Learnt,
-  ends-path-reads.Asked,
-  ends-path-reads.Learnt,
-  field-reads.Asked,
-  field-reads.Learnt,
-  with-bit-reads.Asked,
-  with-bit-reads.Learnt,
-  count-paths-below t,
-  count-paths.Post,
-) (count-paths-at t) count-paths.Post
+count-paths-with-bit-requires : (t : ℕ) → count-paths-lts.Need-with-bit-requires (known t) (count-paths-at t) count-paths.Post
 count-paths-with-bit-requires t c κs =
     let asked = c .before .before .before .before .before .before .before .pre in
     fork-number _ (asked .1 .0) _ _ _ _ (c .before .before .before .settle .ensures)
     (sym (c .before .before .ends-path .ensures) ∙ c .before .if2 .left) (asked .1 .1 .1 .1) _ (c .field .ensures)
 
-count-paths-field-requires-2 : (t : ℕ) → count-paths-lts.Need-field-requires-2 (
-  settle-reads.Asked,
-  settle-reads.Learnt,
-  ends-path-reads.Asked,
-  ends-path-reads.Learnt,
-  field-reads.Asked,
-  field-reads.Learnt,
-  with-bit-reads.Asked,
-  with-bit-reads.Learnt,
-  count-paths-below t,
-  count-paths.Post,
-) (count-paths-at t) count-paths.Post
+count-paths-field-requires-2 : (t : ℕ) → count-paths-lts.Need-field-requires-2 (known t) (count-paths-at t) count-paths.Post
 count-paths-field-requires-2 t c κs = search needs
 
-count-paths-count-paths-requires : (t : ℕ) → count-paths-lts.Need-count-paths-requires (
-  settle-reads.Asked,
-  settle-reads.Learnt,
-  ends-path-reads.Asked,
-  ends-path-reads.Learnt,
-  field-reads.Asked,
-  field-reads.Learnt,
-  with-bit-reads.Asked,
-  with-bit-reads.Learnt,
-  count-paths-below t,
-  count-paths.Post,
-) (count-paths-at t) count-paths.Post
+count-paths-count-paths-requires : (t : ℕ) → count-paths-lts.Need-count-paths-requires (known t) (count-paths-at t) count-paths.Post
 count-paths-count-paths-requires t c κs =
     let asked = c .before .before .before .before .before .before .before .before .before .pre in
     let settle = c .before .before .before .before .before .settle in
@@ -183,32 +98,10 @@ count-paths-count-paths-requires t c κs =
     (c .field2 .ensures) refl in
     (omega (arith, k .falls0, asked .0), (asked .1 .0, (asked .1 .1 .0, (k .entered0, k .within0))))
 
-count-paths-field-requires-3 : (t : ℕ) → count-paths-lts.Need-field-requires-3 (
-  settle-reads.Asked,
-  settle-reads.Learnt,
-  ends-path-reads.Asked,
-  ends-path-reads.Learnt,
-  field-reads.Asked,
-  field-reads.Learnt,
-  with-bit-reads.Asked,
-  with-bit-reads.Learnt,
-  count-paths-below t,
-  count-paths.Post,
-) (count-paths-at t) count-paths.Post
+count-paths-field-requires-3 : (t : ℕ) → count-paths-lts.Need-field-requires-3 (known t) (count-paths-at t) count-paths.Post
 count-paths-field-requires-3 t c κs = search needs
 
-count-paths-with-bit-requires-2 : (t : ℕ) → count-paths-lts.Need-with-bit-requires-2 (
-  settle-reads.Asked,
-  settle-reads.Learnt,
-  ends-path-reads.Asked,
-  ends-path-reads.Learnt,
-  field-reads.Asked,
-  field-reads.Learnt,
-  with-bit-reads.Asked,
-  with-bit-reads.Learnt,
-  count-paths-below t,
-  count-paths.Post,
-) (count-paths-at t) count-paths.Post
+count-paths-with-bit-requires-2 : (t : ℕ) → count-paths-lts.Need-with-bit-requires-2 (known t) (count-paths-at t) count-paths.Post
 count-paths-with-bit-requires-2 t c κs =
     let asked = c .before .before .before .before .before .before .before .before .before .before .before .pre in
     let settle = c .before .before .before .before .before .before .before .settle in
@@ -218,32 +111,10 @@ count-paths-with-bit-requires-2 t c κs =
     fork-number _ (asked .1 .0) _ _ _ _ (settle .ensures) (sym (ends-path .ensures) ∙ if2 .left) (asked .1 .1 .1 .1) _
     (field .ensures)
 
-count-paths-sub-count-paths : (t : ℕ) → count-paths-lts.Need-sub-count-paths (
-  settle-reads.Asked,
-  settle-reads.Learnt,
-  ends-path-reads.Asked,
-  ends-path-reads.Learnt,
-  field-reads.Asked,
-  field-reads.Learnt,
-  with-bit-reads.Asked,
-  with-bit-reads.Learnt,
-  count-paths-below t,
-  count-paths.Post,
-) (count-paths-at t) count-paths.Post
+count-paths-sub-count-paths : (t : ℕ) → count-paths-lts.Need-sub-count-paths (known t) (count-paths-at t) count-paths.Post
 count-paths-sub-count-paths t c = omega (arith, c .before .before .count-paths .ensures 0 0)
 
-count-paths-count-paths-requires-2 : (t : ℕ) → count-paths-lts.Need-count-paths-requires-2 (
-  settle-reads.Asked,
-  settle-reads.Learnt,
-  ends-path-reads.Asked,
-  ends-path-reads.Learnt,
-  field-reads.Asked,
-  field-reads.Learnt,
-  with-bit-reads.Asked,
-  with-bit-reads.Learnt,
-  count-paths-below t,
-  count-paths.Post,
-) (count-paths-at t) count-paths.Post
+count-paths-count-paths-requires-2 : (t : ℕ) → count-paths-lts.Need-count-paths-requires-2 (known t) (count-paths-at t) count-paths.Post
 count-paths-count-paths-requires-2 t c κs =
     let asked = c .before .before .before .before .before .before .before .before .before .before .before .before .pre in
     let settle = c .before .before .before .before .before .before .before .before .settle in
@@ -257,34 +128,12 @@ count-paths-count-paths-requires-2 t c κs =
     (c .before .field3 .ensures) in
     (omega (arith, k .falls1, asked .0), (asked .1 .0, (asked .1 .1 .0, (k .entered1, k .within1))))
 
-count-paths-add-result : (t : ℕ) → count-paths-lts.Need-add-result (
-  settle-reads.Asked,
-  settle-reads.Learnt,
-  ends-path-reads.Asked,
-  ends-path-reads.Learnt,
-  field-reads.Asked,
-  field-reads.Learnt,
-  with-bit-reads.Asked,
-  with-bit-reads.Learnt,
-  count-paths-below t,
-  count-paths.Post,
-) (count-paths-at t) count-paths.Post
+count-paths-add-result : (t : ℕ) → count-paths-lts.Need-add-result (known t) (count-paths-at t) count-paths.Post
 count-paths-add-result t c =
     let good = c .before .before .before .before .before .before .before .before .before .before .before .before .before .good in
     omega (arith, c .before .before .before .count-paths .ensures 0 0, c .count-paths2 .ensures 0 0, good .1 .1 .1 .1 .1)
 
-count-paths-returns-3 : (t : ℕ) → count-paths-lts.Need-returns-3 (
-  settle-reads.Asked,
-  settle-reads.Learnt,
-  ends-path-reads.Asked,
-  ends-path-reads.Learnt,
-  field-reads.Asked,
-  field-reads.Learnt,
-  with-bit-reads.Asked,
-  with-bit-reads.Learnt,
-  count-paths-below t,
-  count-paths.Post,
-) (count-paths-at t) count-paths.Post
+count-paths-returns-3 : (t : ℕ) → count-paths-lts.Need-returns-3 (known t) (count-paths-at t) count-paths.Post
 count-paths-returns-3 t c =
     let call = c .before .before .before .before in
     let asked = call .before .before .before .before .before .before .before .before .before .pre in
@@ -301,18 +150,7 @@ count-paths-returns-3 t c =
     (c .before .before .before .count-paths .ensures) (c .count-paths2 .ensures)
 
 pub +count-paths-spec : {M : Type 1} → statement M
-+count-paths-spec = close μ-count-paths λ t. count-paths-lts.spec (
-  settle-reads.Asked,
-  settle-reads.Learnt,
-  ends-path-reads.Asked,
-  ends-path-reads.Learnt,
-  field-reads.Asked,
-  field-reads.Learnt,
-  with-bit-reads.Asked,
-  with-bit-reads.Learnt,
-  count-paths-below t,
-  count-paths.Post,
-)
++count-paths-spec = close μ-count-paths λ t. count-paths-lts.spec (known t)
     (count-paths-at t)
     count-paths.Post
     (count-paths-returns t)

@@ -29,7 +29,8 @@ abbrev put-paths-below : ℕ → In 3 put-paths-kinds.ps
 put-paths-below t =
     and 3 put-paths-kinds.ps (falls 3 put-paths-kinds.ps _<_ μ-put-paths t) put-paths.Pre
 
-put-paths-settle-requires : (t : ℕ) → put-paths-lts.Need-settle-requires (
+abbrev known : ℕ → put-paths-lts.Claims
+known t = (
   settle-reads.Asked,
   settle-reads.Learnt,
   ends-path-reads.Asked,
@@ -42,98 +43,35 @@ put-paths-settle-requires : (t : ℕ) → put-paths-lts.Need-settle-requires (
   with-bit-reads.Learnt,
   put-paths-below t,
   put-paths.Post,
-) (put-paths-at t) put-paths.Post
+)
+
+put-paths-settle-requires : (t : ℕ) → put-paths-lts.Need-settle-requires (known t) (put-paths-at t) put-paths.Post
 put-paths-settle-requires t c κs =
     let asked = c .before .before .before .pre in
     (asked .1 .0, (asked .1 .1 .0, asked .1 .1 .1 .0))
 
-put-paths-cast-v : (t : ℕ) → put-paths-lts.Need-cast-v (
-  settle-reads.Asked,
-  settle-reads.Learnt,
-  ends-path-reads.Asked,
-  ends-path-reads.Learnt,
-  put-row-reads.Asked,
-  put-row-reads.Learnt,
-  field-reads.Asked,
-  field-reads.Learnt,
-  with-bit-reads.Asked,
-  with-bit-reads.Learnt,
-  put-paths-below t,
-  put-paths.Post,
-) (put-paths-at t) put-paths.Post
+put-paths-cast-v : (t : ℕ) → put-paths-lts.Need-cast-v (known t) (put-paths-at t) put-paths.Post
 put-paths-cast-v t c = search needs
 
-put-paths-ends-path-requires : (t : ℕ) → put-paths-lts.Need-ends-path-requires (
-  settle-reads.Asked,
-  settle-reads.Learnt,
-  ends-path-reads.Asked,
-  ends-path-reads.Learnt,
-  put-row-reads.Asked,
-  put-row-reads.Learnt,
-  field-reads.Asked,
-  field-reads.Learnt,
-  with-bit-reads.Asked,
-  with-bit-reads.Learnt,
-  put-paths-below t,
-  put-paths.Post,
-) (put-paths-at t) put-paths.Post
+put-paths-ends-path-requires : (t : ℕ) → put-paths-lts.Need-ends-path-requires (known t) (put-paths-at t) put-paths.Post
 put-paths-ends-path-requires t c κs =
     let asked = c .before .before .before .before .pre in
     (asked .1 .0, (asked .1 .1 .0, c .settle .ensures .passed .entered))
 
-put-paths-shared-slice-read-put-row : (t : ℕ) → put-paths-lts.Need-shared-slice-read-put-row (
-  settle-reads.Asked,
-  settle-reads.Learnt,
-  ends-path-reads.Asked,
-  ends-path-reads.Learnt,
-  put-row-reads.Asked,
-  put-row-reads.Learnt,
-  field-reads.Asked,
-  field-reads.Learnt,
-  with-bit-reads.Asked,
-  with-bit-reads.Learnt,
-  put-paths-below t,
-  put-paths.Post,
-) (put-paths-at t) put-paths.Post
+put-paths-shared-slice-read-put-row : (t : ℕ) → put-paths-lts.Need-shared-slice-read-put-row (known t) (put-paths-at t) put-paths.Post
 put-paths-shared-slice-read-put-row t c =
     let asked = c .before .before .before .before .before .before .before .before .pre in
     let settle = c .before .before .before .before .settle in
     omega (arith, settle .ensures .passed .entered .inside, asked .1 .1 .0 .long)
 
-put-paths-put-row-requires : (t : ℕ) → put-paths-lts.Need-put-row-requires (
-  settle-reads.Asked,
-  settle-reads.Learnt,
-  ends-path-reads.Asked,
-  ends-path-reads.Learnt,
-  put-row-reads.Asked,
-  put-row-reads.Learnt,
-  field-reads.Asked,
-  field-reads.Learnt,
-  with-bit-reads.Asked,
-  with-bit-reads.Learnt,
-  put-paths-below t,
-  put-paths.Post,
-) (put-paths-at t) put-paths.Post
+put-paths-put-row-requires : (t : ℕ) → put-paths-lts.Need-put-row-requires (known t) (put-paths-at t) put-paths.Post
 put-paths-put-row-requires t c κs =
     let asked = c .before .before .before .before .before .before .before .before .pre in
     let settle = c .before .before .before .before .settle in
     leaf-room _ (asked .1 .0) _ (asked .1 .1 .0) _ _ _ _ (settle .ensures)
     (sym (c .before .before .before .ends-path .ensures) ∙ c .before .before .if1 .taken) _ _ _ _ (asked .1 .1 .1 .1 .1)
 
-put-paths-add-result : (t : ℕ) → put-paths-lts.Need-add-result (
-  settle-reads.Asked,
-  settle-reads.Learnt,
-  ends-path-reads.Asked,
-  ends-path-reads.Learnt,
-  put-row-reads.Asked,
-  put-row-reads.Learnt,
-  field-reads.Asked,
-  field-reads.Learnt,
-  with-bit-reads.Asked,
-  with-bit-reads.Learnt,
-  put-paths-below t,
-  put-paths.Post,
-) (put-paths-at t) put-paths.Post
+put-paths-add-result : (t : ℕ) → put-paths-lts.Need-add-result (known t) (put-paths-at t) put-paths.Post
 put-paths-add-result t c = omega (
   arith,
   (let asked = c .before .before .before .before .before .before .before .before .before .before .before .pre in
@@ -143,36 +81,10 @@ put-paths-add-result t c = omega (
       (sym (ends-path .ensures) ∙ c .before .before .before .before .before .if1 .taken) _ _ _ _ (asked .1 .1 .1 .1 .1)),
 )
 
-put-paths-same-length : (t : ℕ) → put-paths-lts.Need-same-length (
-  settle-reads.Asked,
-  settle-reads.Learnt,
-  ends-path-reads.Asked,
-  ends-path-reads.Learnt,
-  put-row-reads.Asked,
-  put-row-reads.Learnt,
-  field-reads.Asked,
-  field-reads.Learnt,
-  with-bit-reads.Asked,
-  with-bit-reads.Learnt,
-  put-paths-below t,
-  put-paths.Post,
-) (put-paths-at t) put-paths.Post
+put-paths-same-length : (t : ℕ) → put-paths-lts.Need-same-length (known t) (put-paths-at t) put-paths.Post
 put-paths-same-length t c = c .before .before .put-row .kept .0
 
-put-paths-returns : (t : ℕ) → put-paths-lts.Need-returns (
-  settle-reads.Asked,
-  settle-reads.Learnt,
-  ends-path-reads.Asked,
-  ends-path-reads.Learnt,
-  put-row-reads.Asked,
-  put-row-reads.Learnt,
-  field-reads.Asked,
-  field-reads.Learnt,
-  with-bit-reads.Asked,
-  with-bit-reads.Learnt,
-  put-paths-below t,
-  put-paths.Post,
-) (put-paths-at t) put-paths.Post
+put-paths-returns : (t : ℕ) → put-paths-lts.Need-returns (known t) (put-paths-at t) put-paths.Post
 put-paths-returns t c =
     let asked = c .before .before .before .before .before .before .before .before .before .before .before .pre in
     let settle = c .before .before .before .before .before .before .before .settle in
@@ -181,55 +93,16 @@ put-paths-returns t c =
     leaf-done _ (asked .1 .0) _ (asked .1 .1 .0) _ _ _ _ (settle .ensures) (sym (ends-path .ensures) ∙ if1 .taken) _ _ _ _
     _ (c .before .before .put-row .ensures)
 
-put-paths-field-requires : (t : ℕ) → put-paths-lts.Need-field-requires (
-  settle-reads.Asked,
-  settle-reads.Learnt,
-  ends-path-reads.Asked,
-  ends-path-reads.Learnt,
-  put-row-reads.Asked,
-  put-row-reads.Learnt,
-  field-reads.Asked,
-  field-reads.Learnt,
-  with-bit-reads.Asked,
-  with-bit-reads.Learnt,
-  put-paths-below t,
-  put-paths.Post,
-) (put-paths-at t) put-paths.Post
+put-paths-field-requires : (t : ℕ) → put-paths-lts.Need-field-requires (known t) (put-paths-at t) put-paths.Post
 put-paths-field-requires t c κs = search needs
 
-put-paths-with-bit-requires : (t : ℕ) → put-paths-lts.Need-with-bit-requires (
-  settle-reads.Asked,
-  settle-reads.Learnt,
-  ends-path-reads.Asked,
-  ends-path-reads.Learnt,
-  put-row-reads.Asked,
-  put-row-reads.Learnt,
-  field-reads.Asked,
-  field-reads.Learnt,
-  with-bit-reads.Asked,
-  with-bit-reads.Learnt,
-  put-paths-below t,
-  put-paths.Post,
-) (put-paths-at t) put-paths.Post
+put-paths-with-bit-requires : (t : ℕ) → put-paths-lts.Need-with-bit-requires (known t) (put-paths-at t) put-paths.Post
 put-paths-with-bit-requires t c κs =
     let asked = c .before .before .before .before .before .before .before .pre in
     fork-number _ (asked .1 .0) _ _ _ _ (c .before .before .before .settle .ensures)
     (sym (c .before .before .ends-path .ensures) ∙ c .before .if1 .left) (asked .1 .1 .1 .1 .0) _ (c .field .ensures)
 
-put-paths-with-bit-requires-2 : (t : ℕ) → put-paths-lts.Need-with-bit-requires-2 (
-  settle-reads.Asked,
-  settle-reads.Learnt,
-  ends-path-reads.Asked,
-  ends-path-reads.Learnt,
-  put-row-reads.Asked,
-  put-row-reads.Learnt,
-  field-reads.Asked,
-  field-reads.Learnt,
-  with-bit-reads.Asked,
-  with-bit-reads.Learnt,
-  put-paths-below t,
-  put-paths.Post,
-) (put-paths-at t) put-paths.Post
+put-paths-with-bit-requires-2 : (t : ℕ) → put-paths-lts.Need-with-bit-requires-2 (known t) (put-paths-at t) put-paths.Post
 put-paths-with-bit-requires-2 t c κs =
     let asked = c .before .before .before .before .before .before .before .before .pre in
     let settle = c .before .before .before .before .settle in
@@ -237,52 +110,13 @@ put-paths-with-bit-requires-2 t c κs =
     (sym (c .before .before .before .ends-path .ensures) ∙ c .before .before .if1 .left) (asked .1 .1 .1 .1 .0) _
     (c .before .field .ensures)
 
-put-paths-field-requires-2 : (t : ℕ) → put-paths-lts.Need-field-requires-2 (
-  settle-reads.Asked,
-  settle-reads.Learnt,
-  ends-path-reads.Asked,
-  ends-path-reads.Learnt,
-  put-row-reads.Asked,
-  put-row-reads.Learnt,
-  field-reads.Asked,
-  field-reads.Learnt,
-  with-bit-reads.Asked,
-  with-bit-reads.Learnt,
-  put-paths-below t,
-  put-paths.Post,
-) (put-paths-at t) put-paths.Post
+put-paths-field-requires-2 : (t : ℕ) → put-paths-lts.Need-field-requires-2 (known t) (put-paths-at t) put-paths.Post
 put-paths-field-requires-2 t c κs = search needs
 
-put-paths-field-requires-3 : (t : ℕ) → put-paths-lts.Need-field-requires-3 (
-  settle-reads.Asked,
-  settle-reads.Learnt,
-  ends-path-reads.Asked,
-  ends-path-reads.Learnt,
-  put-row-reads.Asked,
-  put-row-reads.Learnt,
-  field-reads.Asked,
-  field-reads.Learnt,
-  with-bit-reads.Asked,
-  with-bit-reads.Learnt,
-  put-paths-below t,
-  put-paths.Post,
-) (put-paths-at t) put-paths.Post
+put-paths-field-requires-3 : (t : ℕ) → put-paths-lts.Need-field-requires-3 (known t) (put-paths-at t) put-paths.Post
 put-paths-field-requires-3 t c κs = search needs
 
-put-paths-put-paths-requires : (t : ℕ) → put-paths-lts.Need-put-paths-requires (
-  settle-reads.Asked,
-  settle-reads.Learnt,
-  ends-path-reads.Asked,
-  ends-path-reads.Learnt,
-  put-row-reads.Asked,
-  put-row-reads.Learnt,
-  field-reads.Asked,
-  field-reads.Learnt,
-  with-bit-reads.Asked,
-  with-bit-reads.Learnt,
-  put-paths-below t,
-  put-paths.Post,
-) (put-paths-at t) put-paths.Post
+put-paths-put-paths-requires : (t : ℕ) → put-paths-lts.Need-put-paths-requires (known t) (put-paths-at t) put-paths.Post
 put-paths-put-paths-requires t c κs =
     let start = c .before .before .before .before .before .before .before .before .before .before .before .before in
     let from = start .args .from in
@@ -313,20 +147,7 @@ put-paths-put-paths-requires t c κs =
       ),
     )
 
-put-paths-put-paths-requires-2 : (t : ℕ) → put-paths-lts.Need-put-paths-requires-2 (
-  settle-reads.Asked,
-  settle-reads.Learnt,
-  ends-path-reads.Asked,
-  ends-path-reads.Learnt,
-  put-row-reads.Asked,
-  put-row-reads.Learnt,
-  field-reads.Asked,
-  field-reads.Learnt,
-  with-bit-reads.Asked,
-  with-bit-reads.Learnt,
-  put-paths-below t,
-  put-paths.Post,
-) (put-paths-at t) put-paths.Post
+put-paths-put-paths-requires-2 : (t : ℕ) → put-paths-lts.Need-put-paths-requires-2 (known t) (put-paths-at t) put-paths.Post
 put-paths-put-paths-requires-2 t c κs =
     let call = c .before .before .before .before .before in
     let start = call .before .before .before .before .before .before .before .before .before .before .before in
@@ -361,38 +182,12 @@ put-paths-put-paths-requires-2 t c κs =
       ),
     )
 
-put-paths-same-length-2 : (t : ℕ) → put-paths-lts.Need-same-length-2 (
-  settle-reads.Asked,
-  settle-reads.Learnt,
-  ends-path-reads.Asked,
-  ends-path-reads.Learnt,
-  put-row-reads.Asked,
-  put-row-reads.Learnt,
-  field-reads.Asked,
-  field-reads.Learnt,
-  with-bit-reads.Asked,
-  with-bit-reads.Learnt,
-  put-paths-below t,
-  put-paths.Post,
-) (put-paths-at t) put-paths.Post
+put-paths-same-length-2 : (t : ℕ) → put-paths-lts.Need-same-length-2 (known t) (put-paths-at t) put-paths.Post
 put-paths-same-length-2 t c =
     let put-paths = c .before .before .before .before .before .before .put-paths in
     c .before .before .put-paths2 .kept .1 .1 .1 .1 .1 .1 .1 .0 ∙ put-paths .kept .1 .1 .1 .1 .1 .1 .1 .0
 
-put-paths-returns-2 : (t : ℕ) → put-paths-lts.Need-returns-2 (
-  settle-reads.Asked,
-  settle-reads.Learnt,
-  ends-path-reads.Asked,
-  ends-path-reads.Learnt,
-  put-row-reads.Asked,
-  put-row-reads.Learnt,
-  field-reads.Asked,
-  field-reads.Learnt,
-  with-bit-reads.Asked,
-  with-bit-reads.Learnt,
-  put-paths-below t,
-  put-paths.Post,
-) (put-paths-at t) put-paths.Post
+put-paths-returns-2 : (t : ℕ) → put-paths-lts.Need-returns-2 (known t) (put-paths-at t) put-paths.Post
 put-paths-returns-2 t c =
     both-done _ _ _ _ _ _ _ _ _
     (let call = c .before .before .before .before .before .before in
@@ -418,20 +213,7 @@ put-paths-returns-2 t c =
     (c .before .before .put-paths2 .ensures .0) (c .before .before .put-paths2 .ensures .1)
 
 pub +put-paths-spec : {M : Type 1} → statement M
-+put-paths-spec = close μ-put-paths λ t. put-paths-lts.spec (
-  settle-reads.Asked,
-  settle-reads.Learnt,
-  ends-path-reads.Asked,
-  ends-path-reads.Learnt,
-  put-row-reads.Asked,
-  put-row-reads.Learnt,
-  field-reads.Asked,
-  field-reads.Learnt,
-  with-bit-reads.Asked,
-  with-bit-reads.Learnt,
-  put-paths-below t,
-  put-paths.Post,
-)
++put-paths-spec = close μ-put-paths λ t. put-paths-lts.spec (known t)
     (put-paths-at t)
     put-paths.Post
     (put-paths-settle-requires t)
