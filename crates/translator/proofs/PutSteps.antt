@@ -23,10 +23,11 @@ use Rattle.walk.specs.Stops.{stops, start}
 use Rattle.image.specs.Image.{Label, Row, entryFrame, labelFrame, rowFrame}
 use Rattle.translator.specs.Labels.{numbered, label, entry, labelOf}
 use Rattle.translator.specs.Rows.{paths, rowsOf}
-use Rattle.translator.specs.Ready.{Ready, Labelled, Settled}
+use Rattle.translator.specs.Ready.{Ready, Labelled}
 use Rattle.translator.specs.Parts.{rowOf, rowsText, sides, nodeRows, entryText, nodeLabelText, nodeRowsText, upTo}
 use Rattle.translator.proofs.RowSteps.{rows-function, rows-condition, rows-other}
 use Rattle.translator.proofs.LabelSteps.{own-label, no-own-label}
+use Rattle.translator.proofs.Settled.{Settled}
 use Rattle.translator.proofs.PathCases.{Fork, stop-paths}
 
 -- ---- a text put after another
@@ -75,7 +76,7 @@ module _ (c : Chart) (ready : Ready c) (labels : List ℕ) (ok : Labelled c labe
   leaf-done out out′ at e = (
     omega (arith, leaf-length),
     e ∙ ap (λ (x : ℕ). written out at (frameText (rowFrame (rowOf l care values f x))))
-        (ok .at u (st .passed .entered .inside))
+        (ok .at u (st .entered .inside))
         ∙ ap (written out at) (sym leaf-text),
   )
 
