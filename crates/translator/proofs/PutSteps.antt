@@ -290,10 +290,10 @@ module _ (c : Chart) (v k : ℕ) (ek : k ≡ kind c v) (own : nodeRows c v ≡ r
   pub node-condition : k ≡ 3 → (o : ℕ) → o ≡ 2 ^ argument c v → nodeRowsText c v ≡ rowsText (sides c (label c v) 2 2 o o v)
   node-condition e o m = ap rowsText (own ∙ rows-condition c v k ek e ∙ ap (λ (x : ℕ). sides c (label c v) 2 2 x x v) (sym m))
 
-  pub node-other : (k ≡ 4 → ⊥) → (k ≡ 3 → ⊥) → (l w : ℕ) → l ≡ label c v → w ≡ next0 c v
+  pub node-other : k < 3 → (l w : ℕ) → l ≡ label c v → w ≡ next0 c v
       → nodeRowsText c v ≡ rowsText (paths (size c) c l 2 0 0 w)
-  node-other n m l w el ew =
-      ap rowsText (own ∙ rows-other c v k ek n m ∙ ap₂ (λ (x y : ℕ). paths (size c) c x 2 0 0 y) (sym el) (sym ew))
+  node-other h l w el ew =
+      ap rowsText (own ∙ rows-other c v k ek h ∙ ap₂ (λ (x y : ℕ). paths (size c) c x 2 0 0 y) (sym el) (sym ew))
 
 module _ (c : Chart) (v f g care values l w0 w1 : ℕ) (el : l ≡ label c v) (e0 : w0 ≡ next0 c v) (e1 : w1 ≡ next1 c v) where
   pub sides-text : rowsText (sides c (label c v) f g care values v)
