@@ -72,15 +72,9 @@ module _ (t : ℕ) where
       fork _ _ _ _ _ _ (new (first .before .before)) _ _ (first .before .with-bit .ensures) (c .with-bit2 .ensures) _ _
       (first .field2 .ensures) (c .before .field3 .ensures)
 
-  -- ---- the needs
+  -- ---- the needs: what is returned, then what the calls ask
   returns : At lts.Need-returns
   returns c = let a = c .before .before .before .args in count-none (a .records .now) (a .care) (a .values) (a .node) _ (c .if1 .taken)
-
-  settle-requires : At lts.Need-settle-requires
-  settle-requires c κs = let pre = c .before .before .before .pre in (pre .1 .0, (pre .1 .1 .0, pre .1 .1 .1 .0))
-
-  ends-path-requires : At lts.Need-ends-path-requires
-  ends-path-requires c κs = (start c .pre .1 .0, (start c .pre .1 .1 .0, arrived c .entered))
 
   returns-2 : At lts.Need-returns-2
   returns-2 c =
@@ -88,6 +82,17 @@ module _ (t : ℕ) where
       let a = start here .args in
       count-stop (a .records .now) (a .care) (a .values) (a .node) _ _ (here .before .if1 .left)
       (stop-paths _ (start here .pre .1 .0) _ _ _ _ (arrived here) (sym (c .before .ends-path .ensures) ∙ c .if2 .taken))
+
+  returns-3 : At lts.Need-returns-3
+  returns-3 c =
+      count-fork _ _ _ _ _ _ _ _ _ _ _ (forked (c .before)) (c .before .before .before .count-paths .ensures)
+      (c .count-paths2 .ensures)
+
+  settle-requires : At lts.Need-settle-requires
+  settle-requires c κs = let pre = c .before .before .before .pre in (pre .1 .0, (pre .1 .1 .0, pre .1 .1 .1 .0))
+
+  ends-path-requires : At lts.Need-ends-path-requires
+  ends-path-requires c κs = (start c .pre .1 .0, (start c .pre .1 .1 .0, arrived c .entered))
 
   cast-v : At lts.Need-cast-v
   cast-v c = search needs
@@ -132,11 +137,6 @@ module _ (t : ℕ) where
         c .count-paths2 .ensures 0 0,
         begun (first .before .before .before) .good .1 .1 .1 .1 .1,
       )
-
-  returns-3 : At lts.Need-returns-3
-  returns-3 c =
-      count-fork _ _ _ _ _ _ _ _ _ _ _ (forked (c .before)) (c .before .before .before .count-paths .ensures)
-      (c .count-paths2 .ensures)
 
 pub +count-paths-spec : {M : Type 1} → statement M
 +count-paths-spec = close measure λ t. lts.spec (claims t)

@@ -91,7 +91,24 @@ module _ (t : ℕ) where
       fork _ _ _ _ _ _ (new (valued .before .before)) _ _ (valued .before .with-bit .ensures) (valued .with-bit2 .ensures) _ _
       (c .before .field2 .ensures) (c .field3 .ensures)
 
-  -- ---- the needs
+  -- ---- the needs: what is returned, then what the calls ask
+  returns : At lts.Need-returns
+  returns c =
+      let stop = c .before .before .before .before .before in
+      let here = stop .before .before in
+      let pre = start here .pre .1 in
+      leaf-done _ (pre .0) _ (pre .1 .0) _ _ _ _ (arrived here) (stopped stop) _ _ _ _ _ (c .before .before .put-row .ensures)
+
+  returns-2 : At lts.Need-returns-2
+  returns-2 c =
+      let second = c .before .before in
+      let first = second .before .before .before .before in
+      let fork = first .before .before in
+      let a = forking fork .args in
+      both-done _ _ _ _ _ _ _ _ _ (fork-text _ _ _ _ _ _ _ _ (forked fork) (a .from) (a .bit))
+      (forking fork .pre .1 .1 .1 .1 .1) (first .put-paths .ensures .0) (first .put-paths .ensures .1)
+      (second .put-paths2 .ensures .0) (second .put-paths2 .ensures .1)
+
   settle-requires : At lts.Need-settle-requires
   settle-requires c κs = let pre = c .before .before .before .pre in (pre .1 .0, (pre .1 .1 .0, pre .1 .1 .1 .0))
 
@@ -114,13 +131,6 @@ module _ (t : ℕ) where
 
   same-length : At lts.Need-same-length
   same-length c = c .before .before .put-row .kept .0
-
-  returns : At lts.Need-returns
-  returns c =
-      let stop = c .before .before .before .before .before in
-      let here = stop .before .before in
-      let pre = start here .pre .1 in
-      leaf-done _ (pre .0) _ (pre .1 .0) _ _ _ _ (arrived here) (stopped stop) _ _ _ _ _ (c .before .before .put-row .ensures)
 
   field-requires : At lts.Need-field-requires
   field-requires c κs = let l = arrived (c .before .before) .entered .inside in search needs
@@ -161,16 +171,6 @@ module _ (t : ℕ) where
       let second = c .before .before in
       let first = second .before .before .before .before in
       second .put-paths2 .kept .1 .1 .1 .1 .1 .1 .1 .0 ∙ first .put-paths .kept .1 .1 .1 .1 .1 .1 .1 .0
-
-  returns-2 : At lts.Need-returns-2
-  returns-2 c =
-      let second = c .before .before in
-      let first = second .before .before .before .before in
-      let fork = first .before .before in
-      let a = forking fork .args in
-      both-done _ _ _ _ _ _ _ _ _ (fork-text _ _ _ _ _ _ _ _ (forked fork) (a .from) (a .bit))
-      (forking fork .pre .1 .1 .1 .1 .1) (first .put-paths .ensures .0) (first .put-paths .ensures .1)
-      (second .put-paths2 .ensures .0) (second .put-paths2 .ensures .1)
 
 pub +put-paths-spec : {M : Type 1} → statement M
 +put-paths-spec = close measure λ t. lts.spec (claims t)
