@@ -5,6 +5,7 @@ pub mod Translated
 pub mod NodeSteps
 pub mod LabelSteps
 pub mod PathSteps
+pub mod Settled
 pub mod PathCases
 pub mod RowSteps
 pub mod PutSteps

@@ -9,8 +9,8 @@ use native.Mathlib.Omega.{arith}
 use lib.Bits.{bitAnd, bitOr}
 use lib.Dec.{eqb, leb}
 use lib.ListN.{length, getD, length-append}
-use borrow.Author.Tests.{leb-true, eqb-true, eqb-false, eq-eqb, ne-eqb, le-leb}
-use Rattle.lists.proofs.Tests.{no-both, and-l, and-r, and-false, not-true, yes-pick, no-pick, cases}
+use borrow.Author.Tests.{leb-true, eqb-false, eq-eqb, ne-eqb, le-leb}
+use Rattle.lists.proofs.Tests.{no-both, and-false, yes-pick, no-pick, cases}
 use Rattle.bits.specs.Word.{bit}
 use Rattle.bits.proofs.BitLaws.{add-is-or}
 use Rattle.bits.proofs.MaskLaws.{more-within-0, more-within-1, within-lacks}
@@ -22,9 +22,10 @@ use Rattle.image.specs.Image.{Row}
 use Rattle.walk.proofs.Follow.{goes-on, stops-other}
 use Rattle.translator.specs.Labels.{numbered}
 use Rattle.translator.specs.Rows.{paths}
-use Rattle.translator.specs.Ready.{Ready, Entered, Labelled, Passed, Settled}
+use Rattle.translator.specs.Ready.{Ready, Entered, Labelled}
 use Rattle.translator.proofs.LabelSteps.{label-own, own-label}
-use Rattle.translator.proofs.PathSteps.{pathRow, entered0, entered1, entered-taken, falls-taken, at-stop, at-known, at-new}
+use Rattle.translator.proofs.PathSteps.{pathRow, entered0, entered1, at-stop, at-new}
+use Rattle.translator.proofs.Settled.{Settled}
 
 -- ---- where a path ends
 module _ (c : Chart) (labels : List ℕ) (ok : Labelled c labels) (v k : ℕ) (t : Entered c v) (e : k ≡ kind c v) where
@@ -63,27 +64,6 @@ module _ (c : Chart) (ready : Ready c) where
   pub small-on-path : (v i : ℕ) → Entered c v → stops c v ≡ false → i ≡ argument c v → i < 16
   small-on-path v i t s e = small-number v i (t .inside) (goes-on c v (t .noBegin) s) e
 
-  module _ (care values v u : ℕ) (p : Passed c care values v u) (k : (not (stops c u) && eqb (bit care (argument c u)) 1) ≡ true) where
-    goes : stops c u ≡ false
-    goes = not-true (stops c u) (and-l (not (stops c u)) (eqb (bit care (argument c u)) 1) k)
-
-    pub known-condition : kind c u ≡ 3
-    known-condition = goes-on c u (p .entered .noBegin) goes
-
-    pub known-falls : (w : ℕ) → w ≡ taken c values u → rank c w < rank c u
-    known-falls w e = omega (arith, ap (rank c) e, falls-taken c ready values u (p .entered .inside) known-condition)
-
-    pub known-on : (w : ℕ) → w ≡ taken c values u → Passed c care values v w
-    known-on w e = subst (Passed c care values v) (sym e) (record {
-      entered = entered-taken c ready values u (p .entered .inside) known-condition;
-      lower = omega (arith, p .lower, falls-taken c ready values u (p .entered .inside) known-condition);
-      same = λ l f. p .same l f ∙ at-known c ready l f care values u (p .entered) goes
-          (eqb-true (bit care (argument c u)) 1 (and-r (not (stops c u)) (eqb (bit care (argument c u)) 1) k));
-    })
-
-pub passed-start : (c : Chart) (care values v : ℕ) → Entered c v → Passed c care values v v
-passed-start c care values v t = record { entered = t; lower = omega arith; same = λ l f. refl }
-
 -- a new condition: where its two sides go on, with which mask and values
 pub record Fork (c : Chart) (care values v tested valued w0 w1 : ℕ) : Type 0 where
   pub entered0 : Entered c w0
@@ -94,64 +74,73 @@ pub record Fork (c : Chart) (care values v tested valued w0 w1 : ℕ) : Type 0 w
   pub within1 : bitAnd valued tested ≡ valued
   pub all : (l f : ℕ) → paths (size c) c l f care values v ≡ paths (size c) c l f tested values w0 ++ paths (size c) c l f tested valued w1
 
--- ---- the paths from a node that is a stop, or a new condition
-module _ (c : Chart) (ready : Ready c) (care values v u : ℕ) (st : Settled c care values v u) where
-  pub stop-paths : stops c u ≡ true → (l f : ℕ) → paths (size c) c l f care values v ≡ pathRow c l f care values u ∷ []
-  stop-paths s l f = st .passed .same l f ∙ at-stop c ready l f care values u (st .passed .entered) s
+-- ---- the paths from a node that is a stop
+pub stop-paths : (c : Chart) → Ready c → (care values v u : ℕ) → Settled c care values v u → stops c u ≡ true → (l f : ℕ)
+    → paths (size c) c l f care values v ≡ pathRow c l f care values u ∷ []
+stop-paths c ready care values v u st s l f = st .same l f ∙ at-stop c ready l f care values u (st .entered) s
 
-  module _ (s : stops c u ≡ false) (within : bitAnd values care ≡ values) where
-    new : bit care (argument c u) ≡ 1 → ⊥
-    new = eqb-false (bit care (argument c u)) 1 (and-false (not (stops c u)) (eqb (bit care (argument c u)) 1) (st .fresh) (ap not s))
+-- ---- the paths from a condition that is new
+pub record New (c : Chart) (care values v u i : ℕ) : Type 0 where
+  pub ready : Ready c
+  pub settled : Settled c care values v u
+  pub goes : stops c u ≡ false
+  pub within : bitAnd values care ≡ values
+  pub number : i ≡ argument c u
 
-    pub fork-number : (i : ℕ) → i ≡ argument c u → i < 16
-    fork-number i e = small-on-path c ready u i (st .passed .entered) s e
+module _ (c : Chart) (care values v u i : ℕ) (new : New c care values v u i) where
+  pub new-small : i < 16
+  new-small = small-on-path c (new .ready) u i (new .settled .entered) (new .goes) (new .number)
 
-    condition : kind c u ≡ 3
-    condition = goes-on c u (st .passed .entered .noBegin) s
+  condition : kind c u ≡ 3
+  condition = goes-on c u (new .settled .entered .noBegin) (new .goes)
 
-    pub fork-inside : u < size c
-    fork-inside = st .passed .entered .inside
+  untested : bit care (argument c u) ≡ 1 → ⊥
+  untested =
+      eqb-false (bit care (argument c u)) 1
+      (and-false (not (stops c u)) (eqb (bit care (argument c u)) 1) (new .settled .fresh) (ap not (new .goes)))
 
-    module _ (i tested valued : ℕ) (e : i ≡ argument c u) (et : tested ≡ bitOr care (2 ^ i)) (ev : valued ≡ bitOr values (2 ^ i)) where
-      lacks-care : bit care i ≡ 0
-      lacks-care = let n : bit care i ≡ 1 → ⊥ = λ q. new (ap (bit care) (sym e) ∙ q) in omega arith
+  lacks-care : bit care i ≡ 0
+  lacks-care = let n : bit care i ≡ 1 → ⊥ = λ q. untested (ap (bit care) (sym (new .number)) ∙ q) in omega arith
 
-      lacks-values : bit values i ≡ 0
-      lacks-values = within-lacks i values care within (λ q. new (ap (bit care) (sym e) ∙ q))
+  lacks-values : bit values i ≡ 0
+  lacks-values = within-lacks i values care (new .within) (λ q. untested (ap (bit care) (sym (new .number)) ∙ q))
 
-      tested-is : tested ≡ care + 2 ^ i
-      tested-is = et ∙ sym (add-is-or care i lacks-care)
+  module _ (tested valued : ℕ) (et : tested ≡ bitOr care (2 ^ i)) (ev : valued ≡ bitOr values (2 ^ i)) where
+    tested-is : tested ≡ care + 2 ^ i
+    tested-is = et ∙ sym (add-is-or care i lacks-care)
 
-      valued-is : valued ≡ values + 2 ^ i
-      valued-is = ev ∙ sym (add-is-or values i lacks-values)
+    valued-is : valued ≡ values + 2 ^ i
+    valued-is = ev ∙ sym (add-is-or values i lacks-values)
 
-      fork-within0 : bitAnd values tested ≡ values
-      fork-within0 = ap (bitAnd values) tested-is ∙ more-within-0 i values care (λ q. omega (arith, lacks-care)) within
+    fork-within0 : bitAnd values tested ≡ values
+    fork-within0 = ap (bitAnd values) tested-is ∙ more-within-0 i values care (λ q. omega (arith, lacks-care)) (new .within)
 
-      fork-within1 : bitAnd valued tested ≡ valued
-      fork-within1 = ap₂ bitAnd valued-is tested-is ∙ more-within-1 i values care (λ q. omega (arith, lacks-care)) within ∙ sym valued-is
+    fork-within1 : bitAnd valued tested ≡ valued
+    fork-within1 =
+        ap₂ bitAnd valued-is tested-is ∙ more-within-1 i values care (λ q. omega (arith, lacks-care)) (new .within)
+        ∙ sym valued-is
 
-      fork-paths : (w0 w1 : ℕ) → w0 ≡ next0 c u → w1 ≡ next1 c u → (l f : ℕ)
+    module _ (w0 w1 : ℕ) (e0 : w0 ≡ next0 c u) (e1 : w1 ≡ next1 c u) where
+      fork-paths : (l f : ℕ)
           → paths (size c) c l f care values v ≡ paths (size c) c l f tested values w0 ++ paths (size c) c l f tested valued w1
-      fork-paths w0 w1 e0 e1 l f =
-          let t : care + 2 ^ argument c u ≡ tested = ap (λ (j : ℕ). care + 2 ^ j) (sym e) ∙ sym tested-is in
-          let x : values + 2 ^ argument c u ≡ valued = ap (λ (j : ℕ). values + 2 ^ j) (sym e) ∙ sym valued-is in
-          st .passed .same l f ∙ at-new c ready l f care values u (st .passed .entered) s new
-          ∙ ap₂ (λ (a b : List Row). a ++ b)
-          (ap₂ (λ (a b : ℕ). paths (size c) c l f a values b) t (sym e0))
-          (ap (λ (a : ℕ). paths (size c) c l f a (values + 2 ^ argument c u) (next1 c u)) t
-          ∙ ap₂ (λ (a b : ℕ). paths (size c) c l f tested a b) x (sym e1))
+      fork-paths l f =
+          let t : care + 2 ^ argument c u ≡ tested = ap (λ (j : ℕ). care + 2 ^ j) (sym (new .number)) ∙ sym tested-is in
+          let x : values + 2 ^ argument c u ≡ valued = ap (λ (j : ℕ). values + 2 ^ j) (sym (new .number)) ∙ sym valued-is in
+          new .settled .same l f
+          ∙ at-new c (new .ready) l f care values u (new .settled .entered) (new .goes) untested
+          ∙ simp (t, x, e0, e1)
 
-      pub fork : (w0 w1 : ℕ) → w0 ≡ next0 c u → w1 ≡ next1 c u → Fork c care values v tested valued w0 w1
-      fork w0 w1 e0 e1 = record {
-        entered0 = subst (Entered c) (sym e0) (entered0 c ready u fork-inside (λ q. omega (arith, condition)));
-        entered1 = subst (Entered c) (sym e1) (entered1 c ready u fork-inside (omega (arith, condition)));
-        falls0 = omega (arith, ap (rank c) e0, st .passed .lower, rank-falls0 c (ready .sound) u fork-inside condition);
-        falls1 = omega (arith, ap (rank c) e1, st .passed .lower, rank-falls1 c (ready .sound) u fork-inside condition);
-        within0 = fork-within0;
-        within1 = fork-within1;
-        all = fork-paths w0 w1 e0 e1;
-      }
+      pub fork : Fork c care values v tested valued w0 w1
+      fork =
+          let inside = new .settled .entered .inside in record {
+            entered0 = subst (Entered c) (sym e0) (entered0 c (new .ready) u inside (λ q. omega (arith, condition)));
+            entered1 = subst (Entered c) (sym e1) (entered1 c (new .ready) u inside (omega (arith, condition)));
+            falls0 = omega (arith, ap (rank c) e0, new .settled .lower, rank-falls0 c (new .ready .sound) u inside condition);
+            falls1 = omega (arith, ap (rank c) e1, new .settled .lower, rank-falls1 c (new .ready .sound) u inside condition);
+            within0 = fork-within0;
+            within1 = fork-within1;
+            all = fork-paths;
+          }
 
 -- ---- how many paths there are, counted up to a limit
 module _ (c : Chart) (care values v most : ℕ) where

@@ -61,9 +61,13 @@ module _ (c : Chart) (v k : ℕ) (ek : k ≡ kind c v) where
   unfolding rowsOf
   rows-condition e = rw (rowsOf, ne-eqb (kind c v) 4 (λ q. omega arith), eq-eqb (kind c v) 3 (sym ek ∙ e))
 
-  pub rows-other : (k ≡ 4 → ⊥) → (k ≡ 3 → ⊥) → rowsOf c v ≡ paths (size c) c (label c v) 2 0 0 (next0 c v)
+  pub rows-other : k < 3 → rowsOf c v ≡ paths (size c) c (label c v) 2 0 0 (next0 c v)
   unfolding rowsOf
-  rows-other n m = rw (rowsOf, ne-eqb (kind c v) 4 (λ q. n (ek ∙ q)), ne-eqb (kind c v) 3 (λ q. m (ek ∙ q)))
+  rows-other h = rw (rowsOf, ne-eqb (kind c v) 4 (λ q. omega arith), ne-eqb (kind c v) 3 (λ q. omega arith))
+
+-- the kind after a condition's is a function's
+pub function-kind : (c : Chart) → Ready c → (v k : ℕ) → v < size c → k ≡ kind c v → 3 ≤ k → (k ≡ 3 → ⊥) → k ≡ 4
+function-kind c ready v k l e h n = omega (arith, ready .facts .kinds v l)
 
 -- the mask of a stopping condition's own test
 pub own-mask : (c : Chart) (v i own : ℕ) → i ≡ argument c v → own ≡ bitOr 0 (2 ^ i) → own ≡ 2 ^ argument c v
@@ -73,21 +77,24 @@ pub other-entered : (c : Chart) → Ready c → (v w : ℕ) → v < size c → n
 other-entered c ready v w l n e =
     subst (Entered c) (sym e) (entered0 c ready v l (eqb-false (kind c v) 1 (not-true (is c 1 v) (and-r (stops c v) (not (is c 1 v)) n))))
 
-module _ (c : Chart) (v k most r : ℕ) (ek : k ≡ kind c v) where
-  pub count-function : k ≡ 4 → ((l f g : ℕ) → r ≡ min most (length (sides c l f g 0 0 v))) → r ≡ min most (length (rowsOf c v))
-  count-function e q = q (label c v) 0 1 ∙ ap (λ (rs : List Row). min most (length rs)) (sym (rows-function c v k ek e))
+module _ (c : Chart) (v k most r : ℕ) (ek : k ≡ kind c v) (own : nodeRows c v ≡ rowsOf c v) where
+  counted : (rs : List Row) → rowsOf c v ≡ rs → r ≡ min most (length rs) → r ≡ min most (length (nodeRows c v))
+  counted rs e q = q ∙ ap (λ (x : List Row). min most (length x)) (sym (own ∙ e))
 
-  pub count-condition : k ≡ 3 → (own : ℕ) → own ≡ 2 ^ argument c v
-      → ((l f g : ℕ) → r ≡ min most (length (sides c l f g own own v))) → r ≡ min most (length (rowsOf c v))
-  count-condition e own m q =
-      q (label c v) 2 2 ∙ ap (λ (o : ℕ). min most (length (sides c (label c v) 2 2 o o v))) m
-      ∙ ap (λ (rs : List Row). min most (length rs)) (sym (rows-condition c v k ek e))
+  pub count-function : k ≡ 4 → ((l f g : ℕ) → r ≡ min most (length (sides c l f g 0 0 v))) → r ≡ min most (length (nodeRows c v))
+  count-function e q = counted (sides c (label c v) 0 1 0 0 v) (rows-function c v k ek e) (q (label c v) 0 1)
 
-  pub count-other : (k ≡ 4 → ⊥) → (k ≡ 3 → ⊥) → (w : ℕ) → w ≡ next0 c v
-      → ((l f : ℕ) → r ≡ min most (length (paths (size c) c l f 0 0 w))) → r ≡ min most (length (rowsOf c v))
-  count-other n m w e q =
-      q (label c v) 2 ∙ ap (λ (u : ℕ). min most (length (paths (size c) c (label c v) 2 0 0 u))) e
-      ∙ ap (λ (rs : List Row). min most (length rs)) (sym (rows-other c v k ek n m))
+  pub count-condition : k ≡ 3 → (mask : ℕ) → mask ≡ 2 ^ argument c v
+      → ((l f g : ℕ) → r ≡ min most (length (sides c l f g mask mask v))) → r ≡ min most (length (nodeRows c v))
+  count-condition e mask m q =
+      counted (sides c (label c v) 2 2 mask mask v)
+      (rows-condition c v k ek e ∙ ap (λ (o : ℕ). sides c (label c v) 2 2 o o v) (sym m)) (q (label c v) 2 2)
+
+  pub count-other : k < 3 → (w : ℕ) → w ≡ next0 c v
+      → ((l f : ℕ) → r ≡ min most (length (paths (size c) c l f 0 0 w))) → r ≡ min most (length (nodeRows c v))
+  count-other h w e q =
+      counted (paths (size c) c (label c v) 2 0 0 w)
+      (rows-other c v k ek h ∙ ap (paths (size c) c (label c v) 2 0 0) (sym e)) (q (label c v) 2)
 
 -- ---- a node without a label of its own, and one with it
 module _ (c : Chart) (labels : List ℕ) (ok : Labelled c labels) (v x : ℕ) (l : v < size c) (e : x ≡ getD labels v 0) where
@@ -102,9 +109,6 @@ module _ (c : Chart) (labels : List ℕ) (ok : Labelled c labels) (v x : ℕ) (l
 
 pub count-nothing : (c : Chart) (v most : ℕ) → nodeRows c v ≡ [] → 0 ≡ min most (length (nodeRows c v))
 count-nothing c v most e = omega (arith, ap (λ (rs : List Row). length rs) e)
-
-pub count-own : (c : Chart) (v most r : ℕ) → nodeRows c v ≡ rowsOf c v → r ≡ min most (length (rowsOf c v)) → r ≡ min most (length (nodeRows c v))
-count-own c v most r e q = q ∙ ap (λ (rs : List Row). min most (length rs)) (sym e)
 
 -- ---- the rows of the nodes below v
 abbrev pub rowsBelow : Chart → ℕ → List Row

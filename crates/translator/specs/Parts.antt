@@ -1,19 +1,34 @@
 -- Parts of the rows and of the image's text, as the functions that count and write them have them, node by node.
-use Prim.Native.Nat.{ℕ, _+_}
+use Prim.Native.Nat.{ℕ, zero, suc, _+_}
+use mathlib.Core.Bool.{Bool, true, false, _&&_, not}
 use mathlib.Core.List.{List, [], _∷_, _++_, map}
-use lib.Dec.{ltb}
+use lib.Dec.{ltb, eqb}
 use lib.ListN.{length, replicate}
 use Rattle.lists.specs.Pick.{pick}
 use Rattle.lists.specs.Numbers.{range}
 use Rattle.lists.specs.Sequences.{concatMap}
+use Rattle.bits.specs.Word.{bit}
 use Rattle.frames.specs.Frame.{size, pair, frameText, framesText}
 use Rattle.frames.specs.Verdict.{when}
 use Rattle.frames.specs.Answer.{Lent, lent}
-use Rattle.charts.specs.Chart.{Chart, next0, next1}
+use Rattle.charts.specs.Chart.{Chart, argument, next0, next1, taken}
+use Rattle.walk.specs.Stops.{stops}
 use Rattle.image.specs.Image.{Row, entryFrame, labelFrame, rowFrame, imageText}
 use Rattle.translator.specs.Labels.{numbered, label, entry, homeLabel, returnLabel, labelOf}
 use Rattle.translator.specs.Rows.{paths, rowsOf, rows}
 use Rattle.translator.specs.Table.{table}
+
+-- whether a path comes at node v to a condition whose number it has met before
+abbrev pub known : Chart → ℕ → ℕ → Bool
+known c care v = not (stops c v) && eqb (bit care (argument c v)) 1
+
+-- the node where a path that comes to node v goes on, past the conditions that it has met before, at most n of them
+unfoldable pub settled : ℕ → Chart → ℕ → ℕ → ℕ → ℕ
+settled zero c care values v = v
+settled (suc n) c care values v = elim (known c care v) [
+  | true ↦ settled n c care values (taken c values v)
+  | false ↦ v
+]
 
 abbrev pub rowOf : ℕ → ℕ → ℕ → ℕ → ℕ → Row
 rowOf l care values f n = record { from = l; care = care; values = values; bit = f; next = n }

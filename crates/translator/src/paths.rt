@@ -3,17 +3,15 @@ use bits::bit;
 use bits::with_bit;
 use charts::field;
 ghost use mathlib.Core.Path.{_≡_};
-ghost use mathlib.Core.Bool.{_&&_, not};
 ghost use Prim.Native.Nat.{ℕ, _+_, _<_, min};
 ghost use lib.Bits.{bitAnd};
-ghost use lib.Dec.{eqb};
 ghost use lib.ListN.{length};
-ghost use Rattle.bits.specs.Word.{bit};
 ghost use Rattle.frames.specs.Frame.{size};
-ghost use Rattle.charts.specs.Chart.{kind, argument, taken};
+ghost use Rattle.charts.specs.Chart.{kind, taken};
 ghost use Rattle.walk.specs.Stops.{stops};
 ghost use Rattle.translator.specs.Rows.{paths};
-ghost use Rattle.translator.specs.Ready.{Ready, Entered, Labelled, Settled};
+ghost use Rattle.translator.specs.Ready.{Ready, Entered, Labelled};
+ghost use Rattle.translator.specs.Parts.{known, settled};
 
 // Whether a node that an arc leads to ends a path. A condition does where it has a label of its own.
 pub fn ends_path(records: &[u8], labels: &[u8], node: u8) -> bool
@@ -34,7 +32,7 @@ fn is_known(records: &[u8], labels: &[u8], node: u8, care: u16) -> bool
     requires { ⌜ Ready (now records) ⌝ }
     requires { ⌜ Labelled (now records) (now labels) ⌝ }
     requires { ⌜ Entered (now records) node ⌝ }
-    ensures { λ r. ⌜ r ≡ (not (stops (now (records .entry)) node) && eqb (bit care (argument (now (records .entry)) node)) 1) ⌝ }
+    ensures { λ r. ⌜ r ≡ known (now (records .entry)) care node ⌝ }
 {
     if ends_path(records, labels, node) {
         return false;
@@ -61,7 +59,7 @@ pub fn settle(records: &[u8], labels: &[u8], node: u8, care: u16, values: u16) -
     requires { ⌜ Ready (now records) ⌝ }
     requires { ⌜ Labelled (now records) (now labels) ⌝ }
     requires { ⌜ Entered (now records) node ⌝ }
-    ensures { λ r. ⌜ Settled (now (records .entry)) care values node r ⌝ }
+    ensures { λ r. ⌜ r ≡ settled (size (now (records .entry))) (now (records .entry)) care values node ⌝ }
 {
     let mut at = node;
     while is_known(records, labels, at, care) {

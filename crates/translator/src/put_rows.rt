@@ -103,12 +103,7 @@ fn put_node(records: &[u8], labels: &[u8], v: usize, out: &mut [u8], at: usize) 
         return at;
     }
     match field(records, v, 0) {
-        4 => put_sides(records, labels, v, 0, 0, 0, 1, out, at),
-        3 => {
-            let own = with_bit(0, field(records, v, 2));
-            put_sides(records, labels, v, own, own, 2, 2, out, at)
-        }
-        _ => put_paths(
+        0..=2 => put_paths(
             records,
             labels,
             field(records, v, 3),
@@ -119,6 +114,11 @@ fn put_node(records: &[u8], labels: &[u8], v: usize, out: &mut [u8], at: usize) 
             out,
             at,
         ),
+        3 => {
+            let own = with_bit(0, field(records, v, 2));
+            put_sides(records, labels, v, own, own, 2, 2, out, at)
+        }
+        _ => put_sides(records, labels, v, 0, 0, 0, 1, out, at),
     }
 }
 

@@ -51,12 +51,12 @@ fn count_node(records: &[u8], labels: &[u8], v: usize, most: usize) -> usize
         return 0;
     }
     match field(records, v, 0) {
-        4 => count_sides(records, labels, v, 0, 0, most),
+        0..=2 => count_paths(records, labels, field(records, v, 3), 0, 0, most),
         3 => {
             let own = with_bit(0, field(records, v, 2));
             count_sides(records, labels, v, own, own, most)
         }
-        _ => count_paths(records, labels, field(records, v, 3), 0, 0, most),
+        _ => count_sides(records, labels, v, 0, 0, most),
     }
 }
 

@@ -1,15 +1,16 @@
 -- `translator::count_paths`: a stop is one path, a new condition has the paths of its two sides; the measure is the node's rank.
 use mathlib.Core.Path.{refl, sym, _∙_}
 use Rattle.charts.proofs.Rank.{rank}
-use Rattle.translator.proofs.PathCases.{stop-paths, fork-number, fork, count-none, count-stop, count-fork}
+use Rattle.translator.proofs.Settled.{Settled, is-settled}
+use Rattle.translator.proofs.PathCases.{New, Fork, new-small, fork, stop-paths, count-none, count-stop, count-fork}
 use borrow.Author.Needs.{needs}
 use native.Mathlib.Omega.{arith}
 use Prim.Native.Nat.{ℕ, _<_}
-use borrow.Fn.Kinds.{In}
+use borrow.Fn.Kinds.{In, Out}
 use borrow.Fn.PlainCycle.{Measures, is, falls, and}
-use Rattle.translator.proofs.paths.count_paths.Reads as count-paths
-use Rattle.translator.proofs.paths.count_paths.Kinds as count-paths-kinds
-use Rattle.translator.proofs.paths.+count_paths.Lts-count_paths as count-paths-lts
+use Rattle.translator.proofs.paths.count_paths.Reads as reads
+use Rattle.translator.proofs.paths.count_paths.Kinds as kinds
+use Rattle.translator.proofs.paths.+count_paths.Lts-count_paths as lts
 use Rattle.bits.proofs.with_bit.Reads as with-bit-reads
 use Rattle.charts.proofs.field.Reads as field-reads
 use Rattle.translator.proofs.paths.ends_path.Reads as ends-path-reads
@@ -17,316 +18,142 @@ use Rattle.translator.proofs.paths.settle.Reads as settle-reads
 use Rattle.translator.proofs.paths.+count_paths.{statement}
 use Rattle.translator.proofs.paths.+count_paths.Tie.{close}
 
-abbrev μ-count-paths : Measures 2 count-paths-kinds.ps ℕ
-μ-count-paths κs a = rank (a .0 .now) (a .1 .1 .0)
+abbrev measure : Measures 2 kinds.ps ℕ
+measure κs a = rank (a .0 .now) (a .1 .1 .0)
 
-abbrev count-paths-at : ℕ → In 2 count-paths-kinds.ps
-count-paths-at t =
-    and 2 count-paths-kinds.ps (is 2 count-paths-kinds.ps μ-count-paths t) count-paths.Pre
+module _ (t : ℕ) where
+  abbrev asked : In 2 kinds.ps
+  asked = and 2 kinds.ps (is 2 kinds.ps measure t) reads.Pre
 
-abbrev count-paths-below : ℕ → In 2 count-paths-kinds.ps
-count-paths-below t =
-    and 2 count-paths-kinds.ps (falls 2 count-paths-kinds.ps _<_ μ-count-paths t) count-paths.Pre
+  abbrev claims : lts.Claims
+  claims = (
+    settle-reads.Asked,
+    settle-reads.Learnt,
+    ends-path-reads.Asked,
+    ends-path-reads.Learnt,
+    field-reads.Asked,
+    field-reads.Learnt,
+    with-bit-reads.Asked,
+    with-bit-reads.Learnt,
+    and 2 kinds.ps (falls 2 kinds.ps _<_ measure t) reads.Pre,
+    reads.Post,
+  )
 
-count-paths-returns : (t : ℕ) → count-paths-lts.Need-returns (
-  settle-reads.Asked,
-  settle-reads.Learnt,
-  ends-path-reads.Asked,
-  ends-path-reads.Learnt,
-  field-reads.Asked,
-  field-reads.Learnt,
-  with-bit-reads.Asked,
-  with-bit-reads.Learnt,
-  count-paths-below t,
-  count-paths.Post,
-) (count-paths-at t) count-paths.Post
-count-paths-returns t c =
-    let start = c .before .before .before in
-    let records = start .args .records .now in
-    let care = start .args .care in
-    let values = start .args .values in
-    let node = start .args .node in
-    count-none records care values node _ (c .if1 .taken)
+  -- a stage of the function or a need at one, for a node of rank t
+  abbrev At : (lts.Claims → In 2 kinds.ps → Out 2 kinds.ps kinds.r → Type 0) → Type 0
+  At stage = stage claims asked reads.Post
 
-count-paths-settle-requires : (t : ℕ) → count-paths-lts.Need-settle-requires (
-  settle-reads.Asked,
-  settle-reads.Learnt,
-  ends-path-reads.Asked,
-  ends-path-reads.Learnt,
-  field-reads.Asked,
-  field-reads.Learnt,
-  with-bit-reads.Asked,
-  with-bit-reads.Learnt,
-  count-paths-below t,
-  count-paths.Post,
-) (count-paths-at t) count-paths.Post
-count-paths-settle-requires t c κs =
-    let asked = c .before .before .before .pre in
-    (asked .1 .0, (asked .1 .1 .0, asked .1 .1 .1 .0))
+  -- ---- what holds at the stages
+  abbrev start : At lts.After-settle → At lts.Start
+  start c = c .before .before .before .before
 
-count-paths-ends-path-requires : (t : ℕ) → count-paths-lts.Need-ends-path-requires (
-  settle-reads.Asked,
-  settle-reads.Learnt,
-  ends-path-reads.Asked,
-  ends-path-reads.Learnt,
-  field-reads.Asked,
-  field-reads.Learnt,
-  with-bit-reads.Asked,
-  with-bit-reads.Learnt,
-  count-paths-below t,
-  count-paths.Post,
-) (count-paths-at t) count-paths.Post
-count-paths-ends-path-requires t c κs =
-    let asked = c .before .before .before .before .pre in
-    (asked .1 .0, (asked .1 .1 .0, c .settle .ensures .passed .entered))
+  arrived : (c : At lts.After-settle) → let a = start c .args in
+      Settled (a .records .now) (a .care) (a .values) (a .node) (c .settle .result)
+  arrived c = is-settled _ (start c .pre .1 .0) _ _ _ _ (start c .pre .1 .1 .1 .0) (c .settle .ensures)
 
-count-paths-returns-2 : (t : ℕ) → count-paths-lts.Need-returns-2 (
-  settle-reads.Asked,
-  settle-reads.Learnt,
-  ends-path-reads.Asked,
-  ends-path-reads.Learnt,
-  field-reads.Asked,
-  field-reads.Learnt,
-  with-bit-reads.Asked,
-  with-bit-reads.Learnt,
-  count-paths-below t,
-  count-paths.Post,
-) (count-paths-at t) count-paths.Post
-count-paths-returns-2 t c =
-    let start = c .before .before .before .before .before .before in
-    let records = start .args .records .now in
-    let care = start .args .care in
-    let values = start .args .values in
-    let node = start .args .node in
-    count-stop records care values node _ _ (c .before .before .before .if1 .left)
-    (stop-paths _ (start .pre .1 .0) _ _ _ _ (c .before .before .settle .ensures)
-    (sym (c .before .ends-path .ensures) ∙ c .if2 .taken))
+  abbrev begun : At lts.After-field → At lts.Start
+  begun c = start (c .before .before .before)
 
-count-paths-cast-v : (t : ℕ) → count-paths-lts.Need-cast-v (
-  settle-reads.Asked,
-  settle-reads.Learnt,
-  ends-path-reads.Asked,
-  ends-path-reads.Learnt,
-  field-reads.Asked,
-  field-reads.Learnt,
-  with-bit-reads.Asked,
-  with-bit-reads.Learnt,
-  count-paths-below t,
-  count-paths.Post,
-) (count-paths-at t) count-paths.Post
-count-paths-cast-v t c = search needs
+  new : (c : At lts.After-field) → let a = begun c .args in
+      New (a .records .now) (a .care) (a .values) (a .node) (c .before .before .before .settle .result) (c .field .result)
+  new c = record {
+    ready = begun c .pre .1 .0;
+    settled = arrived (c .before .before .before);
+    goes = sym (c .before .before .ends-path .ensures) ∙ c .before .if2 .left;
+    within = begun c .pre .1 .1 .1 .1;
+    number = c .field .ensures;
+  }
 
-count-paths-field-requires : (t : ℕ) → count-paths-lts.Need-field-requires (
-  settle-reads.Asked,
-  settle-reads.Learnt,
-  ends-path-reads.Asked,
-  ends-path-reads.Learnt,
-  field-reads.Asked,
-  field-reads.Learnt,
-  with-bit-reads.Asked,
-  with-bit-reads.Learnt,
-  count-paths-below t,
-  count-paths.Post,
-) (count-paths-at t) count-paths.Post
-count-paths-field-requires t c κs = search needs
+  forked : (c : At lts.After-with-bit2) → let first = c .before .before .before in let a = begun (first .before .before) .args in
+      Fork (a .records .now) (a .care) (a .values) (a .node) (first .before .with-bit .result) (c .with-bit2 .result)
+      (first .field2 .result) (c .before .field3 .result)
+  forked c =
+      let first = c .before .before .before in
+      fork _ _ _ _ _ _ (new (first .before .before)) _ _ (first .before .with-bit .ensures) (c .with-bit2 .ensures) _ _
+      (first .field2 .ensures) (c .before .field3 .ensures)
 
-count-paths-with-bit-requires : (t : ℕ) → count-paths-lts.Need-with-bit-requires (
-  settle-reads.Asked,
-  settle-reads.Learnt,
-  ends-path-reads.Asked,
-  ends-path-reads.Learnt,
-  field-reads.Asked,
-  field-reads.Learnt,
-  with-bit-reads.Asked,
-  with-bit-reads.Learnt,
-  count-paths-below t,
-  count-paths.Post,
-) (count-paths-at t) count-paths.Post
-count-paths-with-bit-requires t c κs =
-    let asked = c .before .before .before .before .before .before .before .pre in
-    fork-number _ (asked .1 .0) _ _ _ _ (c .before .before .before .settle .ensures)
-    (sym (c .before .before .ends-path .ensures) ∙ c .before .if2 .left) (asked .1 .1 .1 .1) _ (c .field .ensures)
+  -- ---- the needs: what is returned, then what the calls ask
+  returns : At lts.Need-returns
+  returns c = let a = c .before .before .before .args in count-none (a .records .now) (a .care) (a .values) (a .node) _ (c .if1 .taken)
 
-count-paths-field-requires-2 : (t : ℕ) → count-paths-lts.Need-field-requires-2 (
-  settle-reads.Asked,
-  settle-reads.Learnt,
-  ends-path-reads.Asked,
-  ends-path-reads.Learnt,
-  field-reads.Asked,
-  field-reads.Learnt,
-  with-bit-reads.Asked,
-  with-bit-reads.Learnt,
-  count-paths-below t,
-  count-paths.Post,
-) (count-paths-at t) count-paths.Post
-count-paths-field-requires-2 t c κs = search needs
+  returns-2 : At lts.Need-returns-2
+  returns-2 c =
+      let here = c .before .before in
+      let a = start here .args in
+      count-stop (a .records .now) (a .care) (a .values) (a .node) _ _ (here .before .if1 .left)
+      (stop-paths _ (start here .pre .1 .0) _ _ _ _ (arrived here) (sym (c .before .ends-path .ensures) ∙ c .if2 .taken))
 
-count-paths-count-paths-requires : (t : ℕ) → count-paths-lts.Need-count-paths-requires (
-  settle-reads.Asked,
-  settle-reads.Learnt,
-  ends-path-reads.Asked,
-  ends-path-reads.Learnt,
-  field-reads.Asked,
-  field-reads.Learnt,
-  with-bit-reads.Asked,
-  with-bit-reads.Learnt,
-  count-paths-below t,
-  count-paths.Post,
-) (count-paths-at t) count-paths.Post
-count-paths-count-paths-requires t c κs =
-    let asked = c .before .before .before .before .before .before .before .before .before .pre in
-    let settle = c .before .before .before .before .before .settle in
-    let ends-path = c .before .before .before .before .ends-path in
-    let k =
-    fork _ (asked .1 .0) _ _ _ _ (settle .ensures) (sym (ends-path .ensures) ∙ c .before .before .before .if2 .left)
-    (asked .1 .1 .1 .1) _ _ _ (c .before .before .field .ensures) (c .before .with-bit .ensures) refl _ _
-    (c .field2 .ensures) refl in
-    (omega (arith, k .falls0, asked .0), (asked .1 .0, (asked .1 .1 .0, (k .entered0, k .within0))))
+  returns-3 : At lts.Need-returns-3
+  returns-3 c =
+      count-fork _ _ _ _ _ _ _ _ _ _ _ (forked (c .before)) (c .before .before .before .count-paths .ensures)
+      (c .count-paths2 .ensures)
 
-count-paths-field-requires-3 : (t : ℕ) → count-paths-lts.Need-field-requires-3 (
-  settle-reads.Asked,
-  settle-reads.Learnt,
-  ends-path-reads.Asked,
-  ends-path-reads.Learnt,
-  field-reads.Asked,
-  field-reads.Learnt,
-  with-bit-reads.Asked,
-  with-bit-reads.Learnt,
-  count-paths-below t,
-  count-paths.Post,
-) (count-paths-at t) count-paths.Post
-count-paths-field-requires-3 t c κs = search needs
+  settle-requires : At lts.Need-settle-requires
+  settle-requires c κs = let pre = c .before .before .before .pre in (pre .1 .0, (pre .1 .1 .0, pre .1 .1 .1 .0))
 
-count-paths-with-bit-requires-2 : (t : ℕ) → count-paths-lts.Need-with-bit-requires-2 (
-  settle-reads.Asked,
-  settle-reads.Learnt,
-  ends-path-reads.Asked,
-  ends-path-reads.Learnt,
-  field-reads.Asked,
-  field-reads.Learnt,
-  with-bit-reads.Asked,
-  with-bit-reads.Learnt,
-  count-paths-below t,
-  count-paths.Post,
-) (count-paths-at t) count-paths.Post
-count-paths-with-bit-requires-2 t c κs =
-    let asked = c .before .before .before .before .before .before .before .before .before .before .before .pre in
-    let settle = c .before .before .before .before .before .before .before .settle in
-    let ends-path = c .before .before .before .before .before .before .ends-path in
-    let if2 = c .before .before .before .before .before .if2 in
-    let field = c .before .before .before .before .field in
-    fork-number _ (asked .1 .0) _ _ _ _ (settle .ensures) (sym (ends-path .ensures) ∙ if2 .left) (asked .1 .1 .1 .1) _
-    (field .ensures)
+  ends-path-requires : At lts.Need-ends-path-requires
+  ends-path-requires c κs = (start c .pre .1 .0, (start c .pre .1 .1 .0, arrived c .entered))
 
-count-paths-sub-count-paths : (t : ℕ) → count-paths-lts.Need-sub-count-paths (
-  settle-reads.Asked,
-  settle-reads.Learnt,
-  ends-path-reads.Asked,
-  ends-path-reads.Learnt,
-  field-reads.Asked,
-  field-reads.Learnt,
-  with-bit-reads.Asked,
-  with-bit-reads.Learnt,
-  count-paths-below t,
-  count-paths.Post,
-) (count-paths-at t) count-paths.Post
-count-paths-sub-count-paths t c = omega (arith, c .before .before .count-paths .ensures 0 0)
+  cast-v : At lts.Need-cast-v
+  cast-v c = search needs
 
-count-paths-count-paths-requires-2 : (t : ℕ) → count-paths-lts.Need-count-paths-requires-2 (
-  settle-reads.Asked,
-  settle-reads.Learnt,
-  ends-path-reads.Asked,
-  ends-path-reads.Learnt,
-  field-reads.Asked,
-  field-reads.Learnt,
-  with-bit-reads.Asked,
-  with-bit-reads.Learnt,
-  count-paths-below t,
-  count-paths.Post,
-) (count-paths-at t) count-paths.Post
-count-paths-count-paths-requires-2 t c κs =
-    let asked = c .before .before .before .before .before .before .before .before .before .before .before .before .pre in
-    let settle = c .before .before .before .before .before .before .before .before .settle in
-    let ends-path = c .before .before .before .before .before .before .before .ends-path in
-    let if2 = c .before .before .before .before .before .before .if2 in
-    let field = c .before .before .before .before .before .field in
-    let with-bit = c .before .before .before .before .with-bit in
-    let k =
-    fork _ (asked .1 .0) _ _ _ _ (settle .ensures) (sym (ends-path .ensures) ∙ if2 .left) (asked .1 .1 .1 .1) _ _ _
-    (field .ensures) (with-bit .ensures) (c .with-bit2 .ensures) _ _ (c .before .before .before .field2 .ensures)
-    (c .before .field3 .ensures) in
-    (omega (arith, k .falls1, asked .0), (asked .1 .0, (asked .1 .1 .0, (k .entered1, k .within1))))
+  field-requires : At lts.Need-field-requires
+  field-requires c κs = let l = arrived (c .before .before) .entered .inside in search needs
 
-count-paths-add-result : (t : ℕ) → count-paths-lts.Need-add-result (
-  settle-reads.Asked,
-  settle-reads.Learnt,
-  ends-path-reads.Asked,
-  ends-path-reads.Learnt,
-  field-reads.Asked,
-  field-reads.Learnt,
-  with-bit-reads.Asked,
-  with-bit-reads.Learnt,
-  count-paths-below t,
-  count-paths.Post,
-) (count-paths-at t) count-paths.Post
-count-paths-add-result t c =
-    let good = c .before .before .before .before .before .before .before .before .before .before .before .before .before .good in
-    omega (arith, c .before .before .before .count-paths .ensures 0 0, c .count-paths2 .ensures 0 0, good .1 .1 .1 .1 .1)
+  with-bit-requires : At lts.Need-with-bit-requires
+  with-bit-requires c κs = new-small _ _ _ _ _ _ (new c)
 
-count-paths-returns-3 : (t : ℕ) → count-paths-lts.Need-returns-3 (
-  settle-reads.Asked,
-  settle-reads.Learnt,
-  ends-path-reads.Asked,
-  ends-path-reads.Learnt,
-  field-reads.Asked,
-  field-reads.Learnt,
-  with-bit-reads.Asked,
-  with-bit-reads.Learnt,
-  count-paths-below t,
-  count-paths.Post,
-) (count-paths-at t) count-paths.Post
-count-paths-returns-3 t c =
-    let call = c .before .before .before .before in
-    let asked = call .before .before .before .before .before .before .before .before .before .pre in
-    let settle = call .before .before .before .before .before .settle in
-    let ends-path = call .before .before .before .before .ends-path in
-    let if2 = call .before .before .before .if2 in
-    let field = call .before .before .field in
-    let with-bit = call .before .with-bit in
-    let field2 = call .field2 in
-    count-fork _ _ _ _ _ _ _ _ _ _ _
-    (fork _ (asked .1 .0) _ _ _ _ (settle .ensures) (sym (ends-path .ensures) ∙ if2 .left) (asked .1 .1 .1 .1) _ _ _
-    (field .ensures) (with-bit .ensures) (c .before .with-bit2 .ensures) _ _ (field2 .ensures)
-    (c .before .before .field3 .ensures))
-    (c .before .before .before .count-paths .ensures) (c .count-paths2 .ensures)
+  field-requires-2 : At lts.Need-field-requires-2
+  field-requires-2 c κs = let l = new (c .before) .settled .entered .inside in search needs
+
+  count-paths-requires : At lts.Need-count-paths-requires
+  count-paths-requires c κs =
+      let pre = begun (c .before .before) .pre in
+      let k =
+      fork _ _ _ _ _ _ (new (c .before .before)) _ _ (c .before .with-bit .ensures) refl _ _ (c .field2 .ensures) refl in
+      (omega (arith, k .falls0, pre .0), (pre .1 .0, (pre .1 .1 .0, (k .entered0, k .within0))))
+
+  field-requires-3 : At lts.Need-field-requires-3
+  field-requires-3 c κs = let l = new (c .before .before .before) .settled .entered .inside in search needs
+
+  with-bit-requires-2 : At lts.Need-with-bit-requires-2
+  with-bit-requires-2 c κs = new-small _ _ _ _ _ _ (new (c .before .before .before .before))
+
+  sub-count-paths : At lts.Need-sub-count-paths
+  sub-count-paths c = omega (arith, c .before .before .count-paths .ensures 0 0)
+
+  count-paths-requires-2 : At lts.Need-count-paths-requires-2
+  count-paths-requires-2 c κs =
+      let pre = begun (c .before .before .before .before .before) .pre in
+      let k = forked c in
+      (omega (arith, k .falls1, pre .0), (pre .1 .0, (pre .1 .1 .0, (k .entered1, k .within1))))
+
+  add-result : At lts.Need-add-result
+  add-result c =
+      let first = c .before .before .before in
+      omega (
+        arith,
+        first .count-paths .ensures 0 0,
+        c .count-paths2 .ensures 0 0,
+        begun (first .before .before .before) .good .1 .1 .1 .1 .1,
+      )
 
 pub +count-paths-spec : {M : Type 1} → statement M
-+count-paths-spec = close μ-count-paths λ t. count-paths-lts.spec (
-  settle-reads.Asked,
-  settle-reads.Learnt,
-  ends-path-reads.Asked,
-  ends-path-reads.Learnt,
-  field-reads.Asked,
-  field-reads.Learnt,
-  with-bit-reads.Asked,
-  with-bit-reads.Learnt,
-  count-paths-below t,
-  count-paths.Post,
-)
-    (count-paths-at t)
-    count-paths.Post
-    (count-paths-returns t)
-    (count-paths-settle-requires t)
-    (count-paths-ends-path-requires t)
-    (count-paths-returns-2 t)
-    (count-paths-cast-v t)
-    (count-paths-field-requires t)
-    (count-paths-with-bit-requires t)
-    (count-paths-field-requires-2 t)
-    (count-paths-count-paths-requires t)
-    (count-paths-field-requires-3 t)
-    (count-paths-with-bit-requires-2 t)
-    (count-paths-sub-count-paths t)
-    (count-paths-count-paths-requires-2 t)
-    (count-paths-add-result t)
-    (count-paths-returns-3 t)
++count-paths-spec = close measure λ t. lts.spec (claims t)
+    (asked t)
+    reads.Post
+    (returns t)
+    (settle-requires t)
+    (ends-path-requires t)
+    (returns-2 t)
+    (cast-v t)
+    (field-requires t)
+    (with-bit-requires t)
+    (field-requires-2 t)
+    (count-paths-requires t)
+    (field-requires-3 t)
+    (with-bit-requires-2 t)
+    (sub-count-paths t)
+    (count-paths-requires-2 t)
+    (add-result t)
+    (returns-3 t)

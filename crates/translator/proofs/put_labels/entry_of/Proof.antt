@@ -1,5 +1,6 @@
 -- `translator::entry_of`: a Begin is a stop where its label is its own.
 use Rattle.translator.proofs.PutSteps.{entry-read, entry-field, entry-next, entry-own, entry-other}
+use native.Mathlib.Omega.{arith}
 use borrow.Author.Needs.{needs}
 use Rattle.translator.proofs.put_labels.entry_of.Statement.{statement}
 use Rattle.translator.proofs.put_labels.entry_of.Tie as tie
@@ -16,7 +17,7 @@ returns : tie.Need-returns
 returns c =
     let asked = c .before .before .before .before .before .pre in
     entry-own _ (asked .0) _ (asked .1 .0) _ _ (asked .1 .1 .0) (asked .1 .1 .1) (c .before .before .begin .ensures)
-    (c .if1 .taken)
+    (omega arith)
 
 field-requires : tie.Need-field-requires
 field-requires c κs =

@@ -1,16 +1,20 @@
 -- `translator::put_paths`: a stop is one row, a new condition has the rows of its two sides; the measure is the node's rank.
-use mathlib.Core.Path.{sym, _∙_}
+use mathlib.Core.Bool.{true}
+use mathlib.Core.Path.{_≡_, sym, _∙_}
+use lib.ListN.{length}
 use Rattle.charts.proofs.Rank.{rank}
-use Rattle.translator.proofs.PathCases.{fork-number, fork}
+use Rattle.walk.specs.Stops.{stops}
+use Rattle.translator.proofs.Settled.{Settled, is-settled}
+use Rattle.translator.proofs.PathCases.{New, Fork, new-small, fork}
 use Rattle.translator.proofs.PutSteps.{leaf-room, leaf-done, fork-text, fork-first, fork-second, both-done}
 use borrow.Author.Needs.{needs}
 use native.Mathlib.Omega.{arith}
-use Prim.Native.Nat.{ℕ, _<_}
-use borrow.Fn.Kinds.{In}
+use Prim.Native.Nat.{ℕ, _+_, _≤_, _<_}
+use borrow.Fn.Kinds.{In, Out}
 use borrow.Fn.PlainCycle.{Measures, is, falls, and}
-use Rattle.translator.proofs.put_rows.put_paths.Reads as put-paths
-use Rattle.translator.proofs.put_rows.put_paths.Kinds as put-paths-kinds
-use Rattle.translator.proofs.put_rows.+put_paths.Lts-put_paths as put-paths-lts
+use Rattle.translator.proofs.put_rows.put_paths.Reads as reads
+use Rattle.translator.proofs.put_rows.put_paths.Kinds as kinds
+use Rattle.translator.proofs.put_rows.+put_paths.Lts-put_paths as lts
 use Rattle.bits.proofs.with_bit.Reads as with-bit-reads
 use Rattle.charts.proofs.field.Reads as field-reads
 use Rattle.translator.proofs.paths.ends_path.Reads as ends-path-reads
@@ -19,435 +23,173 @@ use Rattle.translator.proofs.put_rows.put_row.Reads as put-row-reads
 use Rattle.translator.proofs.put_rows.+put_paths.{statement}
 use Rattle.translator.proofs.put_rows.+put_paths.Tie.{close}
 
-abbrev μ-put-paths : Measures 3 put-paths-kinds.ps ℕ
-μ-put-paths κs a = rank (a .0 .now) (a .1 .1 .0)
+abbrev measure : Measures 3 kinds.ps ℕ
+measure κs a = rank (a .0 .now) (a .1 .1 .0)
 
-abbrev put-paths-at : ℕ → In 3 put-paths-kinds.ps
-put-paths-at t = and 3 put-paths-kinds.ps (is 3 put-paths-kinds.ps μ-put-paths t) put-paths.Pre
+module _ (t : ℕ) where
+  abbrev asked : In 3 kinds.ps
+  asked = and 3 kinds.ps (is 3 kinds.ps measure t) reads.Pre
 
-abbrev put-paths-below : ℕ → In 3 put-paths-kinds.ps
-put-paths-below t =
-    and 3 put-paths-kinds.ps (falls 3 put-paths-kinds.ps _<_ μ-put-paths t) put-paths.Pre
+  abbrev claims : lts.Claims
+  claims = (
+    settle-reads.Asked,
+    settle-reads.Learnt,
+    ends-path-reads.Asked,
+    ends-path-reads.Learnt,
+    put-row-reads.Asked,
+    put-row-reads.Learnt,
+    field-reads.Asked,
+    field-reads.Learnt,
+    with-bit-reads.Asked,
+    with-bit-reads.Learnt,
+    and 3 kinds.ps (falls 3 kinds.ps _<_ measure t) reads.Pre,
+    reads.Post,
+  )
 
-put-paths-settle-requires : (t : ℕ) → put-paths-lts.Need-settle-requires (
-  settle-reads.Asked,
-  settle-reads.Learnt,
-  ends-path-reads.Asked,
-  ends-path-reads.Learnt,
-  put-row-reads.Asked,
-  put-row-reads.Learnt,
-  field-reads.Asked,
-  field-reads.Learnt,
-  with-bit-reads.Asked,
-  with-bit-reads.Learnt,
-  put-paths-below t,
-  put-paths.Post,
-) (put-paths-at t) put-paths.Post
-put-paths-settle-requires t c κs =
-    let asked = c .before .before .before .pre in
-    (asked .1 .0, (asked .1 .1 .0, asked .1 .1 .1 .0))
+  -- a stage of the function or a need at one, for a node of rank t
+  abbrev At : (lts.Claims → In 3 kinds.ps → Out 3 kinds.ps kinds.r → Type 0) → Type 0
+  At stage = stage claims asked reads.Post
 
-put-paths-cast-v : (t : ℕ) → put-paths-lts.Need-cast-v (
-  settle-reads.Asked,
-  settle-reads.Learnt,
-  ends-path-reads.Asked,
-  ends-path-reads.Learnt,
-  put-row-reads.Asked,
-  put-row-reads.Learnt,
-  field-reads.Asked,
-  field-reads.Learnt,
-  with-bit-reads.Asked,
-  with-bit-reads.Learnt,
-  put-paths-below t,
-  put-paths.Post,
-) (put-paths-at t) put-paths.Post
-put-paths-cast-v t c = search needs
+  -- ---- what holds at the stages
+  abbrev start : At lts.After-settle → At lts.Start
+  start c = c .before .before .before .before
 
-put-paths-ends-path-requires : (t : ℕ) → put-paths-lts.Need-ends-path-requires (
-  settle-reads.Asked,
-  settle-reads.Learnt,
-  ends-path-reads.Asked,
-  ends-path-reads.Learnt,
-  put-row-reads.Asked,
-  put-row-reads.Learnt,
-  field-reads.Asked,
-  field-reads.Learnt,
-  with-bit-reads.Asked,
-  with-bit-reads.Learnt,
-  put-paths-below t,
-  put-paths.Post,
-) (put-paths-at t) put-paths.Post
-put-paths-ends-path-requires t c κs =
-    let asked = c .before .before .before .before .pre in
-    (asked .1 .0, (asked .1 .1 .0, c .settle .ensures .passed .entered))
+  arrived : (c : At lts.After-settle) → let a = start c .args in
+      Settled (a .records .now) (a .care) (a .values) (a .node) (c .settle .result)
+  arrived c = is-settled _ (start c .pre .1 .0) _ _ _ _ (start c .pre .1 .1 .1 .0) (c .settle .ensures)
 
-put-paths-shared-slice-read-put-row : (t : ℕ) → put-paths-lts.Need-shared-slice-read-put-row (
-  settle-reads.Asked,
-  settle-reads.Learnt,
-  ends-path-reads.Asked,
-  ends-path-reads.Learnt,
-  put-row-reads.Asked,
-  put-row-reads.Learnt,
-  field-reads.Asked,
-  field-reads.Learnt,
-  with-bit-reads.Asked,
-  with-bit-reads.Learnt,
-  put-paths-below t,
-  put-paths.Post,
-) (put-paths-at t) put-paths.Post
-put-paths-shared-slice-read-put-row t c =
-    let asked = c .before .before .before .before .before .before .before .before .pre in
-    let settle = c .before .before .before .before .settle in
-    omega (arith, settle .ensures .passed .entered .inside, asked .1 .1 .0 .long)
+  stopped : (c : At lts.Then1) → let here = c .before .before in stops (start here .args .records .now) (here .settle .result) ≡ true
+  stopped c = sym (c .before .ends-path .ensures) ∙ c .if1 .taken
 
-put-paths-put-row-requires : (t : ℕ) → put-paths-lts.Need-put-row-requires (
-  settle-reads.Asked,
-  settle-reads.Learnt,
-  ends-path-reads.Asked,
-  ends-path-reads.Learnt,
-  put-row-reads.Asked,
-  put-row-reads.Learnt,
-  field-reads.Asked,
-  field-reads.Learnt,
-  with-bit-reads.Asked,
-  with-bit-reads.Learnt,
-  put-paths-below t,
-  put-paths.Post,
-) (put-paths-at t) put-paths.Post
-put-paths-put-row-requires t c κs =
-    let asked = c .before .before .before .before .before .before .before .before .pre in
-    let settle = c .before .before .before .before .settle in
-    leaf-room _ (asked .1 .0) _ (asked .1 .1 .0) _ _ _ _ (settle .ensures)
-    (sym (c .before .before .before .ends-path .ensures) ∙ c .before .before .if1 .taken) _ _ _ _ (asked .1 .1 .1 .1 .1)
+  room : (c : At lts.Then1) → let a = start (c .before .before) .args in a .at + 23 ≤ length (a .out .now)
+  room c =
+      let here = c .before .before in
+      let pre = start here .pre .1 in
+      leaf-room _ (pre .0) _ (pre .1 .0) _ _ _ _ (arrived here) (stopped c) _ _ _ _ (pre .1 .1 .1 .1)
 
-put-paths-add-result : (t : ℕ) → put-paths-lts.Need-add-result (
-  settle-reads.Asked,
-  settle-reads.Learnt,
-  ends-path-reads.Asked,
-  ends-path-reads.Learnt,
-  put-row-reads.Asked,
-  put-row-reads.Learnt,
-  field-reads.Asked,
-  field-reads.Learnt,
-  with-bit-reads.Asked,
-  with-bit-reads.Learnt,
-  put-paths-below t,
-  put-paths.Post,
-) (put-paths-at t) put-paths.Post
-put-paths-add-result t c = omega (
-  arith,
-  (let asked = c .before .before .before .before .before .before .before .before .before .before .before .pre in
-      let settle = c .before .before .before .before .before .before .before .settle in
-      let ends-path = c .before .before .before .before .before .before .ends-path in
-      leaf-room _ (asked .1 .0) _ (asked .1 .1 .0) _ _ _ _ (settle .ensures)
-      (sym (ends-path .ensures) ∙ c .before .before .before .before .before .if1 .taken) _ _ _ _ (asked .1 .1 .1 .1 .1)),
-)
+  abbrev begun : At lts.After-field → At lts.Start
+  begun c = start (c .before .before .before)
 
-put-paths-same-length : (t : ℕ) → put-paths-lts.Need-same-length (
-  settle-reads.Asked,
-  settle-reads.Learnt,
-  ends-path-reads.Asked,
-  ends-path-reads.Learnt,
-  put-row-reads.Asked,
-  put-row-reads.Learnt,
-  field-reads.Asked,
-  field-reads.Learnt,
-  with-bit-reads.Asked,
-  with-bit-reads.Learnt,
-  put-paths-below t,
-  put-paths.Post,
-) (put-paths-at t) put-paths.Post
-put-paths-same-length t c = c .before .before .put-row .kept .0
+  new : (c : At lts.After-field) → let a = begun c .args in
+      New (a .records .now) (a .care) (a .values) (a .node) (c .before .before .before .settle .result) (c .field .result)
+  new c = record {
+    ready = begun c .pre .1 .0;
+    settled = arrived (c .before .before .before);
+    goes = sym (c .before .before .ends-path .ensures) ∙ c .before .if1 .left;
+    within = begun c .pre .1 .1 .1 .1 .0;
+    number = c .field .ensures;
+  }
 
-put-paths-returns : (t : ℕ) → put-paths-lts.Need-returns (
-  settle-reads.Asked,
-  settle-reads.Learnt,
-  ends-path-reads.Asked,
-  ends-path-reads.Learnt,
-  put-row-reads.Asked,
-  put-row-reads.Learnt,
-  field-reads.Asked,
-  field-reads.Learnt,
-  with-bit-reads.Asked,
-  with-bit-reads.Learnt,
-  put-paths-below t,
-  put-paths.Post,
-) (put-paths-at t) put-paths.Post
-put-paths-returns t c =
-    let asked = c .before .before .before .before .before .before .before .before .before .before .before .pre in
-    let settle = c .before .before .before .before .before .before .before .settle in
-    let ends-path = c .before .before .before .before .before .before .ends-path in
-    let if1 = c .before .before .before .before .before .if1 in
-    leaf-done _ (asked .1 .0) _ (asked .1 .1 .0) _ _ _ _ (settle .ensures) (sym (ends-path .ensures) ∙ if1 .taken) _ _ _ _
-    _ (c .before .before .put-row .ensures)
+  abbrev forking : At lts.After-field3 → At lts.Start
+  forking c = begun (c .before .before .before .before)
 
-put-paths-field-requires : (t : ℕ) → put-paths-lts.Need-field-requires (
-  settle-reads.Asked,
-  settle-reads.Learnt,
-  ends-path-reads.Asked,
-  ends-path-reads.Learnt,
-  put-row-reads.Asked,
-  put-row-reads.Learnt,
-  field-reads.Asked,
-  field-reads.Learnt,
-  with-bit-reads.Asked,
-  with-bit-reads.Learnt,
-  put-paths-below t,
-  put-paths.Post,
-) (put-paths-at t) put-paths.Post
-put-paths-field-requires t c κs = search needs
+  forked : (c : At lts.After-field3) → let valued = c .before .before in let a = forking c .args in
+      Fork (a .records .now) (a .care) (a .values) (a .node) (valued .before .with-bit .result) (valued .with-bit2 .result)
+      (c .before .field2 .result) (c .field3 .result)
+  forked c =
+      let valued = c .before .before in
+      fork _ _ _ _ _ _ (new (valued .before .before)) _ _ (valued .before .with-bit .ensures) (valued .with-bit2 .ensures) _ _
+      (c .before .field2 .ensures) (c .field3 .ensures)
 
-put-paths-with-bit-requires : (t : ℕ) → put-paths-lts.Need-with-bit-requires (
-  settle-reads.Asked,
-  settle-reads.Learnt,
-  ends-path-reads.Asked,
-  ends-path-reads.Learnt,
-  put-row-reads.Asked,
-  put-row-reads.Learnt,
-  field-reads.Asked,
-  field-reads.Learnt,
-  with-bit-reads.Asked,
-  with-bit-reads.Learnt,
-  put-paths-below t,
-  put-paths.Post,
-) (put-paths-at t) put-paths.Post
-put-paths-with-bit-requires t c κs =
-    let asked = c .before .before .before .before .before .before .before .pre in
-    fork-number _ (asked .1 .0) _ _ _ _ (c .before .before .before .settle .ensures)
-    (sym (c .before .before .ends-path .ensures) ∙ c .before .if1 .left) (asked .1 .1 .1 .1 .0) _ (c .field .ensures)
+  -- ---- the needs: what is returned, then what the calls ask
+  returns : At lts.Need-returns
+  returns c =
+      let stop = c .before .before .before .before .before in
+      let here = stop .before .before in
+      let pre = start here .pre .1 in
+      leaf-done _ (pre .0) _ (pre .1 .0) _ _ _ _ (arrived here) (stopped stop) _ _ _ _ _ (c .before .before .put-row .ensures)
 
-put-paths-with-bit-requires-2 : (t : ℕ) → put-paths-lts.Need-with-bit-requires-2 (
-  settle-reads.Asked,
-  settle-reads.Learnt,
-  ends-path-reads.Asked,
-  ends-path-reads.Learnt,
-  put-row-reads.Asked,
-  put-row-reads.Learnt,
-  field-reads.Asked,
-  field-reads.Learnt,
-  with-bit-reads.Asked,
-  with-bit-reads.Learnt,
-  put-paths-below t,
-  put-paths.Post,
-) (put-paths-at t) put-paths.Post
-put-paths-with-bit-requires-2 t c κs =
-    let asked = c .before .before .before .before .before .before .before .before .pre in
-    let settle = c .before .before .before .before .settle in
-    fork-number _ (asked .1 .0) _ _ _ _ (settle .ensures)
-    (sym (c .before .before .before .ends-path .ensures) ∙ c .before .before .if1 .left) (asked .1 .1 .1 .1 .0) _
-    (c .before .field .ensures)
+  returns-2 : At lts.Need-returns-2
+  returns-2 c =
+      let second = c .before .before in
+      let first = second .before .before .before .before in
+      let fork = first .before .before in
+      let a = forking fork .args in
+      both-done _ _ _ _ _ _ _ _ _ (fork-text _ _ _ _ _ _ _ _ (forked fork) (a .from) (a .bit))
+      (forking fork .pre .1 .1 .1 .1 .1) (first .put-paths .ensures .0) (first .put-paths .ensures .1)
+      (second .put-paths2 .ensures .0) (second .put-paths2 .ensures .1)
 
-put-paths-field-requires-2 : (t : ℕ) → put-paths-lts.Need-field-requires-2 (
-  settle-reads.Asked,
-  settle-reads.Learnt,
-  ends-path-reads.Asked,
-  ends-path-reads.Learnt,
-  put-row-reads.Asked,
-  put-row-reads.Learnt,
-  field-reads.Asked,
-  field-reads.Learnt,
-  with-bit-reads.Asked,
-  with-bit-reads.Learnt,
-  put-paths-below t,
-  put-paths.Post,
-) (put-paths-at t) put-paths.Post
-put-paths-field-requires-2 t c κs = search needs
+  settle-requires : At lts.Need-settle-requires
+  settle-requires c κs = let pre = c .before .before .before .pre in (pre .1 .0, (pre .1 .1 .0, pre .1 .1 .1 .0))
 
-put-paths-field-requires-3 : (t : ℕ) → put-paths-lts.Need-field-requires-3 (
-  settle-reads.Asked,
-  settle-reads.Learnt,
-  ends-path-reads.Asked,
-  ends-path-reads.Learnt,
-  put-row-reads.Asked,
-  put-row-reads.Learnt,
-  field-reads.Asked,
-  field-reads.Learnt,
-  with-bit-reads.Asked,
-  with-bit-reads.Learnt,
-  put-paths-below t,
-  put-paths.Post,
-) (put-paths-at t) put-paths.Post
-put-paths-field-requires-3 t c κs = search needs
+  cast-v : At lts.Need-cast-v
+  cast-v c = search needs
 
-put-paths-put-paths-requires : (t : ℕ) → put-paths-lts.Need-put-paths-requires (
-  settle-reads.Asked,
-  settle-reads.Learnt,
-  ends-path-reads.Asked,
-  ends-path-reads.Learnt,
-  put-row-reads.Asked,
-  put-row-reads.Learnt,
-  field-reads.Asked,
-  field-reads.Learnt,
-  with-bit-reads.Asked,
-  with-bit-reads.Learnt,
-  put-paths-below t,
-  put-paths.Post,
-) (put-paths-at t) put-paths.Post
-put-paths-put-paths-requires t c κs =
-    let start = c .before .before .before .before .before .before .before .before .before .before .before .before in
-    let from = start .args .from in
-    let bit = start .args .bit in
-    let settle = c .before .before .before .before .before .before .before .before .settle in
-    let ends-path = c .before .before .before .before .before .before .before .ends-path in
-    let if1 = c .before .before .before .before .before .before .if1 in
-    let field = c .before .before .before .before .before .field in
-    let with-bit = c .before .before .before .before .with-bit in
-    let with-bit2 = c .before .before .before .with-bit2 in
-    let k =
-    fork _ (start .pre .1 .0) _ _ _ _ (settle .ensures) (sym (ends-path .ensures) ∙ if1 .left) (start .pre .1 .1 .1 .1 .0)
-    _ _ _ (field .ensures) (with-bit .ensures) (with-bit2 .ensures) _ _ (c .before .before .field2 .ensures)
-    (c .before .field3 .ensures) in (
-      omega (arith, k .falls0, start .pre .0),
-      (
-        start .pre .1 .0,
-        (
-          start .pre .1 .1 .0,
-          (
-            k .entered0,
-            (
-              k .within0,
-              fork-first _ _ _ _ _ _ _ _ k from bit _ _ (start .pre .1 .1 .1 .1 .1),
-            ),
-          ),
-        ),
-      ),
-    )
+  ends-path-requires : At lts.Need-ends-path-requires
+  ends-path-requires c κs = (start c .pre .1 .0, (start c .pre .1 .1 .0, arrived c .entered))
 
-put-paths-put-paths-requires-2 : (t : ℕ) → put-paths-lts.Need-put-paths-requires-2 (
-  settle-reads.Asked,
-  settle-reads.Learnt,
-  ends-path-reads.Asked,
-  ends-path-reads.Learnt,
-  put-row-reads.Asked,
-  put-row-reads.Learnt,
-  field-reads.Asked,
-  field-reads.Learnt,
-  with-bit-reads.Asked,
-  with-bit-reads.Learnt,
-  put-paths-below t,
-  put-paths.Post,
-) (put-paths-at t) put-paths.Post
-put-paths-put-paths-requires-2 t c κs =
-    let call = c .before .before .before .before .before in
-    let start = call .before .before .before .before .before .before .before .before .before .before .before in
-    let from = start .args .from in
-    let bit = start .args .bit in
-    let settle = call .before .before .before .before .before .before .before .settle in
-    let ends-path = call .before .before .before .before .before .before .ends-path in
-    let if1 = call .before .before .before .before .before .if1 in
-    let field = call .before .before .before .before .field in
-    let with-bit = call .before .before .before .with-bit in
-    let with-bit2 = call .before .before .with-bit2 in
-    let field2 = call .before .field2 in
-    let field3 = call .field3 in
-    let put-paths = c .before .before .before .put-paths in
-    let k =
-    fork _ (start .pre .1 .0) _ _ _ _ (settle .ensures) (sym (ends-path .ensures) ∙ if1 .left) (start .pre .1 .1 .1 .1 .0)
-    _ _ _ (field .ensures) (with-bit .ensures) (with-bit2 .ensures) _ _ (field2 .ensures) (field3 .ensures) in (
-      omega (arith, k .falls1, start .pre .0),
-      (
-        start .pre .1 .0,
-        (
-          start .pre .1 .1 .0,
-          (
-            k .entered1,
-            (
-              k .within1,
-              fork-second _ _ _ _ _ _ _ _ k from bit _ _ _ _ (start .pre .1 .1 .1 .1 .1) (put-paths .ensures .0)
-                  (put-paths .kept .1 .1 .1 .1 .1 .1 .1 .0),
-            ),
-          ),
-        ),
-      ),
-    )
+  shared-slice-read-put-row : At lts.Need-shared-slice-read-put-row
+  shared-slice-read-put-row c =
+      let here = c .before .before .before .before in
+      omega (arith, arrived here .entered .inside, start here .pre .1 .1 .0 .long)
 
-put-paths-same-length-2 : (t : ℕ) → put-paths-lts.Need-same-length-2 (
-  settle-reads.Asked,
-  settle-reads.Learnt,
-  ends-path-reads.Asked,
-  ends-path-reads.Learnt,
-  put-row-reads.Asked,
-  put-row-reads.Learnt,
-  field-reads.Asked,
-  field-reads.Learnt,
-  with-bit-reads.Asked,
-  with-bit-reads.Learnt,
-  put-paths-below t,
-  put-paths.Post,
-) (put-paths-at t) put-paths.Post
-put-paths-same-length-2 t c =
-    let put-paths = c .before .before .before .before .before .before .put-paths in
-    c .before .before .put-paths2 .kept .1 .1 .1 .1 .1 .1 .1 .0 ∙ put-paths .kept .1 .1 .1 .1 .1 .1 .1 .0
+  put-row-requires : At lts.Need-put-row-requires
+  put-row-requires c κs = room (c .before .before)
 
-put-paths-returns-2 : (t : ℕ) → put-paths-lts.Need-returns-2 (
-  settle-reads.Asked,
-  settle-reads.Learnt,
-  ends-path-reads.Asked,
-  ends-path-reads.Learnt,
-  put-row-reads.Asked,
-  put-row-reads.Learnt,
-  field-reads.Asked,
-  field-reads.Learnt,
-  with-bit-reads.Asked,
-  with-bit-reads.Learnt,
-  put-paths-below t,
-  put-paths.Post,
-) (put-paths-at t) put-paths.Post
-put-paths-returns-2 t c =
-    both-done _ _ _ _ _ _ _ _ _
-    (let call = c .before .before .before .before .before .before in
-    let start = call .before .before .before .before .before .before .before .before .before .before .before .before .before in
-    let from = start .args .from in
-    let bit = start .args .bit in
-    let settle = call .before .before .before .before .before .before .before .before .before .settle in
-    let ends-path = call .before .before .before .before .before .before .before .before .ends-path in
-    let if1 = call .before .before .before .before .before .before .before .if1 in
-    let field = call .before .before .before .before .before .before .field in
-    let with-bit = call .before .before .before .before .before .with-bit in
-    let with-bit2 = call .before .before .before .before .with-bit2 in
-    let field2 = call .before .before .before .field2 in
-    let field3 = call .before .before .field3 in
-    fork-text _ _ _ _ _ _ _ _
-    (fork _ (start .pre .1 .0) _ _ _ _ (settle .ensures) (sym (ends-path .ensures) ∙ if1 .left) (start .pre .1 .1 .1 .1 .0)
-    _ _ _ (field .ensures) (with-bit .ensures) (with-bit2 .ensures) _ _ (field2 .ensures) (field3 .ensures))
-    from bit)
-    (let call = c .before .before .before .before .before .before in
-    call .before .before .before .before .before .before .before .before .before .before .before .before .before .pre .1 .1 .1 .1 .1)
-    (c .before .before .before .before .before .before .put-paths .ensures .0)
-    (c .before .before .before .before .before .before .put-paths .ensures .1)
-    (c .before .before .put-paths2 .ensures .0) (c .before .before .put-paths2 .ensures .1)
+  add-result : At lts.Need-add-result
+  add-result c = omega (arith, room (c .before .before .before .before .before))
+
+  same-length : At lts.Need-same-length
+  same-length c = c .before .before .put-row .kept .0
+
+  field-requires : At lts.Need-field-requires
+  field-requires c κs = let l = arrived (c .before .before) .entered .inside in search needs
+
+  with-bit-requires : At lts.Need-with-bit-requires
+  with-bit-requires c κs = new-small _ _ _ _ _ _ (new c)
+
+  with-bit-requires-2 : At lts.Need-with-bit-requires-2
+  with-bit-requires-2 c κs = new-small _ _ _ _ _ _ (new (c .before))
+
+  field-requires-2 : At lts.Need-field-requires-2
+  field-requires-2 c κs = let l = new (c .before .before) .settled .entered .inside in search needs
+
+  field-requires-3 : At lts.Need-field-requires-3
+  field-requires-3 c κs = let l = new (c .before .before .before) .settled .entered .inside in search needs
+
+  put-paths-requires : At lts.Need-put-paths-requires
+  put-paths-requires c κs =
+      let k = forked (c .before) in
+      let pre = forking (c .before) .pre in
+      let a = forking (c .before) .args in
+      let fits = fork-first _ _ _ _ _ _ _ _ k (a .from) (a .bit) _ _ (pre .1 .1 .1 .1 .1) in
+      (omega (arith, k .falls0, pre .0), (pre .1 .0, (pre .1 .1 .0, (k .entered0, (k .within0, fits)))))
+
+  put-paths-requires-2 : At lts.Need-put-paths-requires-2
+  put-paths-requires-2 c κs =
+      let first = c .before .before .before in
+      let k = forked (first .before .before) in
+      let pre = forking (first .before .before) .pre in
+      let a = forking (first .before .before) .args in
+      let fits =
+      fork-second _ _ _ _ _ _ _ _ k (a .from) (a .bit) _ _ _ _ (pre .1 .1 .1 .1 .1) (first .put-paths .ensures .0)
+      (first .put-paths .kept .1 .1 .1 .1 .1 .1 .1 .0) in
+      (omega (arith, k .falls1, pre .0), (pre .1 .0, (pre .1 .1 .0, (k .entered1, (k .within1, fits)))))
+
+  same-length-2 : At lts.Need-same-length-2
+  same-length-2 c =
+      let second = c .before .before in
+      let first = second .before .before .before .before in
+      second .put-paths2 .kept .1 .1 .1 .1 .1 .1 .1 .0 ∙ first .put-paths .kept .1 .1 .1 .1 .1 .1 .1 .0
 
 pub +put-paths-spec : {M : Type 1} → statement M
-+put-paths-spec = close μ-put-paths λ t. put-paths-lts.spec (
-  settle-reads.Asked,
-  settle-reads.Learnt,
-  ends-path-reads.Asked,
-  ends-path-reads.Learnt,
-  put-row-reads.Asked,
-  put-row-reads.Learnt,
-  field-reads.Asked,
-  field-reads.Learnt,
-  with-bit-reads.Asked,
-  with-bit-reads.Learnt,
-  put-paths-below t,
-  put-paths.Post,
-)
-    (put-paths-at t)
-    put-paths.Post
-    (put-paths-settle-requires t)
-    (put-paths-cast-v t)
-    (put-paths-ends-path-requires t)
-    (put-paths-shared-slice-read-put-row t)
-    (put-paths-put-row-requires t)
-    (put-paths-add-result t)
-    (put-paths-same-length t)
-    (put-paths-returns t)
-    (put-paths-field-requires t)
-    (put-paths-with-bit-requires t)
-    (put-paths-with-bit-requires-2 t)
-    (put-paths-field-requires-2 t)
-    (put-paths-field-requires-3 t)
-    (put-paths-put-paths-requires t)
-    (put-paths-put-paths-requires-2 t)
-    (put-paths-same-length-2 t)
-    (put-paths-returns-2 t)
++put-paths-spec = close measure λ t. lts.spec (claims t)
+    (asked t)
+    reads.Post
+    (settle-requires t)
+    (cast-v t)
+    (ends-path-requires t)
+    (shared-slice-read-put-row t)
+    (put-row-requires t)
+    (add-result t)
+    (same-length t)
+    (returns t)
+    (field-requires t)
+    (with-bit-requires t)
+    (with-bit-requires-2 t)
+    (field-requires-2 t)
+    (field-requires-3 t)
+    (put-paths-requires t)
+    (put-paths-requires-2 t)
+    (same-length-2 t)
+    (returns-2 t)

@@ -1,9 +1,9 @@
--- `translator::count_node`: by kind; a function and a stopping condition have two sides.
+-- `translator::count_node`: by kind; a stopping condition and a function have two sides.
 use mathlib.Core.Path.{refl, sym, _∙_}
 use lib.Bits.{and-self}
 use Rattle.translator.proofs.PathCases.{small-number}
-use Rattle.translator.proofs.RowSteps.{own-number, no-rows, own-rows, own-mask, other-entered}
-use Rattle.translator.proofs.RowSteps.{count-nothing, count-own, count-function, count-condition, count-other}
+use Rattle.translator.proofs.RowSteps.{own-number, no-rows, own-rows, own-mask, other-entered, function-kind}
+use Rattle.translator.proofs.RowSteps.{count-nothing, count-function, count-condition, count-other}
 use native.Mathlib.Omega.{arith}
 use borrow.Author.Needs.{needs}
 use Rattle.translator.proofs.rows.count_node.Statement.{statement}
@@ -20,76 +20,63 @@ returns c =
 field-requires : tie.Need-field-requires
 field-requires c κs = search needs
 
-count-sides-requires : tie.Need-count-sides-requires
-count-sides-requires c κs =
-    let asked = c .before .before .before .before .before .before .pre in
-    (asked .0, (asked .1 .0, (asked .1 .1, (omega (arith, c .before .field .ensures, c .match .keys1), refl))))
-
 field-requires-2 : tie.Need-field-requires-2
 field-requires-2 c κs = search needs
 
 with-bit-requires : tie.Need-with-bit-requires
 with-bit-requires c κs =
-    let asked = c .before .before .before .before .before .before .before .pre in
-    small-number _ (asked .0) _ _ (asked .1 .1) (sym (c .before .before .field .ensures) ∙ c .before .match .keys2)
-    (c .field2 .ensures)
+    let kind = c .before .before in
+    let asked = kind .before .before .before .before .before .pre in
+    small-number _ (asked .0) _ _ (asked .1 .1) (sym (kind .field .ensures) ∙ c .before .match .keys1) (c .field2 .ensures)
 
-count-sides-requires-2 : tie.Need-count-sides-requires-2
-count-sides-requires-2 c κs =
-    let asked = c .before .before .before .before .before .before .before .before .pre in (
-      asked .0,
-      (
-        asked .1 .0,
-        (asked .1 .1, (omega (arith, c .before .before .before .field .ensures, c .before .before .match .keys2), and-self _)),
-      ),
-    )
+count-sides-requires : tie.Need-count-sides-requires
+count-sides-requires c κs =
+    let kind = c .before .before .before in
+    let asked = kind .before .before .before .before .before .pre in
+    (asked .0, (asked .1 .0, (asked .1 .1, (omega (arith, kind .field .ensures, c .before .before .match .keys1), and-self _))))
 
 field-requires-3 : tie.Need-field-requires-3
 field-requires-3 c κs = search needs
 
 count-paths-requires : tie.Need-count-paths-requires
 count-paths-requires c κs =
-    let asked = c .before .before .before .before .before .before .before .pre in (
-      asked .0,
-      (
-        asked .1 .0,
-        (
-          other-entered _ (asked .0) _ _ (asked .1 .1)
-              (own-number _ _ (asked .1 .0) _ _ (asked .1 .1) refl (c .before .before .before .if1 .left)) (c .field3 .ensures),
-          refl,
-        ),
-      ),
-    )
+    let kind = c .before .before .before in
+    let asked = kind .before .before .before .before .before .pre in
+    let own = own-number _ _ (asked .1 .0) _ _ (asked .1 .1) refl (kind .before .if1 .left) in
+    (asked .0, (asked .1 .0, (other-entered _ (asked .0) _ _ (asked .1 .1) own (c .field3 .ensures), refl)))
+
+count-sides-requires-2 : tie.Need-count-sides-requires-2
+count-sides-requires-2 c κs =
+    let kind = c .before .before in
+    let asked = kind .before .before .before .before .before .pre in
+    (asked .0, (asked .1 .0, (asked .1 .1, (omega (arith, kind .field .ensures, c .if2 .left), refl))))
 
 returns-2 : tie.Need-returns-2
 returns-2 c =
-    let start = c .before .before .before .before .before .before .before in
+    let kind = c .before .before .before .before in
+    let start = kind .before .before .before .before .before in
     let records = start .args .records .now in
-    let v = start .args .v in
-    count-own _ _ _ _ (own-rows _ _ (start .pre .1 .0) _ _ (start .pre .1 .1) refl (c .before .before .before .if1 .left))
-    (count-function records v _ _ _ (c .before .before .field .ensures) (c .before .match .keys1) (c .count-sides .ensures))
+    let own = own-rows _ _ (start .pre .1 .0) _ _ (start .pre .1 .1) refl (kind .before .if1 .left) in
+    count-condition records (start .args .v) _ _ _ (kind .field .ensures) own (c .before .before .before .match .keys1) _
+    (own-mask records _ _ _ (c .before .before .field2 .ensures) (c .before .with-bit .ensures)) (c .count-sides .ensures)
 
 returns-3 : tie.Need-returns-3
 returns-3 c =
-    let start = c .before .before .before .before .before .before .before .before .before in
-    let records = start .args .records .now in
-    let v = start .args .v in
-    let if1 = c .before .before .before .before .before .if1 in
-    let field = c .before .before .before .before .field in
-    count-own _ _ _ _ (own-rows _ _ (start .pre .1 .0) _ _ (start .pre .1 .1) refl (if1 .left))
-    (count-condition records v _ _ _ (field .ensures) (c .before .before .before .match .keys2) _
-    (own-mask records v _ _ (c .before .before .field2 .ensures) (c .before .with-bit .ensures))
-    (c .count-sides2 .ensures))
+    let kind = c .before .before .before .before in
+    let start = kind .before .before .before .before .before in
+    let own = own-rows _ _ (start .pre .1 .0) _ _ (start .pre .1 .1) refl (kind .before .if1 .left) in
+    count-other (start .args .records .now) (start .args .v) _ _ _ (kind .field .ensures) own (c .before .before .if2 .taken) _
+    (c .before .field3 .ensures) (c .count-paths .ensures)
 
 returns-4 : tie.Need-returns-4
 returns-4 c =
-    let start = c .before .before .before .before .before .before .before .before in
-    let records = start .args .records .now in
-    let v = start .args .v in
-    let if1 = c .before .before .before .before .if1 in
-    count-own _ _ _ _ (own-rows _ _ (start .pre .1 .0) _ _ (start .pre .1 .1) refl (if1 .left))
-    (count-other records v _ _ _ (c .before .before .before .field .ensures) (c .before .before .match .rest .0 .1)
-    (c .before .before .match .rest .1) _ (c .before .field3 .ensures) (c .count-paths .ensures))
+    let kind = c .before .before .before in
+    let start = kind .before .before .before .before .before in
+    let own = own-rows _ _ (start .pre .1 .0) _ _ (start .pre .1 .1) refl (kind .before .if1 .left) in
+    let four =
+    function-kind _ (start .pre .0) _ _ (start .pre .1 .1) (kind .field .ensures) (c .before .if2 .left)
+    (c .before .before .match .rest .1) in
+    count-function (start .args .records .now) (start .args .v) _ _ _ (kind .field .ensures) own four (c .count-sides2 .ensures)
 
 pub count-node-spec : {M : Type 1} → statement M
 count-node-spec =
@@ -98,12 +85,12 @@ count-node-spec =
     shared-slice-read-if1
     returns
     field-requires
-    count-sides-requires
     field-requires-2
     with-bit-requires
-    count-sides-requires-2
+    count-sides-requires
     field-requires-3
     count-paths-requires
+    count-sides-requires-2
     returns-2
     returns-3
     returns-4)

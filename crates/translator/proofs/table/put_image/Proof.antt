@@ -19,13 +19,9 @@ put-header-requires c κs = search needs
 
 put-entries-requires : tie.Need-put-entries-requires
 put-entries-requires c κs =
-    let asked = c .before .before .before .before .before .before .before .before .pre in (
-      asked .0,
-      (
-        asked .1 .0,
-        (asked .1 .1 .0, omega (arith, asked .1 .1 .1 .1 .1 .1, c .before .before .before .put-header .kept .0)),
-      ),
-    )
+    let header = c .before .before .before in
+    let asked = header .before .before .before .before .before .pre in
+    (asked .0, (asked .1 .0, (asked .1 .1 .0, omega (arith, asked .1 .1 .1 .1 .1 .1, header .put-header .kept .0))))
 
 mul-fixed : tie.Need-mul-fixed
 mul-fixed c = search needs
@@ -41,25 +37,16 @@ add-first c = search needs
 
 put-labels-requires : tie.Need-put-labels-requires
 put-labels-requires c κs =
-    let call = c .before .before .before .before .before .before .before in
-    let start = call .before .before .before .before .before .before .before .before .before in
-    let records = start .args .records .now in
-    let put-header = call .before .before .before .before .put-header in
-    let put-entries = call .put-entries in (
-      start .pre .0,
-      (
-        start .pre .1 .0,
-        omega (
-          arith,
-          labels-long records,
-          start .pre .1 .1 .1 .0,
-          start .pre .1 .1 .1 .1 .1 .1,
-          put-header .kept .0,
-          put-entries .kept .1 .1 .1 .0,
-          c .before .before .before .put-fixed .kept .0,
-        ),
-      ),
-    )
+    let fixed = c .before .before .before in
+    let entries = fixed .before .before .before .before in
+    let header = entries .before .before .before .before in
+    let start = header .before .before .before .before .before in
+    let k₁ = header .put-header .kept .0 in
+    let k₂ = entries .put-entries .kept .1 .1 .1 .0 in
+    let k₃ = fixed .put-fixed .kept .0 in
+    let asked = start .pre .1 .1 .1 in
+    let long = labels-long (start .args .records .now) in
+    (start .pre .0, (start .pre .1 .0, omega (arith, long, asked .0, asked .1 .1 .1, k₁, k₂, k₃)))
 
 mul-put-rows : tie.Need-mul-put-rows
 mul-put-rows c = search needs
@@ -69,43 +56,33 @@ add-put-rows c = search needs
 
 put-rows-requires : tie.Need-put-rows-requires
 put-rows-requires c κs =
-    let call = c .before .before .before .before .before .before .before in
-    let start = call .before .before .before .before .before .before .before .before .before .before .before .before .before in
-    let records = start .args .records .now in
-    let put-header = call .before .before .before .before .before .before .before .before .put-header in
-    let put-entries = call .before .before .before .before .put-entries in
-    let put-fixed = call .put-fixed in (
-      start .pre .0,
-      (
-        start .pre .1 .0,
-        omega (
-          arith,
-          rows-long records,
-          start .pre .1 .1 .1 .1 .0,
-          start .pre .1 .1 .1 .1 .1 .1,
-          put-header .kept .0,
-          put-entries .kept .1 .1 .1 .0,
-          put-fixed .kept .0,
-          c .before .before .before .put-labels .kept .1 .1 .0,
-        ),
-      ),
-    )
+    let labels = c .before .before .before in
+    let fixed = labels .before .before .before .before in
+    let entries = fixed .before .before .before .before in
+    let header = entries .before .before .before .before in
+    let start = header .before .before .before .before .before in
+    let k₁ = header .put-header .kept .0 in
+    let k₂ = entries .put-entries .kept .1 .1 .1 .0 in
+    let k₃ = fixed .put-fixed .kept .0 in
+    let k₄ = labels .put-labels .kept .1 .1 .0 in
+    let asked = start .pre .1 .1 .1 in
+    let long = rows-long (start .args .records .now) in
+    (start .pre .0, (start .pre .1 .0, omega (arith, long, asked .1 .0, asked .1 .1 .1, k₁, k₂, k₃, k₄)))
 
 same-length : tie.Need-same-length
 same-length c = search needs
 
 returns : tie.Need-returns
 returns c =
-    let call = c .before .before .before .before .before .before in
-    let asked =
-    call .before .before .before .before .before .before .before .before .before .before .before .before .before .before .before .before .before .pre in
-    let put-header = call .before .before .before .before .before .before .before .before .before .before .before .before .put-header in
-    let put-entries = call .before .before .before .before .before .before .before .before .put-entries in
-    let put-fixed = call .before .before .before .before .put-fixed in
-    let put-labels = call .put-labels in
-    image-done _ _ _ _ (record { schemed = asked .1 .1 .0; owned = asked .1 .1 .1 .0; rowed = asked .1 .1 .1 .1 .0 }) _ _
-    _ _ _ _ (asked .1 .1 .1 .1 .1 .1) (put-header .ensures) (put-entries .ensures) (put-fixed .ensures)
-    (put-labels .ensures) (c .before .before .put-rows .ensures)
+    let rows = c .before .before in
+    let labels = rows .before .before .before .before in
+    let fixed = labels .before .before .before .before in
+    let entries = fixed .before .before .before .before in
+    let header = entries .before .before .before .before in
+    let asked = header .before .before .before .before .before .pre .1 .1 in
+    image-done _ _ _ _ (record { schemed = asked .0; owned = asked .1 .0; rowed = asked .1 .1 .0 }) _ _ _ _ _ _
+    (asked .1 .1 .1 .1) (header .put-header .ensures) (entries .put-entries .ensures) (fixed .put-fixed .ensures)
+    (labels .put-labels .ensures) (rows .put-rows .ensures)
 
 pub put-image-spec : {M : Type 1} → statement M
 put-image-spec =

@@ -21,7 +21,7 @@ count-rows-requires c κs =
     (asked .0, labelled-local _ _ (asked .0 .facts) (c .before .before .label-nodes .ensures .1))
 
 returns : tie.Need-returns
-returns c = image-many _ _ _ (c .before .count-rows .ensures) (c .if1 .taken)
+returns c = image-many _ _ _ (c .before .count-rows .ensures) (omega arith)
 
 add-need : tie.Need-add-need
 add-need c = search needs
@@ -49,7 +49,7 @@ returns-2 c =
     let asked = c .before .before .before .before .before .before .before .before .before .pre in
     let label-nodes = c .before .before .before .before .before .label-nodes in
     image-short _ _ _ (c .before .before .count-rows .ensures) (c .before .if1 .left) _ _ (asked .1)
-    (label-nodes .ensures .0) (c .if2 .taken)
+    (label-nodes .ensures .0) (omega arith)
 
 slice-aggregate-put-image : tie.Need-slice-aggregate-put-image
 slice-aggregate-put-image c = search needs
