@@ -41,7 +41,7 @@ found-row i h l w b u (r ∷ rs) each e = go (eqb (r .from) l && matches w b r) 
     go false q ih = ih (rw (q, firstRow) at e)
 
 module _ (i : Image) (sound : Sound i) where
-  row-leads : (l w b u : ℕ) → firstRow l w b (i .rows) ≡ found u → Reaches i (labelAt i l .owner) u
+  pub row-leads : (l w b u : ℕ) → firstRow l w b (i .rows) ≡ found u → Reaches i (labelAt i l .owner) u
   row-leads l w b u e = found-row i (labelAt i l .owner) l w b u (i .rows)
       (λ k m q. subst (λ (x : ℕ). Reaches i (labelAt i x .owner) (nthRow i k .next)) q (sound .each k m .leading)) e
 
