@@ -14,21 +14,14 @@ use Rattle.image.specs.Image.{Label}
 use Rattle.image.specs.Decode.{schemeCount, lastLabel, labelsFrom, entryIn, labelIn, decoded}
 use Rattle.image.proofs.Sound.{homeLabel, returnLabel, nthLabel, noRow, SoundLabel, Sound}
 use Rattle.image.proofs.Accepted.{entries-count, labels-count, entry-read, label-read, counted, accepted-sound}
+use Rattle.codes.specs.Codes.{codeOf}
 use Rattle.machine.specs.declared.State.{State}
 use Rattle.machine.specs.State.{labelAt, entryAt, placeAt}
 use Rattle.machine.specs.Tick.{Found, found, missing, firstRow, rowOf, Ticked, ticked, stopped, moved, pushed, tickBy, tick}
-use Rattle.machine.specs.Parts.{nextOf, Ready, after, stepOf, codeOf, Steps}
+use Rattle.machine.specs.Parts.{nextOf, Ready, after, stepOf, Steps}
 use Rattle.machine.proofs.Fitness.{Fits, unfits}
 use Rattle.machine.proofs.Keeps.{row-leads}
 use Rattle.machine.proofs.RowCases.{any-bit, label-inside}
-
--- ---- the code of every kind from 4 up
-pub code-rest : (k h : ℕ) → (k ≡ 0 → ⊥) → (k ≡ 1 → ⊥) → (k ≡ 2 → ⊥) → (k ≡ 3 → ⊥) → 4 ≡ codeOf k h
-code-rest zero h p q r t = absurd (p refl)
-code-rest (suc zero) h p q r t = absurd (q refl)
-code-rest (suc (suc zero)) h p q r t = absurd (r refl)
-code-rest (suc (suc (suc zero))) h p q r t = absurd (t refl)
-code-rest (suc (suc (suc (suc k)))) h p q r t = refl
 
 -- ---- what is answered and left, by what the tick is
 module _ (b : List ℕ) (s : State) (w : ℕ) where

@@ -65,14 +65,6 @@ abbrev pub stepOf : State → Ticked → Stepped
 stepOf s (ticked m k t) = record { number = 0; mask = m; code = k; depth = t .depth }
 stepOf s (stopped n) = record { number = n; mask = 0; code = 0; depth = s .depth }
 
--- the code of a tick by its kind and the scheme called
-abbrev pub codeOf : ℕ → ℕ → ℕ
-codeOf zero h = 0
-codeOf (suc zero) h = 16 + h
-codeOf (suc (suc zero)) h = 64 + h
-codeOf (suc (suc (suc zero))) h = 3
-codeOf (suc (suc (suc (suc k)))) h = 4
-
 -- what a tick of s by the word w answers and leaves in the lent places and bits
 pub record Steps (b : List ℕ) (s : State) (w : ℕ) (r : Stepped) (ps : List ℕ) (bs : Results) : Type 0 where
   pub step : r ≡ stepOf s (tick (decoded b) s w)
