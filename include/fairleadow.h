@@ -1,6 +1,6 @@
 /* Fairleadow: charts read, written, translated and run. Link with libfairleadow.a.
  *
- * Every function answers for everything that it is handed. It returns 0, or the number of a refusal, and writes
+ * Every function answers for everything that it is handed. All but fairleadow_meaning return 0, or the number of a refusal, and write
  *   *index   the frame (a line or a record) that the refusal names, from 0; only 2, 3, 4, 6 to 9, 12 and 13 name one, else it is 0
  *   *count   records, characters or ticks written; with refusals 1 to 16 it is 0, with 17 and 18 the ticks finished before
  * With refusals 1 to 16 no buffer and no state is changed; only 14 writes a state, of zeros. With success, and with 17 and 18,
@@ -73,6 +73,10 @@ uint8_t fairleadow_run(const uint8_t *image, size_t image_len, fairleadow_state 
  * The image is checked anew at each tick, which takes most of its time; where several words are at hand, a run checks it once. */
 uint8_t fairleadow_tick(const uint8_t *image, size_t image_len, fairleadow_state *state, uint16_t word,
                         uint32_t *mask, uint8_t *code, size_t *index, size_t *count);
+
+/* What a tick's code stands for. Returns the tick kind as an image has it (0 plain, 1 operation call, 2 function call, 3 return,
+ * 4 home), or 255 for a code that no tick has, and writes the scheme called, 2 to 16, or 0 where none is. Refuses nothing. */
+uint8_t fairleadow_meaning(uint8_t code, uint8_t *called);
 
 #ifdef __cplusplus
 }

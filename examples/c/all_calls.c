@@ -1,5 +1,6 @@
 /* Makes every call of the header on the chart on standard input: reads it and writes it back, translates it, checks the image, runs
- * eight words from a fresh state of three places, and makes the same ticks one by one. Prints what came of each. */
+ * eight words from a fresh state of three places, makes the same ticks one by one, and tells what each code stands for. Prints what
+ * came of each. */
 #include <stdio.h>
 #include <string.h>
 
@@ -31,6 +32,18 @@ static int read_and_write(size_t length) {
     return 0;
 }
 
+static void tell_codes(const uint8_t *codes, size_t count) {
+    static const char *const kinds[] = {"plain", "operation call", "function call", "return", "home"};
+    uint8_t called;
+    for (size_t i = 0; i < count; i++) {
+        uint8_t kind = fairleadow_meaning(codes[i], &called);
+        printf("code %02X: %s", codes[i], kind < 5 ? kinds[kind] : "unknown");
+        if (called)
+            printf(" of scheme %u", called);
+        printf("\n");
+    }
+}
+
 static int run_and_tick(size_t length) {
     fairleadow_state all, each;
     uint32_t masks[WORDS], mask;
@@ -48,6 +61,7 @@ static int run_and_tick(size_t length) {
     }
     printf("ticks of the run: %zu, made one by one the same: %zu\n", count, same);
     printf("state after them: %s\n", memcmp(&all, &each, sizeof all) ? "another" : "the same");
+    tell_codes(codes, count);
     return 0;
 }
 

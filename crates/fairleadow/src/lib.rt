@@ -7,6 +7,8 @@ use answers::tell;
 use bytes::bytes_after;
 use bytes::bytes_of;
 use bytes::state_of;
+use codes::Meaning;
+use codes::meaning_of;
 use machine::State;
 use machine::tick_image;
 ghost use mathlib.Core.Path.{_≡_};
@@ -17,6 +19,7 @@ ghost use Rattle.translator.specs.Entry.{translate};
 ghost use Rattle.machine.specs.State.{freshState};
 ghost use Rattle.fairleadow.specs.Bytes.{bytesOf};
 ghost use Rattle.fairleadow.specs.Calls.{Told, runFor, bytesAfter, tickFor, ifTicked};
+ghost use Rattle.fairleadow.specs.Meant.{Meant};
 
 #[no_mangle]
 pub extern "C" fn fairleadow_read_chart(
@@ -141,4 +144,26 @@ pub extern "C" fn fairleadow_tick(
     let bytes = bytes_of(after);
     *state = bytes;
     number
+}
+
+// What a code stands for: returns the tick kind, 255 for a code that no tick has, and writes the scheme called, 0 for none.
+#[no_mangle]
+pub extern "C" fn fairleadow_meaning(code: u8, called: &mut u8) -> u8
+    ensures { λ r. ⌜ Meant code r (now (called .exit)) ⌝ }
+{
+    *called = 0;
+    match meaning_of(code) {
+        Meaning::Plain => 0,
+        Meaning::OperationCall(scheme) => {
+            *called = scheme;
+            1
+        }
+        Meaning::FunctionCall(scheme) => {
+            *called = scheme;
+            2
+        }
+        Meaning::Return => 3,
+        Meaning::Home => 4,
+        Meaning::Unknown => 255,
+    }
 }

@@ -24,6 +24,7 @@ use Rattle.machine.specs.State.{fresh, labelAt, entryAt, placeAt, isCall
 use Rattle.machine.specs.Tick.{matches, Found, found, missing, firstRow, rowOf, Ticked, ticked, stopped, moved, pushed, tickBy, tick}
 use Rattle.machine.specs.Run.{then, ticks}
 use Rattle.machine.proofs.Fitness.{Carries, Fits, fits, unfits}
+use Rattle.machine.proofs.RowCases.{row-here, row-later}
 
 -- a row that is found is one of the label's
 found-row : (i : Image) (h l w b u : ℕ) (rs : List Row)
@@ -35,13 +36,13 @@ found-row i h l w b u (r ∷ rs) each e = go (eqb (r .from) l && matches w b r) 
   where
     go : (t : Bool) → (eqb (r .from) l && matches w b r) ≡ t → (firstRow l w b rs ≡ found u → Reaches i h u) → Reaches i h u
     go true q ih =
-        let p : found (r .next) ≡ found u = rw (q, firstRow) at e in
+        let p : found (r .next) ≡ found u = sym (row-here l w b r rs q) ∙ e in
         let same : r .next ≡ u = cc in
         subst (Reaches i h) same (each 0 (omega arith) (eqb-true (r .from) l (and-l (eqb (r .from) l) (matches w b r) q)))
-    go false q ih = ih (rw (q, firstRow) at e)
+    go false q ih = ih (sym (row-later l w b r rs q) ∙ e)
 
 module _ (i : Image) (sound : Sound i) where
-  row-leads : (l w b u : ℕ) → firstRow l w b (i .rows) ≡ found u → Reaches i (labelAt i l .owner) u
+  pub row-leads : (l w b u : ℕ) → firstRow l w b (i .rows) ≡ found u → Reaches i (labelAt i l .owner) u
   row-leads l w b u e = found-row i (labelAt i l .owner) l w b u (i .rows)
       (λ k m q. subst (λ (x : ℕ). Reaches i (labelAt i x .owner) (nthRow i k .next)) q (sound .each k m .leading)) e
 

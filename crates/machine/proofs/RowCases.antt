@@ -3,11 +3,10 @@ use mathlib.Core.Path.{_≡_, refl, sym, _∙_, ap, ap₂}
 use mathlib.Core.Bool.{Bool, true, false, _&&_, _||_}
 use mathlib.Core.List.{List, [], _∷_, map}
 use Prim.Native.Nat.{ℕ, zero, suc, _+_, _-_, _≤_, _<_}
-use native.Mathlib.Numerals.{add-one}
 use native.Mathlib.Omega.{arith}
 use lib.Dec.{eqb}
 use lib.ListN.{length, getD}
-use borrow.Author.Tests.{eq-eqb, ne-eqb, lt-ltb, le-ltb, eqb-true}
+use borrow.Author.Tests.{eq-eqb, ne-eqb, eqb-true}
 use Rattle.lists.specs.Pick.{pick}
 use Rattle.lists.specs.Numbers.{range}
 use Rattle.bits.specs.Word.{agrees}
@@ -19,8 +18,8 @@ use Rattle.image.specs.Decode.{lastLabel, rowCount, labelsFrom, rowsFrom, label
 use Rattle.image.specs.Check.{tableVerdict}
 use Rattle.image.proofs.Sound.{noRow}
 use Rattle.image.proofs.Accepted.{label-read, counted}
-use Rattle.machine.specs.Tick.{matches, found, missing, firstRow, rowOf}
-use Rattle.machine.specs.Parts.{rowOn, fitting, foundAt, foundAs}
+use Rattle.machine.specs.Tick.{matches, found, firstRow, rowOf}
+use Rattle.machine.specs.Parts.{rowOn, fitting, nextOf}
 
 -- ---- the first row of a list
 module _ (l w bit : ℕ) (r : Row) (rs : List Row) where
@@ -54,38 +53,9 @@ module _ (b : List ℕ) (l w bit f : ℕ) where
     pub fitting-bit : (field b f 6 ≡ 2 → ⊥) → eqb (field b f 6) bit ≡ fitting b l w bit f
     fitting-bit k = sym (both ∙ ap (λ (t : Bool). t || eqb (field b f 6) bit) (ne-eqb (field b f 6) 2 k))
 
--- ---- a loop over the frames
+-- ---- the rows of the frames from first up to end
 abbrev pub rowsIn : List ℕ → ℕ → ℕ → List Row
 rowsIn b first end = map (rowOn b) (range first (end - first))
-
-module _ (b : List ℕ) (l w bit end f : ℕ) where
-  more : f < end → rowsIn b f end ≡ rowOn b f ∷ rowsIn b (suc f) end
-  more h = ap (λ (n : ℕ). map (rowOn b) (range f n)) (let e : end - f ≡ suc (end - suc f) = omega arith in e)
-
-  find-here : f < end → fitting b l w bit f ≡ true → foundAt b end f ≡ firstRow l w bit (rowsIn b f end)
-  find-here h e =
-      ap (λ (t : Bool). pick t (found (field b f 7)) missing) (lt-ltb f end h)
-      ∙ sym (ap (firstRow l w bit) (more h) ∙ row-here l w bit (rowOn b f) (rowsIn b (suc f) end) e)
-
-  find-on : f < end → fitting b l w bit f ≡ false → firstRow l w bit (rowsIn b f end) ≡ firstRow l w bit (rowsIn b (f + 1) end)
-  find-on h e =
-      ap (firstRow l w bit) (more h)
-      ∙ row-later l w bit (rowOn b f) (rowsIn b (suc f) end) e
-      ∙ ap (λ (n : ℕ). firstRow l w bit (rowsIn b n end)) (sym (add-one f))
-
-  -- the same by the test that the code has made
-  pub found-here : (x : Bool) → f < end → x ≡ fitting b l w bit f → x ≡ true → foundAt b end f ≡ firstRow l w bit (rowsIn b f end)
-  found-here x h e t = find-here h (sym e ∙ t)
-
-  pub found-later : (x : Bool) → f < end → x ≡ fitting b l w bit f → x ≡ false
-      → firstRow l w bit (rowsIn b f end) ≡ firstRow l w bit (rowsIn b (f + 1) end)
-  found-later x h e t = find-on h (sym e ∙ t)
-
-  pub find-over : end ≤ f → foundAt b end f ≡ firstRow l w bit (rowsIn b f end)
-  unfolding firstRow
-  find-over h =
-      ap (λ (t : Bool). pick t (found (field b f 7)) missing) (le-ltb f end h)
-      ∙ sym (ap (λ (n : ℕ). firstRow l w bit (map (rowOn b) (range f n))) (let e : end - f ≡ 0 = omega arith in e))
 
 -- ---- all rows of an accepted table
 map-shift : {A : Type 0} (f g : ℕ → A) (a c n : ℕ) → ((k : ℕ) → f (a + k) ≡ g (c + k)) → map f (range a n) ≡ map g (range c n)
@@ -110,10 +80,10 @@ module _ (b : List ℕ) (ok : tableVerdict b ≡ fine) where
   -- the bit that chooses is that of the scheme that the label calls
   module _ (l w : ℕ) (h : l ≤ lastLabel b) (bits : Results) (called : ℕ) (t : Bool) (p : called ≡ labelIn b l .called)
       (q : t ≡ resultOf called bits) where
-    pub chosen : (u : Bool) → t ≡ u → (n : ℕ) → foundAs n ≡ firstRow l w (pick u 1 0) (decoded b .rows) → foundAs n ≡ rowOf (decoded b) bits l w
+    pub chosen : (u : Bool) → t ≡ u → (n : ℕ) → n ≡ nextOf (firstRow l w (pick u 1 0) (decoded b .rows)) → n ≡ nextOf (rowOf (decoded b) bits l w)
     chosen u r n e =
         e
-        ∙ ap (λ (v : Bool). firstRow l w (pick v 1 0) (decoded b .rows))
+        ∙ ap (λ (v : Bool). nextOf (firstRow l w (pick v 1 0) (decoded b .rows)))
         (sym r ∙ q ∙ ap (λ (k : ℕ). resultOf k bits) (p ∙ sym (ap (λ (x : Label). x .called) (label-read b l h))))
 
 -- ---- rows that no bit decides

@@ -1,15 +1,16 @@
 -- Where the rows of each label begin; among them the first matching row is that of all rows.
-use mathlib.Core.Path.{_≡_, refl, sym, _∙_, ap, ap₂, subst}
+use mathlib.Core.Path.{_≡_, sym, _∙_, ap, ap₂, subst}
 use mathlib.Core.Bool.{Bool, true, false}
+use mathlib.Core.Logic.{_⊎_, inl, inr}
 use mathlib.Core.List.{List, _++_, map, append-nil}
 use Prim.Native.Nat.{ℕ, zero, suc, _+_, _-_, _≤_, _<_}
 use native.Mathlib.Nat.{zero-add, add-zero}
 use native.Mathlib.Omega.{arith}
 use lib.ListN.{length, getD, set, drop-of-length-le}
-use borrow.Author.Tests.{lt-ltb, le-ltb, leb-true, leb-false, lt-leb}
-use Rattle.lists.specs.Pick.{pick}
+use borrow.Author.Tests.{leb-true, leb-false, lt-leb}
 use Rattle.lists.specs.Numbers.{range, tabulate, lowest}
 use Rattle.lists.proofs.Searches.{lowest-hit, lowest-above, lowest-before, lowest-inside, lowest-from}
+use Rattle.lists.proofs.Tests.{split}
 use Rattle.lists.proofs.Ranges.{length-map-range}
 use Rattle.lists.proofs.Tabulated.{length-tabulate, getD-tabulate}
 use Rattle.lists.proofs.Written.{written-front}
@@ -22,7 +23,7 @@ use Rattle.image.specs.Check.{tableVerdict}
 use Rattle.image.proofs.Sound.{nthRow}
 use Rattle.image.proofs.Accepted.{rows-count, row-read, counted, accepted-sound}
 use Rattle.machine.specs.Tick.{Found, found, missing, firstRow}
-use Rattle.machine.specs.Parts.{rowOn, fitting, reached, firstFrame, firstFrames, foundAt, foundAs}
+use Rattle.machine.specs.Parts.{rowOn, fitting, reached, firstFrame, firstFrames, nextOf}
 use Rattle.machine.proofs.RowCases.{row-here, row-later, fitting-other, rowsIn, rows-inside, rows-are}
 
 -- a row that leaves no label from l on leaves none from a higher one on
@@ -81,32 +82,20 @@ module _ (b : List ℕ) (l w bit : ℕ) where
       ∙ skipped n m (suc i) (λ k g. ap (fitting b l w bit) (omega arith) ∙ h (suc k) (omega arith))
       ∙ ap (λ (k : ℕ). among k m) (let e : suc i + n ≡ i + suc n = omega arith in e)
 
-  trimmed : (n m i : ℕ) → ((k : ℕ) → k < m → fitting b l w bit (i + n + k) ≡ false) → among i (n + m) ≡ among i n
-  trimmed zero m i h =
-      ap (λ (k : ℕ). among i k) (let e : 0 + m ≡ m + 0 = omega arith in e)
-      ∙ skipped m 0 i (λ k g. ap (fitting b l w bit) (omega arith) ∙ h k g)
-  trimmed (suc n) m i h =
-      ap (λ (k : ℕ). among i k) (let e : suc n + m ≡ suc (n + m) = omega arith in e)
-      ∙ go (fitting b l w bit i) refl (trimmed n m (suc i) (λ k g. ap (fitting b l w bit) (omega arith) ∙ h k g))
-    where
-      go : (t : Bool) → fitting b l w bit i ≡ t → among (suc i) (n + m) ≡ among (suc i) n → among i (suc (n + m)) ≡ among i (suc n)
-      go true e ih =
-          row-here l w bit (rowOn b i) (map (rowOn b) (range (suc i) (n + m))) e
-          ∙ sym (row-here l w bit (rowOn b i) (map (rowOn b) (range (suc i) n)) e)
-      go false e ih =
-          row-later l w bit (rowOn b i) (map (rowOn b) (range (suc i) (n + m))) e
-          ∙ ih
-          ∙ sym (row-later l w bit (rowOn b i) (map (rowOn b) (range (suc i) n)) e)
+  -- the first frame that fits gives the row, and no such frame none
+  first-is : (rows f all : ℕ) → rows ≤ f → f < all → ((g : ℕ) → rows ≤ g → g < f → fitting b l w bit g ≡ false)
+      → fitting b l w bit f ≡ true → firstRow l w bit (rowsIn b rows all) ≡ found (field b f 7)
+  first-is rows f all p q before e =
+      ap (λ (n : ℕ). among rows n) (let z : all - rows ≡ (f - rows) + suc (all - suc f) = omega arith in z)
+      ∙ skipped (f - rows) (suc (all - suc f)) rows (λ k h. before (rows + k) (omega arith) (omega arith))
+      ∙ ap (λ (i : ℕ). among i (suc (all - suc f))) (let z : rows + (f - rows) ≡ f = omega arith in z)
+      ∙ row-here l w bit (rowOn b f) (map (rowOn b) (range (suc f) (all - suc f))) e
 
-  narrowed : (rows first end all : ℕ) → rows ≤ first → first ≤ end → end ≤ all
-      → ((f : ℕ) → rows ≤ f → f < first → fitting b l w bit f ≡ false) → ((f : ℕ) → end ≤ f → f < all → fitting b l w bit f ≡ false)
-      → firstRow l w bit (rowsIn b first end) ≡ firstRow l w bit (rowsIn b rows all)
-  narrowed rows first end all p q r before behind = sym (
-      ap (λ (n : ℕ). among rows n) (let e : all - rows ≡ (first - rows) + (all - first) = omega arith in e)
-      ∙ skipped (first - rows) (all - first) rows (λ k h. before (rows + k) (omega arith) (omega arith))
-      ∙ ap (λ (i : ℕ). among i (all - first)) (let e : rows + (first - rows) ≡ first = omega arith in e)
-      ∙ ap (λ (n : ℕ). among first n) (let e : all - first ≡ (end - first) + (all - end) = omega arith in e)
-      ∙ trimmed (end - first) (all - end) first (λ k h. behind (first + (end - first) + k) (omega arith) (omega arith)))
+  none-is : (rows all : ℕ) → ((g : ℕ) → rows ≤ g → g < all → fitting b l w bit g ≡ false) → firstRow l w bit (rowsIn b rows all) ≡ missing
+  unfolding firstRow
+  none-is rows all none =
+      ap (λ (n : ℕ). among rows n) (let z : all - rows ≡ (all - rows) + 0 = omega arith in z)
+      ∙ skipped (all - rows) 0 rows (λ k h. none (rows + k) (omega arith) (omega arith))
 
 -- ---- an accepted table, by the frames that its labels' rows begin at
 module _ (b : List ℕ) (ok : tableVerdict b ≡ fine) where
@@ -146,16 +135,14 @@ module _ (b : List ℕ) (ok : tableVerdict b ≡ fine) where
         let e : field b (end + (f - end)) 1 ≡ field b f 1 = ap (λ (i : ℕ). field b i 1) (omega arith) in
         omega (arith, rises-on end (f - end) low (omega arith))
 
-    -- label l's own rows are enough
-    own-rows : (l w bit : ℕ) → firstRow l w bit (rowsIn b (firstFrame b l) (firstFrame b (l + 1))) ≡ firstRow l w bit (decoded b .rows)
-    own-rows l w bit =
-        narrowed b l w bit (rowsFrom b) (firstFrame b l) (firstFrame b (l + 1)) (size b)
-        (lowest-above (reached b l) (rowsFrom b) (size b - rowsFrom b)) (in-order l) (first-inside (l + 1))
-        (λ f h g.
+    -- frames before the first of label l, and those from the first of the next label on, hold rows of other labels
+    before-none : (l w bit f : ℕ) → rowsFrom b ≤ f → f < firstFrame b l → fitting b l w bit f ≡ false
+    before-none l w bit f h g =
         let low : field b f 1 < l = leb-false l (field b f 1) (lowest-before (reached b l) (rowsFrom b) (size b - rowsFrom b) f h g) in
-        sym (fitting-other b l w bit f (λ e. omega arith)))
-        (λ f h g. let high : l < field b f 1 = above l f h g in sym (fitting-other b l w bit f (λ e. omega arith)))
-        ∙ ap (firstRow l w bit) (rows-are b ok)
+        sym (fitting-other b l w bit f (λ e. omega arith))
+
+    behind-none : (l w bit f : ℕ) → firstFrame b (l + 1) ≤ f → f < size b → fitting b l w bit f ≡ false
+    behind-none l w bit f h g = let high : l < field b f 1 = above l f h g in sym (fitting-other b l w bit f (λ e. omega arith))
 
 -- ---- the search from one given frame up to the next
 pub firsts-long : (b firsts : List ℕ) → firsts ≡ firstFrames b → length firsts ≡ 257
@@ -180,17 +167,29 @@ module _ (b : List ℕ) (ok : tableVerdict b ≡ fine) (bytes : (k : ℕ) → ge
       let q : end ≡ firstFrame b (l + 1) = first-at (l + 1) (omega arith) in
       (omega (arith, in-order b ok l), omega (arith, first-inside b ok (l + 1)))
 
-  -- what the search says, as a label or 256
-  module _ (w bit f : ℕ) (e : foundAt b end f ≡ firstRow l w bit (rowsIn b first end)) where
-    all-rows : foundAt b end f ≡ firstRow l w bit (decoded b .rows)
-    all-rows =
-        e ∙ ap₂ (λ (x y : ℕ). firstRow l w bit (rowsIn b x y)) (first-at l (omega arith)) (first-at (l + 1) (omega arith))
-        ∙ own-rows b ok bytes l w bit
+  -- what the search says of all rows
+  module _ (w bit f : ℕ) (e : f ≡ lowest (fitting b l w bit) first (end - first)) where
+    abbrev p : ℕ → Bool
+    p = fitting b l w bit
 
-    pub next-found : (n : ℕ) → n < 256 → f < end → n ≡ field b f 7 → foundAs n ≡ firstRow l w bit (decoded b .rows)
-    next-found n h k r =
-        ap (λ (t : Bool). pick t (found n) missing) (lt-ltb n 256 h) ∙ ap found r
-        ∙ sym (ap (λ (t : Bool). pick t (found (field b f 7)) missing) (lt-ltb f end k)) ∙ all-rows
+    none-before : (g : ℕ) → rowsFrom b ≤ g → g < f → p g ≡ false
+    none-before g k m = go (split g first)
+      where
+        go : (g < first) ⊎ (first ≤ g) → p g ≡ false
+        go (inl c) = before-none b ok bytes l w bit g k (omega (arith, first-at l (omega arith)))
+        go (inr c) = lowest-before p first (end - first) g c (omega arith)
 
-    pub next-none : end ≤ f → foundAs 256 ≡ firstRow l w bit (decoded b .rows)
-    next-none k = sym (ap (λ (t : Bool). pick t (found (field b f 7)) missing) (le-ltb f end k)) ∙ all-rows
+    pub next-found : (n : ℕ) → f < end → n ≡ field b f 7 → n ≡ nextOf (firstRow l w bit (decoded b .rows))
+    next-found n k r =
+        r ∙ sym (ap nextOf (sym (ap (firstRow l w bit) (rows-are b ok)) ∙ first-is b l w bit (rowsFrom b) f (size b)
+        (omega (arith, first-at l (omega arith), lowest-above p first (end - first), lowest-above (reached b l) (rowsFrom b) (size b - rowsFrom b)))
+        (omega (arith, range-lies .1)) none-before
+        (ap p e ∙ lowest-hit p first (end - first) (omega (arith, range-lies .0)))))
+
+    pub next-none : end ≤ f → 256 ≡ nextOf (firstRow l w bit (decoded b .rows))
+    next-none k =
+        sym (ap nextOf (sym (ap (firstRow l w bit) (rows-are b ok)) ∙ none-is b l w bit (rowsFrom b) (size b) (λ g m n. go g m n (split g end))))
+      where
+        go : (g : ℕ) → rowsFrom b ≤ g → g < size b → (g < end) ⊎ (end ≤ g) → p g ≡ false
+        go g m n (inl c) = none-before g m (omega arith)
+        go g m n (inr c) = behind-none b ok bytes l w bit g (omega (arith, first-at (l + 1) (omega arith))) n

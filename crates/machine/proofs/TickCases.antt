@@ -1,13 +1,12 @@
 -- One tick on an accepted table and a state that fits it: what it is for each kind of the top label.
 use mathlib.Core.Path.{_≡_, refl, sym, _∙_, ap, subst}
-use mathlib.Core.Bool.{Bool}
 use mathlib.Core.List.{List}
 use Prim.Native.Nat.{ℕ, zero, suc, _+_, _-_, _≤_, _<_}
 use native.Mathlib.Numerals.{add-one}
 use native.Mathlib.Omega.{arith}
 use lib.Dec.{leb}
 use lib.ListN.{length, getD, set}
-use borrow.Author.Tests.{lt-ltb, le-ltb, le-leb, lt-leb}
+use borrow.Author.Tests.{le-leb, lt-leb}
 use Rattle.lists.specs.Pick.{pick}
 use Rattle.bits.specs.Results.{Results, resultOf, withResult}
 use Rattle.frames.specs.Frame.{size, field}
@@ -15,20 +14,14 @@ use Rattle.image.specs.Image.{Label}
 use Rattle.image.specs.Decode.{schemeCount, lastLabel, labelsFrom, entryIn, labelIn, decoded}
 use Rattle.image.proofs.Sound.{homeLabel, returnLabel, nthLabel, noRow, SoundLabel, Sound}
 use Rattle.image.proofs.Accepted.{entries-count, labels-count, entry-read, label-read, counted, accepted-sound}
+use Rattle.codes.specs.Codes.{codeOf}
 use Rattle.machine.specs.declared.State.{State}
 use Rattle.machine.specs.State.{labelAt, entryAt, placeAt}
-use Rattle.machine.specs.Tick.{found, missing, firstRow, rowOf, Ticked, ticked, stopped, moved, pushed, tickBy, tick}
-use Rattle.machine.specs.Parts.{foundAs, Ready, after, stepOf, codeOf, Steps}
+use Rattle.machine.specs.Tick.{Found, found, missing, firstRow, rowOf, Ticked, ticked, stopped, moved, pushed, tickBy, tick}
+use Rattle.machine.specs.Parts.{nextOf, Ready, after, stepOf, Steps}
 use Rattle.machine.proofs.Fitness.{Fits, unfits}
+use Rattle.machine.proofs.Keeps.{row-leads}
 use Rattle.machine.proofs.RowCases.{any-bit, label-inside}
-
--- ---- the code of every kind from 4 up
-pub code-rest : (k h : ℕ) → (k ≡ 0 → ⊥) → (k ≡ 1 → ⊥) → (k ≡ 2 → ⊥) → (k ≡ 3 → ⊥) → 4 ≡ codeOf k h
-code-rest zero h p q r t = absurd (p refl)
-code-rest (suc zero) h p q r t = absurd (q refl)
-code-rest (suc (suc zero)) h p q r t = absurd (r refl)
-code-rest (suc (suc (suc zero))) h p q r t = absurd (t refl)
-code-rest (suc (suc (suc (suc k)))) h p q r t = refl
 
 -- ---- what is answered and left, by what the tick is
 module _ (b : List ℕ) (s : State) (w : ℕ) where
@@ -223,23 +216,30 @@ module _ {b : List ℕ} {s : State} (y : Ready b s) where
         (ap (labelIn b) (home-zero l low k) ∙ is-home)
 
     -- ---- what each function answers and leaves
-    none-found : (n : ℕ) → 256 ≤ n → missing ≡ foundAs n
-    none-found n h = sym (ap (λ (t : Bool). pick t (found n) missing) (le-ltb n 256 h))
+    -- a row that is found leads to a label of the table, so a number from 256 up says that none is
+    none-found : (bs : Results) (m n : ℕ) → n ≡ nextOf (rowOf (decoded b) bs m w) → 256 ≤ n → rowOf (decoded b) bs m w ≡ missing
+    none-found bs m n e h = go (rowOf (decoded b) bs m w) refl e
+      where
+        go : (f : Found) → rowOf (decoded b) bs m w ≡ f → n ≡ nextOf f → f ≡ missing
+        go (found u) p q =
+            absurd (omega (arith, row-leads (decoded b) sound m w _ u p .inside, labels-count b, y .bytes 2))
+        go missing p q = refl
 
-    one-found : (n : ℕ) → n < 256 → found n ≡ foundAs n
-    one-found n h = sym (ap (λ (t : Bool). pick t (found n) missing) (lt-ltb n 256 h))
+    one-found : (f : Found) (n : ℕ) → n ≡ nextOf f → n < 256 → f ≡ found n
+    one-found (found u) n e h = ap found (sym e)
+    one-found missing n e h = absurd (omega arith)
 
-    module _ (k : x .kind ≡ 0) (n : ℕ) (e : foundAs n ≡ rowOf (decoded b) (s .bits) l w) where
+    module _ (k : x .kind ≡ 0) (n : ℕ) (e : n ≡ nextOf (rowOf (decoded b) (s .bits) l w)) where
       pub plain-stop : 256 ≤ n → Steps b s w (record { number = 18; mask = 0; code = 0; depth = s .depth }) (s .places) (s .bits)
       plain-stop h =
-          steps-stopped b s w 18 (tick-plain k ∙ ap (moved (x .mask) 0 s (s .depth - 1) (s .depth) (s .places) after-result) (sym (none-found n h ∙ e)))
+          steps-stopped b s w 18 (tick-plain k ∙ ap (moved (x .mask) 0 s (s .depth - 1) (s .depth) (s .places) after-result) (none-found (s .bits) l n e h))
 
       pub plain-go : n < 256 → (m r o : ℕ) → m ≡ x .mask → r ≡ x .result → o ≡ x .owner → (bs : Results) → bs ≡ withResult r o (s .bits)
           → Steps b s w (record { number = 0; mask = m; code = 0; depth = s .depth }) (set (s .places) (s .depth - 1) n) bs
       plain-go h m r o p q t bs u =
           rw (p, u, q, t)
           (steps-ticked b s w (x .mask) 0 (record { size = s .size; depth = s .depth; places = set (s .places) (s .depth - 1) n; bits = after-result })
-          (tick-plain k ∙ ap (moved (x .mask) 0 s (s .depth - 1) (s .depth) (s .places) after-result) (sym (one-found n h ∙ e))))
+          (tick-plain k ∙ ap (moved (x .mask) 0 s (s .depth - 1) (s .depth) (s .places) after-result) (one-found (rowOf (decoded b) (s .bits) l w) n e h)))
 
     module _ (h : 1 ≤ x .kind) (k : x .kind ≤ 2) where
       pub call-stop : s .size ≤ s .depth → Steps b s w (record { number = 17; mask = 0; code = 0; depth = s .depth }) (s .places) (s .bits)
@@ -260,11 +260,11 @@ module _ {b : List ℕ} {s : State} (y : Ready b s) where
           (record { size = s .size; depth = suc (s .depth); places = set (s .places) (s .depth) (entryAt (decoded b) (x .called)); bits = after-result })
           (tick-call h k ∙ ap (pushed (decoded b) s (x .mask) (codeOf (x .kind) (x .called)) (x .called) after-result) (lt-leb (s .size) (s .depth) f)))
 
-    module _ (k : x .kind ≡ 3) (n : ℕ) (e : foundAs n ≡ rowOf (decoded b) (s .bits) (placeAt s (s .depth - 2)) w) where
+    module _ (k : x .kind ≡ 3) (n : ℕ) (e : n ≡ nextOf (rowOf (decoded b) (s .bits) (placeAt s (s .depth - 2)) w)) where
       pub back-stop : 256 ≤ n → Steps b s w (record { number = 18; mask = 0; code = 0; depth = s .depth }) (s .places) (s .bits)
       back-stop h =
           steps-stopped b s w 18
-          (tick-back k ∙ ap (moved 0 3 s (s .depth - 2) (s .depth - 1) (set (s .places) (s .depth - 1) 0) (s .bits)) (sym (none-found n h ∙ e)))
+          (tick-back k ∙ ap (moved 0 3 s (s .depth - 2) (s .depth - 1) (set (s .places) (s .depth - 1) 0) (s .bits)) (none-found (s .bits) (placeAt s (s .depth - 2)) n e h))
 
       pub back-go : n < 256
           → Steps b s w (record { number = 0; mask = 0; code = 3; depth = s .depth - 1 }) (set (set (s .places) (s .depth - 1) 0) (s .depth - 2) n) (s .bits)
@@ -275,7 +275,8 @@ module _ {b : List ℕ} {s : State} (y : Ready b s) where
             places = set (set (s .places) (s .depth - 1) 0) (s .depth - 2) n;
             bits = s .bits;
           })
-          (tick-back k ∙ ap (moved 0 3 s (s .depth - 2) (s .depth - 1) (set (s .places) (s .depth - 1) 0) (s .bits)) (sym (one-found n h ∙ e)))
+          (tick-back k ∙ ap (moved 0 3 s (s .depth - 2) (s .depth - 1) (set (s .places) (s .depth - 1) 0) (s .bits))
+          (one-found (rowOf (decoded b) (s .bits) (placeAt s (s .depth - 2)) w) n e h))
 
     pub home-go : 4 ≤ x .kind → (n : ℕ) → n ≡ field b 1 2
         → Steps b s w (record { number = 0; mask = 0; code = 4; depth = s .depth }) (set (s .places) (s .depth - 1) n) (s .bits)

@@ -3,9 +3,8 @@ use Prim.Native.Nat.{ℕ, zero, suc, _+_, _-_, _<_}
 use mathlib.Core.Bool.{Bool, false, _&&_}
 use mathlib.Core.Path.{_≡_}
 use mathlib.Core.List.{List}
-use lib.Dec.{leb, ltb, eqb}
+use lib.Dec.{leb, eqb}
 use lib.ListN.{length, getD}
-use Rattle.lists.specs.Pick.{pick}
 use Rattle.lists.specs.Numbers.{tabulate, lowest}
 use Rattle.lists.specs.Sequences.{over}
 use Rattle.bits.specs.Results.{Results}
@@ -39,13 +38,10 @@ firstFrame b l = lowest (reached b l) (rowsFrom b) (size b - rowsFrom b)
 unfoldable pub firstFrames : List ℕ → List ℕ
 firstFrames b = tabulate (firstFrame b) 257
 
--- a search among frames up to end that stopped at f
-abbrev pub foundAt : List ℕ → ℕ → ℕ → Found
-foundAt b end f = pick (ltb f end) (found (field b f 7)) missing
-
--- a label, or 256 for none
-abbrev pub foundAs : ℕ → Found
-foundAs n = pick (ltb n 256) (found n) missing
+-- where a row leads, as a number: labels are below 256, and 256 says that no row matches
+abbrev pub nextOf : Found → ℕ
+nextOf (found l) = l
+nextOf missing = 256
 
 abbrev pub stateOf : ℕ → ℕ → List ℕ → Results → State
 stateOf n d places bits = record { size = n; depth = d; places = places; bits = bits }
@@ -66,14 +62,6 @@ after s (stopped n) = s
 abbrev pub stepOf : State → Ticked → Stepped
 stepOf s (ticked m k t) = record { number = 0; mask = m; code = k; depth = t .depth }
 stepOf s (stopped n) = record { number = n; mask = 0; code = 0; depth = s .depth }
-
--- the code of a tick by its kind and the scheme called
-abbrev pub codeOf : ℕ → ℕ → ℕ
-codeOf zero h = 0
-codeOf (suc zero) h = 16 + h
-codeOf (suc (suc zero)) h = 64 + h
-codeOf (suc (suc (suc zero))) h = 3
-codeOf (suc (suc (suc (suc k)))) h = 4
 
 -- what a tick of s by the word w answers and leaves in the lent places and bits
 pub record Steps (b : List ℕ) (s : State) (w : ℕ) (r : Stepped) (ps : List ℕ) (bs : Results) : Type 0 where

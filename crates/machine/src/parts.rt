@@ -1,6 +1,7 @@
 // One tick on the lent parts of a state: places and result bits in place, the rest as numbers.
 use super::Stepped;
 use crate::rows::next_label;
+use codes::code_of;
 use image::byte;
 use image::label_byte;
 use image::label_mask;
@@ -9,7 +10,7 @@ ghost use Prim.Native.Nat.{_+_, _-_, _≤_, _<_};
 ghost use lib.ListN.{length, getD};
 ghost use Rattle.bits.specs.Results.{withResult};
 ghost use Rattle.image.specs.Decode.{labelIn};
-ghost use Rattle.machine.specs.Parts.{firstFrames, stateOf, Ready, codeOf, Steps};
+ghost use Rattle.machine.specs.Parts.{firstFrames, stateOf, Ready, Steps};
 
 // The result of a tick of a scheme: 0 keeps its bit, 1 and 2 write it.
 fn write_result(bits: &mut [bool], result: u8, owner: u8)
@@ -18,20 +19,6 @@ fn write_result(bits: &mut [bool], result: u8, owner: u8)
 {
     if result != 0 {
         bits[(owner - 1) as usize] = result == 2;
-    }
-}
-
-// The code of a tick, by its kind and the scheme that it calls.
-fn code_of(kind: u8, called: u8) -> u8
-    requires { ⌜ called ≤ 16 ⌝ }
-    ensures { λ r. ⌜ r ≡ codeOf kind called ⌝ }
-{
-    match kind {
-        0 => 0,
-        1 => 16 + called,
-        2 => 64 + called,
-        3 => 3,
-        _ => 4,
     }
 }
 
@@ -190,7 +177,7 @@ pub fn tick_parts(
     let kind = label_byte(table, l, 2);
     match kind {
         0 => tick_plain(table, firsts, size, depth, places, bits, word),
-        1 | 2 => tick_call(table, size, depth, places, bits, word),
+        1..=2 => tick_call(table, size, depth, places, bits, word),
         3 => tick_back(table, firsts, size, depth, places, bits, word),
         _ => tick_home(table, size, depth, places, bits, word),
     }

@@ -5,17 +5,16 @@ use image::label_byte;
 use image::pair;
 use image::rows_from;
 ghost use mathlib.Core.Path.{_≡_};
-ghost use mathlib.Core.List.{map};
 ghost use Prim.Native.Nat.{_-_, _≤_, _<_};
 ghost use lib.ListN.{length};
-ghost use Rattle.lists.specs.Numbers.{range, lowest};
+ghost use Rattle.lists.specs.Numbers.{lowest};
 ghost use Rattle.bits.specs.Results.{resultOf};
 ghost use Rattle.frames.specs.Frame.{size};
 ghost use Rattle.frames.specs.Verdict.{fine};
 ghost use Rattle.image.specs.Decode.{lastLabel, labelIn, decoded};
 ghost use Rattle.image.specs.Check.{tableVerdict};
 ghost use Rattle.machine.specs.Tick.{firstRow, rowOf};
-ghost use Rattle.machine.specs.Parts.{rowOn, fitting, reached, firstFrames, foundAt, foundAs};
+ghost use Rattle.machine.specs.Parts.{fitting, reached, firstFrames, nextOf};
 
 // Whether the row in frame f leaves the label and matches.
 fn is_fitting(table: &[u8], f: usize, label: u8, word: u16, bit: u8) -> bool
@@ -38,7 +37,7 @@ fn is_fitting(table: &[u8], f: usize, label: u8, word: u16, bit: u8) -> bool
 // The frame of the label's first matching row among the frames from first up to end, or end.
 fn find_row(table: &[u8], first: usize, end: usize, label: u8, word: u16, bit: u8) -> usize
     requires { ⌜ (first ≤ end) × (end ≤ size (now table)) ⌝ }
-    ensures { λ r. ⌜ foundAt (now (table .entry)) end r ≡ firstRow label word bit (map (rowOn (now (table .entry))) (range first (end - first))) ⌝ }
+    ensures { λ r. ⌜ r ≡ lowest (fitting (now (table .entry)) label word bit) first (end - first) ⌝ }
 {
     let mut f = first;
     while f < end {
@@ -95,7 +94,7 @@ fn result_of(bits: &[bool], h: u8) -> bool
 fn next_by(table: &[u8], firsts: &[u16], label: u8, word: u16, bit: u8) -> u16
     requires { ⌜ tableVerdict (now table) ≡ fine ⌝ }
     requires { ⌜ now firsts ≡ firstFrames (now table) ⌝ }
-    ensures { λ r. ⌜ foundAs r ≡ firstRow label word bit (decoded (now (table .entry)) .rows) ⌝ }
+    ensures { λ r. ⌜ r ≡ nextOf (firstRow label word bit (decoded (now (table .entry)) .rows)) ⌝ }
 {
     let l = label as usize;
     let first = firsts[l] as usize;
@@ -112,7 +111,7 @@ pub fn next_label(table: &[u8], firsts: &[u16], label: u8, word: u16, bits: &[bo
     requires { ⌜ (tableVerdict (now table) ≡ fine) × (label ≤ lastLabel (now table)) ⌝ }
     requires { ⌜ now firsts ≡ firstFrames (now table) ⌝ }
     requires { ⌜ (labelIn (now table) label .called ≤ 16) × (length (now bits) ≡ 16) ⌝ }
-    ensures { λ r. ⌜ foundAs r ≡ rowOf (decoded (now (table .entry))) (now (bits .entry)) label word ⌝ }
+    ensures { λ r. ⌜ r ≡ nextOf (rowOf (decoded (now (table .entry))) (now (bits .entry)) label word) ⌝ }
 {
     let called = label_byte(table, label as usize, 3);
     if result_of(bits, called) {

@@ -70,4 +70,5 @@ extern "C" {
         index: *mut usize,
         count: *mut usize,
     ) -> u8;
+    pub fn fairleadow_meaning(code: u8, called: *mut u8) -> u8;
 }

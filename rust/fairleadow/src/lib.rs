@@ -4,5 +4,5 @@
 pub mod c;
 mod proved;
 
-pub use interface::{Answer, Library, State, Ticked};
+pub use interface::{Answer, Library, Meaning, State, Ticked};
 pub use proved::Proved;

@@ -1,7 +1,7 @@
 //! Safe calls of the C functions. Each borrows its buffers for the call: no reference is null, and what is borrowed for
 //! writing overlaps nothing else, which is all that the header asks.
 
-use interface::{Answer, Library, State, Ticked};
+use interface::{Answer, Library, Meaning, State, Ticked};
 
 use crate::c;
 
@@ -110,5 +110,17 @@ impl Library for Proved {
         });
         *state = from_c(&kept);
         Ticked { answer, mask, code }
+    }
+
+    fn meaning(&self, code: u8) -> Meaning {
+        let mut called = 0;
+        match unsafe { c::fairleadow_meaning(code, &mut called) } {
+            0 => Meaning::Plain,
+            1 => Meaning::OperationCall(called),
+            2 => Meaning::FunctionCall(called),
+            3 => Meaning::Return,
+            4 => Meaning::Home,
+            _ => Meaning::Unknown,
+        }
     }
 }

@@ -48,6 +48,17 @@ pub struct Ticked {
     pub code: u8,
 }
 
+/// What a tick's code stands for; a call has the scheme called, and Unknown is a code that no tick has.
+#[derive(Clone, Copy, Debug, PartialEq, Eq)]
+pub enum Meaning {
+    Plain,
+    OperationCall(u8),
+    FunctionCall(u8),
+    Return,
+    Home,
+    Unknown,
+}
+
 /// The entry points of paper 01. Counts are records, characters and ticks; an accepted image and a fresh state count 0.
 pub trait Library {
     fn read_chart(&self, text: &[u8], out: &mut [u8]) -> Answer;
@@ -71,4 +82,6 @@ pub trait Library {
         *state = after;
         Ticked { answer, mask: masks[0], code: codes[0] }
     }
+
+    fn meaning(&self, code: u8) -> Meaning;
 }

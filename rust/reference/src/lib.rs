@@ -4,6 +4,7 @@
 pub mod answer;
 pub mod chart;
 pub mod check;
+pub mod codes;
 pub mod compare;
 pub mod entry;
 pub mod expectation;
@@ -21,5 +22,5 @@ pub mod translator;
 pub mod walk;
 
 pub use answer::Answer;
-pub use library::{Library, Reference, Ticked};
+pub use library::{Library, Meaning, Reference, Ticked};
 pub use state::{fresh_state, State};

@@ -1,7 +1,7 @@
 //! The reference as a library.
 
-use crate::entry;
-pub use interface::{Answer, Library, State, Ticked};
+use crate::{codes, entry};
+pub use interface::{Answer, Library, Meaning, State, Ticked};
 
 /// The reference itself.
 pub struct Reference;
@@ -36,5 +36,9 @@ impl Library for Reference {
         codes: &mut [u8],
     ) -> (Answer, State) {
         entry::run(image, state, words, masks, codes)
+    }
+
+    fn meaning(&self, code: u8) -> Meaning {
+        codes::meaning(code)
     }
 }

@@ -7,7 +7,7 @@ use reference::entry::{self, image_from_text};
 use reference::frames::text_of;
 use reference::image::{Image, FUNCTION_CALL, HOME, RETURN};
 use reference::machine::{self, Advanced};
-use reference::{Answer, Library, Reference, State, Ticked};
+use reference::{Answer, Library, Meaning, Reference, State, Ticked};
 
 /// An enum of the faults, and the list of them all.
 macro_rules! faults {
@@ -264,6 +264,10 @@ impl Library for Faulty {
             ticked.code = 4;
         }
         ticked
+    }
+
+    fn meaning(&self, code: u8) -> Meaning {
+        Reference.meaning(code)
     }
 }
 

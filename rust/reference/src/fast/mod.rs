@@ -9,7 +9,7 @@ mod table;
 
 use crate::answer::{answered, Answer, Refusal};
 use crate::frames::{Frame, CHARACTERS, CHART_TEXT, IMAGE_TEXT};
-use crate::library::Library;
+use crate::library::{Library, Meaning};
 use crate::state::State;
 
 const NODES: usize = 256;
@@ -117,5 +117,9 @@ impl Library for Fast {
         machine.load(state);
         let answer = machine.run(words, masks, codes);
         (answer, machine.store(state.size))
+    }
+
+    fn meaning(&self, code: u8) -> Meaning {
+        crate::codes::meaning(code)
     }
 }

@@ -70,7 +70,7 @@ returns c =
     let shared-slice-known = c .before .before .before .before .before .before .shared-slice-known in
     next-found b (start .pre .0) (λ k. omega (arith, shared-slice-known .given k)) firsts (start .pre .1) label
     (search needs) word bit (c .before .before .find-row .result) (c .before .before .find-row .ensures) (c .byte .result)
-    (search needs) (search needs) (c .byte .ensures)
+    (search needs) (c .byte .ensures)
 
 returns-2 : tie.Need-returns-2
 returns-2 c =

@@ -1,11 +1,11 @@
--- `machine::parts::code_of` meets its contract: by the kind.
+-- `codes::code_of` meets its contract: by the kind.
 use mathlib.Core.Path.{sym, ap}
 use Prim.Native.Nat.{ℕ, _-_}
-use Rattle.machine.specs.Parts.{codeOf}
-use Rattle.machine.proofs.TickCases.{code-rest}
+use Rattle.codes.specs.Codes.{codeOf}
+use Rattle.codes.proofs.CodeCases.{code-rest}
 use borrow.Author.Needs.{needs}
-use Rattle.machine.proofs.parts.code_of.Statement.{statement}
-use Rattle.machine.proofs.parts.code_of.Tie as tie
+use Rattle.codes.proofs.code_of.Statement.{statement}
+use Rattle.codes.proofs.code_of.Tie as tie
 
 add-result : tie.Need-add-result
 add-result c = search needs

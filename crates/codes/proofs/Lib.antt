@@ -1,0 +1,2 @@
+pub mod CodeCases
+pub mod CodeLaws
