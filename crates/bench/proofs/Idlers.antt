@@ -16,7 +16,7 @@ use Rattle.translator.specs.Entry.{translateVerdict, translate}
 use Rattle.machine.specs.declared.State.{State}
 use Rattle.machine.specs.State.{fresh, freshState}
 use Rattle.machine.specs.Tick.{ticked, tick}
-use Rattle.machine.specs.Run.{Run, run}
+use Rattle.machine.specs.Run.{Run, runVerdict, run}
 use Rattle.agreement.specs.Agreement.{Runner, Translator, Asked, Told, chain, Agreement, Translates}
 use Rattle.agreement.proofs.Demand.{theorem}
 use Rattle.bench.specs.Bench.{chartP, imageP, words, chartHome}
@@ -64,13 +64,15 @@ one-image-fails x f idle claim =
     omega arith
 
 -- ---- runs
--- 17 for all runs that have a word
+-- 17 for all runs with a word that 1 to 16 let pass
 abbrev pub AlwaysFull : Runner → Type 0
-AlwaysFull f = (image : List ℕ) (s : State) (w : ℕ) (ws masks codes : List ℕ) → number (f image s (w ∷ ws) masks codes .reply) ≡ 17
+AlwaysFull f = (image : List ℕ) (s : State) (w : ℕ) (ws masks codes : List ℕ)
+    → runVerdict image s (w ∷ ws) masks codes ≡ fine → number (f image s (w ∷ ws) masks codes .reply) ≡ 17
 
 pub always-full-fails : (f : Runner) → AlwaysFull f → Agreement translate freshState f → ⊥
+unfolding running imageHome
 always-full-fails f idle claim =
-    let z : _≡_ {A = ℕ} 17 0 = sym (idle imageHome (fresh 1) 0 [] (7 ∷ []) (7 ∷ [])) ∙ ap (λ (t : Told). number (t .reply)) (at-home f claim) in
+    let z : _≡_ {A = ℕ} 17 0 = sym (idle imageHome (fresh 1) 0 [] (7 ∷ []) (7 ∷ []) refl) ∙ ap (λ (t : Told). number (t .reply)) (at-home f claim) in
     omega arith
 
 -- all ticks that it counts are home ticks
@@ -135,14 +137,15 @@ keeps-state-fails f idle claim =
     let z : _≡_ {A = ℕ} 18 4 = sym (ap (λ (ts : List Told). codeAt 0 (second ts)) told) ∙ same ∙ ap (λ (ts : List Told). codeAt 0 (first ts)) told in
     omega arith
 
--- a count that is not the ticks written
+-- a count that is not the ticks written, in all runs with a word that 1 to 16 let pass
 pub record Miscount (codes : List ℕ) (r : Run) : Type 0 where
   pub written : List ℕ
   pub buffer : r .codes ≡ over written codes
   pub differs : count (r .reply) ≡ length written → ⊥
 
 abbrev pub Miscounts : Runner → Type 0
-Miscounts f = (image : List ℕ) (s : State) (ws masks codes : List ℕ) → Miscount codes (f image s ws masks codes)
+Miscounts f = (image : List ℕ) (s : State) (w : ℕ) (ws masks codes : List ℕ)
+    → runVerdict image s (w ∷ ws) masks codes ≡ fine → Miscount codes (f image s (w ∷ ws) masks codes)
 
 one-written : (ks : List ℕ) → over ks (7 ∷ []) ≡ 4 ∷ [] → length ks ≡ 1
 one-written [] e = let z : _≡_ {A = ℕ} 7 4 = ap (λ (xs : List ℕ). getD xs 0 0) e in absurd (omega arith)
@@ -150,9 +153,10 @@ one-written (k ∷ []) e = refl
 one-written (k ∷ j ∷ ks) e = let z = ap length e in absurd (omega arith)
 
 pub miscounts-fails : (f : Runner) → Miscounts f → Agreement translate freshState f → ⊥
+unfolding running imageHome
 miscounts-fails f idle claim =
     let told = at-home f claim in
-    let m = idle imageHome (fresh 1) (0 ∷ []) (7 ∷ []) (7 ∷ []) in
+    let m = idle imageHome (fresh 1) 0 [] (7 ∷ []) (7 ∷ []) refl in
     m .differs (ap (λ (t : Told). count (t .reply)) told ∙ sym (one-written (m .written) (sym (m .buffer) ∙ ap (λ (t : Told). t .codes) told)))
 
 -- ---- and no other: whatever meets demand 3 hands back what the definition does, in every list of runs
