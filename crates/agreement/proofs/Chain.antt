@@ -65,7 +65,7 @@ replied-by true k = refl
 replied-by false k = refl
 
 -- the fresh state is that of the position where the walk begins
-fresh-is : (n : ℕ) → 1 ≤ n → n ≤ 32 → freshState n .state ≡ fresh n
+pub fresh-is : (n : ℕ) → 1 ≤ n → n ≤ 32 → freshState n .state ≡ fresh n
 unfolding freshState
 fresh-is n l h =
     ap (λ (t : Bool). pick {A = Made} t (record { reply = refusal 14 0 0; state = noState })

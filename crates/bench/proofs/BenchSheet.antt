@@ -1,102 +1,58 @@
--- The bench sheet holds, as one list: computed, and B6 proved for every list of words.
+-- The bench sheet holds, as one list.
 use mathlib.Core.Path.{_≡_, refl, _∙_, ap}
-use mathlib.Core.List.{List, [], _∷_, map}
-use Prim.Native.Nat.{ℕ}
-use mathlib.Core.Bool.{false}
+use mathlib.Core.List.{List, []}
+use Prim.Native.Nat.{ℕ, _≤_}
 use native.Mathlib.Omega.{arith}
-use borrow.Author.Tests.{le-ltb}
-use lib.ListN.{length, replicate, length-replicate}
-use Rattle.lists.specs.Numbers.{lowest, any, count, sum, highest}
-use Rattle.lists.specs.Sequences.{some, filter, concatMap, mapFrom, over}
-use Rattle.bits.specs.Results.{noResults}
-use Rattle.graph.specs.Reach.{reach}
-use Rattle.frames.specs.Digit.{digitOf, charOf}
-use Rattle.frames.specs.Frame.{contents, total, frameText}
-use Rattle.frames.specs.Check.{badForm, badSum, textVerdict}
-use Rattle.frames.specs.Verdict.{fine, when}
-use Rattle.frames.specs.Answer.{success, refusal, lent}
-use Rattle.charts.specs.Chart.{nodeOf}
-use Rattle.charts.specs.Check.{badField, chartVerdict}
-use Rattle.charts.specs.Entry.{readVerdict}
-use Rattle.walk.specs.Stops.{stops, start, follow, stopAt}
-use Rattle.image.specs.Image.{Image, imageFrames, imageText}
-use Rattle.image.specs.Decode.{decoded}
-use Rattle.image.specs.Check.{badHeader, positionOf, stray, badContent, tableVerdict, imageVerdict}
-use Rattle.walk.specs.Walk.{spent, after, ticksOf, tick as oneTick, perform, walk}
-use Rattle.translator.specs.Labels.{label}
-use Rattle.translator.specs.Rows.{paths, rowsOf, rows}
-use Rattle.translator.specs.Table.{table}
-use Rattle.translator.specs.Entry.{translateVerdict, translate}
-use Rattle.machine.specs.State.{fresh, freshState, unfit}
+use lib.ListN.{replicate}
+use Rattle.frames.specs.Verdict.{fine}
+use Rattle.frames.specs.Answer.{refusal, Lent}
+use Rattle.translator.specs.Entry.{translate}
+use Rattle.machine.specs.State.{fresh}
 use Rattle.machine.specs.Tick.{firstRow, tick}
-use Rattle.machine.specs.Run.{ticks, noRoom, runVerdict, runOn, run}
-use Rattle.bench.specs.Bench.{BenchSheet, chartP, imageP, words, chartHome, chartSmall, chartCircle, chartFunction, characters, freshRun, imageOf}
+use Rattle.machine.specs.Run.{Run, ticks, runOn}
+use Rattle.bench.specs.Bench.{BenchSheet, imageP, words, chartHome, chartSmall, chartCircle, chartFunction, freshRun, imageOf}
+use Rattle.bench.proofs.Computing.{framing, translating}
+use Rattle.bench.proofs.Tables.{tableP, of-P, imageHome, of-home, imageFunction, of-function}
+use Rattle.bench.proofs.Rounds.{blank, fresh-run, home-walk, home-run, function-run}
 
--- ---- computed
-texts : (out : List ℕ) → (translate chartP out ≡ lent fine 1 (λ _. imageP) out)
-    × (translate [] out .reply ≡ refusal 1 0 0) × (translate chartSmall out .reply ≡ refusal 2 0 0) × (translate chartCircle out .reply ≡ refusal 8 1 0)
-unfolding lowest any count sum highest some filter concatMap mapFrom reach digitOf charOf contents total frameText badForm badSum textVerdict nodeOf badField chartVerdict readVerdict stops start label paths rowsOf rows table imageFrames imageText translateVerdict translate characters chartP imageP chartSmall chartCircle
-texts out = (refl, refl, refl, refl)
+refused-texts : (out : List ℕ) → (translate [] out ≡ record { reply = refusal 1 0 0; buffer = out })
+    × (translate chartSmall out ≡ record { reply = refusal 2 0 0; buffer = out })
+    × (translate chartCircle out ≡ record { reply = refusal 8 1 0; buffer = out })
+unfolding translating chartSmall chartCircle
+refused-texts out = (refl, refl, refl)
 
-runs : (freshRun imageP 3 words ≡ record {
-  reply = success 8;
-  state = freshRun imageP 3 words .state;
-  masks = 0 ∷ 1 ∷ 0 ∷ 2 ∷ 0 ∷ 0 ∷ 0 ∷ 0 ∷ [];
-  codes = 4 ∷ 18 ∷ 0 ∷ 18 ∷ 0 ∷ 3 ∷ 3 ∷ 4 ∷ [];
-})
-    × (freshRun imageP 2 words .reply ≡ refusal 17 0 3) × (freshRun imageP 1 words .reply ≡ refusal 17 0 1) × (freshRun imageP 3 [] .reply ≡ success 0)
-    × (freshRun (imageOf 276 chartFunction) 2 (replicate 6 0) .codes ≡ 4 ∷ 66 ∷ 0 ∷ 3 ∷ 0 ∷ 4 ∷ [])
-unfolding lowest any count sum highest some filter concatMap mapFrom reach digitOf charOf contents total frameText badForm badSum textVerdict nodeOf badField chartVerdict readVerdict stops start label paths rowsOf rows table imageFrames imageText translateVerdict translate characters badHeader positionOf stray badContent tableVerdict imageVerdict decoded freshState unfit firstRow tick ticks runVerdict run imageP words chartFunction
-runs = (refl, refl, refl, refl, refl)
+-- ---- chart P, run on its table
+run-P : (size : ℕ) → 1 ≤ size → size ≤ 32 → (ws : List ℕ)
+    → freshRun imageP size ws ≡ runOn fine (λ _. ticks tableP (fresh size) ws) (fresh size) (blank ws) (blank ws)
+run-P = fresh-run of-P
 
--- ---- B6
-home-course : (ws : List ℕ) → perform (length ws) (contents chartHome) 1 1 ws noResults ≡ spent (map (λ w. record { mask = 0; code = 4; opened = 1 }) ws)
-unfolding lowest any count sum highest some filter concatMap mapFrom reach digitOf charOf contents total frameText badForm badSum textVerdict nodeOf badField chartVerdict readVerdict stops start label paths rowsOf rows table imageFrames imageText translateVerdict translate characters stopAt follow perform walk chartHome
-home-course [] = refl
-home-course (w ∷ ws) = ap (after (oneTick 0 4 1)) (home-course ws)
+-- ---- the images of the two other charts
+image-home : imageOf 92 chartHome ≡ imageHome
+unfolding framing imageHome
+image-home = ap (λ (l : Lent). l .buffer) (of-home .translated (replicate 92 0))
 
-b6-walk : (ws : List ℕ) → walk (contents chartHome) ws ≡ map (λ w. record { mask = 0; code = 4; opened = 1 }) ws
-unfolding lowest any count sum highest some filter concatMap mapFrom reach digitOf charOf contents total frameText badForm badSum textVerdict nodeOf badField chartVerdict readVerdict stops start label paths rowsOf rows table imageFrames imageText translateVerdict translate characters stopAt follow perform walk chartHome
-b6-walk ws = ap ticksOf (home-course ws)
+image-function : imageOf 276 chartFunction ≡ imageFunction
+unfolding framing imageFunction
+image-function = ap (λ (l : Lent). l .buffer) (of-function .translated (replicate 276 0))
 
-home-image : Image
-home-image = decoded (contents (imageOf 92 chartHome))
-
-home-ticks : (ws : List ℕ) → ticks home-image (fresh 1) ws .codes ≡ map (λ w. 4) ws
-unfolding home-image lowest any count sum highest some filter concatMap mapFrom reach digitOf charOf contents total frameText badForm badSum textVerdict nodeOf badField chartVerdict readVerdict stops start label paths rowsOf rows table imageFrames imageText translateVerdict translate characters badHeader positionOf stray badContent tableVerdict imageVerdict decoded freshState unfit firstRow tick ticks runVerdict run chartHome
-home-ticks [] = refl
-home-ticks (w ∷ ws) = ap (λ (ks : List ℕ). 4 ∷ ks) (home-ticks ws)
-
-home-verdict : (ws ms ks : List ℕ) → runVerdict (imageOf 92 chartHome) (freshState 1 .state) ws ms ks ≡ when 16 (noRoom ws ms ks)
-unfolding lowest any count sum highest some filter concatMap mapFrom reach digitOf charOf contents total frameText badForm badSum textVerdict nodeOf badField chartVerdict readVerdict stops start label paths rowsOf rows table imageFrames imageText translateVerdict translate characters badHeader positionOf stray badContent tableVerdict imageVerdict decoded freshState unfit firstRow tick ticks runVerdict run chartHome
-home-verdict ws ms ks = refl
-
-room : (ws : List ℕ) → noRoom ws (replicate (length ws) 0) (replicate (length ws) 0) ≡ false
-room ws = simp (length-replicate, le-ltb (length ws) (length ws) (omega arith))
-
-full : (ws : List ℕ) → over {A = ℕ} (map (λ w. 4) ws) (replicate (length ws) 0) ≡ map (λ w. 4) ws
-full [] = refl
-full (w ∷ ws) = ap (λ (ks : List ℕ). 4 ∷ ks) (full ws)
-
-b6-run : (ws : List ℕ) → freshRun (imageOf 92 chartHome) 1 ws .codes ≡ map (λ w. 4) ws
-unfolding run freshState home-image
-b6-run ws =
-    let blank : List ℕ = replicate (length ws) 0 in
-    ap (λ v. runOn v (λ _. ticks home-image (fresh 1) ws) (fresh 1) blank blank .codes) (home-verdict ws blank blank ∙ ap (when 16) (room ws))
-    ∙ ap (λ ks. over ks blank) (home-ticks ws)
-    ∙ full ws
+on-function : (size : ℕ) (ws : List ℕ) → freshRun (imageOf 276 chartFunction) size ws ≡ freshRun imageFunction size ws
+on-function size ws = ap (λ (image : List ℕ). freshRun image size ws) image-function
 
 pub bench-sheet : BenchSheet
+unfolding ticks tick firstRow tableP words
 bench-sheet = record {
-  b1 = λ out. texts out .0;
-  b2 = (ap (λ r. r .reply) (runs .0), ap (λ r. r .codes) (runs .0), ap (λ r. r .masks) (runs .0));
-  b3 = runs .1;
-  b4 = runs .2;
-  b5 = runs .3;
-  b6-walk = b6-walk;
-  b6-run = b6-run;
-  b7-empty = λ out. texts out .1;
-  b7-small = λ out. texts out .2;
-  b8 = λ out. texts out .3;
-  b10 = runs .4;
+  b1 = of-P .translated;
+  b2 = let e = run-P 3 (omega arith) (omega arith) words in
+      (ap (λ (r : Run). r .reply) e, ap (λ (r : Run). r .codes) e, ap (λ (r : Run). r .masks) e);
+  b3 = ap (λ (r : Run). r .reply) (run-P 2 (omega arith) (omega arith) words);
+  b4 = ap (λ (r : Run). r .reply) (run-P 1 (omega arith) (omega arith) words);
+  b5 = λ size l h. ap (λ (r : Run). r .reply) (run-P size l h []);
+  b6-walk = home-walk;
+  b6-run = λ size l h ws. ap (λ (image : List ℕ). freshRun image size ws) image-home ∙ home-run size l h ws;
+  b7-empty = λ out. refused-texts out .0;
+  b7-small = λ out. refused-texts out .1;
+  b8 = λ out. refused-texts out .2;
+  b10 = ap (λ (r : Run). r .codes) (on-function 2 (replicate 6 0)) ∙ function-run 2 (omega arith) (omega arith) (replicate 6 0) .1;
+  b10-always = λ size l h ws. let e = on-function size ws in let r = function-run size l h ws in
+      (ap (λ (r : Run). r .reply) e ∙ r .0, ap (λ (r : Run). r .codes) e ∙ r .1, ap (λ (r : Run). r .masks) e ∙ r .2);
 }

@@ -1,30 +1,11 @@
 -- Every case of a refusal holds, computed.
 use mathlib.Core.Path.{refl}
-use Rattle.lists.specs.Numbers.{lowest, any, count, sum, highest}
-use Rattle.lists.specs.Sequences.{some, filter, concatMap, mapFrom}
-use Rattle.graph.specs.Reach.{reach}
-use Rattle.frames.specs.Digit.{digitOf, charOf}
-use Rattle.frames.specs.Frame.{contents, total, frameText, textOf}
-use Rattle.frames.specs.Check.{badForm, badSum, textVerdict}
-use Rattle.charts.specs.Chart.{nodeOf}
-use Rattle.charts.specs.Check.{badField, chartVerdict}
-use Rattle.charts.specs.Entry.{readVerdict, readChart, writeVerdict}
-use Rattle.walk.specs.Stops.{stops, start}
-use Rattle.image.specs.Image.{imageFrames, imageText}
-use Rattle.image.specs.Decode.{decoded}
-use Rattle.image.specs.Check.{badHeader, positionOf, stray, badContent, tableVerdict, imageVerdict}
-use Rattle.translator.specs.Labels.{label}
-use Rattle.translator.specs.Rows.{paths, rowsOf, rows}
-use Rattle.translator.specs.Table.{table}
-use Rattle.translator.specs.Entry.{translateVerdict, translate}
-use Rattle.machine.specs.State.{freshState, unfit}
-use Rattle.machine.specs.Tick.{firstRow, tick}
-use Rattle.machine.specs.Run.{ticks, runVerdict, run}
-use Rattle.bench.specs.Bench.{characters, chartP, imageP, words}
+use Rattle.bench.specs.Bench.{chartP, imageP, words}
 use Rattle.bench.specs.Cases.{RefusalCases}
+use Rattle.bench.proofs.Computing.{translating, running}
 
 pub refusal-cases : RefusalCases
-unfolding lowest any count sum highest some filter concatMap mapFrom reach digitOf charOf contents total frameText badForm badSum textVerdict nodeOf badField chartVerdict readVerdict stops start label paths rowsOf rows table imageFrames imageText translateVerdict translate characters textOf readChart writeVerdict badHeader positionOf stray badContent tableVerdict imageVerdict decoded freshState unfit firstRow tick ticks runVerdict run chartP imageP words
+unfolding translating running chartP imageP words
 refusal-cases = record {
   r1-short = refl;
   r1-records = refl;

@@ -1,95 +1,167 @@
--- Functions that do too little: each is shown not to meet the equation of demand 2 or the statement of demand 3.
-use mathlib.Core.Path.{_≡_, ap}
-use mathlib.Core.List.{map}
-use Prim.Native.Nat.{ℕ, suc}
+-- Functions that do too little: none that has one of these properties meets the equation of demand 2 or the statement of demand 3.
+use mathlib.Core.Path.{_≡_, refl, _∙_, ap, sym}
+use mathlib.Core.Bool.{Bool, true, false}
+use mathlib.Core.List.{List, [], _∷_}
+use Prim.Native.Nat.{ℕ, _≤_, _<_}
 use native.Mathlib.Omega.{arith}
 use lib.Dec.{eqb}
-use lib.ListN.{length, replicate}
+use lib.ListN.{length, take, getD, replicate}
 use Rattle.lists.specs.Pick.{pick}
-use Rattle.lists.specs.Numbers.{lowest, any, count, sum, highest}
-use Rattle.lists.specs.Sequences.{some, filter, concatMap, mapFrom, over}
-use Rattle.graph.specs.Reach.{reach}
-use Rattle.frames.specs.Digit.{digitOf, charOf}
-use Rattle.frames.specs.Frame.{contents, total, frameText}
-use Rattle.frames.specs.Check.{badForm, badSum, textVerdict}
-use Rattle.frames.specs.Answer.{Reply, success, refusal, Lent, lent, number, count as replyCount}
-use Rattle.charts.specs.Chart.{nodeOf}
-use Rattle.charts.specs.Check.{badField, chartVerdict}
+use Rattle.lists.specs.Sequences.{over}
+use Rattle.frames.specs.Verdict.{fine}
+use Rattle.frames.specs.Answer.{Reply, success, refusal, Lent, lent, number, count}
+use Rattle.frames.proofs.Lent.{Success, lent-told, front}
 use Rattle.charts.specs.Entry.{readVerdict}
-use Rattle.walk.specs.Stops.{stops, start}
-use Rattle.image.specs.Image.{imageFrames, imageText}
-use Rattle.image.specs.Decode.{decoded}
-use Rattle.image.specs.Check.{badHeader, positionOf, stray, badContent, tableVerdict, imageVerdict}
-use Rattle.translator.specs.Labels.{label}
-use Rattle.translator.specs.Rows.{paths, rowsOf, rows}
-use Rattle.translator.specs.Table.{table}
 use Rattle.translator.specs.Entry.{translateVerdict, translate}
-use Rattle.machine.specs.State.{freshState, unfit}
-use Rattle.machine.specs.Tick.{ticked, firstRow, tick}
-use Rattle.machine.specs.Run.{ticks, runVerdict, run}
-use Rattle.agreement.specs.Agreement.{Runner, Translator, Told, Agreement, Translates}
-use Rattle.bench.specs.Bench.{characters, imageP, words, chartHome}
-use Rattle.bench.proofs.Instances.{imageHome, at-home, at-deep}
+use Rattle.machine.specs.declared.State.{State}
+use Rattle.machine.specs.State.{fresh, freshState}
+use Rattle.machine.specs.Tick.{ticked, tick}
+use Rattle.machine.specs.Run.{Run, runVerdict, run}
+use Rattle.agreement.specs.Agreement.{Runner, Translator, Asked, Told, chain, Agreement, Translates}
+use Rattle.agreement.proofs.Demand.{theorem}
+use Rattle.bench.specs.Bench.{chartP, imageP, words, chartHome}
+use Rattle.bench.proofs.Computing.{translating, running}
+use Rattle.bench.proofs.Tables.{imageHome}
+use Rattle.bench.proofs.Instances.{first, at-home, at-deep, at-twice}
 use Rattle.bench.proofs.Variants.{Step, ticksBy, runBy, codeAt}
 
 -- ---- translators
--- every chart is turned back
-abbrev pub turnsBack : Translator
-turnsBack text out = record { reply = refusal 10 0 0; buffer = out }
+-- every chart is turned back, whatever the number
+abbrev refuses : Reply → Bool
+refuses (success n) = false
+refuses (refusal k i n) = true
 
-pub turns-back-fails : Translates turnsBack → ⊥
-unfolding chartHome lowest any count sum highest some filter concatMap mapFrom reach digitOf charOf contents total frameText badForm badSum textVerdict nodeOf badField chartVerdict readVerdict stops start label paths rowsOf rows table imageFrames imageText translateVerdict translate characters
-turns-back-fails claim = let z : _≡_ {A = ℕ} 10 0 = ap (λ (l : Lent). number (l .reply)) (claim chartHome (replicate 92 0)) in omega arith
+abbrev pub TurnsBack : Translator → Type 0
+TurnsBack f = (text out : List ℕ) → readVerdict text ≡ fine → refuses (f text out .reply) ≡ true
 
--- one image for all charts
-abbrev pub oneImage : Translator
-oneImage text out = lent (translateVerdict text) 1 (λ _. imageP) out
+pub turns-back-fails : (f : Translator) → TurnsBack f → Translates f → ⊥
+unfolding translating chartHome
+turns-back-fails f idle claim =
+    let z : false ≡ true = sym (ap (λ (l : Lent). refuses (l .reply)) (claim chartHome (replicate 92 0))) ∙ idle chartHome (replicate 92 0) refl in
+    let y : _≡_ {A = ℕ} 0 1 = cc in omega arith
 
-pub one-image-fails : Translates oneImage → ⊥
-unfolding chartHome imageP lowest any count sum highest some filter concatMap mapFrom reach digitOf charOf contents total frameText badForm badSum textVerdict nodeOf badField chartVerdict readVerdict stops start label paths rowsOf rows table imageFrames imageText translateVerdict translate characters
-one-image-fails claim = let z : _≡_ {A = ℕ} 0 92 = ap (λ (l : Lent). replyCount (l .reply)) (claim chartHome (replicate 92 0)) in omega arith
+-- one image for all charts: wherever it succeeds, that is what it wrote
+abbrev pub WritesOnly : List ℕ → Translator → Type 0
+WritesOnly x f = (text out : List ℕ) (n : ℕ) → f text out .reply ≡ success n → take n (f text out .buffer) ≡ x
+
+abbrev pub oneImage : List ℕ → Translator
+oneImage x text out = lent (translateVerdict text) 1 (λ _. x) out
+
+pub writes-only : (x : List ℕ) → WritesOnly x (oneImage x)
+writes-only x text out n done =
+    let s : Success (translateVerdict text) 1 x out n (oneImage x text out) = lent-told (translateVerdict text) 1 (λ _. x) out n done in
+    ap (take n) (s .buffer) ∙ front n x out (s .count ∙ omega arith)
+
+pub one-image-fails : (x : List ℕ) (f : Translator) → WritesOnly x f → Translates f → ⊥
+unfolding translating chartHome chartP
+one-image-fails x f idle claim =
+    let home = claim chartHome (replicate 92 0) in
+    let deep = claim chartP (replicate 276 0) in
+    let few : length x ≡ 92 = sym (ap length (idle chartHome (replicate 92 0) 92 (ap (λ (l : Lent). l .reply) home)))
+    ∙ ap (λ (l : Lent). length (take 92 (l .buffer))) home in
+    let many : length x ≡ 276 = sym (ap length (idle chartP (replicate 276 0) 276 (ap (λ (l : Lent). l .reply) deep)))
+    ∙ ap (λ (l : Lent). length (take 276 (l .buffer))) deep in
+    omega arith
 
 -- ---- runs
--- 17 before the first tick
-abbrev pub fullAtOnce : Runner
-fullAtOnce image s ws masks codes = record { reply = refusal 17 0 0; state = s; masks = masks; codes = codes }
+-- 17 for all runs with a word that 1 to 16 let pass
+abbrev pub AlwaysFull : Runner → Type 0
+AlwaysFull f = (image : List ℕ) (s : State) (w : ℕ) (ws masks codes : List ℕ)
+    → runVerdict image s (w ∷ ws) masks codes ≡ fine → number (f image s (w ∷ ws) masks codes .reply) ≡ 17
 
-pub full-at-once-fails : Agreement translate freshState fullAtOnce → ⊥
-full-at-once-fails claim = let z : _≡_ {A = ℕ} 17 0 = ap (λ (t : Told). number (t .reply)) (at-home fullAtOnce claim) in omega arith
+pub always-full-fails : (f : Runner) → AlwaysFull f → Agreement translate freshState f → ⊥
+unfolding running imageHome
+always-full-fails f idle claim =
+    let z : _≡_ {A = ℕ} 17 0 = sym (idle imageHome (fresh 1) 0 [] (7 ∷ []) (7 ∷ []) refl) ∙ ap (λ (t : Told). number (t .reply)) (at-home f claim) in
+    omega arith
 
--- home ticks always
-abbrev pub alwaysHome : Runner
-alwaysHome image s ws masks codes = record { reply = success (length ws); state = s; masks = over (map (λ w. 0) ws) masks; codes = over (map (λ w. 4) ws) codes }
+-- all ticks that it counts are home ticks
+abbrev pub AlwaysHome : Runner → Type 0
+AlwaysHome f = (image : List ℕ) (s : State) (ws masks codes : List ℕ) → let r = f image s ws masks codes in
+    r .codes ≡ over (replicate (count (r .reply)) 4) codes
 
-pub always-home-fails : Agreement translate freshState alwaysHome → ⊥
+pub always-home-fails : (f : Runner) → AlwaysHome f → Agreement translate freshState f → ⊥
 unfolding words
-always-home-fails claim = let z : _≡_ {A = ℕ} 4 18 = ap (codeAt 1) (at-deep alwaysHome claim) in omega arith
+always-home-fails f idle claim =
+    let told = at-deep f claim in
+    let held : List ℕ = replicate 8 7 in
+    let homes = idle imageP (fresh 3) words held held ∙ ap (λ (t : Told). over (replicate (count (t .reply)) 4) held) told in
+    let z : _≡_ {A = ℕ} 4 18 = sym (ap (λ (ks : List ℕ). getD ks 1 0) homes) ∙ ap (codeAt 1) told in
+    omega arith
 
--- the first call, and then plain ticks only
+-- after a call all ticks that it counts are plain
+abbrev pub PlainAfterCall : Runner → Type 0
+PlainAfterCall f = (image : List ℕ) (s : State) (ws masks codes : List ℕ) → let r = f image s ws masks codes in
+    (j k : ℕ) → j < k → k < count (r .reply) → 16 ≤ getD (r .codes) j 0 → getD (r .codes) k 0 ≡ 0
+
+pub plain-after-call-fails : (f : Runner) → PlainAfterCall f → Agreement translate freshState f → ⊥
+unfolding words
+plain-after-call-fails f idle claim =
+    let told = at-deep f claim in
+    let held : List ℕ = replicate 8 7 in
+    let r : Run = f imageP (fresh 3) words held held in
+    let counted : count (r .reply) ≡ 8 = ap (λ (t : Told). count (t .reply)) told in
+    let called : getD (r .codes) 1 0 ≡ 18 = ap (codeAt 1) told in
+    let z : _≡_ {A = ℕ} 18 0 = sym (ap (codeAt 3) told) ∙ idle imageP (fresh 3) words held held 1 3 (omega arith) (omega arith) (omega arith) in
+    omega arith
+
+-- such a run: the machine's ticks as long as one scheme is open, and then plain ones
 abbrev pub plainAfterCall : Step
 plainAfterCall i s w = pick (eqb (s .depth) 1) (tick i s w) (ticked 0 0 s)
 
-pub plain-after-call-fails : Agreement translate freshState (runBy plainAfterCall) → ⊥
-unfolding ticksBy imageP words lowest any count sum highest some filter concatMap mapFrom reach digitOf charOf contents total frameText badForm badSum textVerdict nodeOf badField chartVerdict readVerdict stops start label paths rowsOf rows table imageFrames imageText translateVerdict translate characters badHeader positionOf stray badContent tableVerdict imageVerdict decoded unfit firstRow tick ticks runVerdict run
-plain-after-call-fails claim = let z : _≡_ {A = ℕ} 0 18 = ap (codeAt 3) (at-deep (runBy plainAfterCall) claim) in omega arith
+pub plain-run-fails : Agreement translate freshState (runBy plainAfterCall) → ⊥
+unfolding running ticksBy imageP words
+plain-run-fails claim = let z : _≡_ {A = ℕ} 0 18 = ap (codeAt 3) (at-deep (runBy plainAfterCall) claim) in omega arith
 
--- nothing changes, whatever is answered
-abbrev pub unchanged : Reply → Runner
-unchanged r image s ws masks codes = record { reply = r; state = s; masks = masks; codes = codes }
+-- a run that changes nothing leaves its buffers and its state; either is too little
+abbrev pub WritesNothing : Runner → Type 0
+WritesNothing f = (image : List ℕ) (s : State) (ws masks codes : List ℕ) → f image s ws masks codes .codes ≡ codes
 
-pub unchanged-fails : (r : Reply) → Agreement translate freshState (unchanged r) → ⊥
-unchanged-fails r claim = let z : _≡_ {A = ℕ} 0 4 = ap (codeAt 0) (at-home (unchanged r) claim) in omega arith
+pub writes-nothing-fails : (f : Runner) → WritesNothing f → Agreement translate freshState f → ⊥
+writes-nothing-fails f idle claim =
+    let z : _≡_ {A = ℕ} 7 4 = sym (ap (λ (ks : List ℕ). getD ks 0 0) (idle imageHome (fresh 1) (0 ∷ []) (7 ∷ []) (7 ∷ []))) ∙ ap (codeAt 0) (at-home f claim) in
+    omega arith
 
--- a count that is not the ticks written
-abbrev pub oneMore : Reply → Reply
-oneMore (success n) = success (suc n)
-oneMore (refusal k i n) = refusal k i (suc n)
+abbrev pub KeepsState : Runner → Type 0
+KeepsState f = (image : List ℕ) (s : State) (ws masks codes : List ℕ) → f image s ws masks codes .state ≡ s
 
-abbrev pub miscounted : Runner
-miscounted image s ws masks codes =
-    let r = run image s ws masks codes in
-    record { reply = oneMore (r .reply); state = r .state; masks = r .masks; codes = r .codes }
+abbrev second : List Told → Told
+second [] = first []
+second (t ∷ ts) = first ts
 
-pub miscounted-fails : Agreement translate freshState miscounted → ⊥
-unfolding imageHome lowest any count sum highest some filter concatMap mapFrom reach digitOf charOf contents total frameText badForm badSum textVerdict nodeOf badField chartVerdict readVerdict stops start label paths rowsOf rows table imageFrames imageText translateVerdict translate characters badHeader positionOf stray badContent tableVerdict imageVerdict decoded unfit firstRow tick ticks runVerdict run
-miscounted-fails claim = let z : _≡_ {A = ℕ} 2 1 = ap (λ (t : Told). replyCount (t .reply)) (at-home miscounted claim) in omega arith
+pub keeps-state-fails : (f : Runner) → KeepsState f → Agreement translate freshState f → ⊥
+unfolding chain
+keeps-state-fails f idle claim =
+    let told = at-twice f claim in
+    let same = ap (λ (s : State). getD (f imageP s (0 ∷ []) (7 ∷ []) (7 ∷ []) .codes) 0 0) (idle imageP (fresh 3) (0 ∷ []) (7 ∷ []) (7 ∷ [])) in
+    let z : _≡_ {A = ℕ} 18 4 = sym (ap (λ (ts : List Told). codeAt 0 (second ts)) told) ∙ same ∙ ap (λ (ts : List Told). codeAt 0 (first ts)) told in
+    omega arith
+
+-- a count that is not the ticks written, in all runs with a word that 1 to 16 let pass
+pub record Miscount (codes : List ℕ) (r : Run) : Type 0 where
+  pub written : List ℕ
+  pub buffer : r .codes ≡ over written codes
+  pub differs : count (r .reply) ≡ length written → ⊥
+
+abbrev pub Miscounts : Runner → Type 0
+Miscounts f = (image : List ℕ) (s : State) (w : ℕ) (ws masks codes : List ℕ)
+    → runVerdict image s (w ∷ ws) masks codes ≡ fine → Miscount codes (f image s (w ∷ ws) masks codes)
+
+one-written : (ks : List ℕ) → over ks (7 ∷ []) ≡ 4 ∷ [] → length ks ≡ 1
+one-written [] e = let z : _≡_ {A = ℕ} 7 4 = ap (λ (xs : List ℕ). getD xs 0 0) e in absurd (omega arith)
+one-written (k ∷ []) e = refl
+one-written (k ∷ j ∷ ks) e = let z = ap length e in absurd (omega arith)
+
+pub miscounts-fails : (f : Runner) → Miscounts f → Agreement translate freshState f → ⊥
+unfolding running imageHome
+miscounts-fails f idle claim =
+    let told = at-home f claim in
+    let m = idle imageHome (fresh 1) 0 [] (7 ∷ []) (7 ∷ []) refl in
+    m .differs (ap (λ (t : Told). count (t .reply)) told ∙ sym (one-written (m .written) (sym (m .buffer) ∙ ap (λ (t : Told). t .codes) told)))
+
+-- ---- and no other: whatever meets demand 3 hands back what the definition does, in every list of runs
+pub only-run : (f : Runner) → Agreement translate freshState f → (text out : List ℕ) (n : ℕ) → translate text out .reply ≡ success n
+    → (size : ℕ) → 1 ≤ size → size ≤ 32 → (asked : List Asked) → let image = take n (translate text out .buffer) in
+    chain f image (freshState size .state) asked ≡ chain run image (freshState size .state) asked
+unfolding Agreement
+only-run f claim text out n done size l h asked = claim text out n done size l h asked ∙ sym (theorem text out n done size l h asked)

@@ -1,6 +1,9 @@
+pub mod Computing
+pub mod Tables
+pub mod Rounds
 pub mod BenchSheet
 pub mod Cases
 pub mod Instances
 pub mod Variants
-pub mod Idlers
 pub mod Slips
+pub mod Idlers

@@ -7,33 +7,21 @@ use native.Mathlib.Omega.{arith}
 use lib.Dec.{leb, eqb}
 use lib.ListN.{getD, set, replicate}
 use Rattle.lists.specs.Pick.{pick}
-use Rattle.lists.specs.Numbers.{lowest, any, count, sum, highest}
-use Rattle.lists.specs.Sequences.{some, filter, concatMap, mapFrom}
 use Rattle.bits.specs.Word.{bit}
 use Rattle.bits.specs.Results.{resultOf}
-use Rattle.graph.specs.Reach.{reach}
-use Rattle.frames.specs.Digit.{digitOf, charOf}
-use Rattle.frames.specs.Frame.{contents, total, frameText}
-use Rattle.frames.specs.Check.{badForm, badSum, textVerdict}
+use Rattle.frames.specs.Frame.{contents}
 use Rattle.frames.specs.Answer.{Lent, lent, count as replyCount}
-use Rattle.charts.specs.Chart.{nodeOf}
-use Rattle.charts.specs.Check.{badField, chartVerdict}
-use Rattle.charts.specs.Entry.{readVerdict}
-use Rattle.walk.specs.Stops.{stops, start}
-use Rattle.image.specs.Image.{Image, Row, imageFrames, imageText}
-use Rattle.image.specs.Decode.{decoded}
-use Rattle.image.specs.Check.{badHeader, positionOf, stray, badContent, tableVerdict, imageVerdict}
-use Rattle.translator.specs.Labels.{label}
-use Rattle.translator.specs.Rows.{paths, rowsOf, rows}
+use Rattle.image.specs.Image.{Image, Row, imageText}
 use Rattle.translator.specs.Table.{table}
 use Rattle.translator.specs.Entry.{translateVerdict, translate}
 use Rattle.machine.specs.declared.State.{State}
-use Rattle.machine.specs.State.{labelAt, placeAt, freshState, unfit}
+use Rattle.machine.specs.State.{labelAt, placeAt, freshState}
 use Rattle.machine.specs.Tick.{Ticked, ticked, stopped, Found, moved, rowOf, firstRow, tick}
-use Rattle.machine.specs.Run.{runVerdict}
 use Rattle.agreement.specs.Agreement.{Translator, Agreement, Translates}
-use Rattle.bench.specs.Bench.{characters, lines, imageP, words}
-use Rattle.bench.proofs.Instances.{imageHome, imageFunction, imageChoice, at-home, at-deep, at-shallow, at-function, at-choice}
+use Rattle.bench.specs.Bench.{lines, imageP, words}
+use Rattle.bench.proofs.Computing.{translating, running}
+use Rattle.bench.proofs.Tables.{imageHome, imageFunction, imageChoice}
+use Rattle.bench.proofs.Instances.{at-home, at-deep, at-shallow, at-function, at-choice}
 use Rattle.bench.proofs.Variants.{Step, ticksBy, runBy, codeAt}
 
 -- the label at the top, its tick kind, the scheme it calls
@@ -54,7 +42,7 @@ abbrev pub callsAgain : Step
 callsAgain i s w = pick (eqb (kindOf i s) 3) (ticked 0 3 (dropped s)) (tick i s w)
 
 pub calls-again-fails : Agreement translate freshState (runBy callsAgain) → ⊥
-unfolding ticksBy imageP words lowest any count sum highest some filter concatMap mapFrom reach digitOf charOf contents total frameText badForm badSum textVerdict nodeOf badField chartVerdict readVerdict stops start label paths rowsOf rows table imageFrames imageText translateVerdict translate characters badHeader positionOf stray badContent tableVerdict imageVerdict decoded unfit firstRow tick runVerdict
+unfolding running ticksBy imageP words
 calls-again-fails claim = let z : _≡_ {A = ℕ} 18 3 = ap (codeAt 6) (at-deep (runBy callsAgain) claim) in omega arith
 
 -- ---- what a call saw is kept in a result bit that the chart has no scheme for, and the return goes by it
@@ -63,7 +51,7 @@ remember k x (ticked m c t) = ticked m c (record { size = t .size; depth = t .de
 remember k x (stopped n) = stopped n
 
 abbrev returnBy : Image → State → Found → Ticked
-returnBy i s found = moved 0 3 s (s .depth - 2) (s .depth - 1) (set (s .places) (s .depth - 1) 0) (s .bits) found
+returnBy i s row = moved 0 3 s (s .depth - 2) (s .depth - 1) (set (s .places) (s .depth - 1) 0) (s .bits) row
 
 abbrev isCallKind : ℕ → Bool
 isCallKind zero = false
@@ -76,7 +64,7 @@ readsAtCall i s w = pick (eqb (kindOf i s) 3)
     (pick (eqb (kindOf i s) 2) (remember 15 (resultOf (labelAt i (top s) .called) (s .bits)) (tick i s w)) (tick i s w))
 
 pub reads-at-call-fails : Agreement translate freshState (runBy readsAtCall) → ⊥
-unfolding ticksBy imageFunction lowest any count sum highest some filter concatMap mapFrom reach digitOf charOf contents total frameText badForm badSum textVerdict nodeOf badField chartVerdict readVerdict stops start label paths rowsOf rows table imageFrames imageText translateVerdict translate characters badHeader positionOf stray badContent tableVerdict imageVerdict decoded unfit firstRow tick runVerdict
+unfolding running ticksBy imageFunction
 reads-at-call-fails claim = let z : _≡_ {A = ℕ} 4 0 = ap (codeAt 4) (at-function (runBy readsAtCall) claim) in omega arith
 
 -- ---- after a return the choice by the call's word
@@ -86,7 +74,7 @@ choosesByCall i s w = pick (eqb (kindOf i s) 3)
     (pick (isCallKind (kindOf i s)) (remember 15 (eqb (bit w 0) 1) (tick i s w)) (tick i s w))
 
 pub chooses-by-call-fails : Agreement translate freshState (runBy choosesByCall) → ⊥
-unfolding ticksBy imageChoice lowest any count sum highest some filter concatMap mapFrom reach digitOf charOf contents total frameText badForm badSum textVerdict nodeOf badField chartVerdict readVerdict stops start label paths rowsOf rows table imageFrames imageText translateVerdict translate characters badHeader positionOf stray badContent tableVerdict imageVerdict decoded unfit firstRow tick runVerdict
+unfolding running ticksBy imageChoice
 chooses-by-call-fails claim = let z : _≡_ {A = ℕ} 4 0 = ap (codeAt 4) (at-choice (runBy choosesByCall) claim) in omega arith
 
 -- ---- a return from scheme 1
@@ -94,7 +82,7 @@ abbrev pub returnsHome : Step
 returnsHome i s w = pick (eqb (kindOf i s) 4) (ticked 0 3 (dropped s)) (tick i s w)
 
 pub returns-home-fails : Agreement translate freshState (runBy returnsHome) → ⊥
-unfolding ticksBy imageHome lowest any count sum highest some filter concatMap mapFrom reach digitOf charOf contents total frameText badForm badSum textVerdict nodeOf badField chartVerdict readVerdict stops start label paths rowsOf rows table imageFrames imageText translateVerdict translate characters badHeader positionOf stray badContent tableVerdict imageVerdict decoded unfit firstRow tick runVerdict
+unfolding running ticksBy imageHome
 returns-home-fails claim = let z : _≡_ {A = ℕ} 3 4 = ap (codeAt 0) (at-home (runBy returnsHome) claim) in omega arith
 
 -- ---- a call at depth Σ - 1 refused
@@ -102,8 +90,8 @@ abbrev pub refusesEarly : Step
 refusesEarly i s w = pick (isCallKind (kindOf i s) && leb (s .size - 1) (s .depth)) (stopped 17) (tick i s w)
 
 pub refuses-early-fails : Agreement translate freshState (runBy refusesEarly) → ⊥
-unfolding ticksBy imageP words lowest any count sum highest some filter concatMap mapFrom reach digitOf charOf contents total frameText badForm badSum textVerdict nodeOf badField chartVerdict readVerdict stops start label paths rowsOf rows table imageFrames imageText translateVerdict translate characters badHeader positionOf stray badContent tableVerdict imageVerdict decoded unfit firstRow tick runVerdict
-refuses-early-fails claim = let z : _≡_ {A = ℕ} 0 18 = ap (codeAt 1) (at-shallow (runBy refusesEarly) claim) in omega arith
+unfolding running ticksBy imageP words
+refuses-early-fails claim = let z : _≡_ {A = ℕ} 7 18 = ap (codeAt 1) (at-shallow (runBy refusesEarly) claim) in omega arith
 
 -- ---- rows with equal targets joined: two neighbours of one label, bit and next label become one that cares for nothing
 abbrev alike : Row → Row → Bool
@@ -128,5 +116,5 @@ unfoldable chartBoth : List ℕ
 chartBoth = lines ("00010001000000000000FE" ∷ "02010002000000000000FB" ∷ "03010003030000000000F6" ∷ "01010000000000000000FE" ∷ [])
 
 pub joins-rows-fails : Translates joinsRows → ⊥
-unfolding joinedRows chartBoth lowest any count sum highest some filter concatMap mapFrom reach digitOf charOf contents total frameText badForm badSum textVerdict nodeOf badField chartVerdict readVerdict stops start label paths rowsOf rows table imageFrames imageText translateVerdict translate characters
+unfolding translating joinedRows chartBoth
 joins-rows-fails claim = let z : _≡_ {A = ℕ} 138 161 = ap (λ (l : Lent). replyCount (l .reply)) (claim chartBoth (replicate 161 0)) in omega arith

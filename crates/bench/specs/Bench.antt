@@ -1,17 +1,18 @@
 -- The bench sheet: its charts, words and answers, B1 to B8 and B10, said about the definitions. (B9 is run by a program.)
-use Prim.Native.Nat.{ℕ}
+use Prim.Native.Nat.{ℕ, _%_, _≤_}
 use Prim.Native.Char.{code}
 use Prim.Native.String.{String, [] as none, _∷_ as more}
 use mathlib.Core.Path.{_≡_}
 use mathlib.Core.List.{List, [], _∷_, _++_, map}
-use lib.ListN.{length, replicate}
+use lib.ListN.{length, getD, replicate}
 use Rattle.frames.specs.Verdict.{fine}
 use Rattle.frames.specs.Answer.{success, refusal, lent}
+use Rattle.lists.specs.Numbers.{range}
 use Rattle.lists.specs.Sequences.{concatMap}
 use Rattle.frames.specs.Frame.{contents}
 use Rattle.walk.specs.Walk.{walk}
 use Rattle.translator.specs.Entry.{translate}
-use Rattle.machine.specs.State.{freshState}
+use Rattle.machine.specs.State.{fresh, freshState}
 use Rattle.machine.specs.Run.{Run, run}
 
 unfoldable pub characters : String → List ℕ
@@ -62,6 +63,10 @@ imageOf n text = translate text (replicate n 0) .buffer
 abbrev pub freshRun : List ℕ → ℕ → List ℕ → Run
 freshRun image size words = run image (freshState size .state) words (replicate (length words) 0) (replicate (length words) 0)
 
+-- the first n of xs repeated without end
+abbrev pub repeated : List ℕ → ℕ → List ℕ
+repeated xs n = map (λ k. getD xs (k % length xs) 0) (range 0 n)
+
 pub record BenchSheet : Type 0 where
   -- chart P gives its image, whatever buffer is lent
   pub b1 : (out : List ℕ) → translate chartP out ≡ lent fine 1 (λ _. imageP) out
@@ -70,11 +75,21 @@ pub record BenchSheet : Type 0 where
       × (freshRun imageP 3 words .masks ≡ 0 ∷ 1 ∷ 0 ∷ 2 ∷ 0 ∷ 0 ∷ 0 ∷ 0 ∷ [])
   pub b3 : freshRun imageP 2 words .reply ≡ refusal 17 0 3
   pub b4 : freshRun imageP 1 words .reply ≡ refusal 17 0 1
-  pub b5 : freshRun imageP 3 [] .reply ≡ success 0
-  -- every tick of the walk and of the machine is a home tick, whatever the words
+  pub b5 : (size : ℕ) → 1 ≤ size → size ≤ 32 → freshRun imageP size [] .reply ≡ success 0
+  -- every tick of the walk and of the machine is a home tick, whatever the words and the stack size
   pub b6-walk : (ws : List ℕ) → walk (contents chartHome) ws ≡ map (λ w. record { mask = 0; code = 4; opened = 1 }) ws
-  pub b6-run : (ws : List ℕ) → freshRun (imageOf 92 chartHome) 1 ws .codes ≡ map (λ w. 4) ws
-  pub b7-empty : (out : List ℕ) → translate [] out .reply ≡ refusal 1 0 0
-  pub b7-small : (out : List ℕ) → translate chartSmall out .reply ≡ refusal 2 0 0
-  pub b8 : (out : List ℕ) → translate chartCircle out .reply ≡ refusal 8 1 0
+  pub b6-run : (size : ℕ) → 1 ≤ size → size ≤ 32 → (ws : List ℕ) → freshRun (imageOf 92 chartHome) size ws ≡ record {
+    reply = success (length ws);
+    state = fresh size;
+    masks = map (λ w. 0) ws;
+    codes = map (λ w. 4) ws;
+  }
+  pub b7-empty : (out : List ℕ) → translate [] out ≡ record { reply = refusal 1 0 0; buffer = out }
+  pub b7-small : (out : List ℕ) → translate chartSmall out ≡ record { reply = refusal 2 0 0; buffer = out }
+  pub b8 : (out : List ℕ) → translate chartCircle out ≡ record { reply = refusal 8 1 0; buffer = out }
   pub b10 : freshRun (imageOf 276 chartFunction) 2 (replicate 6 0) .codes ≡ 4 ∷ 66 ∷ 0 ∷ 3 ∷ 0 ∷ 4 ∷ []
+  -- no word matters to it, so the five ticks come again and again
+  pub b10-always : (size : ℕ) → 2 ≤ size → size ≤ 32 → (ws : List ℕ) → let r = freshRun (imageOf 276 chartFunction) size ws in
+      (r .reply ≡ success (length ws))
+      × (r .codes ≡ repeated (4 ∷ 66 ∷ 0 ∷ 3 ∷ 0 ∷ []) (length ws))
+      × (r .masks ≡ repeated (0 ∷ 0 ∷ 0 ∷ 0 ∷ 1 ∷ []) (length ws))

@@ -119,7 +119,12 @@ pub record RefusalCases : Type 0 where
   pub r15-above : runFrom (stateOf 2 (2 ∷ 2 ∷ 0 ∷ [])) ≡ unfitRun (stateOf 2 (2 ∷ 2 ∷ 0 ∷ []))
   pub r15-filled : runFrom (stateOf 1 (0 ∷ 0 ∷ 1 ∷ [])) ≡ unfitRun (stateOf 1 (0 ∷ 0 ∷ 1 ∷ []))
   pub r16-read : readChart chartP (replicate 69 7) ≡ record { reply = refusal 16 0 0; buffer = replicate 69 7 }
-  pub r16-run : run imageP (fresh 1) words (replicate 8 7) (replicate 7 7) ≡ record { reply = refusal 16 0 0; state = fresh 1; masks = replicate 8 7; codes = replicate 7 7 }
+  pub r16-run : run imageP (fresh 1) words (replicate 8 7) (replicate 7 7) ≡ record {
+    reply = refusal 16 0 0;
+    state = fresh 1;
+    masks = replicate 8 7;
+    codes = replicate 7 7;
+  }
   -- three ticks are written, and the rest is as it was
   pub r17 : run imageP (fresh 2) words (replicate 8 7) (replicate 8 7) ≡ record {
     reply = refusal 17 0 3;

@@ -1,0 +1,50 @@
+-- What a computation has to open, under one name each: to unfold the name is to unfold every definition on its line.
+use Rattle.lists.specs.Numbers.{lowest, any, count, sum, highest}
+use Rattle.lists.specs.Sequences.{some, filter, concatMap, mapFrom}
+use Rattle.graph.specs.Reach.{reach}
+use Rattle.frames.specs.Digit.{digitOf, charOf}
+use Rattle.frames.specs.Frame.{contents, total, frameText, textOf}
+use Rattle.frames.specs.Check.{badForm, badSum, textVerdict}
+use Rattle.charts.specs.Chart.{nodeOf}
+use Rattle.charts.specs.Check.{badField, chartVerdict}
+use Rattle.charts.specs.Entry.{readVerdict, readChart, writeVerdict}
+use Rattle.walk.specs.Stops.{stops, start, follow, stopAt}
+use Rattle.walk.specs.Walk.{perform, walk}
+use Rattle.image.specs.Image.{imageFrames, imageText}
+use Rattle.image.specs.Decode.{decoded}
+use Rattle.image.specs.Check.{badHeader, positionOf, stray, badContent, tableVerdict, imageVerdict}
+use Rattle.translator.specs.Labels.{label}
+use Rattle.translator.specs.Rows.{paths, rowsOf, rows}
+use Rattle.translator.specs.Table.{table}
+use Rattle.translator.specs.Entry.{translateVerdict, translate}
+use Rattle.machine.specs.State.{freshState, unfit}
+use Rattle.machine.specs.Tick.{firstRow, tick}
+use Rattle.machine.specs.Run.{ticks, runVerdict, run}
+use Rattle.bench.specs.Bench.{characters}
+
+-- texts of frames, read and written
+unfoldable pub framing : Unit {0}
+unfolding lowest any sum some concatMap digitOf charOf contents total frameText textOf badForm badSum textVerdict characters
+framing = tt
+
+-- charts
+unfoldable pub charting : Unit {0}
+unfolding framing count highest reach nodeOf badField chartVerdict readVerdict readChart writeVerdict
+charting = tt
+
+unfoldable pub walking : Unit {0}
+unfolding charting stops start follow stopAt perform walk
+walking = tt
+
+unfoldable pub translating : Unit {0}
+unfolding charting filter mapFrom stops start label paths rowsOf rows table imageFrames imageText translateVerdict translate
+translating = tt
+
+-- images
+unfoldable pub checking : Unit {0}
+unfolding framing badHeader positionOf stray badContent tableVerdict imageVerdict decoded
+checking = tt
+
+unfoldable pub running : Unit {0}
+unfolding checking freshState unfit firstRow tick ticks runVerdict run
+running = tt

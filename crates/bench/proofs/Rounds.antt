@@ -1,0 +1,170 @@
+-- Runs from a fresh state on the image of a chart, for every list of words: B6 and B10.
+use mathlib.Core.Path.{_≡_, refl, _∙_, ap, ap₂, subst}
+use mathlib.Core.Bool.{Bool, true, false}
+use mathlib.Core.List.{List, [], _∷_, _++_, map, append-nil}
+use Prim.Native.Nat.{ℕ, zero, suc, _+_, _%_, _≤_}
+use native.Mathlib.Omega.{arith}
+use borrow.Author.Tests.{le-ltb, lt-leb}
+use lib.Bits.{and-zero-r}
+use lib.ListN.{length, getD, replicate, length-replicate, length-map, drop-of-length-le}
+use Rattle.lists.specs.Numbers.{range}
+use Rattle.lists.specs.Sequences.{over}
+use Rattle.lists.proofs.Ranges.{length-map-range}
+use Rattle.bits.specs.Results.{noResults}
+use Rattle.frames.specs.Frame.{contents}
+use Rattle.frames.specs.Verdict.{fine, next, when}
+use Rattle.frames.specs.Answer.{success}
+use Rattle.walk.specs.Walk.{spent, after, ticksOf, tick as oneTick, perform, walk}
+use Rattle.image.specs.Image.{Image}
+use Rattle.image.proofs.Sound.{Sound}
+use Rattle.image.proofs.Accepted.{image-sound}
+use Rattle.machine.specs.declared.State.{State}
+use Rattle.machine.specs.State.{fresh}
+use Rattle.machine.specs.Tick.{Ticked, ticked, pushed, firstRow, tick}
+use Rattle.machine.specs.Run.{Run, Ran, then, ticks, noRoom, runOn, run}
+use Rattle.machine.proofs.Fitness.{fits}
+use Rattle.machine.proofs.Keeps.{fresh-fits}
+use Rattle.agreement.proofs.Images.{run-image}
+use Rattle.agreement.proofs.Chain.{fresh-is}
+use Rattle.bench.specs.Bench.{chartHome, freshRun, repeated}
+use Rattle.bench.proofs.Computing.{walking}
+use Rattle.bench.proofs.Tables.{TranslatesTo, imageHome, tableHome, of-home, imageFunction, tableFunction, of-function}
+
+-- ---- a run from a fresh state is what its ticks on the table make
+abbrev pub blank : List ℕ → List ℕ
+blank ws = replicate (length ws) 0
+
+room : (ws : List ℕ) → noRoom ws (blank ws) (blank ws) ≡ false
+room ws = simp (length-replicate, le-ltb (length ws) (length ws) (omega arith))
+
+pub fresh-run : {chart image : List ℕ} {i : Image} → TranslatesTo chart image i → (size : ℕ) → 1 ≤ size → size ≤ 32 → (ws : List ℕ)
+    → freshRun image size ws ≡ runOn fine (λ _. ticks i (fresh size) ws) (fresh size) (blank ws) (blank ws)
+fresh-run {chart} {image} {i} known size l h ws =
+    let sound : Sound i = subst Sound (known .decodes) (image-sound image (known .passes)) in
+    ap (λ (s : State). run image s ws (blank ws) (blank ws)) (fresh-is size l h)
+    ∙ run-image image i (known .passes) (known .decodes) (fresh size) ws (blank ws) (blank ws)
+    ∙ ap₂ (λ (a b : Bool). runOn (next (when 15 a) λ _. when 16 b) (λ _. ticks i (fresh size) ws) (fresh size) (blank ws) (blank ws))
+    (fits i (fresh size) (fresh-fits i sound size l h)) (room ws)
+
+-- all of the buffer is written
+full : (xs ws : List ℕ) → length xs ≡ length ws → over xs (blank ws) ≡ xs
+full xs ws e = rw (drop-of-length-le (blank ws) {i = length xs} (simp length-replicate (omega arith)), append-nil)
+
+-- one tick for each word, and none refused
+finished : (r : Ran) (s : State) (ws : List ℕ) → r .verdict ≡ fine → length (r .masks) ≡ length ws → length (r .codes) ≡ length ws
+    → runOn fine (λ _. r) s (blank ws) (blank ws) ≡ record { reply = success (length ws); state = r .state; masks = r .masks; codes = r .codes }
+finished r s ws v m k = rw (full (r .masks) ws m, full (r .codes) ws k, v, k)
+
+-- ---- B6
+home-course : (ws : List ℕ)
+    → perform (length ws) (contents chartHome) 1 1 ws noResults ≡ spent (map (λ w. record { mask = 0; code = 4; opened = 1 }) ws)
+unfolding walking chartHome
+home-course [] = refl
+home-course (w ∷ ws) = ap (after (oneTick 0 4 1)) (home-course ws)
+
+pub home-walk : (ws : List ℕ) → walk (contents chartHome) ws ≡ map (λ w. record { mask = 0; code = 4; opened = 1 }) ws
+unfolding walking chartHome
+home-walk ws = ap ticksOf (home-course ws)
+
+home-ticks : (size : ℕ) (ws : List ℕ)
+    → ticks tableHome (fresh size) ws ≡ record { masks = map (λ w. 0) ws; codes = map (λ w. 4) ws; state = fresh size; verdict = fine }
+unfolding ticks tick tableHome
+home-ticks size [] = refl
+home-ticks size (w ∷ ws) =
+    ap (λ (r : Ran). record { masks = 0 ∷ r .masks; codes = 4 ∷ r .codes; state = r .state; verdict = r .verdict }) (home-ticks size ws)
+
+pub home-run : (size : ℕ) → 1 ≤ size → size ≤ 32 → (ws : List ℕ) → freshRun imageHome size ws ≡ record {
+  reply = success (length ws);
+  state = fresh size;
+  masks = map (λ w. 0) ws;
+  codes = map (λ w. 4) ws;
+}
+home-run size l h ws =
+    fresh-run of-home size l h ws
+    ∙ ap (λ (r : Ran). runOn fine (λ _. r) (fresh size) (blank ws) (blank ws)) (home-ticks size ws)
+    ∙ finished (record { masks = map (λ w. 0) ws; codes = map (λ w. 4) ws; state = fresh size; verdict = fine }) (fresh size) ws refl
+    (length-map ws _) (length-map ws _)
+
+-- ---- B10
+-- a repetition of five goes on as it began
+again : (f : ℕ → ℕ) → ((k : ℕ) → f (suc (suc (suc (suc (suc k))))) ≡ f k)
+    → (i n : ℕ) → map f (range (suc (suc (suc (suc (suc i))))) n) ≡ map f (range i n)
+again f e i zero = refl
+again f e i (suc n) = ap₂ (λ (x : ℕ) (xs : List ℕ). x ∷ xs) (e i) (again f e (suc i) n)
+
+turn : (k : ℕ) → suc (suc (suc (suc (suc k)))) % 5 ≡ k % 5
+turn k = omega arith
+
+repeats : (a b c d e n : ℕ) → let xs = a ∷ b ∷ c ∷ d ∷ e ∷ [] in repeated xs (suc (suc (suc (suc (suc n))))) ≡ xs ++ repeated xs n
+repeats a b c d e n = let xs : List ℕ = a ∷ b ∷ c ∷ d ∷ e ∷ [] in
+    ap (λ (ys : List ℕ). xs ++ ys) (again (λ k. getD xs (k % 5) 0) (λ k. ap (λ (j : ℕ). getD xs j 0) (turn k)) 0 n)
+
+abbrev codes5 : List ℕ
+codes5 = 4 ∷ 66 ∷ 0 ∷ 3 ∷ 0 ∷ []
+
+abbrev masks5 : List ℕ
+masks5 = 0 ∷ 0 ∷ 0 ∷ 0 ∷ 1 ∷ []
+
+-- the five states that come again, by depth, the two labels and the result of scheme 2
+module _ (size : ℕ) (two : 2 ≤ size) where
+  abbrev stateAt : ℕ → ℕ → ℕ → Bool → State
+  stateAt d l above x = record { size = size; depth = d; places = l ∷ above ∷ replicate 30 0; bits = false ∷ x ∷ replicate 14 false }
+
+  home-tick : (x : Bool) (w : ℕ) → tick tableFunction (stateAt 1 0 0 x) w ≡ ticked 0 4 (stateAt 1 2 0 x)
+  unfolding tick tableFunction
+  home-tick x w = refl
+
+  call-tick : (x : Bool) (w : ℕ) → tick tableFunction (stateAt 1 2 0 x) w ≡ ticked 0 66 (stateAt 2 2 4 x)
+  unfolding tick tableFunction
+  call-tick x w = ap (pushed tableFunction (stateAt 1 2 0 x) 0 66 2 (stateAt 1 2 0 x .bits)) (lt-leb size 1 (omega arith))
+
+  operation-tick : (x : Bool) (w : ℕ) → tick tableFunction (stateAt 2 2 4 x) w ≡ ticked 0 0 (stateAt 2 2 1 true)
+  unfolding tick firstRow tableFunction
+  operation-tick x w = rw (and-zero-r, firstRow)
+
+  return-tick : (w : ℕ) → tick tableFunction (stateAt 2 2 1 true) w ≡ ticked 0 3 (stateAt 1 3 0 true)
+  unfolding tick firstRow tableFunction
+  return-tick w = rw (and-zero-r, firstRow, and-zero-r, firstRow)
+
+  mask-tick : (w : ℕ) → tick tableFunction (stateAt 1 3 0 true) w ≡ ticked 1 0 (stateAt 1 0 0 true)
+  unfolding tick firstRow tableFunction
+  mask-tick w = rw (and-zero-r, firstRow)
+
+  -- these ticks are made for the words, and none is refused
+  record Makes (s : State) (ws ms ks : List ℕ) : Type 0 where
+    masks : ticks tableFunction s ws .masks ≡ ms
+    codes : ticks tableFunction s ws .codes ≡ ks
+    verdict : ticks tableFunction s ws .verdict ≡ fine
+
+  none : (s : State) → Makes s [] [] []
+  unfolding ticks
+  none s = record { masks = refl; codes = refl; verdict = refl }
+
+  more : {s t : State} {w m k : ℕ} {ws ms ks : List ℕ} → tick tableFunction s w ≡ ticked m k t → Makes t ws ms ks
+      → Makes s (w ∷ ws) (m ∷ ms) (k ∷ ks)
+  unfolding ticks
+  more {s} {t} {w} {m} {k} {ws} e r = record {
+    masks = ap (λ (x : Ticked). then s (λ u. ticks tableFunction u ws) x .masks) e ∙ ap (λ (ms : List ℕ). m ∷ ms) (r .masks);
+    codes = ap (λ (x : Ticked). then s (λ u. ticks tableFunction u ws) x .codes) e ∙ ap (λ (ks : List ℕ). k ∷ ks) (r .codes);
+    verdict = ap (λ (x : Ticked). then s (λ u. ticks tableFunction u ws) x .verdict) e ∙ r .verdict;
+  }
+
+  rounds : (x : Bool) (ws : List ℕ) → Makes (stateAt 1 0 0 x) ws (repeated masks5 (length ws)) (repeated codes5 (length ws))
+  rounds x [] = none _
+  rounds x (a ∷ []) = more (home-tick x a) (none _)
+  rounds x (a ∷ b ∷ []) = more (home-tick x a) (more (call-tick x b) (none _))
+  rounds x (a ∷ b ∷ c ∷ []) = more (home-tick x a) (more (call-tick x b) (more (operation-tick x c) (none _)))
+  rounds x (a ∷ b ∷ c ∷ d ∷ []) = more (home-tick x a) (more (call-tick x b) (more (operation-tick x c) (more (return-tick d) (none _))))
+  rounds x (a ∷ b ∷ c ∷ d ∷ e ∷ ws) = rw (repeats 0 0 0 0 1 (length ws), repeats 4 66 0 3 0 (length ws))
+      (more (home-tick x a) (more (call-tick x b) (more (operation-tick x c) (more (return-tick d) (more (mask-tick e) (rounds true ws))))))
+
+pub function-run : (size : ℕ) → 2 ≤ size → size ≤ 32 → (ws : List ℕ) → let r = freshRun imageFunction size ws in
+    (r .reply ≡ success (length ws)) × (r .codes ≡ repeated codes5 (length ws)) × (r .masks ≡ repeated masks5 (length ws))
+function-run size l h ws =
+    let n : ℕ = length ws in
+    let made = rounds size l false ws in
+    let e = fresh-run of-function size (omega arith) h ws
+    ∙ finished (ticks tableFunction (fresh size) ws) (fresh size) ws (made .verdict)
+    (ap length (made .masks) ∙ length-map-range (λ k. getD masks5 (k % 5) 0) 0 n)
+    (ap length (made .codes) ∙ length-map-range (λ k. getD codes5 (k % 5) 0) 0 n) in
+    (ap (λ (r : Run). r .reply) e, ap (λ (r : Run). r .codes) e ∙ made .codes, ap (λ (r : Run). r .masks) e ∙ made .masks)

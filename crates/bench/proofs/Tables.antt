@@ -1,0 +1,90 @@
+-- The images of a few charts, computed once: each is what the translator writes, passes the check and holds this table.
+use mathlib.Core.Path.{_≡_, refl}
+use mathlib.Core.List.{List, [], _∷_}
+use Prim.Native.Nat.{ℕ}
+use Rattle.frames.specs.Frame.{contents}
+use Rattle.frames.specs.Verdict.{fine}
+use Rattle.frames.specs.Answer.{lent}
+use Rattle.image.specs.Image.{Image, Label, Row}
+use Rattle.image.specs.Decode.{decoded}
+use Rattle.image.specs.Check.{imageVerdict}
+use Rattle.translator.specs.Labels.{homeLabel, returnLabel}
+use Rattle.translator.specs.Entry.{translate}
+use Rattle.bench.specs.Bench.{lines, chartP, imageP, chartHome, chartFunction}
+use Rattle.bench.proofs.Computing.{translating, checking}
+
+pub record TranslatesTo (chart image : List ℕ) (table : Image) : Type 0 where
+  pub translated : (out : List ℕ) → translate chart out ≡ lent fine 1 (λ _. image) out
+  pub passes : imageVerdict image ≡ fine
+  pub decodes : decoded (contents image) ≡ table
+
+-- ---- by their fields
+abbrev labelWith : ℕ → ℕ → ℕ → ℕ → ℕ → Label
+labelWith k h o r m = record { kind = k; called = h; owner = o; result = r; mask = m }
+
+abbrev row : ℕ → ℕ → ℕ → ℕ → ℕ → Row
+row l c v b n = record { from = l; care = c; values = v; bit = b; next = n }
+
+-- ---- chart P
+unfoldable pub tableP : Image
+tableP = record {
+  entries = 2 ∷ 3 ∷ [];
+  labels = homeLabel ∷ returnLabel ∷ labelWith 1 2 1 0 1 ∷ labelWith 0 0 2 0 0 ∷ labelWith 1 2 2 0 2 ∷ [];
+  rows = row 2 0 0 2 0 ∷ row 3 1 0 2 1 ∷ row 3 1 1 2 4 ∷ row 4 0 0 2 1 ∷ [];
+}
+
+pub of-P : TranslatesTo chartP imageP tableP
+unfolding translating checking chartP imageP tableP
+of-P = record { translated = λ out. refl; passes = refl; decodes = refl }
+
+-- ---- Begin to End alone
+unfoldable pub imageHome : List ℕ
+imageHome = lines ("0F010100000000000000EF" ∷ "10010000000000000000EF" ∷ "11000400010000000000EA" ∷ "11010300000000000000EB" ∷ [])
+
+unfoldable pub tableHome : Image
+tableHome = record { entries = 0 ∷ []; labels = homeLabel ∷ returnLabel ∷ []; rows = [] }
+
+pub of-home : TranslatesTo chartHome imageHome tableHome
+unfolding translating checking chartHome imageHome tableHome
+of-home = record { translated = λ out. refl; passes = refl; decodes = refl }
+
+-- ---- the chart of B10
+unfoldable pub imageFunction : List ℕ
+imageFunction = lines (
+    "0F020400040000000000E7" ∷ "10010200000000000000ED" ∷ "10020400000000000000EA" ∷ "11000400010000000000EA"
+    ∷ "11010300000000000000EB" ∷ "11020202010000000000E8" ∷ "11030000010000000001EA" ∷ "11040000020200000000E7"
+    ∷ "12020000000000000000EC" ∷ "12020000000001030000E8" ∷ "12030000000002000000E9" ∷ "12040000000002010000E7" ∷ [])
+
+unfoldable pub tableFunction : Image
+tableFunction = record {
+  entries = 2 ∷ 4 ∷ [];
+  labels = homeLabel ∷ returnLabel ∷ labelWith 2 2 1 0 0 ∷ labelWith 0 0 1 0 1 ∷ labelWith 0 0 2 2 0 ∷ [];
+  rows = row 2 0 0 0 0 ∷ row 2 0 0 1 3 ∷ row 3 0 0 2 0 ∷ row 4 0 0 2 1 ∷ [];
+}
+
+pub of-function : TranslatesTo chartFunction imageFunction tableFunction
+unfolding translating checking chartFunction imageFunction tableFunction
+of-function = record { translated = λ out. refl; passes = refl; decodes = refl }
+
+-- ---- an operation that calls scheme 2 and, after it, a condition: on 0 End, on 1 an operation with mask 1
+unfoldable pub chartChoice : List ℕ
+chartChoice = lines (
+    "00010001000000000000FE" ∷ "02010202000000000000F9" ∷ "03010004030000000000F5" ∷ "02010004000000000001F8"
+    ∷ "01010000000000000000FE" ∷ "00020006000000000000F8" ∷ "02020007000000000000F5" ∷ "01020000000000000000FD" ∷ [])
+
+unfoldable pub imageChoice : List ℕ
+imageChoice = lines (
+    "0F020400040000000000E7" ∷ "10010200000000000000ED" ∷ "10020400000000000000EA" ∷ "11000400010000000000EA"
+    ∷ "11010300000000000000EB" ∷ "11020102010000000000E9" ∷ "11030000010000000001EA" ∷ "11040000020000000000E9"
+    ∷ "12020001000002000000E9" ∷ "12020001000102030000E5" ∷ "12030000000002000000E9" ∷ "12040000000002010000E7" ∷ [])
+
+unfoldable pub tableChoice : Image
+tableChoice = record {
+  entries = 2 ∷ 4 ∷ [];
+  labels = homeLabel ∷ returnLabel ∷ labelWith 1 2 1 0 0 ∷ labelWith 0 0 1 0 1 ∷ labelWith 0 0 2 0 0 ∷ [];
+  rows = row 2 1 0 2 0 ∷ row 2 1 1 2 3 ∷ row 3 0 0 2 0 ∷ row 4 0 0 2 1 ∷ [];
+}
+
+pub of-choice : TranslatesTo chartChoice imageChoice tableChoice
+unfolding translating checking chartChoice imageChoice tableChoice
+of-choice = record { translated = λ out. refl; passes = refl; decodes = refl }
