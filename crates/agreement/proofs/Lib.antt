@@ -11,3 +11,5 @@ pub mod Chain
 pub mod TableFactsHold
 pub mod Demand
 pub mod Delivered
+pub mod Numbers
+pub mod ForC

@@ -1,2 +1,3 @@
 pub mod CallLaws
 pub mod ResultBytes
+pub mod Kept
