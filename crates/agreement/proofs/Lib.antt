@@ -12,3 +12,5 @@ pub mod TableFactsHold
 pub mod Demand
 pub mod Delivered
 pub mod Attached
+pub mod Numbers
+pub mod ForC

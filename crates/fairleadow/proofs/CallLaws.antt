@@ -11,7 +11,7 @@ use Rattle.machine.specs.declared.TickReport.{TickReport}
 use Rattle.machine.specs.Run.{Run, Runs, run}
 use Rattle.machine.specs.Advance.{Advance, Advances, advance}
 use Rattle.fairleadow.specs.Bytes.{stateOf, bytesOf}
-use Rattle.fairleadow.specs.Calls.{Told, leaves, runFor, bytesAfter, tickFor, ifTicked}
+use Rattle.fairleadow.specs.Calls.{Told, leaves, runFor, bytesAfter, RunsC, tickFor, ifTicked, AdvancesC}
 
 pub told-as : {a b : Reply} {n i m : ℕ} → a ≡ b → Told a n i m → Told b n i m
 told-as {n = n} {i = i} {m = m} e t = subst (λ (x : Reply). Told x n i m) e t
@@ -25,13 +25,14 @@ module _ (b : List ℕ) (x : Run) {r : Answered} {ms ks : List ℕ} (runs : Runs
   number-told : n ≡ number (x .reply)
   number-told = told .number-is ∙ ap number (runs .answered)
 
-  pub run-done : (nb : List ℕ) → nb ≡ pick (leaves n) b (bytesOf (r .state))
-      → Told (x .reply) n i m × ((nb ≡ bytesAfter b x) × ((ms ≡ x .masks) × (ks ≡ x .codes)))
+  pub run-done : (after : List ℕ) → after ≡ pick (leaves n) b (bytesOf (r .state)) → RunsC x b n i m after ms ks
   unfolding bytesAfter
-  run-done nb e = (
-    told-as (runs .answered) told,
-    (e ∙ ap₂ (λ (k : ℕ) (s : State). pick (leaves k) b (bytesOf s)) number-told (runs .state), (runs .masks, runs .codes)),
-  )
+  run-done after e = record {
+    told = told-as (runs .answered) told;
+    bytes = e ∙ ap₂ (λ (k : ℕ) (s : State). pick (leaves k) b (bytesOf s)) number-told (runs .state);
+    masks = runs .masks;
+    codes = runs .codes;
+  }
 
 -- the tick was handed the state that the bytes hold
 pub advances-for : (t b : List ℕ) (w : ℕ) {s u : State} {r : TickReport} → s ≡ stateOf b → Advances (advance t s w) r u
@@ -46,21 +47,21 @@ module _ (b : List ℕ) (x : Advance) {r : TickReport} {u : State} (advances : A
   refused : {A : Type 0} (new old : A) → (n ≡ 0 → ⊥) → old ≡ ifTicked x new old
   refused new old h = sym (ap (λ y. pick y new old) (ne-eqb _ _ (λ e. h (tick-number ∙ e))))
 
-  pub tick-refused : (mask₀ code₀ : ℕ) → (n ≡ 0 → ⊥)
-      → Told (x .reply) n i m
-      × ((b ≡ ifTicked x (bytesOf (x .state)) b) × ((mask₀ ≡ ifTicked x (x .mask) mask₀) × (code₀ ≡ ifTicked x (x .code) code₀)))
-  tick-refused mask₀ code₀ h = (told-as (advances .answered) told, (refused _ b h, (refused _ mask₀ h, refused _ code₀ h)))
+  pub tick-refused : (mask₀ code₀ : ℕ) → (n ≡ 0 → ⊥) → AdvancesC x b mask₀ code₀ n i m b mask₀ code₀
+  tick-refused mask₀ code₀ h = record {
+    told = told-as (advances .answered) told;
+    bytes = refused _ b h;
+    mask = refused _ mask₀ h;
+    code = refused _ code₀ h;
+  }
 
   finished : {A : Type 0} (y new old : A) → n ≡ 0 → y ≡ new → y ≡ ifTicked x new old
   finished y new old z e = e ∙ sym (ap (λ t. pick t new old) (eq-eqb _ _ (sym tick-number ∙ z)))
 
-  pub tick-done : (mask₀ code₀ : ℕ) (nb : List ℕ) → n ≡ 0 → nb ≡ bytesOf u
-      → Told (x .reply) n i m
-      × ((nb ≡ ifTicked x (bytesOf (x .state)) b) × ((r .mask ≡ ifTicked x (x .mask) mask₀) × (r .code ≡ ifTicked x (x .code) code₀)))
-  tick-done mask₀ code₀ nb z e = (
-    told-as (advances .answered) told,
-    (
-      finished nb _ b z (e ∙ ap bytesOf (advances .state)),
-      (finished (r .mask) _ mask₀ z (advances .mask), finished (r .code) _ code₀ z (advances .code)),
-    ),
-  )
+  pub tick-done : (mask₀ code₀ : ℕ) (after : List ℕ) → n ≡ 0 → after ≡ bytesOf u → AdvancesC x b mask₀ code₀ n i m after (r .mask) (r .code)
+  tick-done mask₀ code₀ after z e = record {
+    told = told-as (advances .answered) told;
+    bytes = finished after _ b z (e ∙ ap bytesOf (advances .state));
+    mask = finished (r .mask) _ mask₀ z (advances .mask);
+    code = finished (r .code) _ code₀ z (advances .code);
+  }

@@ -1,3 +1,4 @@
 pub mod CallLaws
 pub mod ResultBytes
 pub mod CodeCalls
+pub mod Kept

@@ -1,11 +1,12 @@
--- What a call from C hands back, and what it leaves in the bytes of a state.
+-- What a call from C hands back, and what it leaves in the bytes of a state: for each of Lends, Makes, Runs and Advances the record for C.
 use Prim.Native.Nat.{ℕ}
 use mathlib.Core.Bool.{Bool, _&&_}
 use mathlib.Core.Path.{_≡_}
 use mathlib.Core.List.{List}
 use lib.Dec.{eqb, leb}
 use Rattle.lists.specs.Pick.{pick}
-use Rattle.frames.specs.Answer.{Reply, number, index, count}
+use Rattle.frames.specs.Answer.{Reply, number, index, count, Lent}
+use Rattle.machine.specs.State.{Made}
 use Rattle.machine.specs.Run.{Run, run}
 use Rattle.machine.specs.Advance.{Advance, advance}
 use Rattle.fairleadow.specs.Bytes.{stateOf, bytesOf}
@@ -15,6 +16,16 @@ pub record Told (reply : Reply) (returned at made : ℕ) : Type 0 where
   pub number-is : returned ≡ number reply
   pub index-is : at ≡ index reply
   pub count-is : made ≡ count reply
+
+-- a call with one lent buffer
+pub record LendsC (x : Lent) (returned at made : ℕ) (after : List ℕ) : Type 0 where
+  pub told : Told (x .reply) returned at made
+  pub written : after ≡ x .buffer
+
+-- a call that makes a state: its bytes are written, after 14 too, and then each is 0
+pub record MakesC (x : Made) (returned at made : ℕ) (after : List ℕ) : Type 0 where
+  pub told : Told (x .reply) returned at made
+  pub bytes : after ≡ bytesOf (x .state)
 
 -- refusals that change no state
 abbrev pub leaves : ℕ → Bool
@@ -28,6 +39,13 @@ runFor image state words masks codes = run image (stateOf state) words masks cod
 unfoldable pub bytesAfter : List ℕ → Run → List ℕ
 bytesAfter old r = pick (leaves (number (r .reply))) old (bytesOf (r .state))
 
+-- a call that runs, with the bytes before it and what bytes, masks and codes are after it
+pub record RunsC (x : Run) (before : List ℕ) (returned at made : ℕ) (after ms ks : List ℕ) : Type 0 where
+  pub told : Told (x .reply) returned at made
+  pub bytes : after ≡ bytesAfter before x
+  pub masks : ms ≡ x .masks
+  pub codes : ks ≡ x .codes
+
 -- one tick of the state that the bytes hold
 abbrev pub tickFor : List ℕ → List ℕ → ℕ → Advance
 tickFor image state word = advance image (stateOf state) word
@@ -35,3 +53,10 @@ tickFor image state word = advance image (stateOf state) word
 -- a tick that is refused leaves what it was lent as it was
 abbrev pub ifTicked : {A : Type 0} → Advance → A → A → A
 ifTicked a new old = pick (eqb (number (a .reply)) 0) new old
+
+-- a call that makes one tick, with bytes, mask and code before it and after it
+pub record AdvancesC (x : Advance) (before : List ℕ) (m₀ k₀ : ℕ) (returned at made : ℕ) (after : List ℕ) (m k : ℕ) : Type 0 where
+  pub told : Told (x .reply) returned at made
+  pub bytes : after ≡ ifTicked x (bytesOf (x .state)) before
+  pub mask : m ≡ ifTicked x (x .mask) m₀
+  pub code : k ≡ ifTicked x (x .code) k₀

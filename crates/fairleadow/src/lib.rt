@@ -11,14 +11,12 @@ use codes::Meaning;
 use codes::meaning_of;
 use machine::State;
 use machine::tick_image;
-ghost use mathlib.Core.Path.{_≡_};
 ghost use Rattle.frames.specs.Answer.{judged};
 ghost use Rattle.charts.specs.Entry.{readChart, writeChart};
 ghost use Rattle.image.specs.Check.{imageVerdict};
 ghost use Rattle.translator.specs.Entry.{translate};
 ghost use Rattle.machine.specs.State.{freshState};
-ghost use Rattle.fairleadow.specs.Bytes.{bytesOf};
-ghost use Rattle.fairleadow.specs.Calls.{Told, runFor, bytesAfter, tickFor, ifTicked};
+ghost use Rattle.fairleadow.specs.Calls.{Told, LendsC, MakesC, runFor, RunsC, tickFor, AdvancesC};
 ghost use Rattle.fairleadow.specs.Meant.{Meant};
 
 #[no_mangle]
@@ -28,8 +26,7 @@ pub extern "C" fn fairleadow_read_chart(
     at: &mut usize,
     made: &mut usize,
 ) -> u8
-    ensures { λ r. ⌜ Told (readChart (now (text .entry)) (now (records .entry)) .reply) r (now (at .exit)) (now (made .exit)) ⌝ }
-    ensures { λ _. ⌜ now (records .exit) ≡ readChart (now (text .entry)) (now (records .entry)) .buffer ⌝ }
+    ensures { λ r. ⌜ LendsC (readChart (now (text .entry)) (now (records .entry))) r (now (at .exit)) (now (made .exit)) (now (records .exit)) ⌝ }
 {
     let answer = charts::read_chart(text, records);
     tell(answer, at, made)
@@ -42,8 +39,7 @@ pub extern "C" fn fairleadow_write_chart(
     at: &mut usize,
     made: &mut usize,
 ) -> u8
-    ensures { λ r. ⌜ Told (writeChart (now (records .entry)) (now (text .entry)) .reply) r (now (at .exit)) (now (made .exit)) ⌝ }
-    ensures { λ _. ⌜ now (text .exit) ≡ writeChart (now (records .entry)) (now (text .entry)) .buffer ⌝ }
+    ensures { λ r. ⌜ LendsC (writeChart (now (records .entry)) (now (text .entry))) r (now (at .exit)) (now (made .exit)) (now (text .exit)) ⌝ }
 {
     let answer = charts::write_chart(records, text);
     tell(answer, at, made)
@@ -56,8 +52,7 @@ pub extern "C" fn fairleadow_translate(
     at: &mut usize,
     made: &mut usize,
 ) -> u8
-    ensures { λ r. ⌜ Told (translate (now (chart .entry)) (now (image .entry)) .reply) r (now (at .exit)) (now (made .exit)) ⌝ }
-    ensures { λ _. ⌜ now (image .exit) ≡ translate (now (chart .entry)) (now (image .entry)) .buffer ⌝ }
+    ensures { λ r. ⌜ LendsC (translate (now (chart .entry)) (now (image .entry))) r (now (at .exit)) (now (made .exit)) (now (image .exit)) ⌝ }
 {
     let answer = translator::translate(chart, image);
     tell(answer, at, made)
@@ -78,8 +73,7 @@ pub extern "C" fn fairleadow_fresh(
     at: &mut usize,
     made: &mut usize,
 ) -> u8
-    ensures { λ r. ⌜ Told (freshState size .reply) r (now (at .exit)) (now (made .exit)) ⌝ }
-    ensures { λ _. ⌜ now (state .exit) ≡ bytesOf (freshState size .state) ⌝ }
+    ensures { λ r. ⌜ MakesC (freshState size) r (now (at .exit)) (now (made .exit)) (now (state .exit)) ⌝ }
 {
     let done = State::fresh(size);
     let answer = done.answer;
@@ -99,10 +93,7 @@ pub extern "C" fn fairleadow_run(
     at: &mut usize,
     made: &mut usize,
 ) -> u8
-    ensures { λ r. ⌜ Told (runFor (now (image .entry)) (now (state .entry)) (now (words .entry)) (now (masks .entry)) (now (codes .entry)) .reply) r (now (at .exit)) (now (made .exit)) ⌝ }
-    ensures { λ _. ⌜ now (state .exit) ≡ bytesAfter (now (state .entry)) (runFor (now (image .entry)) (now (state .entry)) (now (words .entry)) (now (masks .entry)) (now (codes .entry))) ⌝ }
-    ensures { λ _. ⌜ now (masks .exit) ≡ runFor (now (image .entry)) (now (state .entry)) (now (words .entry)) (now (masks .entry)) (now (codes .entry)) .masks ⌝ }
-    ensures { λ _. ⌜ now (codes .exit) ≡ runFor (now (image .entry)) (now (state .entry)) (now (words .entry)) (now (masks .entry)) (now (codes .entry)) .codes ⌝ }
+    ensures { λ r. ⌜ RunsC (runFor (now (image .entry)) (now (state .entry)) (now (words .entry)) (now (masks .entry)) (now (codes .entry))) (now (state .entry)) r (now (at .exit)) (now (made .exit)) (now (state .exit)) (now (masks .exit)) (now (codes .exit)) ⌝ }
 {
     let old = *state;
     let done = machine::run(image, state_of(old), words, masks, codes);
@@ -125,10 +116,7 @@ pub extern "C" fn fairleadow_tick(
     at: &mut usize,
     made: &mut usize,
 ) -> u8
-    ensures { λ r. ⌜ Told (tickFor (now (image .entry)) (now (state .entry)) word .reply) r (now (at .exit)) (now (made .exit)) ⌝ }
-    ensures { λ _. ⌜ now (state .exit) ≡ ifTicked (tickFor (now (image .entry)) (now (state .entry)) word) (bytesOf (tickFor (now (image .entry)) (now (state .entry)) word .state)) (now (state .entry)) ⌝ }
-    ensures { λ _. ⌜ now (mask .exit) ≡ ifTicked (tickFor (now (image .entry)) (now (state .entry)) word) (tickFor (now (image .entry)) (now (state .entry)) word .mask) (now (mask .entry)) ⌝ }
-    ensures { λ _. ⌜ now (code .exit) ≡ ifTicked (tickFor (now (image .entry)) (now (state .entry)) word) (tickFor (now (image .entry)) (now (state .entry)) word .code) (now (code .entry)) ⌝ }
+    ensures { λ r. ⌜ AdvancesC (tickFor (now (image .entry)) (now (state .entry)) word) (now (state .entry)) (now (mask .entry)) (now (code .entry)) r (now (at .exit)) (now (made .exit)) (now (state .exit)) (now (mask .exit)) (now (code .exit)) ⌝ }
 {
     let old = *state;
     let done = tick_image(image, state_of(old), word);

@@ -1,67 +1,28 @@
 -- The loop of ticks, turn by turn.
 use mathlib.Core.Path.{_≡_, refl, sym, _∙_, ap, subst}
-use mathlib.Core.Bool.{Bool, true, false}
 use mathlib.Core.List.{List, [], _∷_, _++_, append-nil}
 use Prim.Native.Nat.{ℕ, zero, suc, _+_, _-_, _≤_, _<_}
 use native.Mathlib.Nat.{zero-add}
 use native.Mathlib.Numerals.{add-one}
 use native.Mathlib.Omega.{arith}
-use lib.Dec.{leb, eqb}
 use lib.ListN.{length, getD, set, drop, length-append, length-set, drop-of-length-le}
 use lib.Seq.{drop-cons, append-snoc}
-use Rattle.lists.specs.Pick.{pick}
 use Rattle.lists.specs.Sequences.{over, written}
 use Rattle.lists.proofs.Written.{written-none, written-snoc, written-front}
-use Rattle.bits.specs.Results.{Results, withResult}
+use Rattle.bits.specs.Results.{Results}
 use Rattle.frames.specs.Verdict.{fine, refused}
-use Rattle.image.specs.Image.{Image, Label}
+use Rattle.image.specs.Image.{Image}
 use Rattle.image.specs.Decode.{decoded}
 use Rattle.image.proofs.Sound.{Sound}
 use Rattle.image.proofs.Accepted.{accepted-sound}
 use Rattle.machine.specs.declared.State.{State}
 use Rattle.machine.specs.declared.Stepped.{Stepped}
-use Rattle.machine.specs.State.{labelAt, entryAt, placeAt}
-use Rattle.machine.specs.Tick.{Found, found, missing, rowOf, Ticked, ticked, stopped, moved, pushed, tickBy, tick}
+use Rattle.machine.specs.Tick.{Ticked, ticked, stopped, tick}
 use Rattle.machine.specs.Run.{Ran, then, ticks}
 use Rattle.machine.specs.Parts.{stateOf, Ready, after, stepOf, Steps, verdictOf, Ends}
 use Rattle.machine.proofs.Fitness.{Fits, fits, unfits}
 use Rattle.machine.proofs.Keeps.{Keeps, tick-keeps}
-
--- ---- what every tick keeps, and the numbers that stop one
-length-result : (r h : ℕ) (b : Results) → length (withResult r h b) ≡ length b
-length-result r h b = go (eqb r 0)
-  where
-    go : (t : Bool) → length (pick t b (set b (h - 1) (eqb r 2))) ≡ length b
-    go true = refl
-    go false = length-set b (h - 1) (eqb r 2)
-
-abbrev Normal : State → Ticked → Type 0
-Normal s (ticked m k t) = (t .size ≡ s .size) × (length (t .bits) ≡ length (s .bits))
-Normal s (stopped n) = 17 ≤ n
-
-module _ (i : Image) (s : State) where
-  moved-normal : (m code k d : ℕ) (places : List ℕ) (b : Results) (f : Found) → length b ≡ length (s .bits) → Normal s (moved m code s k d places b f)
-  moved-normal m code k d places b (found l) e = (refl, e)
-  moved-normal m code k d places b missing e = omega arith
-
-  pushed-normal : (m code h : ℕ) (b : Results) (t : Bool) → length b ≡ length (s .bits) → Normal s (pushed i s m code h b t)
-  pushed-normal m code h b true e = omega arith
-  pushed-normal m code h b false e = (refl, e)
-
-  by-normal : (w l : ℕ) (x : Label) (b : Results) (k : ℕ) → length b ≡ length (s .bits) → Normal s (tickBy i s w l x b k)
-  by-normal w l x b zero e = moved-normal (x .mask) 0 (s .depth - 1) (s .depth) (s .places) b (rowOf i b l w) e
-  by-normal w l x b (suc zero) e = pushed-normal (x .mask) (16 + x .called) (x .called) b (leb (s .size) (s .depth)) e
-  by-normal w l x b (suc (suc zero)) e = pushed-normal (x .mask) (64 + x .called) (x .called) b (leb (s .size) (s .depth)) e
-  by-normal w l x b (suc (suc (suc zero))) e =
-      moved-normal (x .mask) 3 (s .depth - 2) (s .depth - 1) (set (s .places) (s .depth - 1) 0) b
-      (rowOf i b (placeAt s (s .depth - 2)) w) e
-  by-normal w l x b (suc (suc (suc (suc k)))) e = moved-normal (x .mask) 4 (s .depth - 1) (s .depth) (s .places) b (found (entryAt i 1)) e
-
-  tick-normal : (w : ℕ) → Normal s (tick i s w)
-  unfolding tick
-  tick-normal w =
-      let x : Label = labelAt i (placeAt s (s .depth - 1)) in
-      by-normal w (placeAt s (s .depth - 1)) x (withResult (x .result) (x .owner) (s .bits)) (x .kind) (length-result (x .result) (x .owner) (s .bits))
+use Rattle.machine.proofs.Normal.{Normal, tick-normal}
 
 -- ---- a tick by what the function on the lent parts answers
 module _ (b : List ℕ) (s : State) (w : ℕ) (r : Stepped) (ps : List ℕ) (bs : Results) (q : Steps b s w r ps bs) where
@@ -76,7 +37,7 @@ module _ (b : List ℕ) (s : State) (w : ℕ) (r : Stepped) (ps : List ℕ) (bs 
           let step : r ≡ stepOf s (ticked m k t) = q .step ∙ ap (stepOf s) e in
           let p₁ : m ≡ r .mask = sym (ap (λ (y : Stepped). y .mask) step) in
           let p₂ : k ≡ r .code = sym (ap (λ (y : Stepped). y .code) step) in
-          let p₃ : t .size ≡ s .size = n .0 in
+          let p₃ : t .size ≡ s .size = n .size in
           let p₄ : t .depth ≡ r .depth = sym (ap (λ (y : Stepped). y .depth) step) in
           let p₅ : t .places ≡ ps = sym (q .places ∙ ap (λ (y : Ticked). after s y .places) e) in
           let p₆ : t .bits ≡ bs = sym (q .bits ∙ ap (λ (y : Ticked). after s y .bits) e) in
@@ -106,7 +67,7 @@ module _ (b : List ℕ) (s : State) (w : ℕ) (r : Stepped) (ps : List ℕ) (bs 
       let e : tick (decoded b) s w ≡ ticked (r .mask) (r .code) next = went z in
       let f : Fits (decoded b) next = subst (Keeps (decoded b) sound) e (tick-keeps (decoded b) sound s (unfits (decoded b) s (y .places) (y .fits)) w) in
       let n : Normal s (ticked (r .mask) (r .code) next) = subst (Normal s) e (tick-normal (decoded b) s w) in
-      record { bytes = y .bytes; accepted = y .accepted; fits = fits (decoded b) next f; places = f .whole; bits = n .1 ∙ y .bits }
+      record { bytes = y .bytes; accepted = y .accepted; fits = fits (decoded b) next f; places = f .whole; bits = n .bits ∙ y .bits }
 
 -- ---- ticks over one word more
 module _ (i : Image) (s : State) (w : ℕ) (ws : List ℕ) where

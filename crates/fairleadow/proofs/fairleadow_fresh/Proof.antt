@@ -17,10 +17,11 @@ tell-requires c κs = search needs
 
 returns : tie.Need-returns
 returns c =
-    let fresh = c .before .before .before .before .before .fresh in (
-      told-as (fresh .ensures .answered) (c .tell .ensures),
-      c .before .before .before .bytes-of .ensures ∙ ap bytesOf (fresh .ensures .state),
-    )
+    let fresh = c .before .before .before .before .before .fresh in
+    record {
+      told = told-as (fresh .ensures .answered) (c .tell .ensures);
+      bytes = c .before .before .before .bytes-of .ensures ∙ ap bytesOf (fresh .ensures .state);
+    }
 
 pub fairleadow-fresh-spec : {M : Type 1} → statement M
 fairleadow-fresh-spec = tie.close (tie.spec fresh-requires bytes-of-requires tell-requires returns)

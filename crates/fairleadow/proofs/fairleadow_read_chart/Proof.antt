@@ -16,7 +16,7 @@ same-length c = search needs
 returns : tie.Need-returns
 returns c =
     let read-chart = c .before .before .before .before .before .read-chart in
-    (told-as (read-chart .ensures .answered) (c .tell .ensures), read-chart .ensures .written)
+    record { told = told-as (read-chart .ensures .answered) (c .tell .ensures); written = read-chart .ensures .written }
 
 pub fairleadow-read-chart-spec : {M : Type 1} → statement M
 fairleadow-read-chart-spec =

@@ -16,7 +16,7 @@ same-length c = search needs
 returns : tie.Need-returns
 returns c =
     let translate = c .before .before .before .before .before .translate in
-    (told-as (translate .ensures .answered) (c .tell .ensures), translate .ensures .written)
+    record { told = told-as (translate .ensures .answered) (c .tell .ensures); written = translate .ensures .written }
 
 pub fairleadow-translate-spec : {M : Type 1} → statement M
 fairleadow-translate-spec =

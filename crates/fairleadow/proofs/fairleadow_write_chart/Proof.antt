@@ -16,7 +16,7 @@ same-length c = search needs
 returns : tie.Need-returns
 returns c =
     let write-chart = c .before .before .before .before .before .write-chart in
-    (told-as (write-chart .ensures .answered) (c .tell .ensures), write-chart .ensures .written)
+    record { told = told-as (write-chart .ensures .answered) (c .tell .ensures); written = write-chart .ensures .written }
 
 pub fairleadow-write-chart-spec : {M : Type 1} → statement M
 fairleadow-write-chart-spec =
