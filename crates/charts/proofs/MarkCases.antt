@@ -128,7 +128,7 @@ module _ (c : Chart) (k : ℕ) (old : List Bool) where
 
 -- ---- a condition on a circle
 pub no-circle : (c : Chart) (v : ℕ) → is c 3 v ≡ false → onCircle c v ≡ false
-no-circle c v i = ap (λ b. b && marked (joinedFrom (size c) (conditionArcs c) (arcs c v)) v) i
+no-circle c v i = rw i
 
 module _ (c : Chart) (v x : ℕ) (p : x ≡ kind c v) where
   pub circle-other : (x ≡ 3 → ⊥) → false ≡ onCircle c v

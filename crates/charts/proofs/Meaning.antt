@@ -53,16 +53,6 @@ pub record Circle (c : Chart) (v : ℕ) : Type 0 where
   pub leaves : Arc (size c) (conditionArcs c) v second
   pub back : Path (size c) (conditionArcs c) second v
 
-pub circle-found : (c : Chart) (v : ℕ) → Circle c v → onCircle c v ≡ true
-circle-found c v k =
-    let i : is c 3 v ≡ true = leaves-condition c v (k .second) (k .leaves .leads) in
-    and-true (is c 3 v) (marked (joinedFrom (size c) (conditionArcs c) (arcs c v)) v) i (path-joined (size c) (conditionArcs c) (arcs c v) v (record {
-      first = k .second;
-      inside = k .leaves .end;
-      among = ap (member (k .second)) (sym (condition-arcs c v i)) ∙ k .leaves .leads;
-      path = k .back;
-    }))
-
 pub found-circle : (c : Chart) (v : ℕ) → onCircle c v ≡ true → Circle c v
 found-circle c v e =
     let ahead = joinedFrom (size c) (conditionArcs c) (arcs c v) in
@@ -78,6 +68,16 @@ found-circle c v e =
       };
       back = p .path;
     }
+
+pub circle-found : (c : Chart) (v : ℕ) → Circle c v → onCircle c v ≡ true
+circle-found c v k =
+    let i : is c 3 v ≡ true = leaves-condition c v (k .second) (k .leaves .leads) in
+    and-true (is c 3 v) (marked (joinedFrom (size c) (conditionArcs c) (arcs c v)) v) i (path-joined (size c) (conditionArcs c) (arcs c v) v (record {
+      first = k .second;
+      inside = k .leaves .end;
+      among = ap (member (k .second)) (sym (condition-arcs c v i)) ∙ k .leaves .leads;
+      path = k .back;
+    }))
 
 -- ---- 9: a path of arcs from the Begin of its scheme
 pub record Joined (c : Chart) (v : ℕ) : Type 0 where

@@ -57,7 +57,7 @@ fn search_circle(records: &[u8], unfinished: &[bool], list: &mut [u8]) -> usize
     v
 }
 
-// The same, with what a search from each condition finishes. In an accepted chart that is all of them.
+// The same: at first all conditions are unfinished, then what can be is finished, in an accepted chart all. The list serves both as the path and for marks.
 fn find_circle(records: &[u8], unfinished: &mut [bool], list: &mut [u8]) -> usize
     requires { ⌜ (length (now unfinished) ≡ size (now records)) × (size (now records) ≤ 256) × (size (now records) ≤ length (now list)) ⌝ }
     ensures { λ r. ⌜ r ≡ lowest (onCircle (now (records .entry))) 0 (size (now (records .entry))) ⌝ }
