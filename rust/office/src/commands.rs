@@ -1,4 +1,5 @@
 //! The commands, each in a file of its own.
 
+pub mod draw;
 pub mod options;
 pub mod trace;

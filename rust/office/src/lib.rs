@@ -2,6 +2,7 @@
 
 pub mod chart;
 pub mod commands;
+pub mod draw;
 pub mod marking;
 pub mod names;
 pub mod plan;

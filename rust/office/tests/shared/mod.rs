@@ -1,4 +1,6 @@
-//! What the tests of the commands share: running the program, and files to hand to it.
+//! What the tests of the commands share: running the program, and files to hand to it. No test uses all of it.
+
+#![allow(dead_code)]
 
 use std::path::{Path, PathBuf};
 use std::process::{Command, Output};
