@@ -2,4 +2,5 @@
 
 pub mod draw;
 pub mod options;
+pub mod page;
 pub mod trace;

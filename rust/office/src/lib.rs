@@ -3,8 +3,10 @@
 pub mod chart;
 pub mod commands;
 pub mod draw;
+pub mod escape;
 pub mod marking;
 pub mod names;
+pub mod page;
 pub mod plan;
 pub mod source;
 pub mod trace;

@@ -9,6 +9,7 @@ fn main() -> ExitCode {
     match args.first().map(String::as_str) {
         Some("trace") => commands::trace::run(&args[1..]),
         Some("draw") => commands::draw::run(&args[1..]),
+        Some("page") => commands::page::run(&args[1..]),
         _ => {
             eprintln!("usage: fairleadow COMMAND");
             ExitCode::from(2)

@@ -45,7 +45,7 @@ fn made(args: &[String]) -> Result<ExitCode, Failure> {
 /// What was traced, and how much of it was taken.
 fn caption(arguments: &Arguments, plan: &Plan, trace: &Trace) -> String {
     let taken = &never_taken(plan, trace)[0];
-    format!("{}\n{taken}", summary(arguments, plan, trace))
+    format!("{}: {}\n{taken}", arguments.title(), summary(arguments, plan, trace))
 }
 
 /// Tells the refusal that ended a trace.

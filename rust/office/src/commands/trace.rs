@@ -28,16 +28,15 @@ fn made(args: &[String]) -> Result<ExitCode, Failure> {
     let arguments = Arguments::of(args, &Arguments::TRACING, &[])?;
     let plan = arguments.plan()?;
     let trace = arguments.trace(&plan)?;
-    let head = summary(&arguments, &plan, &trace);
-    let printed = print(&format!("{head}\n\n{}", report(&plan, &trace)));
+    let (title, head) = (arguments.title(), summary(&arguments, &plan, &trace));
+    let printed = print(&format!("{title}: {head}\n\n{}", report(&plan, &trace)));
     Ok(if trace.stopped.is_some() { ExitCode::FAILURE } else { printed })
 }
 
 /// What is traced, and with what.
 pub fn summary(arguments: &Arguments, plan: &Plan, trace: &Trace) -> String {
     format!(
-        "{}: {} in {}; stack of {}; words {}",
-        arguments.title(),
+        "{} in {}; stack of {}; words {}",
         counted(plan.nodes.len(), "node"),
         counted(usize::from(plan.schemes()), "scheme"),
         counted(trace.places, "place"),

@@ -1,6 +1,7 @@
 //! What is written in a node of the drawing.
 
 use crate::chart::Node;
+use crate::escape::escaped;
 use crate::plan::Plan;
 
 /// The longest line of micro operations, in characters; a longer list is broken.
@@ -57,19 +58,4 @@ fn broken(names: &[String]) -> Vec<String> {
         }
     }
     lines
-}
-
-/// A text with the characters that have a meaning in graphviz's lines and in a page written out.
-pub fn escaped(text: &str) -> String {
-    let mut escaped = String::new();
-    for character in text.chars() {
-        match character {
-            '&' => escaped.push_str("&amp;"),
-            '<' => escaped.push_str("&lt;"),
-            '>' => escaped.push_str("&gt;"),
-            '"' => escaped.push_str("&quot;"),
-            _ => escaped.push(character),
-        }
-    }
-    escaped
 }

@@ -26,8 +26,13 @@ impl Coverage {
         }
     }
 
+    /// How often a node was taken.
+    pub fn times(&self, at: usize) -> usize {
+        self.nodes[at].max(self.arcs[at].iter().sum())
+    }
+
     pub fn node_taken(&self, at: usize) -> bool {
-        self.nodes[at] > 0 || self.arcs[at].iter().any(|count| *count > 0)
+        self.times(at) > 0
     }
 
     pub fn arc_taken(&self, arc: Arc) -> bool {
