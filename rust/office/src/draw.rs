@@ -10,7 +10,7 @@ use crate::plan::Plan;
 use crate::trace::{Arc, Coverage};
 
 /// The attributes that hold for all of a drawing.
-const COMMON: &str = r##"    graph [fontname="DejaVu Sans", fontsize=12, ranksep=0.35, nodesep=0.35, bgcolor="transparent"];
+const COMMON: &str = r##"    graph [fontname="DejaVu Sans", fontsize=12, ranksep=0.35, nodesep=0.35, bgcolor="#ffffff"];
     node [fontname="DejaVu Sans", fontsize=11, fontcolor="#1f2630", color="#37404d"];
     node [shape=box, style=filled, fillcolor="#ffffff", margin="0.12,0.06"];
     edge [fontname="DejaVu Sans", fontsize=10, arrowsize=0.7, color="#37404d"];

@@ -25,7 +25,8 @@ pub const TRACING_HELP: &str = "\
                    random:SEED    random words, the same for the same seed
                    count          0, 1, 2 and so on
                    0,1,0x8004     these words
-                   FILE           one word a line, # before a comment
+                   FILE           one word a line, # before a comment; ./FILE if its name
+                                  begins with a digit
                  random:1 if not given, so that every condition is 0 and 1 in turn
   --ticks N      how many ticks, 1 to 100000. If not given, as many as the words of a list
                  or a file, else 64. A list or a file that is shorter begins again.
