@@ -77,21 +77,25 @@ fn header_field(frame: &Frame) -> Option<Problem> {
     }
     if !(1..=SCHEMES).contains(&schemes) {
         let what =
-            format!("the number of schemes is {schemes:02X}; it is 01 to 10, which is 1 to 16 in decimal");
+            format!("the number of schemes is {schemes:02X}; it should be 01 to 10, 1 to 16 in decimal");
         return here(1, what, "a count typed in decimal");
     }
     if last == 0 {
-        let what = "the highest label is 00; it is 01 at least, for label 1 is in every image";
+        let what = "the highest label is 00; it should be 01 at least, for label 1 is in every image";
         return here(2, what.into(), "labels counted without 0 and 1");
     }
     if rows > ROWS {
-        let what =
-            format!("the number of rows is {rows:04X}, {} in decimal; it is 0400 at most", thousands(rows));
+        let what = format!(
+            "the number of rows is {rows:04X}, {} in decimal; it should be 0400 at most",
+            thousands(rows)
+        );
         return here(3, what, "a count whose two bytes are swapped");
     }
     let byte = (5..10).find(|byte| frame[*byte] != 0)?;
-    let what =
-        format!("{:02X} stands here, but the first line has no use for this byte: it is 00", frame[byte]);
+    let what = format!(
+        "{:02X} stands here, but the first line has no use for this byte: it should be 00",
+        frame[byte]
+    );
     here(byte, what, "digits shifted by two")
 }
 

@@ -27,7 +27,8 @@ pub fn field(frames: &[Frame], index: usize) -> Option<Problem> {
 /// A byte of these that is not 0.
 fn needless(frame: &Frame, bytes: std::ops::Range<usize>, named: &str) -> Option<Wrong> {
     let byte = bytes.into_iter().find(|byte| frame[*byte] != 0)?;
-    let what = format!("{:02X} stands here, but {named} has no use for this byte: it is 00", frame[byte]);
+    let what =
+        format!("{:02X} stands here, but {named} has no use for this byte: it should be 00", frame[byte]);
     Some((byte, what, "digits shifted by two; leftovers from another line"))
 }
 
@@ -73,31 +74,44 @@ fn fixed_label(frame: &Frame, label: usize) -> Option<Wrong> {
         ([0x11, 1, 3, 0, 0, 0, 0, 0, 0, 0], "return label, 1, is 11010300000000000000EB")
     };
     let byte = (2..10).find(|byte| frame[*byte] != wanted[*byte])?;
-    let what = format!("the {named} in every image: {:02X} here, not {:02X}", wanted[byte], frame[byte]);
+    let what = format!(
+        "the {named} in every image: this byte should be {:02X}, not {:02X}",
+        wanted[byte], frame[byte]
+    );
     Some((byte, what, "an owner, a result or a mask put in the wrong label"))
+}
+
+/// What a scheme's number should be.
+fn numbers(low: usize, high: usize) -> String {
+    match high {
+        _ if high < low => "the image has one scheme, which nothing calls".to_string(),
+        _ if high == low => format!("it should be {low:02X}"),
+        _ => format!("it should be {low:02X} to {high:02X}"),
+    }
 }
 
 fn label_field(frame: &Frame, header: Header) -> Option<Wrong> {
     let [_, _, kind, called, owner, result, ..] = *frame;
     let schemes = header.schemes;
     if kind > 2 {
-        let what =
-            format!("the kind of the label is {kind:02X}; from label 2 up it is 00 plain, 01 or 02 a call");
+        let what = format!(
+            "the kind of the label is {kind:02X}; from label 2 up it should be 00 plain, 01 or 02 a call"
+        );
         return Some((2, what, "03 and 04 belong to labels 1 and 0 alone"));
     }
     if kind == 0 && called != 0 {
-        let what = format!("a plain label calls nothing: 00 stands here, not {called:02X}");
+        let what = format!("a plain label calls nothing: this byte should be 00, not {called:02X}");
         return Some((3, what, "a kind (byte 2) that should be 01 or 02"));
     }
     if kind != 0 && !(2..=schemes).contains(&usize::from(called)) {
-        let what = format!("the scheme called is {called:02X}; it is 02 to {schemes:02X}");
+        let what = format!("the scheme called is {called:02X}; {}", numbers(2, schemes));
         return Some((3, what, "a scheme that was left out; a kind (byte 2) that should be 00"));
     }
     if !(1..=schemes).contains(&usize::from(owner)) {
-        let what = format!("the owner is scheme {owner:02X}; it is 01 to {schemes:02X}");
+        let what = format!("the owner is scheme {owner:02X}; {}", numbers(1, schemes));
         return Some((OWNER, what, "a wrong number of schemes in the first line"));
     }
-    let what = format!("the result is {result:02X}; it is 00 (keep), 01 (write 0) or 02 (write 1)");
+    let what = format!("the result is {result:02X}; it should be 00 (keep), 01 (write 0) or 02 (write 1)");
     (result > 2).then_some((5, what, "a digit of the mask one place too far left"))
 }
 
@@ -130,7 +144,7 @@ fn outside_care(frame: &Frame) -> Option<Wrong> {
 fn function_bit(frame: &Frame, label: &Frame, header: Header) -> Option<Wrong> {
     let bit = frame[6];
     if bit > 2 {
-        let what = format!("the function bit is {bit:02X}; it is 00, 01, or 02 for none");
+        let what = format!("the function bit is {bit:02X}; it should be 00, 01, or 02 for none");
         return Some((6, what, "digits shifted by two"));
     }
     let line = header.line_of(frame[1]);

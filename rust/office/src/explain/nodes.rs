@@ -56,7 +56,7 @@ fn wrong_kind(record: &Record) -> Option<Wrong> {
     if kind <= FUNCTION {
         return None;
     }
-    let kinds = "it is 00 Begin, 01 End, 02 operation, 03 condition or 04 function";
+    let kinds = "it should be 00 Begin, 01 End, 02 operation, 03 condition or 04 function";
     let advice = match kind {
         0xFF => {
             "a line that begins with FF tells a refusal: it is what the programs print in place of an image"
@@ -69,7 +69,7 @@ fn wrong_kind(record: &Record) -> Option<Wrong> {
 
 fn wrong_scheme(record: &Record) -> Option<Wrong> {
     let scheme = record[SCHEME];
-    let what = || format!("the scheme is {}; it is 01 to 10, which is 1 to 16 in decimal", both(scheme));
+    let what = || format!("the scheme is {}; it should be 01 to 10, 1 to 16 in decimal", both(scheme));
     let advice = "a scheme number typed in decimal, or left out";
     (!(1..=16).contains(&scheme)).then(|| (SCHEME, what(), advice))
 }
@@ -77,11 +77,12 @@ fn wrong_scheme(record: &Record) -> Option<Wrong> {
 fn wrong_number(record: &Record) -> Option<Wrong> {
     match (record[0], record[ARGUMENT], record[RESULT]) {
         (CONDITION, number @ 16.., _) => {
-            let what = format!("the condition's number is {}; it is 00 to 0F", both(number));
+            let what = format!("the condition's number is {}; it should be 00 to 0F", both(number));
             Some((ARGUMENT, what, "a number typed in decimal: condition 10 is 0A"))
         }
         (OPERATION, _, result @ 3..) => {
-            let what = format!("the result is {result:02X}; it is 00 (keep), 01 (write 0) or 02 (write 1)");
+            let what =
+                format!("the result is {result:02X}; it should be 00 (keep), 01 (write 0) or 02 (write 1)");
             Some((RESULT, what, "a digit of the mask one place too far left"))
         }
         _ => None,
@@ -101,7 +102,7 @@ fn unused(kind: u8) -> &'static [usize] {
 fn needless(record: &Record) -> Option<Wrong> {
     let byte = *unused(record[0]).iter().find(|byte| record[**byte] != 0)?;
     let what = format!(
-        "{:02X} stands here, but {} has no use for this byte: it is 00",
+        "{:02X} stands here, but {} has no use for this byte: it should be 00",
         record[byte],
         kind_named(record[0])
     );
@@ -143,20 +144,20 @@ fn missing_scheme(records: &[Record], scheme: u8, voice: Voice) -> Problem {
 /// A scheme that has no Begin or End, or more than one.
 fn one_of(records: &[Record], all: &[usize], kind: u8, voice: Voice) -> Option<Problem> {
     let scheme = voice.scheme(records[all[0]][SCHEME]);
-    let named = if kind == BEGIN { "Begin" } else { "End" };
+    let (named, one) = if kind == BEGIN { ("Begin", "a Begin") } else { ("End", "an End") };
     let found: Vec<usize> = all.iter().copied().filter(|node| records[*node][0] == kind).collect();
     match found[..] {
         [] => {
             let words = format!("{scheme} has no {named}; its {}", those(all, voice));
             Some(
                 Problem::new(words)
-                    .advice(format!("a {named} left out, or one with the number of another scheme")),
+                    .advice(format!("{one} left out, or one with the number of another scheme")),
             )
         }
         [_] => None,
         [first, second, ..] => {
             let what = format!("a second {named} of {scheme}; the first is {}", voice.node(first));
-            let advice = format!("a {named} that was copied and kept the number of its scheme");
+            let advice = format!("{one} that was copied and kept the number of its scheme");
             Some(voice.problem(second, SCHEME, &what).advice(advice))
         }
     }

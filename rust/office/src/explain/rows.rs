@@ -27,10 +27,10 @@ pub fn rows(records: &[Record], voice: Voice) -> Option<Problem> {
         .iter()
         .take_while(|(count, _)| *count > 0)
         .take(NAMED)
-        .map(|(count, node)| format!("{} from {}", thousands(*count), voice.node(*node)))
+        .map(|(count, node)| format!("{} has {}", voice.node(*node), thousands(*count)))
         .collect();
     let (has, limit) = (thousands(all), thousands(ROWS));
-    let words = format!("the chart has {has} rows, and {limit} are the most; it has {}", listed(&most));
+    let words = format!("the chart has {has} rows, and {limit} are the most; {}", listed(&most));
     let advice =
         "long chains of different conditions after one stop: each doubles the rows, and an operation \
                   between them starts anew";

@@ -28,18 +28,20 @@ impl Voice<'_> {
         }
     }
 
-    /// A node in a list of nodes.
+    /// A node in a list of nodes, by its line and by its name if it has one.
     pub fn node(&self, node: usize) -> String {
         match self {
-            Voice::Lines => format!("line {}", node + 1),
-            Voice::Notation { .. } => self.target(node),
+            Voice::Notation { names, .. } if !matches!(&*names.node(node), "begin" | "end") => {
+                self.target(node)
+            }
+            _ => format!("line {}", self.line(node)),
         }
     }
 
     pub fn scheme(&self, number: u8) -> String {
         match self {
             Voice::Notation { names, .. } if names.schemes.contains_key(&number) => {
-                format!("scheme {number} ({})", names.scheme(number))
+                format!("scheme {}", names.scheme(number))
             }
             _ => format!("scheme {number}"),
         }
@@ -51,7 +53,10 @@ impl Voice<'_> {
             Voice::Lines => Problem::at(node + 1, 2 * byte + 1, what),
             Voice::Notation { names, .. } => {
                 let line = self.line(node);
-                let words = format!("line {line} (node {}): {what}", names.node(node));
+                let words = match &*names.node(node) {
+                    name @ ("begin" | "end") => format!("line {line} ({name}): {what}"),
+                    name => format!("line {line} (node {name}): {what}"),
+                };
                 Problem { line: Some(line), ..Problem::new(words) }
             }
         }

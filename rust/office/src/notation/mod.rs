@@ -74,7 +74,7 @@ impl Notation {
     fn parsed(text: &str) -> Result<Notation, Problem> {
         let (mut lines, mut statements, mut nodes) = (Vec::new(), Vec::new(), 0);
         for (at, line) in text.lines().enumerate() {
-            let words = words::words(line, at + 1)?;
+            let words = words::words(line);
             let statement = statement::statement(&words, at + 1)?;
             lines.push(Line { part: part(statement.as_ref(), &mut nodes), comment: words.comment });
             statements.extend(statement.map(|statement| (at + 1, statement)));

@@ -1,7 +1,5 @@
 //! A line of the notation as words and signs, each with its column.
 
-use crate::problem::Problem;
-
 /// A word or a sign and where it stands, counted from 1.
 #[derive(Clone, Debug, PartialEq, Eq)]
 pub struct Word {
@@ -21,8 +19,6 @@ pub struct Words {
 const RESERVED: [&str; 12] =
     ["condition", "output", "scheme", "begin", "end", "do", "nothing", "write", "call", "if", "then", "else"];
 
-const SIGNS: [&str; 4] = ["->", ":", ",", ";"];
-
 impl Word {
     /// Whether this can name something: it begins with a letter and is not one of the notation's own words.
     pub fn is_name(&self) -> bool {
@@ -35,33 +31,27 @@ fn in_word(character: char) -> bool {
     character.is_alphanumeric() || character == '_'
 }
 
-/// Takes a line apart; a carriage return at its end counts as a space.
-pub fn words(line: &str, number: usize) -> Result<Words, Problem> {
+/// Takes a line apart; a carriage return at its end counts as a space. A sign that the notation does not know is a
+/// word of its own, which fits nowhere.
+pub fn words(line: &str) -> Words {
     let (statement, comment) = match line.split_once('#') {
         Some((statement, comment)) => (statement, Some(comment.trim_end().to_string())),
         None => (line, None),
     };
     let mut words: Vec<Word> = Vec::new();
-    let mut rest = statement;
-    loop {
-        rest = rest.trim_start();
-        let column = line[..line.len() - tail(line, statement, rest)].chars().count() + 1;
-        let Some(first) = rest.chars().next() else { break };
-        let length = match SIGNS.iter().find(|sign| rest.starts_with(**sign)) {
-            Some(sign) => sign.len(),
-            None if in_word(first) => rest.find(|c| !in_word(c)).unwrap_or(rest.len()),
-            None => return Err(Problem::at(number, column, format!("'{first}' has no meaning here"))),
+    let mut rest = statement.trim_start();
+    while let Some(first) = rest.chars().next() {
+        let column = statement[..statement.len() - rest.len()].chars().count() + 1;
+        let length = match rest.find(|c| !in_word(c)) {
+            Some(0) if rest.starts_with("->") => 2,
+            Some(0) => first.len_utf8(),
+            Some(length) => length,
+            None => rest.len(),
         };
         words.push(Word { text: rest[..length].to_string(), column });
-        rest = &rest[length..];
+        rest = rest[length..].trim_start();
     }
-    let end = statement.trim_end().chars().count() + 1;
-    Ok(Words { words, comment, end })
-}
-
-/// How many bytes of the line lie after the place where the rest of its statement begins.
-fn tail(line: &str, statement: &str, rest: &str) -> usize {
-    line.len() - statement.len() + rest.len()
+    Words { words, comment, end: statement.trim_end().chars().count() + 1 }
 }
 
 #[cfg(test)]
@@ -70,7 +60,7 @@ mod tests {
 
     #[test]
     fn words_have_their_columns() {
-        let line = words("  größe: do y1,y2 -> end # so\r", 3).unwrap();
+        let line = words("  größe: do y1,y2 -> end # so\r");
         let shown: Vec<_> = line.words.iter().map(|word| (word.text.as_str(), word.column)).collect();
         let wanted =
             [("größe", 3), (":", 8), ("do", 10), ("y1", 13), (",", 15), ("y2", 16), ("->", 19), ("end", 22)];
@@ -79,9 +69,10 @@ mod tests {
     }
 
     #[test]
-    fn other_signs_are_named_with_their_column() {
-        let problem = words("a: do b = c", 7).unwrap_err();
-        assert_eq!(problem.words, "line 7, column 9: '=' has no meaning here");
+    fn other_signs_are_words_of_their_own() {
+        let line = words("a=-> »b");
+        let shown: Vec<_> = line.words.iter().map(|word| (word.text.as_str(), word.column)).collect();
+        assert_eq!(shown, [("a", 1), ("=", 2), ("->", 3), ("»", 6), ("b", 7)]);
     }
 
     #[test]
