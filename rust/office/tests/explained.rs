@@ -91,6 +91,68 @@ fn damaged_images() {
     assert!([1, 2, 3, 11, 12, 13].iter().all(|number| met[number] >= 100), "{met:?}");
 }
 
+/// The text with another byte in a field of a line, the line's sum right again.
+fn with_byte(text: &[u8], line: usize, byte: usize, value: u8) -> Vec<u8> {
+    let mut text = text.to_vec();
+    let start = (line - 1) * LINE;
+    let digits = format!("{value:02X}");
+    text[start + 2 * byte..start + 2 * byte + 2].copy_from_slice(digits.as_bytes());
+    let number = |k: usize| {
+        let digits = std::str::from_utf8(&text[start + 2 * k..start + 2 * k + 2]).expect("digits");
+        u8::from_str_radix(digits, 16).expect("digits")
+    };
+    let sum = (0..10).fold(0u8, |sum, k| sum.wrapping_sub(number(k)));
+    text[start + 20..start + 22].copy_from_slice(format!("{sum:02X}").as_bytes());
+    text
+}
+
+/// Some other byte in the field that is blamed settles it: the library has nothing against this line any more, or the
+/// fault is at a later field.
+fn hold_blame(text: &[u8], ask: fn(&[u8]) -> Answer, met: &mut Met) {
+    let answer = ask(text);
+    let Some(refusal) = answer.ok().err().filter(|refusal| matches!(refusal.number, 4 | 6 | 7 | 12 | 13))
+    else {
+        return;
+    };
+    *met.entry(refusal.number).or_default() += 1;
+    let problem = explain::refusal(text, answer);
+    let (line, column) = (problem.line.expect("a line"), problem.column.expect("a column"));
+    let settled = (0..=255).any(|value| {
+        let repaired = with_byte(text, line, (column - 1) / 2, value);
+        let again = ask(&repaired);
+        let same = again.number() == refusal.number
+            && again.ok().err().is_some_and(|new| new.index == refusal.index);
+        !same || explain::refusal(&repaired, again).column > Some(column)
+    });
+    assert!(settled, "{problem}\n{}", text.escape_ascii());
+}
+
+#[test]
+fn the_field_that_is_blamed_is_the_fault() {
+    let mut met = Met::new();
+    for seed in 0..3_000 {
+        let random = &mut Random::new(seed);
+        let records = charts::chart(random);
+        let chart = text_of(&damage::records(random, &records));
+        hold_blame(&chart, |text| Proved.translate(text, &mut [0; IMAGE_TEXT]), &mut met);
+        hold_blame(&images::text(random), |text| Proved.check_image(text), &mut met);
+    }
+    assert!([4, 6, 7, 12, 13].iter().all(|number| met[number] >= 20), "{met:?}");
+}
+
+/// The largest charts are explained as soon as small ones.
+#[test]
+fn rows_of_the_longest_paths_are_counted() {
+    use reference::samples::{longest_path, Before};
+    for before in [Before::Begin, Before::Operation, Before::Function] {
+        let text = text_of(&longest_path(before, 16));
+        let answer = Proved.translate(&text, &mut [0; IMAGE_TEXT]);
+        assert_eq!(answer.number(), 10);
+        let words = explain::refusal(&text, answer).words;
+        assert!(words.contains(" has 65,536") || words.contains(" has 131,072"), "{words}");
+    }
+}
+
 /// Every character of a text becomes each of these in turn.
 fn each_character(text: &[u8], met: &mut Met, hold: fn(&[u8], &mut Met)) {
     let mut damaged = text.to_vec();

@@ -108,7 +108,7 @@ fn refusals_in_the_notations_words() {
     );
     refused(
         "more: call s9 -> end",
-        "line 9 (node more): an operation calls scheme 09, but there are 2 schemes",
+        "line 9 (node more): an operation calls scheme 9, but the highest is scheme roughing",
     );
     refused(
         "more: call shaping -> end",
@@ -146,4 +146,43 @@ fn too_many_rows_are_told_by_names() {
     let problem = office::check::translated(&source).expect_err("too many rows");
     let words = "the chart has 2,048 rows, and 1,024 are the most; stop (line 3) has 2,048";
     assert_eq!((problem.words.as_str(), problem.line), (words, Some(3)));
+}
+
+/// Whatever is typed into a notation, it is read or told with a line and a column.
+#[test]
+fn garbled_notations_are_told() {
+    use office::notation::Notation;
+    use reference::generate::Random;
+    let text = with("more: if wood then start else end").replace("y1", "y2");
+    let characters: Vec<char> = text.chars().collect();
+    let (mut read, mut refused) = (0, 0);
+    for seed in 0..50_000 {
+        let random = &mut Random::new(seed);
+        let mut garbled = characters.clone();
+        for _ in 0..random.within(1, 3) {
+            let at = random.below(garbled.len());
+            match random.below(4) {
+                0 => drop(garbled.remove(at)),
+                1 => garbled.insert(at, random.pick(&characters)),
+                2 => garbled[at] = random.pick(&[' ', '\n', '#', ':', ';', '-', '>', 'é', '\u{0}', '=']),
+                _ => garbled.swap(at, random.below(characters.len() - 3)),
+            }
+        }
+        let garbled: String = garbled.into_iter().collect();
+        match Notation::parse(&garbled) {
+            Ok(notation) => {
+                let again = Notation::parse(&notation.layout()).expect("what is laid out can be read");
+                assert_eq!((again.records, again.names), (notation.records, notation.names));
+                read += 1;
+            }
+            Err(problem) => {
+                let (line, column) = (problem.line.expect("a line"), problem.column.expect("a column"));
+                assert!(problem.words.starts_with(&format!("line {line}, column {column}: ")), "{problem}");
+                let length = garbled.lines().nth(line - 1).expect("that line").chars().count();
+                assert!(column <= length + 1, "{problem}\n{garbled}");
+                refused += 1;
+            }
+        }
+    }
+    assert!(read > 1_000 && refused > 1_000, "{read} {refused}");
 }

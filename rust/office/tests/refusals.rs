@@ -209,9 +209,13 @@ fn refusal_7_a_call() {
             (edited(CHART, 2, 5, "01"), "line 2, column 5: an operation calls scheme 1, which nothing calls"),
             (
                 edited(CHART, 2, 5, "09"),
-                "line 2, column 5: an operation calls scheme 09, but there are 2 schemes",
+                "line 2, column 5: an operation calls scheme 09, but the highest is scheme 2",
             ),
-            (function, "line 2, column 5: a function calls a scheme, and 00 is none"),
+            (
+                edited(CHART, 7, 1, "04020005050000000000"),
+                "line 7, column 5: a function calls a scheme, and 00 is none",
+            ),
+            (function, "line 2, column 1: a function calls a scheme, but there is one scheme only"),
         ],
     );
 }

@@ -83,10 +83,10 @@ fn fixed_label(frame: &Frame, label: usize) -> Option<Wrong> {
 
 /// What a scheme's number should be.
 fn numbers(low: usize, high: usize) -> String {
-    match high {
-        _ if high < low => "the image has one scheme, which nothing calls".to_string(),
-        _ if high == low => format!("it should be {low:02X}"),
-        _ => format!("it should be {low:02X} to {high:02X}"),
+    if high == low {
+        format!("it should be {low:02X}")
+    } else {
+        format!("it should be {low:02X} to {high:02X}")
     }
 }
 
@@ -98,6 +98,12 @@ fn label_field(frame: &Frame, header: Header) -> Option<Wrong> {
             "the kind of the label is {kind:02X}; from label 2 up it should be 00 plain, 01 or 02 a call"
         );
         return Some((2, what, "03 and 04 belong to labels 1 and 0 alone"));
+    }
+    if kind != 0 && schemes == 1 {
+        let what = format!(
+            "the kind of the label is {kind:02X}, a call, but the image has one scheme: nothing to call"
+        );
+        return Some((2, what, "a wrong number of schemes in the first line; a kind that should be 00"));
     }
     if kind == 0 && called != 0 {
         let what = format!("a plain label calls nothing: this byte should be 00, not {called:02X}");

@@ -1,6 +1,6 @@
 //! Refusals 4 to 7: fields, schemes, arcs and calls of node records.
 
-use crate::problem::{counted, listed, Problem};
+use crate::problem::{listed, Problem};
 
 use super::voice::Voice;
 
@@ -215,19 +215,22 @@ fn wrong_target(records: &[Record], record: &Record, to: usize, voice: Voice) ->
 /// Refusal 7: the scheme that the node calls.
 pub fn call(records: &[Record], index: usize, voice: Voice) -> Option<Problem> {
     let record = records.get(index)?;
-    let (called, highest) = (record[ARGUMENT], highest(records));
-    let what = match (record[0], called) {
+    let (kind, called, highest) = (record[0], record[ARGUMENT], highest(records));
+    let named = kind_named(kind);
+    let (byte, what) = match (kind, called) {
         (OPERATION, 0) => return None,
-        (FUNCTION, 0) => "a function calls a scheme, and 00 is none".to_string(),
+        (FUNCTION, _) if highest == 1 => (0, format!("{named} calls a scheme, but there is one scheme only")),
+        (FUNCTION, 0) => (ARGUMENT, format!("{named} calls a scheme, and 00 is none")),
         (OPERATION | FUNCTION, 1) => {
-            format!("{} calls {}, which nothing calls", kind_named(record[0]), voice.scheme(1))
+            (ARGUMENT, format!("{named} calls {}, which nothing calls", voice.scheme(1)))
         }
         (OPERATION | FUNCTION, called) if called > highest => {
-            let schemes = counted(usize::from(highest), "scheme");
-            format!("{} calls scheme {}, but there are {schemes}", kind_named(record[0]), both(called))
+            let highest = voice.scheme(highest);
+            let called = if matches!(voice, Voice::Lines) { both(called) } else { called.to_string() };
+            (ARGUMENT, format!("{named} calls scheme {called}, but the highest is {highest}"))
         }
         _ => return None,
     };
     let advice = "a scheme that was left out; a digit one place too far; an operation turned into a function";
-    Some(voice.problem(index, ARGUMENT, &what).advice(advice))
+    Some(voice.problem(index, byte, &what).advice(advice))
 }
