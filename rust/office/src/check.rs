@@ -1,13 +1,36 @@
-//! What the library says of a text, in words.
+//! `check`: whether the library accepts a chart or an image, and why not.
+
+use std::io::Write;
 
 use fairleadow::{Answer, Library, Proved, IMAGE_TEXT, LINE};
 
+use crate::command::Failure;
 use crate::explain;
 use crate::kind::Kind;
 use crate::problem::Problem;
 use crate::source::{self, Source};
 
-/// What an accepted chart, notation or image is, or why it is refused.
+/// What each file holds; the refused ones are told together at the end.
+pub fn run(files: &[String], out: &mut dyn Write) -> Result<(), Failure> {
+    if files.is_empty() {
+        return Err(Failure::Usage("a file is missing".to_string()));
+    }
+    if let Some(option) = files.iter().find(|file| file.starts_with('-') && *file != "-") {
+        return Err(Failure::Usage(format!("no option {option}")));
+    }
+    let mut refused = Vec::new();
+    for path in files {
+        match source::read(path).and_then(|bytes| checked(&bytes)) {
+            Ok(accepted) => {
+                writeln!(out, "{}: {accepted}", if path == "-" { "standard input" } else { path })?
+            }
+            Err(problem) => refused.push(Failure::of(path, problem)),
+        }
+    }
+    Failure::all(refused)
+}
+
+/// What an accepted text is, in words, or why it is refused.
 pub fn checked(bytes: &[u8]) -> Result<String, Problem> {
     if Kind::of(bytes) == Kind::Image {
         return match Proved.check_image(bytes) {

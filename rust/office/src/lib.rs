@@ -2,7 +2,7 @@
 
 pub mod chart;
 pub mod check;
-pub mod commands;
+pub mod command;
 pub mod compose;
 pub mod explain;
 pub mod kind;

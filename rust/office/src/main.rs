@@ -1,43 +1,85 @@
 //! Commands of the office program.
 
 use std::env;
+use std::io::{self, ErrorKind, Write};
 use std::process::ExitCode;
 
-use office::commands::{self, ending::print};
+use office::command::{Command, Failure, Run};
+use office::{check, compose};
 
-/// A command: its name, one line of help, and what it does with the arguments after its name.
-type Command = (&'static str, &'static str, fn(&[String]) -> ExitCode);
-
-const COMMANDS: &[Command] = &[
-    ("check", "tells whether a chart or an image is accepted, and why not", commands::check::run),
-    ("compose", "turns the readable notation into chart lines", commands::compose::run),
-    ("show", "turns chart lines into the readable notation", commands::show::run),
-];
-
-/// The usage line and a line for each command.
-fn help() -> String {
-    let mut text = String::from("usage: fairleadow COMMAND ARGUMENTS\n\n");
-    for (name, line, _) in COMMANDS {
-        text.push_str(&format!("  {name:<8} {line}\n"));
-    }
-    text + "\nfairleadow COMMAND --help tells more of one command.\n"
+const fn command(name: &'static str, arguments: &'static str, help: &'static str, run: Run) -> Command {
+    Command { name, arguments, help, run }
 }
 
-fn wrong(message: &str) -> ExitCode {
-    eprint!("{message}{}", help());
-    ExitCode::from(2)
+/// Every command, one line each.
+#[rustfmt::skip]
+const COMMANDS: &[Command] = &[
+    command("check", "FILE ...", "tells whether a chart or an image is accepted, and why not", check::run),
+    command("compose", "FILE", "turns the readable notation into chart lines with their sums", compose::compose),
+    command("show", "FILE", "turns chart lines into the readable notation", compose::show),
+];
+
+fn line(command: &Command) -> String {
+    format!("usage: fairleadow {} {}", command.name, command.arguments)
+}
+
+/// The help of the whole program.
+fn help() -> String {
+    let mut text = String::from("usage: fairleadow COMMAND ARGUMENTS\n\n");
+    for command in COMMANDS {
+        let call = format!("{} {}", command.name, command.arguments);
+        text.push_str(&format!("  {call:<16} {}\n", command.help));
+    }
+    text.push_str("\nA FILE holds chart lines or the readable notation; - is standard input.\n");
+    text.push_str(
+        "`fairleadow COMMAND --help` tells of one command. Status 1 means refused, 2 a wrong call.\n",
+    );
+    text
+}
+
+fn is_help(argument: &String) -> bool {
+    argument == "--help" || argument == "-h"
+}
+
+/// Runs what was asked for.
+fn run(arguments: &[String], out: &mut dyn Write) -> Result<(), Failure> {
+    let Some((name, rest)) = arguments.split_first() else {
+        return Err(Failure::Usage(help()));
+    };
+    if is_help(name) {
+        return Ok(out.write_all(help().as_bytes())?);
+    }
+    let Some(command) = COMMANDS.iter().find(|command| command.name == name) else {
+        return Err(Failure::Usage(format!("no command {name}\n{}", help())));
+    };
+    if rest.iter().any(is_help) {
+        return Ok(writeln!(out, "{}\n{}", line(command), command.help)?);
+    }
+    (command.run)(rest, out).map_err(|failure| match failure {
+        Failure::Usage(why) => Failure::Usage(format!("{why}\n{}", line(command))),
+        failure => failure,
+    })
 }
 
 fn main() -> ExitCode {
-    let args: Vec<String> = env::args_os().skip(1).map(|arg| arg.to_string_lossy().into_owned()).collect();
-    let Some((name, rest)) = args.split_first() else {
-        return wrong("");
-    };
-    if name == "--help" || name == "-h" {
-        return print(&help());
-    }
-    match COMMANDS.iter().find(|(known, ..)| known == name) {
-        Some((_, _, run)) => run(rest),
-        None => wrong(&format!("unknown command {name}\n")),
+    let arguments: Vec<String> =
+        env::args_os().skip(1).map(|word| word.to_string_lossy().into_owned()).collect();
+    let mut out = io::stdout().lock();
+    match run(&arguments, &mut out).and_then(|()| Ok(out.flush()?)) {
+        Ok(()) => ExitCode::SUCCESS,
+        // Whoever read the output has enough of it.
+        Err(Failure::Output(error)) if error.kind() == ErrorKind::BrokenPipe => ExitCode::SUCCESS,
+        Err(Failure::Output(error)) => {
+            eprintln!("fairleadow: {error}");
+            ExitCode::FAILURE
+        }
+        Err(Failure::Usage(why)) => {
+            eprintln!("{}", why.trim_end());
+            ExitCode::from(2)
+        }
+        Err(Failure::Refused(why)) => {
+            eprintln!("{why}");
+            ExitCode::FAILURE
+        }
     }
 }

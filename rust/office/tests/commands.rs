@@ -47,13 +47,14 @@ fn help_and_wrong_calls() {
     let (status, help, none) = fairleadow(&["--help"], b"");
     assert_eq!((status, none.as_str()), (0, ""));
     assert!(help.starts_with("usage: fairleadow COMMAND ARGUMENTS\n"));
-    for name in ["check", "compose", "show"] {
+    for name in ["check FILE", "compose FILE", "show FILE"] {
         assert!(help.lines().any(|line| line.trim_start().starts_with(name) && line.len() > 30), "{name}");
     }
     assert_eq!(fairleadow(&["-h"], b"").1, help);
     assert_eq!(fairleadow(&[], b""), (2, String::new(), help.clone()));
-    let told = format!("unknown command chekc\n{help}");
-    assert_eq!(fairleadow(&["chekc", "x"], b""), (2, String::new(), told));
+    let (status, out, told) = fairleadow(&["chekc", "x"], b"");
+    assert_eq!((status, out.as_str()), (2, ""));
+    assert_eq!(told, format!("no command chekc\n{help}"));
 }
 
 #[test]
@@ -61,16 +62,18 @@ fn each_command_has_a_usage_line() {
     for name in ["check", "compose", "show"] {
         let (status, out, _) = fairleadow(&[name, "--help"], b"");
         assert_eq!(status, 0);
-        let usage = out.lines().next().expect("a line");
         assert!(
-            usage.starts_with(&format!("usage: fairleadow {name} FILE")) && out.lines().count() > 3,
+            out.starts_with(&format!("usage: fairleadow {name} FILE")) && out.lines().count() == 2,
             "{out}"
         );
-        let wrong = |message: &str| (2, String::new(), format!("{message}\n{usage}\n--help tells more\n"));
-        assert_eq!(fairleadow(&[name], b""), wrong("no file is given"));
-        assert_eq!(fairleadow(&[name, "--fast"], b""), wrong("unknown option --fast"));
+        let usage = out.lines().next().unwrap();
+        assert_eq!(fairleadow(&[name], b""), (2, String::new(), format!("a file is missing\n{usage}\n")));
+        assert_eq!(
+            fairleadow(&[name, "--fast"], b""),
+            (2, String::new(), format!("no option --fast\n{usage}\n"))
+        );
     }
-    let told = "one file at a time; what is b?\nusage: fairleadow show FILE\n--help tells more\n";
+    let told = "one file only, and b is one more\nusage: fairleadow show FILE\n";
     assert_eq!(fairleadow(&["show", "a", "b"], b""), (2, String::new(), told.to_string()));
 }
 
