@@ -3,11 +3,12 @@
 use std::fmt::{self, Display};
 use std::io::{self, Write};
 
-/// A command of the program: its name, its arguments, one line of help, and what it does.
+/// A command of the program: its name, its arguments, one line of help, the rest of its help, and what it does.
 pub struct Command {
     pub name: &'static str,
     pub arguments: &'static str,
     pub help: &'static str,
+    pub details: &'static [&'static str],
     pub run: Run,
 }
 

@@ -5,10 +5,11 @@ use std::io::{self, ErrorKind, Write};
 use std::process::ExitCode;
 
 use office::command::{Command, Failure, Run};
+use office::commands::{draw, page, trace};
 use office::{check, compose};
 
 const fn command(name: &'static str, arguments: &'static str, help: &'static str, run: Run) -> Command {
-    Command { name, arguments, help, run }
+    Command { name, arguments, help, details: &[], run }
 }
 
 /// Every command, one line each.
@@ -17,6 +18,9 @@ const COMMANDS: &[Command] = &[
     command("check", "FILE ...", "tells whether a chart or an image is accepted, and why not", check::run),
     command("compose", "FILE", "turns the readable notation into chart lines with their sums", compose::compose),
     command("show", "FILE", "turns chart lines into the readable notation", compose::show),
+    trace::COMMAND,
+    draw::COMMAND,
+    page::COMMAND,
 ];
 
 fn line(command: &Command) -> String {
@@ -28,7 +32,8 @@ fn help() -> String {
     let mut text = String::from("usage: fairleadow COMMAND ARGUMENTS\n\n");
     for command in COMMANDS {
         let call = format!("{} {}", command.name, command.arguments);
-        text.push_str(&format!("  {call:<16} {}\n", command.help));
+        let gap = if call.len() > 16 { format!("\n{:19}", "") } else { " ".repeat(17 - call.len()) };
+        text.push_str(&format!("  {call}{gap}{}\n", command.help));
     }
     text.push_str("\nA FILE holds chart lines or the readable notation; - is standard input.\n");
     text.push_str(
@@ -53,7 +58,8 @@ fn run(arguments: &[String], out: &mut dyn Write) -> Result<(), Failure> {
         return Err(Failure::Usage(format!("no command {name}\n{}", help())));
     };
     if rest.iter().any(is_help) {
-        return Ok(writeln!(out, "{}\n{}", line(command), command.help)?);
+        writeln!(out, "{}\n{}", line(command), command.help)?;
+        return Ok(command.details.iter().try_for_each(|part| writeln!(out, "{part}"))?);
     }
     (command.run)(rest, out).map_err(|failure| match failure {
         Failure::Usage(why) => Failure::Usage(format!("{why}\n{}", line(command))),

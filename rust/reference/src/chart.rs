@@ -90,6 +90,10 @@ impl Chart {
         self.only(Kind::Begin, scheme)
     }
 
+    pub fn end(&self, scheme: u8) -> usize {
+        self.only(Kind::End, scheme)
+    }
+
     /// Whether the Begin of this scheme leads to a condition.
     fn begins_with_condition(&self, scheme: u8) -> bool {
         let begin = self.begin(scheme);

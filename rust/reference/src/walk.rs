@@ -2,9 +2,10 @@
 
 use crate::chart::{Chart, Kind};
 
-/// One tick, and how many schemes are open when it is made.
+/// One tick: the node that it is made at (for a home tick the End of scheme 1), and how many schemes are open then.
 #[derive(Clone, Copy, Debug, PartialEq, Eq)]
 pub struct Tick {
+    pub node: usize,
     pub mask: u32,
     pub code: u8,
     pub open: usize,
@@ -36,15 +37,15 @@ pub fn walk(chart: &Chart, words: &[u16]) -> Vec<Tick> {
 
 impl Walk<'_> {
     /// One tick: takes a word and notes what is emitted.
-    fn tick(&mut self, mask: u32, code: u8, open: usize) -> Result<u16, OutOfWords> {
+    fn tick(&mut self, node: usize, mask: u32, code: u8, open: usize) -> Result<u16, OutOfWords> {
         let word = *self.words.next().ok_or(OutOfWords)?;
-        self.ticks.push(Tick { mask, code, open });
+        self.ticks.push(Tick { node, mask, code, open });
         Ok(word)
     }
 
     /// A home tick, then scheme 1 up to its End.
     fn round(&mut self) -> Result<(), OutOfWords> {
-        self.tick(0, 0x04, 1)?;
+        self.tick(self.chart.end(1), 0, 0x04, 1)?;
         self.perform(1, 1)
     }
 
@@ -60,7 +61,7 @@ impl Walk<'_> {
     /// Performs a called scheme and makes the return tick of its End, whose word it hands back.
     fn call(&mut self, scheme: u8, open: usize) -> Result<u16, OutOfWords> {
         self.perform(scheme, open + 1)?;
-        self.tick(0, 0x03, open + 1)
+        self.tick(self.chart.end(scheme), 0, 0x03, open + 1)
     }
 
     /// One stop that is no End, with all that it calls; hands back the next stop.
@@ -70,7 +71,7 @@ impl Walk<'_> {
         match node.kind {
             Kind::Operation => {
                 let code = if called == 0 { 0x00 } else { 0x10 + called };
-                let mut word = self.tick(node.mask, code, open)?;
+                let mut word = self.tick(at, node.mask, code, open)?;
                 self.write(node.scheme, node.result);
                 if called != 0 {
                     word = self.call(called, open)?;
@@ -78,17 +79,17 @@ impl Walk<'_> {
                 Ok(self.follow(node.on0, word))
             }
             Kind::Function => {
-                self.tick(0, 0x40 + called, open)?;
+                self.tick(at, 0, 0x40 + called, open)?;
                 let word = self.call(called, open)?;
                 let result = self.results[usize::from(called)];
                 Ok(self.follow(node.arc(result), word))
             }
             Kind::Begin => {
-                let word = self.tick(0, 0x00, open)?;
+                let word = self.tick(at, 0, 0x00, open)?;
                 Ok(self.follow(node.on0, word))
             }
             Kind::Condition => {
-                let word = self.tick(0, 0x00, open)?;
+                let word = self.tick(at, 0, 0x00, open)?;
                 Ok(self.follow(node.arc(node.tested(word)), word))
             }
             Kind::End => unreachable!("perform ends there"),

@@ -1,0 +1,6 @@
+//! The commands, each in a file of its own.
+
+pub mod draw;
+pub mod options;
+pub mod page;
+pub mod trace;

@@ -1,0 +1,118 @@
+//! What the commands that trace share: their arguments, the chart, and the trace that is asked for.
+
+use std::collections::BTreeMap;
+use std::path::Path;
+
+use fairleadow::PLACES;
+
+use crate::command::Failure;
+use crate::plan::Plan;
+use crate::source;
+use crate::trace::words::Words;
+use crate::trace::{self, Trace};
+
+/// The most ticks of one trace.
+const MOST_TICKS: usize = 100_000;
+/// The words where none are given.
+const WORDS: &str = "random:1";
+
+/// The options of a trace.
+pub const TRACING: [&str; 3] = ["--places", "--words", "--ticks"];
+
+/// Their help.
+pub const TRACING_HELP: &str = "
+  --places N     places of the stack, 1 to 32; 32 if not given
+  --words WORDS  the words, one a tick; bit i of a word is condition i. One of
+                   random:SEED    random words, the same for the same seed
+                   count          0, 1, 2 and so on
+                   0,1,0x8004     these words
+                   FILE           one word a line, # before a comment; ./FILE if its name
+                                  begins with a digit
+                 random:1 if not given, so that every condition is 0 and 1 in turn
+  --ticks N      how many ticks, 1 to 100000. If not given, as many as the words of a list
+                 or a file, else 64. A list or a file that is shorter begins again.";
+
+/// The arguments taken apart.
+pub struct Arguments {
+    chart: String,
+    values: BTreeMap<String, String>,
+    switches: Vec<String>,
+}
+
+impl Arguments {
+    /// Takes apart one chart, options with a value, and switches; anything else is told.
+    pub fn of(args: &[String], options: &[&str], switches: &[&str]) -> Result<Arguments, Failure> {
+        let mut charts = Vec::new();
+        let mut taken = Arguments { chart: String::new(), values: BTreeMap::new(), switches: Vec::new() };
+        let mut rest = args.iter();
+        while let Some(arg) = rest.next() {
+            if switches.contains(&arg.as_str()) {
+                taken.switches.push(arg.clone());
+            } else if options.contains(&arg.as_str()) {
+                let value = rest.next().ok_or_else(|| Failure::Usage(format!("{arg} needs a value")))?;
+                if taken.values.insert(arg.clone(), value.clone()).is_some() {
+                    return Err(Failure::Usage(format!("{arg} is given twice")));
+                }
+            } else if arg.starts_with('-') && arg != "-" {
+                return Err(Failure::Usage(format!("no option {arg}")));
+            } else {
+                charts.push(arg.clone());
+            }
+        }
+        match charts.as_slice() {
+            [] => Err(Failure::Usage("a chart is missing".to_string())),
+            [chart] => Ok(Arguments { chart: chart.clone(), ..taken }),
+            [_, second, ..] => Err(Failure::Usage(format!("one chart only, and {second} is one more"))),
+        }
+    }
+
+    pub fn has(&self, switch: &str) -> bool {
+        self.switches.iter().any(|given| given == switch)
+    }
+
+    pub fn value(&self, option: &str) -> Option<&str> {
+        self.values.get(option).map(String::as_str)
+    }
+
+    fn number(&self, option: &str) -> Result<Option<usize>, Failure> {
+        let parse = |value: &str| {
+            let number = value.parse();
+            number.map_err(|_| Failure::Usage(format!("{option} takes a number, not {value}")))
+        };
+        self.value(option).map(parse).transpose()
+    }
+
+    /// The chart's file without the folders before it.
+    pub fn title(&self) -> String {
+        match Path::new(&self.chart).file_name() {
+            Some(name) if self.chart != "-" => name.to_string_lossy().into_owned(),
+            _ => "standard input".to_string(),
+        }
+    }
+
+    /// A problem of the chart's file.
+    pub fn failure(&self, problem: impl std::fmt::Display) -> Failure {
+        Failure::of(&self.chart, problem)
+    }
+
+    /// Reads the chart.
+    pub fn plan(&self) -> Result<Plan, Failure> {
+        source::load(&self.chart).and_then(Plan::read).map_err(|problem| self.failure(problem))
+    }
+
+    /// The words as they were given.
+    pub fn words(&self) -> &str {
+        self.value("--words").unwrap_or(WORDS)
+    }
+
+    /// Traces the chart over the words that are asked for.
+    pub fn trace(&self, plan: &Plan) -> Result<Trace, Failure> {
+        let places = self.number("--places")?.unwrap_or(PLACES);
+        let ticks = self.number("--ticks")?;
+        if ticks.is_some_and(|ticks| !(1..=MOST_TICKS).contains(&ticks)) {
+            return Err(Failure::Usage(format!("--ticks takes 1 to {MOST_TICKS}")));
+        }
+        let words = Words::given(self.words()).map_err(Failure::Refused)?.take(ticks);
+        trace::trace(plan, places, &words).map_err(|problem| self.failure(problem))
+    }
+}

@@ -1,0 +1,125 @@
+//! The ticks that the proved library makes of a chart, from a fresh state.
+
+use fairleadow::{Answer, Library, Proved, State};
+
+use super::arcs::{path, Arc};
+use super::Coverage;
+use crate::check::translated;
+use crate::marking::called;
+use crate::plan::Plan;
+use crate::problem::Problem;
+
+/// What a tick does, by its code.
+#[derive(Clone, Copy, Debug, PartialEq, Eq)]
+pub enum Happening {
+    Plain,
+    Return,
+    Home,
+    Call(u8),
+}
+
+impl Happening {
+    fn of(code: u8) -> Happening {
+        match code {
+            0x03 => Happening::Return,
+            0x04 => Happening::Home,
+            0x12..=0x20 => Happening::Call(code - 0x10),
+            0x42..=0x50 => Happening::Call(code - 0x40),
+            _ => Happening::Plain,
+        }
+    }
+}
+
+/// One tick. The stack holds the node of each open scheme before the tick, the bottom first; the result bits are those
+/// after it.
+#[derive(Clone, Debug)]
+pub struct Tick {
+    pub word: u16,
+    pub stack: Vec<usize>,
+    pub code: u8,
+    pub mask: u32,
+    pub results: [bool; 16],
+    pub arcs: Vec<Arc>,
+}
+
+impl Tick {
+    /// The node that the tick stands for.
+    pub fn node(&self) -> usize {
+        self.stack[self.stack.len() - 1]
+    }
+
+    pub fn happening(&self) -> Happening {
+        Happening::of(self.code)
+    }
+}
+
+/// The refusal that ended a trace, with the word and the stack that met it.
+#[derive(Clone, Debug)]
+pub struct Stopped {
+    pub number: u8,
+    pub word: u16,
+    pub stack: Vec<usize>,
+}
+
+/// The ticks made, the refusal that ended them, if any, and what was taken.
+#[derive(Clone, Debug)]
+pub struct Trace {
+    pub places: usize,
+    pub ticks: Vec<Tick>,
+    pub stopped: Option<Stopped>,
+    pub coverage: Coverage,
+}
+
+/// Translates the chart once and ticks it over the words, or tells why chart or stack size are refused.
+pub fn trace(plan: &Plan, places: usize, words: &[u16]) -> Result<Trace, Problem> {
+    let image = translated(&plan.source)?;
+    let (answer, mut state) = Proved.fresh(places);
+    if answer.number() != 0 {
+        return Err(plan.source.problem(answer));
+    }
+    let mut trace = Trace { places, ticks: Vec::new(), stopped: None, coverage: Coverage::none(plan) };
+    for word in words {
+        match tick(plan, &image, &mut state, *word) {
+            Ok(tick) => {
+                trace.coverage.note(&tick);
+                trace.ticks.push(tick);
+            }
+            Err(stopped) => {
+                trace.stopped = Some(stopped);
+                break;
+            }
+        }
+    }
+    Ok(trace)
+}
+
+/// One tick of the library's, with its node and arcs.
+fn tick(plan: &Plan, image: &[u8], state: &mut State, word: u16) -> Result<Tick, Stopped> {
+    let (stack, before) = (stack(plan, state), results(state));
+    let ticked = Proved.tick(image, state, word);
+    if let Answer::Refused { number, .. } = ticked.answer {
+        return Err(Stopped { number, word, stack });
+    }
+    let path = path(plan, Happening::of(ticked.code), &stack, &before, word);
+    let reached = self::stack(plan, state).pop();
+    assert_eq!(Some(path.end), reached, "the arcs followed end where the library's state stands");
+    let results = results(state);
+    Ok(Tick { word, stack, code: ticked.code, mask: ticked.mask, results, arcs: path.arcs })
+}
+
+/// The nodes of the labels that a state holds, the bottom first.
+fn stack(plan: &Plan, state: &State) -> Vec<usize> {
+    let mut scheme = 1;
+    let mut stack = Vec::new();
+    for label in &state.places[..usize::from(state.depth)] {
+        let node = plan.marking.node(*label, scheme);
+        scheme = called(&plan.nodes[node]);
+        stack.push(node);
+    }
+    stack
+}
+
+/// The result bits of a state, that of scheme 1 first.
+fn results(state: &State) -> [bool; 16] {
+    state.results
+}

@@ -1,0 +1,100 @@
+//! Nodes, arcs, words, masks and ticks in the shop's words.
+
+use crate::chart::Node;
+use crate::plan::Plan;
+use crate::trace::{Arc, Happening};
+
+/// What stands where a list is empty.
+pub const NONE: &str = "-";
+
+/// Names in a row, or a dash.
+pub fn listed(names: &[String]) -> String {
+    if names.is_empty() {
+        NONE.to_string()
+    } else {
+        names.join(" ")
+    }
+}
+
+/// What kind of node it is.
+pub fn kind(node: &Node) -> &'static str {
+    match node {
+        Node::Begin { .. } => "Begin",
+        Node::End { .. } => "End",
+        Node::Operation { .. } => "operation",
+        Node::Condition { .. } => "condition",
+        Node::Function { .. } => "function",
+    }
+}
+
+impl Plan {
+    /// A node by name, with its kind where it is no operation and the name does not say so.
+    pub fn node_title(&self, at: usize) -> String {
+        let (name, node) = (self.names.node(at), &self.nodes[at]);
+        if matches!(node, Node::Operation { .. }) || name.eq_ignore_ascii_case(kind(node)) {
+            return name;
+        }
+        format!("{name} ({})", kind(node))
+    }
+
+    pub fn scheme_of(&self, at: usize) -> String {
+        self.names.scheme(self.nodes[at].scheme())
+    }
+
+    /// An arc by the names of its two nodes, with the value that takes it, and its scheme.
+    pub fn arc_title(&self, arc: Arc) -> String {
+        let target = self.names.node(self.nodes[arc.from].arcs()[arc.side]);
+        let value = match self.nodes[arc.from] {
+            Node::Condition { number, .. } => format!(", {} = {}", self.names.condition(number), arc.side),
+            Node::Function { called, .. } => format!(", {} = {}", self.names.scheme(called), arc.side),
+            _ => String::new(),
+        };
+        format!("{}{value} -> {target} of {}", self.names.node(arc.from), self.scheme_of(arc.from))
+    }
+
+    /// Whether some node of the chart tests this condition.
+    pub fn tests(&self, condition: u8) -> bool {
+        self.nodes.iter().any(|node| matches!(node, Node::Condition { number, .. } if *number == condition))
+    }
+
+    /// The conditions that are 1 in a word, of those that the chart tests.
+    pub fn conditions(&self, word: u16) -> Vec<String> {
+        let ones = (0..16).filter(|number| word >> number & 1 == 1 && self.tests(*number));
+        ones.map(|number| self.names.condition(number)).collect()
+    }
+
+    /// The micro operations of a mask.
+    pub fn operations(&self, mask: u32) -> Vec<String> {
+        (0..32).filter(|bit| mask >> bit & 1 == 1).map(|bit| self.names.operation(bit)).collect()
+    }
+
+    /// The schemes whose result bit is 1.
+    pub fn results(&self, results: &[bool; 16]) -> Vec<String> {
+        let ones = (1..=16).filter(|scheme| results[usize::from(*scheme) - 1]);
+        ones.map(|scheme| self.names.scheme(scheme)).collect()
+    }
+
+    pub fn happening(&self, happening: Happening) -> String {
+        match happening {
+            Happening::Plain => "plain".to_string(),
+            Happening::Return => "return".to_string(),
+            Happening::Home => "home".to_string(),
+            Happening::Call(scheme) => format!("call of {}", self.names.scheme(scheme)),
+        }
+    }
+
+    /// How many schemes are open, and which, the bottom first; equal ones in a row are named once, with their number.
+    pub fn open_schemes(&self, stack: &[usize]) -> String {
+        let schemes: Vec<u8> = stack.iter().map(|node| self.nodes[*node].scheme()).collect();
+        let groups: Vec<String> = schemes.chunk_by(|a, b| a == b).map(|group| self.repeated(group)).collect();
+        format!("{}: {}", stack.len(), groups.join(" > "))
+    }
+
+    fn repeated(&self, group: &[u8]) -> String {
+        let name = self.names.scheme(group[0]);
+        match group.len() {
+            1 => name,
+            count => format!("{name} x{count}"),
+        }
+    }
+}

@@ -1,0 +1,216 @@
+//! The command trace: its table, the refusals that end it, and what it says was never taken.
+
+mod shared;
+
+use shared::{example, file, run, Ran};
+
+fn traced(chart: &str, rest: &[&str]) -> Ran {
+    let chart = example(chart);
+    let mut args = vec!["trace", chart.as_str()];
+    args.extend(rest);
+    run(&args)
+}
+
+/// The lines of the table, without its heading.
+fn rows(ran: &Ran) -> Vec<&str> {
+    let table = ran.printed.lines().skip(3);
+    table.take_while(|line| !line.is_empty()).collect()
+}
+
+/// The lines after the table.
+fn after(ran: &Ran) -> Vec<&str> {
+    ran.printed.lines().skip(4 + rows(ran).len()).collect()
+}
+
+#[test]
+fn the_table_of_the_paper() {
+    let ran = traced("paper.chart", &["--words", "0,0,1,0,0,0,0,0", "--places", "3"]);
+    assert_eq!((ran.status, ran.said.as_str()), (0, ""));
+    let expected = "\
+paper.chart: 7 nodes in 2 schemes; stack of 3 places; words 0,0,1,0,0,0,0,0
+
+tick  word  conditions at 1  scheme  node        what happens  micro operations  open schemes   results at 1
+   0  0000  -                s1      n2 (End)    home          -                 1: s1          -
+   1  0000  -                s1      n1          call of s2    y0                1: s1          -
+   2  0001  x0               s2      n3 (Begin)  plain         -                 2: s1 > s2     -
+   3  0000  -                s2      n6          call of s2    y1                2: s1 > s2     -
+   4  0000  -                s2      n3 (Begin)  plain         -                 3: s1 > s2 x2  -
+   5  0000  -                s2      n5 (End)    return        -                 3: s1 > s2 x2  -
+   6  0000  -                s2      n5 (End)    return        -                 2: s1 > s2     -
+   7  0000  -                s1      n2 (End)    home          -                 1: s1          -
+
+8 ticks; every node and arc was taken (7 nodes, 6 arcs)
+";
+    assert_eq!(ran.printed, expected);
+}
+
+#[test]
+fn a_full_stack_is_told_with_the_call_that_met_it() {
+    let ran = traced("paper.chart", &["--words", "0,0,1,0,0,0,0,0", "--places", "2"]);
+    assert_eq!(ran.status, 1);
+    assert_eq!(rows(&ran).len(), 3);
+    assert_eq!(ran.said, format!("{}: ended by refusal 17 after 3 ticks\n", example("paper.chart")));
+    let told = [
+        "tick 3, word 0000, node n6 of s2: the call of s2 finds the stack full, all 2 places in use (2: s1 > s2)",
+        "  refusal 17: a call needs a free place of the stack",
+        "  look for: a chart that calls deeper than the stack has places: give it more (32 at most), or let it call \
+         less deep",
+        "",
+    ];
+    let left = [
+        "3 ticks; never taken: 2 of 7 nodes, 3 of 6 arcs",
+        "  node n5 (End) of s2",
+        "  node n6 of s2",
+        "  arc n1 -> n2 of s1",
+        "  arc n4, x0 = 0 -> n5 of s2",
+        "  arc n6 -> n5 of s2",
+    ];
+    assert_eq!(after(&ran)[..4], told);
+    assert_eq!(after(&ran)[4..], left);
+}
+
+#[test]
+fn one_place_allows_no_call() {
+    let ran = traced("paper.chart", &["--places", "1"]);
+    assert_eq!((ran.status, rows(&ran).len()), (1, 1));
+    let told = "node n1 of s1: the call of s2 finds the stack full, its one place in use (1: s1)";
+    assert!(after(&ran)[0].starts_with("tick 1, ") && after(&ran)[0].ends_with(told), "{}", ran.printed);
+}
+
+#[test]
+fn what_was_never_taken_is_listed() {
+    let ran = traced("bore.chart", &["--words", "0", "--ticks", "30"]);
+    assert_eq!((ran.status, rows(&ran).len()), (0, 30));
+    let left = [
+        "30 ticks; never taken: 1 of 10 nodes, 3 of 10 arcs",
+        "  node n8 of s2",
+        "  arc n1, s2 = 1 -> n3 of s1",
+        "  arc n6, x3 = 1 -> n8 of s2",
+        "  arc n8 -> n9 of s2",
+    ];
+    assert_eq!(after(&ran), left);
+    let ran = traced("bore.chart", &["--words", "8", "--ticks", "30"]);
+    assert_eq!(after(&ran)[0], "30 ticks; never taken: 2 of 10 nodes, 4 of 10 arcs");
+}
+
+#[test]
+fn without_options_the_words_are_random_and_the_ticks_64() {
+    let ran = traced("bore.chart", &[]);
+    assert_eq!((ran.status, rows(&ran).len()), (0, 64));
+    assert!(ran
+        .printed
+        .starts_with("bore.chart: 10 nodes in 2 schemes; stack of 32 places; words random:1\n"));
+    assert_eq!(ran.printed, traced("bore.chart", &["--words", "random:1", "--ticks", "64"]).printed);
+    assert_ne!(rows(&ran), rows(&traced("bore.chart", &["--words", "random:2"])));
+    assert_eq!(after(&ran), ["64 ticks; every node and arc was taken (10 nodes, 10 arcs)"]);
+    let expected = std::fs::read_to_string(example("bore.trace")).expect("the example's trace");
+    assert_eq!(ran.printed, expected);
+}
+
+#[test]
+fn counted_words_are_those_of_the_run_program() {
+    for name in ["bore", "finishing", "home", "paper", "roughing"] {
+        let ran = traced(&format!("{name}.chart"), &["--words", "count"]);
+        let codes = std::fs::read_to_string(example(&format!("{name}.codes"))).expect("the example's codes");
+        let happenings = ["plain", "return", "home", "call of s2"];
+        let expected = codes.lines().map(|code| match code {
+            "00" => "plain",
+            "03" => "return",
+            "04" => "home",
+            "12" | "42" => "call of s2",
+            other => panic!("code {other}"),
+        });
+        let shown = rows(&ran).into_iter().map(|row| {
+            let cells: Vec<&str> = row.split("  ").filter(|cell| !cell.is_empty()).collect();
+            *happenings.iter().find(|happening| **happening == cells[5].trim()).expect("what happens")
+        });
+        assert!(shown.eq(expected), "{name}");
+    }
+}
+
+#[test]
+fn the_names_of_the_notation_are_used() {
+    let ran = traced("bore.txt", &["--words", "0,0,8,8,0,0,0"]);
+    assert_eq!((ran.status, ran.said.as_str()), (0, ""));
+    let cells = |row: &str| -> Vec<String> {
+        row.split("  ").map(str::trim).filter(|cell| !cell.is_empty()).map(String::from).collect()
+    };
+    let expected = [
+        ["0", "0000", "-", "drilling", "end", "home", "-", "1: drilling", "-"],
+        ["1", "0000", "-", "drilling", "test (function)", "call of bore_test", "-", "1: drilling", "-"],
+        ["2", "0008", "bore", "bore_test", "lower", "plain", "probe_down", "2: drilling > bore_test", "-"],
+        ["3", "0008", "bore", "bore_test", "yes", "plain", "-", "2: drilling > bore_test", "bore_test"],
+        ["4", "0000", "-", "bore_test", "end", "return", "-", "2: drilling > bore_test", "bore_test"],
+    ];
+    for (row, expected) in rows(&ran).into_iter().zip(expected) {
+        assert_eq!(cells(row), expected);
+    }
+    assert!(after(&ran).contains(&"  arc look, bore = 0 -> no of bore_test"), "{}", ran.printed);
+    // the same ticks as those of the chart's lines
+    let plain = traced("bore.chart", &["--words", "0,0,8,8,0,0,0"]);
+    assert!(rows(&ran).iter().map(|row| &row[..10]).eq(rows(&plain).iter().map(|row| &row[..10])));
+}
+
+#[test]
+fn words_come_from_a_file() {
+    let words = file("words.txt", b"# bench sheet\n0\n0\n0x1 # feeler\n0\n0\n0\n0\n0\n");
+    let given = words.to_string_lossy();
+    let ran = traced("paper.chart", &["--words", &given, "--places", "3"]);
+    let list = traced("paper.chart", &["--words", "0,0,1,0,0,0,0,0", "--places", "3"]);
+    assert_eq!((ran.status, rows(&ran)), (0, rows(&list)));
+    let bad = file("bad_words.txt", b"0\n0x1FFFF\n");
+    let ran = traced("paper.chart", &["--words", &bad.to_string_lossy()]);
+    assert_eq!((ran.status, ran.printed.as_str()), (1, ""));
+    assert_eq!(
+        ran.said,
+        format!("{}, line 2: '0x1FFFF' is more than 65535, the largest word\n", bad.display())
+    );
+}
+
+#[test]
+fn refusals_of_the_library_end_it() {
+    let chart = example("paper.chart");
+    let text = std::fs::read(&chart).expect("an example");
+    let lower = file("lower.chart", &text.to_ascii_lowercase());
+    let empty = file("empty.chart", b"");
+    for (path, rest, number) in [
+        (chart.as_str(), vec!["--places", "0"], 14),
+        (chart.as_str(), vec!["--places", "33"], 14),
+        (&lower.to_string_lossy(), vec![], 2),
+        (&empty.to_string_lossy(), vec![], 1),
+    ] {
+        let mut args = vec!["trace", path];
+        args.extend(rest);
+        let ran = run(&args);
+        assert_eq!((ran.status, ran.printed.as_str()), (1, ""));
+        assert!(ran.said.contains(&format!("\n  refusal {number}: ")), "{}", ran.said);
+    }
+    let ran = run(&["trace", "no/such.chart"]);
+    assert_eq!(ran.status, 1);
+    assert_eq!(ran.said, "no/such.chart: there is no such file\n");
+}
+
+#[test]
+fn wrong_arguments_get_the_usage() {
+    let chart = example("paper.chart");
+    for args in [
+        vec!["trace"],
+        vec!["trace", &chart, &chart],
+        vec!["trace", &chart, "--place", "3"],
+        vec!["trace", &chart, "--places"],
+        vec!["trace", &chart, "--places", "many"],
+        vec!["trace", &chart, "--ticks", "0"],
+        vec!["trace", &chart, "--ticks", "100001"],
+        vec!["trace", &chart, "--ticks", "1", "--ticks", "2"],
+    ] {
+        let ran = run(&args);
+        assert_eq!((ran.status, ran.printed.as_str()), (2, ""), "{args:?}");
+        assert!(ran.said.contains("\nusage: fairleadow trace CHART "), "{}", ran.said);
+    }
+    let ran = run(&["trace", &chart, "--words", "0,x"]);
+    assert_eq!((ran.status, ran.printed.as_str()), (1, ""));
+    assert!(ran.said.starts_with("in the words 0,x: 'x' is no word"), "{}", ran.said);
+    let ran = run(&["trace", "--help"]);
+    assert_eq!((ran.status, ran.said.as_str()), (0, ""));
+    assert!(ran.printed.starts_with("usage: fairleadow trace CHART "));
+}
