@@ -93,6 +93,8 @@ impl fmt::Display for Problem {
     }
 }
 
+impl std::error::Error for Problem {}
+
 /// A number with a comma after the thousands.
 pub fn thousands(number: usize) -> String {
     if number < 1_000 {

@@ -28,6 +28,15 @@ fn a_good_line_is_accepted() {
 }
 
 #[test]
+fn files_of_other_editors_are_read() {
+    let text = with("more: if wood then start else end");
+    let chart = source::from_notation(&text).expect("accepted").text;
+    for other in [format!("\u{FEFF}{text}"), text.replace('\n', "\r\n"), text.trim_end().to_string()] {
+        assert!(source::from_either(other.as_bytes()).expect("accepted").text == chart);
+    }
+}
+
+#[test]
 fn names_are_the_shops() {
     let names = source::from_notation(&with("more: if wood then start else end")).expect("accepted").names;
     assert_eq!((names.condition(2), names.operation(0)), ("wood".into(), "spindle".into()));
@@ -69,6 +78,7 @@ fn faults_of_a_line() {
         ("do spindle -> end", "column 1: 'do', where a name for this node and a colon belongs"),
         ("if: do spindle -> end", "column 1: 'if', where a name belongs"),
         ("start: do spindle -> end", "column 1: 'start' is a node already (line 6)"),
+        ("more: do spindle\u{1} -> end", "column 17: '\\u{1}', where '->' belongs"),
         ("more: wait -> end", &format!("column 7: 'wait', {what}")),
         ("more", &format!("column 1: 'more', {what}")),
         ("condition 16 start_key", "column 11: '16', where a number from 0 to 15 belongs"),
@@ -85,7 +95,11 @@ fn faults_of_a_line() {
     for (line, words) in cases {
         let problem = source::from_notation(&with(line)).expect_err(line);
         assert_eq!(problem.words, format!("line 9, {words}"));
-        assert_eq!((problem.line, problem.excerpt.as_deref(), problem.refusal), (Some(9), Some(line), None));
+        let visible = line.replace('\u{1}', ".");
+        assert_eq!(
+            (problem.line, problem.excerpt.as_deref(), problem.refusal),
+            (Some(9), Some(&*visible), None)
+        );
     }
 }
 

@@ -138,7 +138,7 @@ fn missing_scheme(records: &[Record], scheme: u8, voice: Voice) -> Problem {
     let at = nodes_of(records, |record| record[SCHEME] == highest)[0];
     let (missing, used) = (voice.scheme(scheme), voice.scheme(highest));
     let words = format!("{missing} has no nodes, though {used} has ({})", voice.node(at));
-    Problem::new(words).advice("a scheme number left out, or one typed wrong")
+    Problem::new(words).advice("a scheme's number left out, or one typed wrong")
 }
 
 /// A scheme that has no Begin or End, or more than one.
@@ -157,7 +157,9 @@ fn one_of(records: &[Record], all: &[usize], kind: u8, voice: Voice) -> Option<P
         [_] => None,
         [first, second, ..] => {
             let what = format!("a second {named} of {scheme}; the first is {}", voice.node(first));
-            let advice = format!("{one} that was copied and kept the number of its scheme");
+            let place =
+                voice.either("that was copied and kept the number of its scheme", "below the wrong scheme");
+            let advice = format!("{one} {place}");
             Some(voice.problem(second, SCHEME, &what).advice(advice))
         }
     }
@@ -191,7 +193,10 @@ pub fn arc(records: &[Record], index: usize, voice: Voice) -> Option<Problem> {
         let to = usize::from(record[*byte]);
         let why = wrong_target(records, record, to, voice)?;
         let what = format!("{named} is {}", why);
-        let advice = "node numbers that moved when a line was put in or taken out; numbers count from 00";
+        let advice = voice.either(
+            "node numbers that moved when a line was put in or taken out; numbers count from 00",
+            "a name of another scheme's node; a call in place of an arc",
+        );
         Some(voice.problem(index, *byte, &what).advice(advice))
     })
 }
@@ -226,11 +231,14 @@ pub fn call(records: &[Record], index: usize, voice: Voice) -> Option<Problem> {
         }
         (OPERATION | FUNCTION, called) if called > highest => {
             let highest = voice.scheme(highest);
-            let called = if matches!(voice, Voice::Lines) { both(called) } else { called.to_string() };
+            let called = voice.either(&both(called), &called.to_string()).to_string();
             (ARGUMENT, format!("{named} calls scheme {called}, but the highest is {highest}"))
         }
         _ => return None,
     };
-    let advice = "a scheme that was left out; a digit one place too far; an operation turned into a function";
+    let advice = voice.either(
+        "a scheme that was left out; a digit one place too far; an operation turned into a function",
+        "a scheme that was left out",
+    );
     Some(voice.problem(index, byte, &what).advice(advice))
 }

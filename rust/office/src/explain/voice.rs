@@ -38,6 +38,14 @@ impl Voice<'_> {
         }
     }
 
+    /// What to look for, in a text of lines or in the notation.
+    pub fn either<'b>(&self, lines: &'b str, notation: &'b str) -> &'b str {
+        match self {
+            Voice::Lines => lines,
+            Voice::Notation { .. } => notation,
+        }
+    }
+
     pub fn scheme(&self, number: u8) -> String {
         match self {
             Voice::Notation { names, .. } if names.schemes.contains_key(&number) => {

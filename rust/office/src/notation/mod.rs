@@ -66,8 +66,10 @@ pub struct Notation {
 }
 
 impl Notation {
-    /// Reads a text. Whether its nodes make a chart is left to the library.
+    /// Reads a text; the mark that some editors put before it is passed over. Whether its nodes make a chart is left to
+    /// the library.
     pub fn parse(text: &str) -> Result<Notation, Problem> {
+        let text = text.strip_prefix('\u{FEFF}').unwrap_or(text);
         Notation::parsed(text).map_err(|problem| problem.excerpt(text.as_bytes()))
     }
 

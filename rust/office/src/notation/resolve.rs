@@ -62,8 +62,8 @@ impl Table {
         given.or_else(|| kind.own_number(&name.text)).ok_or_else(|| {
             let known = self.numbers.keys().map(String::as_str);
             unknown(line, name, kind.noun, known).advice(format!(
-                "a line such as '{} {} {}'; without a name it is {}{}",
-                kind.noun, kind.first, name.text, kind.prefix, kind.first
+                "a line such as '{} 2 {}'; without a name it is {}2",
+                kind.noun, name.text, kind.prefix
             ))
         })
     }

@@ -49,7 +49,7 @@ impl Reader<'_> {
     fn wanted(&self, what: &str) -> Problem {
         match self.words.get(self.at) {
             Some(word) => {
-                Problem::at(self.line, word.column, format!("'{}', where {what} belongs", word.text))
+                Problem::at(self.line, word.column, format!("'{}', where {what} belongs", word.shown()))
             }
             None => Problem::at(self.line, self.end, format!("the line ends, where {what} belongs")),
         }
@@ -106,7 +106,7 @@ impl Reader<'_> {
         match self.words.get(self.at) {
             None => Ok(()),
             Some(word) => {
-                let what = format!("'{}' after the end of the statement", word.text);
+                let what = format!("'{}' after the end of the statement", word.shown());
                 Err(Problem::at(self.line, word.column, what)
                     .advice("one statement a line; a comment begins with #"))
             }

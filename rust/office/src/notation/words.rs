@@ -25,6 +25,15 @@ impl Word {
         self.text.starts_with(|c: char| c.is_alphabetic() || c == '_')
             && !RESERVED.contains(&self.text.as_str())
     }
+
+    /// As it stands, or by its code where it cannot be seen.
+    pub fn shown(&self) -> String {
+        if self.text.chars().any(char::is_control) {
+            self.text.escape_default().to_string()
+        } else {
+            self.text.clone()
+        }
+    }
 }
 
 fn in_word(character: char) -> bool {
