@@ -104,7 +104,7 @@ fn without_options_the_words_are_random_and_the_ticks_64() {
     assert_ne!(rows(&ran), rows(&traced("bore.chart", &["--words", "random:2"])));
     assert_eq!(after(&ran), ["64 ticks; every node and arc was taken (10 nodes, 10 arcs)"]);
     let expected = std::fs::read_to_string(example("bore.trace")).expect("the example's trace");
-    assert_eq!(ran.printed, expected);
+    assert_eq!(traced("bore.txt", &[]).printed, expected);
 }
 
 #[test]
