@@ -6,6 +6,40 @@ use interface::{Answer, Library, Meaning, State, Ticked};
 use crate::c;
 
 /// The proved library.
+///
+/// Node records and chart lines turn into each other:
+///
+/// ```
+/// use fairleadow::{Library, Proved, CHART_TEXT, RECORD, RECORDS};
+///
+/// let chart = b"00010001000000000000FE\n01010000000000000000FE\n";
+/// let mut records = [0; RECORDS];
+/// let count = Proved.read_chart(chart, &mut records).ok()?;
+/// assert_eq!(count, 2);
+///
+/// let mut text = [0; CHART_TEXT];
+/// let length = Proved.write_chart(&records[..count * RECORD], &mut text).ok()?;
+/// assert_eq!(&text[..length], chart);
+/// # Ok::<(), fairleadow::Refusal>(())
+/// ```
+///
+/// The controller keeps one state, and each tick advances it:
+///
+/// ```
+/// use fairleadow::{Library, Proved, IMAGE_TEXT, PLACES};
+///
+/// let mut image = [0; IMAGE_TEXT];
+/// let length = Proved.translate(b"00010001000000000000FE\n01010000000000000000FE\n", &mut image).ok()?;
+/// let image = &image[..length];
+/// Proved.check_image(image).ok()?;
+///
+/// let (answer, mut state) = Proved.fresh(PLACES);
+/// answer.ok()?;
+/// let ticked = Proved.tick(image, &mut state, 0);
+/// assert_eq!(ticked.answer.ok()?, 1);
+/// assert_eq!((ticked.code, state.depth, state.results[0]), (0x04, 1, false));
+/// # Ok::<(), fairleadow::Refusal>(())
+/// ```
 pub struct Proved;
 
 /// Calls with room for index and count, and puts the answer together.
@@ -18,7 +52,12 @@ fn answered(call: impl FnOnce(*mut usize, *mut usize) -> u8) -> Answer {
 }
 
 fn to_c(state: &State) -> c::State {
-    c::State { size: state.size, depth: state.depth, places: state.places, results: state.bits.map(u8::from) }
+    c::State {
+        size: state.size,
+        depth: state.depth,
+        places: state.places,
+        results: state.results.map(u8::from),
+    }
 }
 
 fn from_c(state: &c::State) -> State {
@@ -26,7 +65,7 @@ fn from_c(state: &c::State) -> State {
         size: state.size,
         depth: state.depth,
         places: state.places,
-        bits: state.results.map(|result| result != 0),
+        results: state.results.map(|result| result != 0),
     }
 }
 

@@ -1,43 +1,25 @@
 //! The entry points as a trait on plain Rust types, and what they answer. The proved library and the reference both
 //! have this interface, so that they can be compared, and neither needs the other.
 
-/// The count that was made, or a refusal with its frame index and the ticks finished before it.
-#[derive(Clone, Copy, Debug, PartialEq, Eq)]
-pub enum Answer {
-    Done(usize),
-    Refused { number: u8, index: usize, count: usize },
-}
+mod answer;
+mod sizes;
 
-impl Answer {
-    /// The refusal's number, 0 for success.
-    pub fn number(&self) -> u8 {
-        match *self {
-            Answer::Done(_) => 0,
-            Answer::Refused { number, .. } => number,
-        }
-    }
+pub use answer::{Answer, Refusal};
+pub use sizes::*;
 
-    pub fn count(&self) -> usize {
-        match *self {
-            Answer::Done(count) => count,
-            Answer::Refused { count, .. } => count,
-        }
-    }
-}
-
-/// The machine's state. Places hold labels, the bottom first, and 0 above the depth; scheme h's result bit is
-/// `bits[h - 1]`.
+/// The machine's state, with the fields of the C struct. Places hold labels, the bottom first, and 0 above the depth;
+/// scheme h's result bit is `results[h - 1]`.
 #[derive(Clone, Copy, Debug, PartialEq, Eq)]
 pub struct State {
     pub size: u8,
     pub depth: u8,
-    pub places: [u8; 32],
-    pub bits: [bool; 16],
+    pub places: [u8; PLACES],
+    pub results: [bool; SCHEMES],
 }
 
 impl State {
     /// Every number 0.
-    pub const NONE: State = State { size: 0, depth: 0, places: [0; 32], bits: [false; 16] };
+    pub const NONE: State = State { size: 0, depth: 0, places: [0; PLACES], results: [false; SCHEMES] };
 }
 
 /// What the tick of a lent state hands back.
@@ -61,11 +43,23 @@ pub enum Meaning {
 
 /// The entry points of paper 01. Counts are records, characters and ticks; an accepted image and a fresh state count 0.
 pub trait Library {
+    /// Chart lines to node records of ten bytes each. Tries 1 to 9 and 16; counts records.
     fn read_chart(&self, text: &[u8], out: &mut [u8]) -> Answer;
+
+    /// Node records to chart lines. Tries 1, 4 to 9 and 16; counts characters.
     fn write_chart(&self, records: &[u8], out: &mut [u8]) -> Answer;
+
+    /// Chart lines to the image's lines. Tries 1 to 10 and 16; counts characters.
     fn translate(&self, text: &[u8], out: &mut [u8]) -> Answer;
+
+    /// Whether an image is in order. Tries 1 to 3 and 11 to 13.
     fn check_image(&self, text: &[u8]) -> Answer;
+
+    /// A fresh state for a stack of so many places. Tries 14, and then every number of the state is 0.
     fn fresh(&self, size: usize) -> (Answer, State);
+
+    /// One tick for each word, a mask and a code for each tick, and the state after them. Tries what the image check
+    /// tries, then 15 to 18; counts ticks.
     fn run(
         &self,
         image: &[u8],

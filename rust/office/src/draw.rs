@@ -79,7 +79,7 @@ fn shape(node: &Node) -> &'static str {
     match node {
         Node::Begin { .. } | Node::End { .. } => ", style=\"filled,rounded\", fillcolor=\"#e4e8ee\"",
         Node::Operation { .. } => "",
-        Node::Condition { .. } => ", shape=diamond, fillcolor=\"#fff6dc\", margin=\"0.02,0.02\"",
+        Node::Condition { .. } => ", shape=diamond, fillcolor=\"#fff6dc\", margin=\"0.06,0.03\"",
         Node::Function { .. } => ", shape=hexagon, fillcolor=\"#e6f4ea\", margin=\"0.02,0.04\"",
     }
 }

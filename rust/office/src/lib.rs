@@ -1,13 +1,20 @@
 //! The office program: charts composed, shown, checked, traced and drawn. Every answer comes from the proved library.
 
 pub mod chart;
+pub mod check;
+pub mod command;
 pub mod commands;
+pub mod compose;
 pub mod draw;
 pub mod escape;
+pub mod explain;
+pub mod kind;
 pub mod marking;
 pub mod names;
+pub mod notation;
 pub mod page;
 pub mod plan;
+pub mod problem;
 pub mod source;
 pub mod trace;
 pub mod wording;

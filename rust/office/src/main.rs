@@ -1,18 +1,91 @@
 //! Commands of the office program.
 
+use std::env;
+use std::io::{self, ErrorKind, Write};
 use std::process::ExitCode;
 
-use office::commands;
+use office::command::{Command, Failure, Run};
+use office::commands::{draw, page, trace};
+use office::{check, compose};
+
+const fn command(name: &'static str, arguments: &'static str, help: &'static str, run: Run) -> Command {
+    Command { name, arguments, help, details: &[], run }
+}
+
+/// Every command, one line each.
+#[rustfmt::skip]
+const COMMANDS: &[Command] = &[
+    command("check", "FILE ...", "tells whether a chart or an image is accepted, and why not", check::run),
+    command("compose", "FILE", "turns the readable notation into chart lines with their sums", compose::compose),
+    command("show", "FILE", "turns chart lines into the readable notation", compose::show),
+    trace::COMMAND,
+    draw::COMMAND,
+    page::COMMAND,
+];
+
+fn line(command: &Command) -> String {
+    format!("usage: fairleadow {} {}", command.name, command.arguments)
+}
+
+/// The help of the whole program.
+fn help() -> String {
+    let mut text = String::from("usage: fairleadow COMMAND ARGUMENTS\n\n");
+    for command in COMMANDS {
+        let call = format!("{} {}", command.name, command.arguments);
+        let gap = if call.len() > 16 { format!("\n{:19}", "") } else { " ".repeat(17 - call.len()) };
+        text.push_str(&format!("  {call}{gap}{}\n", command.help));
+    }
+    text.push_str("\nA FILE holds chart lines or the readable notation; - is standard input.\n");
+    text.push_str(
+        "`fairleadow COMMAND --help` tells of one command. Status 1 means refused, 2 a wrong call.\n",
+    );
+    text
+}
+
+fn is_help(argument: &String) -> bool {
+    argument == "--help" || argument == "-h"
+}
+
+/// Runs what was asked for.
+fn run(arguments: &[String], out: &mut dyn Write) -> Result<(), Failure> {
+    let Some((name, rest)) = arguments.split_first() else {
+        return Err(Failure::Usage(help()));
+    };
+    if is_help(name) {
+        return Ok(out.write_all(help().as_bytes())?);
+    }
+    let Some(command) = COMMANDS.iter().find(|command| command.name == name) else {
+        return Err(Failure::Usage(format!("no command {name}\n{}", help())));
+    };
+    if rest.iter().any(is_help) {
+        writeln!(out, "{}\n{}", line(command), command.help)?;
+        return Ok(command.details.iter().try_for_each(|part| writeln!(out, "{part}"))?);
+    }
+    (command.run)(rest, out).map_err(|failure| match failure {
+        Failure::Usage(why) => Failure::Usage(format!("{why}\n{}", line(command))),
+        failure => failure,
+    })
+}
 
 fn main() -> ExitCode {
-    let args: Vec<String> = std::env::args().skip(1).collect();
-    match args.first().map(String::as_str) {
-        Some("trace") => commands::trace::run(&args[1..]),
-        Some("draw") => commands::draw::run(&args[1..]),
-        Some("page") => commands::page::run(&args[1..]),
-        _ => {
-            eprintln!("usage: fairleadow COMMAND");
+    let arguments: Vec<String> =
+        env::args_os().skip(1).map(|word| word.to_string_lossy().into_owned()).collect();
+    let mut out = io::stdout().lock();
+    match run(&arguments, &mut out).and_then(|()| Ok(out.flush()?)) {
+        Ok(()) => ExitCode::SUCCESS,
+        // Whoever read the output has enough of it.
+        Err(Failure::Output(error)) if error.kind() == ErrorKind::BrokenPipe => ExitCode::SUCCESS,
+        Err(Failure::Output(error)) => {
+            eprintln!("fairleadow: {error}");
+            ExitCode::FAILURE
+        }
+        Err(Failure::Usage(why)) => {
+            eprintln!("{}", why.trim_end());
             ExitCode::from(2)
+        }
+        Err(Failure::Refused(why)) => {
+            eprintln!("{why}");
+            ExitCode::FAILURE
         }
     }
 }

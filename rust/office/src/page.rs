@@ -5,7 +5,7 @@ mod rows;
 
 use crate::escape::escaped;
 use crate::plan::Plan;
-use crate::trace::table::{never_taken, stopped_words};
+use crate::trace::table::{never_taken, problem};
 use crate::trace::Trace;
 
 const STYLE: &str = include_str!("page/page.css");
@@ -49,7 +49,8 @@ fn inline(svg: &str) -> &str {
 }
 
 fn refusal(plan: &Plan, trace: &Trace) -> String {
-    let told = |stopped| format!("<p id=\"refusal\">{}</p>", escaped(&stopped_words(plan, trace, stopped)));
+    let told =
+        |stopped| format!("<p id=\"refusal\">{}</p>", escaped(&problem(plan, trace, stopped).to_string()));
     trace.stopped.as_ref().map(told).unwrap_or_default()
 }
 

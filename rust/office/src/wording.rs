@@ -28,19 +28,20 @@ pub fn kind(node: &Node) -> &'static str {
 }
 
 impl Plan {
-    /// A node by name, with its kind where it is no operation.
+    /// A node by name, with its kind where it is no operation and the name does not say so.
     pub fn node_title(&self, at: usize) -> String {
-        match self.nodes[at] {
-            Node::Operation { .. } => self.names.node(at),
-            ref node => format!("{} ({})", self.names.node(at), kind(node)),
+        let (name, node) = (self.names.node(at), &self.nodes[at]);
+        if matches!(node, Node::Operation { .. }) || name.eq_ignore_ascii_case(kind(node)) {
+            return name;
         }
+        format!("{name} ({})", kind(node))
     }
 
     pub fn scheme_of(&self, at: usize) -> String {
         self.names.scheme(self.nodes[at].scheme())
     }
 
-    /// An arc by the names of its two nodes, with the value that takes it.
+    /// An arc by the names of its two nodes, with the value that takes it, and its scheme.
     pub fn arc_title(&self, arc: Arc) -> String {
         let target = self.names.node(self.nodes[arc.from].arcs()[arc.side]);
         let value = match self.nodes[arc.from] {
@@ -48,7 +49,7 @@ impl Plan {
             Node::Function { called, .. } => format!(", {} = {}", self.names.scheme(called), arc.side),
             _ => String::new(),
         };
-        format!("{}{value} -> {target}", self.names.node(arc.from))
+        format!("{}{value} -> {target} of {}", self.names.node(arc.from), self.scheme_of(arc.from))
     }
 
     /// Whether some node of the chart tests this condition.
@@ -82,7 +83,7 @@ impl Plan {
         }
     }
 
-    /// How many schemes are open, and which, the bottom first; equal ones in a row are named once.
+    /// How many schemes are open, and which, the bottom first; equal ones in a row are named once, with their number.
     pub fn open_schemes(&self, stack: &[usize]) -> String {
         let schemes: Vec<u8> = stack.iter().map(|node| self.nodes[*node].scheme()).collect();
         let groups: Vec<String> = schemes.chunk_by(|a, b| a == b).map(|group| self.repeated(group)).collect();
@@ -93,7 +94,7 @@ impl Plan {
         let name = self.names.scheme(group[0]);
         match group.len() {
             1 => name,
-            count => format!("{name} ({count} times)"),
+            count => format!("{name} x{count}"),
         }
     }
 }

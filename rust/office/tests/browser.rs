@@ -8,7 +8,7 @@ use std::process::{Command, Stdio};
 
 use office::draw::{arc_id, call_id, node_id};
 use office::plan::Plan;
-use office::source::from_bytes;
+use office::source::load;
 use office::trace::words::Words;
 use office::trace::{trace, Happening, Tick, Trace};
 use shared::{example, run};
@@ -30,8 +30,8 @@ fn main() {
         return println!("browser test left out: no Chromium is installed (Debian's package chromium)");
     };
     for (chart, places, words, ticks) in [
-        ("roughing.chart", "32", "random:1", "64"),
-        ("bore.chart", "2", "count", "40"),
+        ("roughing.txt", "32", "random:1", "64"),
+        ("bore.txt", "2", "count", "40"),
         ("finishing.chart", "32", "0,2,0x12", "30"),
         ("paper.chart", "6", "1", "20"),
     ] {
@@ -54,8 +54,7 @@ impl Case {
         let page = folder().join(format!("{chart}.html"));
         let (path, file) = (example(chart), page.to_string_lossy());
         let made = run(&["page", &path, "--places", places, "--words", words, "--ticks", ticks, "-o", &file]);
-        let source = from_bytes(&std::fs::read(&path).expect("an example"));
-        let plan = Plan::read(source).expect("an accepted chart");
+        let plan = load(&path).and_then(Plan::read).expect("an accepted chart");
         let words = Words::given(words).expect("words").take(Some(ticks.parse().expect("a number")));
         let trace = trace(&plan, places.parse().expect("a number"), &words).expect("an accepted chart");
         assert_eq!(made.status, i32::from(trace.stopped.is_some()), "{}", made.said);

@@ -63,11 +63,12 @@ fn a_trace_marks_what_it_took() {
 fn a_trace_that_is_refused_is_drawn_and_told() {
     let ran = drawn("paper.chart", &["--trace", "--places", "1"]);
     assert_eq!(ran.status, 1);
-    assert!(ran.said.starts_with("refused with 17 at tick 1, "), "{}", ran.said);
+    let told = format!("{}: tick 1, word EC67, node n1 of s1: the call of s2 ", example("paper.chart"));
+    assert!(ran.said.starts_with(&told) && ran.said.contains("\n  refusal 17: "), "{}", ran.said);
     assert!(line(&ran.printed, "n1_call").contains("never"));
     let ran = drawn("paper.chart", &["--trace", "--places", "33"]);
     assert_eq!((ran.status, ran.printed.as_str()), (1, ""));
-    assert!(ran.said.contains("refused with 14,"), "{}", ran.said);
+    assert!(ran.said.contains("\n  refusal 14: "), "{}", ran.said);
 }
 
 #[test]

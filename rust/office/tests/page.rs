@@ -57,8 +57,12 @@ fn a_refusal_and_what_was_never_taken_stand_in_the_page() {
     let (plan, trace) = traced(source("paper.chart"), 2, &[0, 0, 1, 0, 0]);
     let page = page(&plan, &trace, "paper.chart", "", SVG);
     let told = line(&page, "<p id=\"refusal\">");
-    assert!(told.contains("refused with 17 at tick 3, word 0000: node n6 of s2 calls s2, and all 2 places"));
-    assert!(page.contains("<li>arc n4, x0 = 0 -&gt; n5</li>") && page.contains("<li>node n6 of s2</li>"));
+    assert!(
+        told.contains("tick 3, word 0000, node n6 of s2: the call of s2 finds the stack full, all 2 places")
+    );
+    assert!(
+        page.contains("<li>arc n4, x0 = 0 -&gt; n5 of s2</li>") && page.contains("<li>node n6 of s2</li>")
+    );
     assert!(line(&page, "<tr id=\"node-n6\"").contains("class=\"never\""));
 }
 
@@ -128,5 +132,5 @@ fn refusals_of_the_library_leave_no_page() {
     let file = target("refused.html");
     let ran = run(&["page", &example("paper.chart"), "--places", "0", "-o", &file]);
     assert_eq!((ran.status, Path::new(&file).exists()), (1, false));
-    assert!(ran.said.contains("refused with 14,"), "{}", ran.said);
+    assert!(ran.said.contains("\n  refusal 14: "), "{}", ran.said);
 }

@@ -29,15 +29,15 @@ fn the_table_of_the_paper() {
     let expected = "\
 paper.chart: 7 nodes in 2 schemes; stack of 3 places; words 0,0,1,0,0,0,0,0
 
-tick  word  conditions at 1  scheme  node        what happens  micro operations  open schemes          results at 1
-   0  0000  -                s1      n2 (End)    home          -                 1: s1                 -
-   1  0000  -                s1      n1          call of s2    y0                1: s1                 -
-   2  0001  x0               s2      n3 (Begin)  plain         -                 2: s1 > s2            -
-   3  0000  -                s2      n6          call of s2    y1                2: s1 > s2            -
-   4  0000  -                s2      n3 (Begin)  plain         -                 3: s1 > s2 (2 times)  -
-   5  0000  -                s2      n5 (End)    return        -                 3: s1 > s2 (2 times)  -
-   6  0000  -                s2      n5 (End)    return        -                 2: s1 > s2            -
-   7  0000  -                s1      n2 (End)    home          -                 1: s1                 -
+tick  word  conditions at 1  scheme  node        what happens  micro operations  open schemes   results at 1
+   0  0000  -                s1      n2 (End)    home          -                 1: s1          -
+   1  0000  -                s1      n1          call of s2    y0                1: s1          -
+   2  0001  x0               s2      n3 (Begin)  plain         -                 2: s1 > s2     -
+   3  0000  -                s2      n6          call of s2    y1                2: s1 > s2     -
+   4  0000  -                s2      n3 (Begin)  plain         -                 3: s1 > s2 x2  -
+   5  0000  -                s2      n5 (End)    return        -                 3: s1 > s2 x2  -
+   6  0000  -                s2      n5 (End)    return        -                 2: s1 > s2     -
+   7  0000  -                s1      n2 (End)    home          -                 1: s1          -
 
 8 ticks; every node and arc was taken (7 nodes, 6 arcs)
 ";
@@ -49,29 +49,32 @@ fn a_full_stack_is_told_with_the_call_that_met_it() {
     let ran = traced("paper.chart", &["--words", "0,0,1,0,0,0,0,0", "--places", "2"]);
     assert_eq!(ran.status, 1);
     assert_eq!(rows(&ran).len(), 3);
-    let told =
-        "refused with 17 at tick 3, word 0000: node n6 of s2 calls s2, and all 2 places of the stack are in \
-                use (2: s1 > s2). Give it more places (32 at most), or let the chart call less deep.";
+    assert_eq!(ran.said, format!("{}: ended by refusal 17 after 3 ticks\n", example("paper.chart")));
+    let told = [
+        "tick 3, word 0000, node n6 of s2: the call of s2 finds the stack full, all 2 places in use (2: s1 > s2)",
+        "  refusal 17: a call needs a free place of the stack",
+        "  look for: a chart that calls deeper than the stack has places: give it more (32 at most), or let it call \
+         less deep",
+        "",
+    ];
     let left = [
         "3 ticks; never taken: 2 of 7 nodes, 3 of 6 arcs",
         "  node n5 (End) of s2",
         "  node n6 of s2",
-        "  arc n1 -> n2",
-        "  arc n4, x0 = 0 -> n5",
-        "  arc n6 -> n5",
+        "  arc n1 -> n2 of s1",
+        "  arc n4, x0 = 0 -> n5 of s2",
+        "  arc n6 -> n5 of s2",
     ];
-    assert_eq!(after(&ran)[0], told);
-    assert_eq!(after(&ran)[1..], left);
+    assert_eq!(after(&ran)[..4], told);
+    assert_eq!(after(&ran)[4..], left);
 }
 
 #[test]
 fn one_place_allows_no_call() {
     let ran = traced("paper.chart", &["--places", "1"]);
     assert_eq!((ran.status, rows(&ran).len()), (1, 1));
-    assert!(after(&ran)[0].contains("tick 1, "), "{}", ran.printed);
-    assert!(
-        after(&ran)[0].contains("node n1 of s1 calls s2, and the one place of the stack is in use (1: s1)")
-    );
+    let told = "node n1 of s1: the call of s2 finds the stack full, its one place in use (1: s1)";
+    assert!(after(&ran)[0].starts_with("tick 1, ") && after(&ran)[0].ends_with(told), "{}", ran.printed);
 }
 
 #[test]
@@ -81,9 +84,9 @@ fn what_was_never_taken_is_listed() {
     let left = [
         "30 ticks; never taken: 1 of 10 nodes, 3 of 10 arcs",
         "  node n8 of s2",
-        "  arc n1, s2 = 1 -> n3",
-        "  arc n6, x3 = 1 -> n8",
-        "  arc n8 -> n9",
+        "  arc n1, s2 = 1 -> n3 of s1",
+        "  arc n6, x3 = 1 -> n8 of s2",
+        "  arc n8 -> n9 of s2",
     ];
     assert_eq!(after(&ran), left);
     let ran = traced("bore.chart", &["--words", "8", "--ticks", "30"]);
@@ -101,7 +104,7 @@ fn without_options_the_words_are_random_and_the_ticks_64() {
     assert_ne!(rows(&ran), rows(&traced("bore.chart", &["--words", "random:2"])));
     assert_eq!(after(&ran), ["64 ticks; every node and arc was taken (10 nodes, 10 arcs)"]);
     let expected = std::fs::read_to_string(example("bore.trace")).expect("the example's trace");
-    assert_eq!(ran.printed, expected);
+    assert_eq!(traced("bore.txt", &[]).printed, expected);
 }
 
 #[test]
@@ -123,6 +126,29 @@ fn counted_words_are_those_of_the_run_program() {
         });
         assert!(shown.eq(expected), "{name}");
     }
+}
+
+#[test]
+fn the_names_of_the_notation_are_used() {
+    let ran = traced("bore.txt", &["--words", "0,0,8,8,0,0,0"]);
+    assert_eq!((ran.status, ran.said.as_str()), (0, ""));
+    let cells = |row: &str| -> Vec<String> {
+        row.split("  ").map(str::trim).filter(|cell| !cell.is_empty()).map(String::from).collect()
+    };
+    let expected = [
+        ["0", "0000", "-", "drilling", "end", "home", "-", "1: drilling", "-"],
+        ["1", "0000", "-", "drilling", "test (function)", "call of bore_test", "-", "1: drilling", "-"],
+        ["2", "0008", "bore", "bore_test", "lower", "plain", "probe_down", "2: drilling > bore_test", "-"],
+        ["3", "0008", "bore", "bore_test", "yes", "plain", "-", "2: drilling > bore_test", "bore_test"],
+        ["4", "0000", "-", "bore_test", "end", "return", "-", "2: drilling > bore_test", "bore_test"],
+    ];
+    for (row, expected) in rows(&ran).into_iter().zip(expected) {
+        assert_eq!(cells(row), expected);
+    }
+    assert!(after(&ran).contains(&"  arc look, bore = 0 -> no of bore_test"), "{}", ran.printed);
+    // the same ticks as those of the chart's lines
+    let plain = traced("bore.chart", &["--words", "0,0,8,8,0,0,0"]);
+    assert!(rows(&ran).iter().map(|row| &row[..10]).eq(rows(&plain).iter().map(|row| &row[..10])));
 }
 
 #[test]
@@ -157,11 +183,11 @@ fn refusals_of_the_library_end_it() {
         args.extend(rest);
         let ran = run(&args);
         assert_eq!((ran.status, ran.printed.as_str()), (1, ""));
-        assert!(ran.said.contains(&format!("refused with {number},")), "{}", ran.said);
+        assert!(ran.said.contains(&format!("\n  refusal {number}: ")), "{}", ran.said);
     }
     let ran = run(&["trace", "no/such.chart"]);
     assert_eq!(ran.status, 1);
-    assert!(ran.said.starts_with("cannot read no/such.chart: "), "{}", ran.said);
+    assert_eq!(ran.said, "no/such.chart: there is no such file\n");
 }
 
 #[test]
@@ -181,6 +207,9 @@ fn wrong_arguments_get_the_usage() {
         assert_eq!((ran.status, ran.printed.as_str()), (2, ""), "{args:?}");
         assert!(ran.said.contains("\nusage: fairleadow trace CHART "), "{}", ran.said);
     }
+    let ran = run(&["trace", &chart, "--words", "0,x"]);
+    assert_eq!((ran.status, ran.printed.as_str()), (1, ""));
+    assert!(ran.said.starts_with("in the words 0,x: 'x' is no word"), "{}", ran.said);
     let ran = run(&["trace", "--help"]);
     assert_eq!((ran.status, ran.said.as_str()), (0, ""));
     assert!(ran.printed.starts_with("usage: fairleadow trace CHART "));

@@ -64,8 +64,14 @@ fn traces_are_the_walk() {
         let count = random.within(0, 150);
         let words = runs::words(&mut random, count);
         let places = random.pick(&[1, 2, 3, 8, 32]);
-        // charts with too many rows are refused with 10
-        let Ok(traced) = trace(&plan, places, &words) else { continue };
+        let traced = match trace(&plan, places, &words) {
+            Ok(traced) => traced,
+            // charts with too many rows
+            Err(problem) => {
+                assert_eq!(problem.refusal.map(|refusal| refusal.number), Some(10));
+                continue;
+            }
+        };
         compared(&chart, &traced, &words);
         arcs_join(&plan, &traced);
         traced_charts += 1;

@@ -1,17 +1,10 @@
 //! Frames as text: 22 hexadecimal capitals and a line feed, the last byte making the sum 0. Refusals 1 to 3.
 
 use crate::answer::{refuse_if, refuse_lowest, Refusal};
+pub use interface::{CHART_TEXT, IMAGE_TEXT, LINE as CHARACTERS, RECORDS};
 
 /// The ten bytes of a frame before its sum.
 pub type Frame = [u8; 10];
-
-/// The characters of a frame's line.
-pub const CHARACTERS: usize = 23;
-
-/// The longest texts, in characters, and the longest list of node records, in bytes.
-pub const CHART_TEXT: usize = 5_888;
-pub const IMAGE_TEXT: usize = 29_831;
-pub const RECORDS: usize = 2_560;
 
 const DIGITS: &[u8; 16] = b"0123456789ABCDEF";
 

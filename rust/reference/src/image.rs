@@ -2,8 +2,7 @@
 
 use crate::answer::{refuse_if, refuse_lowest, Refusal};
 use crate::frames::Frame;
-
-pub const ROWS: usize = 1_024;
+pub use interface::ROWS;
 
 pub const PLAIN: u8 = 0;
 pub const OPERATION_CALL: u8 = 1;

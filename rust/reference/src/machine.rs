@@ -39,9 +39,9 @@ fn entry(image: &Image, scheme: u8) -> u8 {
 }
 
 /// The label that the first matching row of a label leads to.
-fn next_label(image: &Image, bits: &[bool; 16], from: u8, word: u16) -> Option<u8> {
+fn next_label(image: &Image, results: &[bool; 16], from: u8, word: u16) -> Option<u8> {
     let called = label(image, from).called;
-    let bit_agrees = |bit: u8| bit == 2 || bits[usize::from(called) - 1] == (bit == 1);
+    let bit_agrees = |bit: u8| bit == 2 || results[usize::from(called) - 1] == (bit == 1);
     let mut rows = image.rows.iter().filter(|row| row.from == from);
     let matching = rows.find(|row| word & row.care == row.values && bit_agrees(row.function_bit));
     matching.map(|row| row.next)
@@ -61,7 +61,7 @@ pub fn tick(image: &Image, state: &State, word: u16) -> Result<Advanced, u8> {
         }
         RETURN => {
             let beneath = state.places[top - 1];
-            let next = next_label(image, &state.bits, beneath, word).ok_or(18)?;
+            let next = next_label(image, &state.results, beneath, word).ok_or(18)?;
             after.places[top] = 0;
             after.places[top - 1] = next;
             after.depth -= 1;
@@ -77,7 +77,7 @@ pub fn tick(image: &Image, state: &State, word: u16) -> Result<Advanced, u8> {
             base + here.called
         }
         _ => {
-            after.places[top] = next_label(image, &state.bits, at, word).ok_or(18)?;
+            after.places[top] = next_label(image, &state.results, at, word).ok_or(18)?;
             0x00
         }
     };
@@ -86,6 +86,6 @@ pub fn tick(image: &Image, state: &State, word: u16) -> Result<Advanced, u8> {
 
 fn write_result(state: &mut State, here: &Label) {
     if here.result != 0 {
-        state.bits[usize::from(here.owner) - 1] = here.result == 2;
+        state.results[usize::from(here.owner) - 1] = here.result == 2;
     }
 }

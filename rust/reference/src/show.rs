@@ -34,9 +34,9 @@ pub fn words(words: &[u16]) -> String {
 }
 
 pub fn state(state: &State) -> String {
-    let bits: String = state.bits.iter().map(|b| if *b { '1' } else { '0' }).collect();
+    let results: String = state.results.iter().map(|b| if *b { '1' } else { '0' }).collect();
     format!(
-        "size {}, depth {}, places {:?}, bits of schemes 1 to 16 {bits}",
+        "size {}, depth {}, places {:?}, results of schemes 1 to 16 {results}",
         state.size, state.depth, state.places
     )
 }

@@ -71,7 +71,7 @@ impl Faulty {
         let top = usize::from(state.depth) - 1;
         let label = image.labels[usize::from(state.places[top])];
         if label.calls() {
-            let bit = state.bits[usize::from(label.called) - 1];
+            let bit = state.results[usize::from(label.called) - 1];
             self.calls.borrow_mut()[top] = (word, bit);
         }
         if label.kind == RETURN {
@@ -95,11 +95,11 @@ impl Faulty {
         let result = usize::from(beneath.called) - 1;
         let mut before = *state;
         if self.fault == ResultBitOfTheCall && beneath.kind == FUNCTION_CALL {
-            before.bits[result] = call_bit;
+            before.results[result] = call_bit;
         }
         let word = if self.fault == WordOfTheCall { call_word } else { word };
         let mut advanced = machine::tick(image, &before, word)?;
-        advanced.state.bits = state.bits;
+        advanced.state.results = state.results;
         match self.fault {
             CallsAgainOnReturn => advanced.state.places[top - 1] = state.places[top - 1],
             KeepsDroppedPlaces => advanced.state.places[top] = 1,
@@ -127,7 +127,7 @@ impl Faulty {
                 }
                 Err(number) => {
                     if self.fault == WritesTheResultOfAFullCall {
-                        state.bits[0] = !state.bits[0];
+                        state.results[0] = !state.results[0];
                     }
                     return (Answer::Refused { number, index: 0, count }, state);
                 }

@@ -1,11 +1,11 @@
-//! What the commands that trace share: arguments, the chart's file, and how a command ends.
+//! What the commands that trace share: their arguments, the chart, and the trace that is asked for.
 
 use std::collections::BTreeMap;
-use std::io::{self, Write};
-use std::process::ExitCode;
+use std::path::Path;
 
-use fairleadow::Answer;
+use fairleadow::PLACES;
 
+use crate::command::Failure;
 use crate::plan::Plan;
 use crate::source;
 use crate::trace::words::Words;
@@ -15,11 +15,12 @@ use crate::trace::{self, Trace};
 const MOST_TICKS: usize = 100_000;
 /// The words where none are given.
 const WORDS: &str = "random:1";
-/// The stack's places where none are given.
-const PLACES: &str = "32";
 
-/// The options of a trace, for the help of each command that has them.
-pub const TRACING_HELP: &str = "\
+/// The options of a trace.
+pub const TRACING: [&str; 3] = ["--places", "--words", "--ticks"];
+
+/// Their help.
+pub const TRACING_HELP: &str = "
   --places N     places of the stack, 1 to 32; 32 if not given
   --words WORDS  the words, one a tick; bit i of a word is condition i. One of
                    random:SEED    random words, the same for the same seed
@@ -29,46 +30,7 @@ pub const TRACING_HELP: &str = "\
                                   begins with a digit
                  random:1 if not given, so that every condition is 0 and 1 in turn
   --ticks N      how many ticks, 1 to 100000. If not given, as many as the words of a list
-                 or a file, else 64. A list or a file that is shorter begins again.
-";
-
-/// Why a command did not do what was asked.
-#[derive(Debug)]
-pub enum Failure {
-    /// The arguments are not as the usage says.
-    Usage(String),
-    /// A chart, a file or a tool stands in the way.
-    Refused(String),
-}
-
-/// Ends a command: prints what it made, or tells why not. Help goes to standard output.
-pub fn finish(help: &str, args: &[String], made: impl FnOnce() -> Result<ExitCode, Failure>) -> ExitCode {
-    if args.iter().any(|arg| arg == "--help" || arg == "-h") {
-        return print(help);
-    }
-    match made() {
-        Ok(code) => code,
-        Err(Failure::Usage(message)) => {
-            eprintln!("{message}\n{}\n--help tells more", help.lines().next().unwrap_or(""));
-            ExitCode::from(2)
-        }
-        Err(Failure::Refused(message)) => {
-            eprintln!("{message}");
-            ExitCode::FAILURE
-        }
-    }
-}
-
-/// Prints a text; a reader that goes away before its end is no failure.
-pub fn print(text: &str) -> ExitCode {
-    match io::stdout().write_all(text.as_bytes()) {
-        Err(error) if error.kind() != io::ErrorKind::BrokenPipe => {
-            eprintln!("cannot write: {error}");
-            ExitCode::FAILURE
-        }
-        _ => ExitCode::SUCCESS,
-    }
-}
+                 or a file, else 64. A list or a file that is shorter begins again.";
 
 /// The arguments taken apart.
 pub struct Arguments {
@@ -91,16 +53,16 @@ impl Arguments {
                 if taken.values.insert(arg.clone(), value.clone()).is_some() {
                     return Err(Failure::Usage(format!("{arg} is given twice")));
                 }
-            } else if arg.starts_with('-') {
-                return Err(Failure::Usage(format!("unknown option {arg}")));
+            } else if arg.starts_with('-') && arg != "-" {
+                return Err(Failure::Usage(format!("no option {arg}")));
             } else {
                 charts.push(arg.clone());
             }
         }
         match charts.as_slice() {
-            [] => Err(Failure::Usage("no chart is given".to_string())),
+            [] => Err(Failure::Usage("a chart is missing".to_string())),
             [chart] => Ok(Arguments { chart: chart.clone(), ..taken }),
-            [_, second, ..] => Err(Failure::Usage(format!("one chart at a time; what is {second}?"))),
+            [_, second, ..] => Err(Failure::Usage(format!("one chart only, and {second} is one more"))),
         }
     }
 
@@ -122,21 +84,21 @@ impl Arguments {
 
     /// The chart's file without the folders before it.
     pub fn title(&self) -> String {
-        let name = std::path::Path::new(&self.chart).file_name();
-        name.map_or(self.chart.clone(), |name| name.to_string_lossy().into_owned())
+        match Path::new(&self.chart).file_name() {
+            Some(name) if self.chart != "-" => name.to_string_lossy().into_owned(),
+            _ => "standard input".to_string(),
+        }
+    }
+
+    /// A problem of the chart's file.
+    pub fn failure(&self, problem: impl std::fmt::Display) -> Failure {
+        Failure::of(&self.chart, problem)
     }
 
     /// Reads the chart.
     pub fn plan(&self) -> Result<Plan, Failure> {
-        let bytes = std::fs::read(&self.chart)
-            .map_err(|error| Failure::Refused(format!("cannot read {}: {error}", self.chart)))?;
-        let source = source::from_bytes(&bytes);
-        let text = source.text.clone();
-        Plan::read(source).map_err(|answer| Failure::Refused(refusal(&self.chart, &text, answer)))
+        source::load(&self.chart).and_then(Plan::read).map_err(|problem| self.failure(problem))
     }
-
-    /// The options of a trace.
-    pub const TRACING: [&'static str; 3] = ["--places", "--words", "--ticks"];
 
     /// The words as they were given.
     pub fn words(&self) -> &str {
@@ -145,23 +107,12 @@ impl Arguments {
 
     /// Traces the chart over the words that are asked for.
     pub fn trace(&self, plan: &Plan) -> Result<Trace, Failure> {
-        let places = self.value("--places").unwrap_or(PLACES);
-        let places =
-            places.parse().map_err(|_| Failure::Usage(format!("--places takes a number, not {places}")))?;
+        let places = self.number("--places")?.unwrap_or(PLACES);
         let ticks = self.number("--ticks")?;
         if ticks.is_some_and(|ticks| !(1..=MOST_TICKS).contains(&ticks)) {
             return Err(Failure::Usage(format!("--ticks takes 1 to {MOST_TICKS}")));
         }
         let words = Words::given(self.words()).map_err(Failure::Refused)?.take(ticks);
-        let traced = trace::trace(plan, places, &words);
-        traced.map_err(|answer| Failure::Refused(refusal(&self.chart, &plan.text, answer)))
-    }
-}
-
-/// A refusal in words.
-fn refusal(file: &str, _text: &[u8], answer: Answer) -> String {
-    match answer {
-        Answer::Done(_) => format!("{file}: accepted"),
-        Answer::Refused { number, index, .. } => format!("{file}: refused with {number}, index {index}"),
+        trace::trace(plan, places, &words).map_err(|problem| self.failure(problem))
     }
 }

@@ -1,39 +1,35 @@
 //! `fairleadow page`: a trace as one page to step through.
 
-use std::process::ExitCode;
+use std::io::Write;
 
-use super::draw::stopped;
-use super::options::{finish, Arguments, Failure, TRACING_HELP};
+use super::draw::ended;
+use super::options::{Arguments, TRACING, TRACING_HELP};
 use super::trace::summary;
+use crate::command::{Command, Failure};
 use crate::draw::{dot, drawing};
 use crate::page::page;
 
-const USAGE: &str = "usage: fairleadow page CHART [--places N] [--words WORDS] [--ticks N] -o FILE.html";
 /// The most ticks that a page lists.
 const MOST_TICKS: usize = 10_000;
 
-fn help() -> String {
-    format!(
-        "{USAGE}\n\n\
-         Runs CHART and writes one page, which needs nothing but a browser: the drawing, the ticks, and a slider and\n\
-         arrow keys that step through them and light up the node, the open schemes and the micro operations. One page\n\
-         is one chart, of at most {MOST_TICKS} ticks; FILE.html#tick=5 opens it at tick 5. The drawing is laid out by\n\
-         dot (Debian's package graphviz).\n\n  \
-         -o FILE.html   where the page is written\n\
-         {TRACING_HELP}\n\
-         Status 0, or 1 where a refusal, a file or a missing dot stands in the way, or 2 for wrong arguments. A page\n\
-         is also written where a full stack ends the ticks, and the status is 1.\n"
-    )
-}
+pub const COMMAND: Command = Command {
+    name: "page",
+    arguments: "CHART [--places N] [--words WORDS] [--ticks N] -o FILE.html",
+    help: "runs a chart and writes a page that steps through the ticks in a browser",
+    details: &[
+        "
+The page needs nothing but a browser: the drawing, the ticks, and a slider and arrow keys that step through them and
+light up the node, the open schemes and the micro operations. One page is one chart, of at most 10000 ticks;
+FILE.html#tick=5 opens it at tick 5. It is also written where a full stack ends the ticks; the status is 1 then.
 
-pub fn run(args: &[String]) -> ExitCode {
-    finish(&help(), args, || made(args))
-}
+  -o FILE.html   where the page is written; the drawing is laid out by dot (Debian's package graphviz)",
+        TRACING_HELP,
+    ],
+    run,
+};
 
-fn made(args: &[String]) -> Result<ExitCode, Failure> {
-    let mut options = Arguments::TRACING.to_vec();
-    options.push("-o");
-    let arguments = Arguments::of(args, &options, &[])?;
+fn run(args: &[String], _out: &mut dyn Write) -> Result<(), Failure> {
+    let arguments = Arguments::of(args, &[TRACING.as_slice(), &["-o"]].concat(), &[])?;
     let file = arguments.value("-o").ok_or_else(|| Failure::Usage("-o FILE.html is missing".to_string()))?;
     let plan = arguments.plan()?;
     let trace = arguments.trace(&plan)?;
@@ -42,7 +38,6 @@ fn made(args: &[String]) -> Result<ExitCode, Failure> {
     }
     let svg = dot::svg(&drawing(&plan, Some(&trace.coverage), "")).map_err(Failure::Refused)?;
     let page = page(&plan, &trace, &arguments.title(), &summary(&arguments, &plan, &trace), &svg);
-    let written = std::fs::write(file, page);
-    written.map_err(|error| Failure::Refused(format!("cannot write {file}: {error}")))?;
-    Ok(stopped(&plan, Some(&trace)).unwrap_or(ExitCode::SUCCESS))
+    std::fs::write(file, page).map_err(|error| Failure::of(file, format!("cannot be written: {error}")))?;
+    ended(&arguments, &plan, &trace)
 }

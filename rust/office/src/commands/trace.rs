@@ -1,36 +1,40 @@
 //! `fairleadow trace`: a chart's ticks as a table.
 
-use std::process::ExitCode;
+use std::io::Write;
 
-use super::options::{finish, print, Arguments, Failure, TRACING_HELP};
+use super::options::{Arguments, TRACING, TRACING_HELP};
+use crate::command::{Command, Failure};
 use crate::plan::Plan;
-use crate::trace::table::{counted, report};
+use crate::problem::counted;
+use crate::trace::table::report;
 use crate::trace::Trace;
 
-const USAGE: &str = "usage: fairleadow trace CHART [--places N] [--words WORDS] [--ticks N]";
+pub const COMMAND: Command = Command {
+    name: "trace",
+    arguments: "CHART [--places N] [--words WORDS] [--ticks N]",
+    help: "runs a chart tick by tick, and tells which nodes and arcs were never taken",
+    details: &[
+        "
+Each tick has a line: the word, the node, what happens, the micro operations, the open schemes and the result bits
+after it. Of the conditions at 1 those are named that the chart tests. Status 1 means that a refusal ended it.",
+        TRACING_HELP,
+    ],
+    run,
+};
 
-fn help() -> String {
-    format!(
-        "{USAGE}\n\n\
-         Translates CHART, runs it tick by tick and prints a table of the ticks: the word, the node, what happens, the\n\
-         micro operations, the open schemes and the result bits after the tick; then which nodes and arcs were never\n\
-         taken. Of the conditions at 1 those are named that the chart tests.\n\n\
-         {TRACING_HELP}\n\
-         Status 0, or 1 where a refusal or an unreadable file ends it, or 2 for wrong arguments.\n"
-    )
-}
-
-pub fn run(args: &[String]) -> ExitCode {
-    finish(&help(), args, || made(args))
-}
-
-fn made(args: &[String]) -> Result<ExitCode, Failure> {
-    let arguments = Arguments::of(args, &Arguments::TRACING, &[])?;
+fn run(args: &[String], out: &mut dyn Write) -> Result<(), Failure> {
+    let arguments = Arguments::of(args, &TRACING, &[])?;
     let plan = arguments.plan()?;
     let trace = arguments.trace(&plan)?;
-    let (title, head) = (arguments.title(), summary(&arguments, &plan, &trace));
-    let printed = print(&format!("{title}: {head}\n\n{}", report(&plan, &trace)));
-    Ok(if trace.stopped.is_some() { ExitCode::FAILURE } else { printed })
+    writeln!(out, "{}: {}\n", arguments.title(), summary(&arguments, &plan, &trace))?;
+    out.write_all(report(&plan, &trace).as_bytes())?;
+    match &trace.stopped {
+        Some(stopped) => {
+            let ticks = counted(trace.ticks.len(), "tick");
+            Err(arguments.failure(format!("ended by refusal {} after {ticks}", stopped.number)))
+        }
+        None => Ok(()),
+    }
 }
 
 /// What is traced, and with what.

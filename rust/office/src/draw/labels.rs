@@ -3,6 +3,7 @@
 use crate::chart::Node;
 use crate::escape::escaped;
 use crate::plan::Plan;
+use crate::wording::kind;
 
 /// The longest line of micro operations, in characters; a longer list is broken.
 const LONGEST: usize = 26;
@@ -11,8 +12,7 @@ const LONGEST: usize = 26;
 pub fn label(plan: &Plan, at: usize) -> String {
     let name = escaped(&plan.names.node(at));
     let mut lines = match plan.nodes[at] {
-        Node::Begin { .. } => vec![format!("Begin <B>{name}</B>")],
-        Node::End { .. } => vec![format!("End <B>{name}</B>")],
+        Node::Begin { .. } | Node::End { .. } => vec![edge_of_scheme(kind(&plan.nodes[at]), &name)],
         Node::Condition { number, .. } => {
             vec![format!("<B>{}</B> ?", escaped(&plan.names.condition(number))), small(&name)]
         }
@@ -25,6 +25,15 @@ pub fn label(plan: &Plan, at: usize) -> String {
         lines.push(small(&format!("label {label}")));
     }
     format!("<{}>", lines.join("<BR/>"))
+}
+
+/// A Begin or an End, with its name where that says something else.
+fn edge_of_scheme(kind: &str, name: &str) -> String {
+    if name.eq_ignore_ascii_case(kind) {
+        format!("<B>{kind}</B>")
+    } else {
+        format!("{kind} <B>{name}</B>")
+    }
 }
 
 /// An operation: its name, micro operations, the result that it writes and the scheme that it calls.

@@ -82,6 +82,17 @@
     }
   }
 
+  function fit(whole) {
+    find("fit").checked = whole;
+    find("sheet").classList.toggle("fit", whole);
+  }
+
+  // whether the whole drawing can be shown without getting too small to read
+  function fits() {
+    const [sheet, drawing] = [find("sheet"), document.querySelector("#sheet svg").getBoundingClientRect()];
+    return Math.min(sheet.clientWidth / drawing.width, sheet.clientHeight / drawing.height) > 0.6;
+  }
+
   // the tick that the address asks for
   function asked() {
     const match = /^#tick=(\d+)$/.exec(location.hash);
@@ -103,7 +114,7 @@
   find("slider").addEventListener("input", (event) => show(Number(event.target.value)));
   find("back").addEventListener("click", () => show(shown - 1));
   find("forward").addEventListener("click", () => show(shown + 1));
-  find("fit").addEventListener("change", (event) => find("sheet").classList.toggle("fit", event.target.checked));
+  find("fit").addEventListener("change", (event) => fit(event.target.checked));
   rows.forEach((row, tick) => row.addEventListener("click", () => show(tick)));
   document.querySelectorAll("svg g.node").forEach((node) =>
     node.addEventListener("click", () => {
@@ -112,5 +123,6 @@
     })
   );
   window.addEventListener("hashchange", () => show(asked()));
+  fit(fits());
   show(asked());
 })();

@@ -1,7 +1,11 @@
 //! A trace as a table that a person can read, and what it never took.
 
+use fairleadow::Answer;
+
 use super::{Stopped, Tick, Trace};
+use crate::marking::called;
 use crate::plan::Plan;
+use crate::problem::{counted, Problem};
 use crate::wording::listed;
 
 /// The columns of the table, also of the page's.
@@ -39,8 +43,7 @@ pub fn report(plan: &Plan, trace: &Trace) -> String {
     let mut text = aligned(&rows);
     text.push('\n');
     if let Some(stopped) = &trace.stopped {
-        text.push_str(&stopped_words(plan, trace, stopped));
-        text.push('\n');
+        text.push_str(&format!("{}\n\n", problem(plan, trace, stopped)));
     }
     for line in never_taken(plan, trace) {
         text.push_str(&line);
@@ -65,27 +68,32 @@ fn aligned(rows: &[[String; 9]]) -> String {
     text
 }
 
-/// Why a trace ended before its words did.
-pub fn stopped_words(plan: &Plan, trace: &Trace, stopped: &Stopped) -> String {
+/// Why a trace ended before its words did: the refusal in its own words, and the call that met it.
+pub fn problem(plan: &Plan, trace: &Trace, stopped: &Stopped) -> Problem {
     let node = stopped.stack[stopped.stack.len() - 1];
-    let begin = format!(
-        "refused with {} at tick {}, word {:04X}: node {} of {}",
-        stopped.number,
-        trace.ticks.len(),
+    let count = trace.ticks.len();
+    let told = plan.source.problem(Answer::Refused { number: stopped.number, index: 0, count });
+    let place = format!(
+        "tick {count}, word {:04X}, node {} of {}",
         stopped.word,
         plan.node_title(node),
         plan.scheme_of(node)
     );
-    if stopped.number != 17 {
-        return format!("{begin} has no row for this word");
-    }
-    let called = plan.names.scheme(crate::marking::called(&plan.nodes[node]));
-    let places = match trace.places {
-        1 => "the one place of the stack is in use".to_string(),
-        places => format!("all {places} places of the stack are in use"),
+    let words = match called(&plan.nodes[node]) {
+        0 => format!("{place}: {}", told.words),
+        scheme => {
+            let (scheme, open) = (plan.names.scheme(scheme), plan.open_schemes(&stopped.stack));
+            format!("{place}: the call of {scheme} finds the stack full, {} ({open})", in_use(trace.places))
+        }
     };
-    let open = plan.open_schemes(&stopped.stack);
-    format!("{begin} calls {called}, and {places} ({open}). Give it more places (32 at most), or let the chart call less deep.")
+    Problem { words, ..told }
+}
+
+fn in_use(places: usize) -> String {
+    match places {
+        1 => "its one place in use".to_string(),
+        _ => format!("all {places} places in use"),
+    }
 }
 
 /// How many nodes and arcs were never taken, and which.
@@ -108,12 +116,4 @@ pub fn never_taken(plan: &Plan, trace: &Trace) -> Vec<String> {
         nodes.into_iter().map(|at| format!("  node {} of {}", plan.node_title(at), plan.scheme_of(at)));
     let arcs = arcs.into_iter().map(|arc| format!("  arc {}", plan.arc_title(arc)));
     std::iter::once(head).chain(nodes).chain(arcs).collect()
-}
-
-/// A number of things, in the plural but for one.
-pub fn counted(count: usize, thing: &str) -> String {
-    match count {
-        1 => format!("1 {thing}"),
-        _ => format!("{count} {thing}s"),
-    }
 }

@@ -4,8 +4,10 @@ use fairleadow::{Answer, Library, Proved, State};
 
 use super::arcs::{path, Arc};
 use super::Coverage;
+use crate::check::translated;
 use crate::marking::called;
 use crate::plan::Plan;
+use crate::problem::Problem;
 
 /// What a tick does, by its code.
 #[derive(Clone, Copy, Debug, PartialEq, Eq)]
@@ -68,12 +70,12 @@ pub struct Trace {
     pub coverage: Coverage,
 }
 
-/// Translates the chart once and ticks it over the words; the answer of a refused chart or stack size is handed back.
-pub fn trace(plan: &Plan, places: usize, words: &[u16]) -> Result<Trace, Answer> {
-    let image = plan.image()?;
+/// Translates the chart once and ticks it over the words, or tells why chart or stack size are refused.
+pub fn trace(plan: &Plan, places: usize, words: &[u16]) -> Result<Trace, Problem> {
+    let image = translated(&plan.source)?;
     let (answer, mut state) = Proved.fresh(places);
     if answer.number() != 0 {
-        return Err(answer);
+        return Err(plan.source.problem(answer));
     }
     let mut trace = Trace { places, ticks: Vec::new(), stopped: None, coverage: Coverage::none(plan) };
     for word in words {
@@ -119,5 +121,5 @@ fn stack(plan: &Plan, state: &State) -> Vec<usize> {
 
 /// The result bits of a state, that of scheme 1 first.
 fn results(state: &State) -> [bool; 16] {
-    state.bits
+    state.results
 }

@@ -98,14 +98,14 @@ impl Machine {
         self.depth = usize::from(state.depth);
         self.size = usize::from(state.size);
         self.bits = 0;
-        for (k, bit) in state.bits.iter().enumerate() {
+        for (k, bit) in state.results.iter().enumerate() {
             self.bits |= u32::from(*bit) << (k + 1);
         }
     }
 
     pub fn store(&self, size: u8) -> State {
-        let bits = std::array::from_fn(|k| self.bits >> (k + 1) & 1 == 1);
-        State { size, depth: self.depth as u8, places: self.places, bits }
+        let results = std::array::from_fn(|k| self.bits >> (k + 1) & 1 == 1);
+        State { size, depth: self.depth as u8, places: self.places, results }
     }
 
     /// Ticks until the words end, or 17 or 18. The buffers are as long as the words.

@@ -19,7 +19,7 @@ pub fn state(random: &mut Random, image: &Image) -> State {
 /// A stack that a fitting state may hold, each label above a call belonging to the scheme called.
 pub fn fitting(random: &mut Random, image: &Image) -> State {
     let mut state = State { size: random.within(1, 32) as u8, depth: 1, ..State::NONE };
-    state.bits = std::array::from_fn(|_| random.once_in(2));
+    state.results = std::array::from_fn(|_| random.once_in(2));
     let deep = random.once_in(4);
     let mut scheme = 1;
     loop {

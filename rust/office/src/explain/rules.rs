@@ -1,0 +1,30 @@
+//! The rule that each refusal guards, in the words of a person at the bench.
+
+use fairleadow::Refusal;
+
+/// The rules of refusals 1 to 18, in that order.
+const RULES: [&str; 18] = [
+    "a text is lines of 22 digits and a line feed: 1 to 256 for a chart, at most 1,297 for an image",
+    "a line is 22 digits, 0-9 and A-F, and a line feed",
+    "the eleven bytes of a line sum to 0 modulo 256; the last byte is there for that",
+    "each field of a node has one of its values, and a byte that its kind has no use for is 00",
+    "each scheme from 1 to the highest one used has one Begin and one End",
+    "an arc leads to a node of its own scheme, and never to a Begin",
+    "only schemes from 2 to the highest one can be called, and a function calls one",
+    "no circle has conditions only, for the machine could go round it and never tick",
+    "arcs join each node to the Begin of its scheme",
+    "a chart has at most 1,024 rows: the paths from its stops through conditions to the next stops",
+    "the first line of an image is 0F, the schemes, the highest label, the rows and 00, and as many lines follow",
+    "after its first line an image has the entries, the labels and the rows, each in the order of their numbers",
+    "each field of an image line has one of its values, and a byte without a use is 00",
+    "a stack has 1 to 32 places",
+    "a state belongs to the image that it is run with",
+    "a buffer has room for the whole answer",
+    "a call needs a free place of the stack",
+    "a label has a row for each word that it meets",
+];
+
+/// The rule of a refusal.
+pub fn rule(refusal: &Refusal) -> &'static str {
+    RULES[usize::from(refusal.number).clamp(1, RULES.len()) - 1]
+}

@@ -1,0 +1,378 @@
+//! The words of each refusal, on chart P of the paper and its image with one fault each.
+
+use office::check::checked;
+
+const CHART: &str = "\
+00010001000000000000FE
+02010202000000000001F8
+01010000000000000000FE
+00020004000000000000FA
+03020005060000000000F0
+01020000000000000000FD
+02020205000000000002F3
+";
+
+const IMAGE: &str = "\
+0F020400040000000000E7
+10010200000000000000ED
+10020300000000000000EB
+11000400010000000000EA
+11010300000000000000EB
+11020102010000000001E8
+11030000020000000000EA
+11040102020000000002E4
+12020000000002000000EA
+12030001000002010000E7
+12030001000102040000E3
+12040000000002010000E7
+";
+
+/// A line of twenty digits with its sum.
+fn summed(line: &str) -> String {
+    let bytes = (0..10).map(|k| u8::from_str_radix(&line[2 * k..2 * k + 2], 16).expect("digits"));
+    let sum = bytes.fold(0u8, |sum, byte| sum.wrapping_sub(byte));
+    format!("{}{sum:02X}\n", &line[..20])
+}
+
+fn lines(records: &[&str]) -> String {
+    records.iter().map(|record| summed(record)).collect()
+}
+
+/// The text with these digits at a line and a column, and its sums made right.
+fn edited(text: &str, line: usize, column: usize, digits: &str) -> String {
+    let edit = |(at, stands): (usize, &str)| {
+        let mut stands = stands.to_string();
+        if at + 1 == line {
+            stands.replace_range(column - 1..column - 1 + digits.len(), digits);
+        }
+        summed(&stands)
+    };
+    text.lines().enumerate().map(edit).collect()
+}
+
+/// The refusal's number and the first line of its words.
+fn told(text: impl AsRef<[u8]>) -> (u8, String) {
+    let problem = checked(text.as_ref()).expect_err("a refusal");
+    (problem.refusal.expect("a number").number, problem.words)
+}
+
+/// Each text is refused with this number, in these words.
+fn each(number: u8, cases: &[(String, &str)]) {
+    for (text, words) in cases {
+        assert_eq!(told(text), (number, words.to_string()), "{}", text.escape_debug());
+    }
+}
+
+#[test]
+fn the_sheets_are_accepted() {
+    let words = "accepted: a chart of 7 nodes in 2 schemes; its image has 5 labels and 4 rows";
+    assert_eq!(checked(CHART.as_bytes()).unwrap(), words);
+    assert_eq!(checked(IMAGE.as_bytes()).unwrap(), "accepted: an image of 2 schemes, 5 labels and 4 rows");
+    assert_eq!(edited(CHART, 1, 1, "00"), CHART);
+}
+
+#[test]
+fn refusal_1_the_length() {
+    each(
+        1,
+        &[
+            (String::new(), "the file is empty"),
+            (CHART.replace('\n', "\r\n"), "line 1 ends with a carriage return, and so do 6 more"),
+            (CHART.replace("F8\n", "F8\r\n"), "line 2 ends with a carriage return"),
+            (CHART.trim_end().to_string(), "the last line, line 7, has no line feed"),
+            (CHART.replace("FA\n", "FA\n\n"), "line 5 is empty"),
+            (CHART.replace("01F8", "1F8"), "line 2 has 21 characters, not 22"),
+            (CHART.replace("01F8", "001F8"), "line 2 has 23 characters, not 22"),
+            (CHART.replace("F8\n", "F8 \n"), "line 2 has 23 characters, not 22; column 23 is a space"),
+            (format!("# P\n{CHART}"), "line 1 has 3 characters, not 22; column 1 is '#'"),
+            (CHART[..100].to_string(), "the last line, line 5, has no line feed and 8 characters, not 22"),
+            (CHART.repeat(40), "the file has 280 lines, and a chart has at most 256"),
+            (IMAGE.repeat(200), "the file has 2,400 lines, and an image has at most 1,297"),
+            (
+                format!("\u{FEFF}{CHART}"),
+                "the file begins with a byte order mark, three bytes that no editor shows",
+            ),
+        ],
+    );
+    let wide: Vec<u8> = CHART.encode_utf16().flat_map(u16::to_le_bytes).collect();
+    let words = "the file begins with the mark of UTF-16, two bytes for each character";
+    assert_eq!(told([b"\xFF\xFE", &wide[..]].concat()), (1, words.to_string()));
+}
+
+#[test]
+fn refusal_2_a_character() {
+    let shifted = CHART.replace("01F8\n", "1F8\n").replacen("00FE\n00", "000FE\n00", 1);
+    each(
+        2,
+        &[
+            (CHART.to_lowercase(), "line 1, column 21: small letter 'f' (only 0-9 and A-F)"),
+            (CHART.replace("F8", "a8"), "line 2, column 21: small letter 'a' (only 0-9 and A-F)"),
+            (CHART.replace("F8", "G8"), "line 2, column 21: letter 'G' (only 0-9 and A-F)"),
+            (CHART.replacen("02", "O2", 1), "line 2, column 1: letter 'O' (only 0-9 and A-F)"),
+            (CHART.replace("F8", " 8"), "line 2, column 21: a space (only 0-9 and A-F)"),
+            (CHART.replace("F8\n", "F80"), "line 2, column 23: the digit 0 after the 22 digits"),
+            (CHART.replace("01F8\n", "1F8\r\n"), "line 2 ends with a carriage return"),
+            (format!("{}\n{}", &CHART[..46], &CHART[47..]), "line 3 is empty"),
+            (shifted, "line 2 has 21 characters, not 22"),
+        ],
+    );
+    let byte = "line 1, column 1: a character outside plain text, byte FF (only 0-9 and A-F)";
+    assert_eq!(told([b"\xFF", &CHART.as_bytes()[1..]].concat()), (2, byte.to_string()));
+}
+
+#[test]
+fn refusal_3_the_sum() {
+    each(
+        3,
+        &[
+            (CHART.replace("F8", "F9"), "line 2, column 21: the sum should be F8, not F9"),
+            (CHART.replace("0002F3", "0003F3"), "line 7, column 21: the sum should be F2, not F3"),
+            (IMAGE.replacen("E7", "E6", 1), "line 1, column 21: the sum should be E7, not E6"),
+        ],
+    );
+}
+
+#[test]
+fn refusal_4_a_field() {
+    let kinds = "it should be 00 Begin, 01 End, 02 operation, 03 condition or 04 function";
+    let in_use = "has no use for this byte: it should be 00";
+    let cases = [
+        ((2, 1, "07"), format!("line 2, column 1: the kind is 07; {kinds}")),
+        (
+            (2, 3, "11"),
+            "line 2, column 3: the scheme is 11 (17 in decimal); it should be 01 to 10, 1 to 16 in decimal"
+                .into(),
+        ),
+        (
+            (2, 3, "00"),
+            "line 2, column 3: the scheme is 00; it should be 01 to 10, 1 to 16 in decimal".into(),
+        ),
+        (
+            (5, 5, "10"),
+            "line 5, column 5: the condition's number is 10 (16 in decimal); it should be 00 to 0F".into(),
+        ),
+        (
+            (2, 11, "03"),
+            "line 2, column 11: the result is 03; it should be 00 (keep), 01 (write 0) or 02 (write 1)"
+                .into(),
+        ),
+        ((2, 9, "05"), format!("line 2, column 9: 05 stands here, but an operation {in_use}")),
+        ((1, 5, "01"), format!("line 1, column 5: 01 stands here, but a Begin {in_use}")),
+        ((3, 7, "02"), format!("line 3, column 7: 02 stands here, but an End {in_use}")),
+        ((5, 19, "F0"), format!("line 5, column 19: F0 stands here, but a condition {in_use}")),
+    ];
+    for ((line, column, digits), words) in cases {
+        assert_eq!(told(edited(CHART, line, column, digits)), (4, words));
+    }
+}
+
+#[test]
+fn refusal_5_begin_and_end() {
+    each(
+        5,
+        &[
+            (
+                edited(CHART, 6, 1, "02"),
+                "scheme 2 has no End; its nodes are line 4, line 5, line 6 and line 7",
+            ),
+            (edited(CHART, 7, 3, "04"), "scheme 3 has no nodes, though scheme 4 has (line 7)"),
+            (edited(CHART, 6, 3, "01"), "line 6, column 3: a second End of scheme 1; the first is line 3"),
+            (edited(CHART, 4, 3, "01"), "line 4, column 3: a second Begin of scheme 1; the first is line 1"),
+            (lines(&["01010000000000000000"]), "scheme 1 has no Begin; its node is line 1"),
+        ],
+    );
+}
+
+#[test]
+fn refusal_6_an_arc() {
+    let other = "which belongs to scheme 2, but this node to scheme 1";
+    each(
+        6,
+        &[
+            (edited(CHART, 2, 7, "09"), "line 2, column 7: the next node is 09, but the last node is 06 (line 7)"),
+            (edited(CHART, 2, 7, "05"), &format!("line 2, column 7: the next node is 05 (line 6), {other}")),
+            (edited(CHART, 7, 7, "03"), "line 7, column 7: the next node is 03 (line 4), a Begin"),
+            (
+                edited(CHART, 5, 9, "10"),
+                "line 5, column 9: the next node on a 1 is 10 (16 in decimal), but the last node is 06 (line 7)",
+            ),
+        ],
+    );
+}
+
+#[test]
+fn refusal_7_a_call() {
+    let function = lines(&["00010001000000000000", "04010002020000000000", "01010000000000000000"]);
+    each(
+        7,
+        &[
+            (edited(CHART, 2, 5, "01"), "line 2, column 5: an operation calls scheme 1, which nothing calls"),
+            (
+                edited(CHART, 2, 5, "09"),
+                "line 2, column 5: an operation calls scheme 09, but the highest is scheme 2",
+            ),
+            (
+                edited(CHART, 7, 1, "04020005050000000000"),
+                "line 7, column 5: a function calls a scheme, and 00 is none",
+            ),
+            (function, "line 2, column 1: a function calls a scheme, but there is one scheme only"),
+        ],
+    );
+}
+
+#[test]
+fn refusal_8_a_circle() {
+    let two =
+        ["00010001000000000000", "03010002030000000000", "03010101030000000000", "01010000000000000000"];
+    each(
+        8,
+        &[
+            (edited(CHART, 5, 7, "04"), "line 5, column 7: the next node on a 0 is this condition itself"),
+            (lines(&two), "line 2, column 7: a circle of conditions only: line 2 -> line 3 -> line 2"),
+        ],
+    );
+}
+
+#[test]
+fn refusal_9_cut_off() {
+    let two =
+        ["00010001000000000000", "01010000000000000000", "02010003000000000000", "02010002000000000000"];
+    let own = ["00010001000000000000", "01010000000000000000", "02010002000000000000"];
+    let never = |scheme: &str| format!("so the Begin of {scheme} never does");
+    let never = [never("scheme 2 (line 4)"), never("scheme 1 (line 1)")];
+    each(
+        9,
+        &[
+            (
+                edited(CHART, 5, 9, "05"),
+                &format!("line 7, column 1: no arc leads to this node, {}", never[0]),
+            ),
+            (
+                lines(&two),
+                &format!("line 3, column 1: only line 4 leads to this node and is cut off too, {}", never[1]),
+            ),
+            (lines(&own), &format!("line 3, column 1: only its own arc leads to this node, {}", never[1])),
+        ],
+    );
+}
+
+#[test]
+fn refusal_10_rows() {
+    let conditions = |count: usize| -> Vec<String> {
+        (0..count).map(|k| format!("0301{k:02X}{:02X}{:02X}0000000000", k + 4, k + 4)).collect()
+    };
+    let mut records = vec!["00010001000000000000".to_string(), "02010002000000000001".into()];
+    records.push("02010003000000000001".into());
+    records.extend(conditions(10));
+    records.push("01010000000000000000".into());
+    let records: Vec<&str> = records.iter().map(String::as_str).collect();
+    let words = "the chart has 1,025 rows, and 1,024 are the most; line 3 has 1,024 and line 2 has 1";
+    each(10, &[(lines(&records), words)]);
+}
+
+#[test]
+fn refusal_11_the_header() {
+    let fewer: String = IMAGE.split_inclusive('\n').take(11).collect();
+    let count = "3 that begin with 12, the rows, where the first line says 4";
+    each(
+        11,
+        &[
+            (edited(IMAGE, 1, 1, "0E"), "line 1, column 1: an image begins with 0F, not 0E"),
+            (
+                edited(IMAGE, 1, 3, "00"),
+                "line 1, column 3: the number of schemes is 00; it should be 01 to 10, 1 to 16 in decimal",
+            ),
+            (
+                edited(IMAGE, 1, 5, "00"),
+                "line 1, column 5: the highest label is 00; it should be 01 at least, for label 1 is in every image",
+            ),
+            (
+                edited(IMAGE, 1, 7, "0401"),
+                "line 1, column 7: the number of rows is 0401, 1,025 in decimal; it should be 0400 at most",
+            ),
+            (
+                edited(IMAGE, 1, 11, "01"),
+                "line 1, column 11: 01 stands here, but the first line has no use for this byte: it should be 00",
+            ),
+            (
+                fewer,
+                &format!("line 1, column 7: the first line makes the image 12 lines, but there are 11: {count}"),
+            ),
+        ],
+    );
+}
+
+#[test]
+fn refusal_12_a_place() {
+    let order = "rows stand in the order of their labels";
+    each(
+        12,
+        &[
+            (
+                edited(IMAGE, 3, 3, "01"),
+                "line 3, column 3: the entry of scheme 2 belongs here, which begins with 1002, not 1001",
+            ),
+            (edited(IMAGE, 5, 1, "12"), "line 5, column 1: label 1 belongs here, which begins with 1101, not 1201"),
+            (edited(IMAGE, 9, 1, "13"), "line 9, column 1: a row belongs here, which begins with 12, not 13"),
+            (
+                edited(IMAGE, 12, 3, "02"),
+                &format!(
+                    "line 12, column 3: this row leaves label 02, but the row before it leaves label 03; {order}"
+                ),
+            ),
+        ],
+    );
+}
+
+#[test]
+fn refusal_13_an_image_field() {
+    let of_1 = "which belongs to scheme 1 (byte 4 of line 6)";
+    let entry = "line 3, column 5: the entry of scheme 2 is label";
+    let home = "line 4, column 9: the home label, 0, is 11000400010000000000EA in every image";
+    let cases = [
+        ((3, 5, "02"), format!("{entry} 02, {of_1}")),
+        ((3, 5, "09"), format!("{entry} 09, but the highest label is 04")),
+        ((3, 5, "00"), format!("{entry} 00, which is the home label of scheme 1 (line 4)")),
+        ((2, 9, "01"), "line 2, column 9: 01 stands here, but an entry has no use for this byte: it should be 00".into()),
+        ((4, 9, "02"), format!("{home}: this byte should be 01, not 02")),
+        ((6, 5, "03"), "line 6, column 5: the kind of the label is 03; from label 2 up it should be 00 plain, 01 or 02 a call".into()),
+        ((6, 7, "05"), "line 6, column 7: the scheme called is 05; it should be 02".into()),
+        ((7, 7, "01"), "line 7, column 7: a plain label calls nothing: this byte should be 00, not 01".into()),
+        ((8, 9, "05"), "line 8, column 9: the owner is scheme 05; it should be 01 to 02".into()),
+        ((7, 11, "05"), "line 7, column 11: the result is 05; it should be 00 (keep), 01 (write 0) or 02 (write 1)".into()),
+        ((9, 3, "01"), "line 9, column 3: a row leaves label 02 or one above it, not 01".into()),
+        ((12, 3, "05"), "line 12, column 3: the label that this row leaves is label 05, but the highest label is 04".into()),
+        ((10, 11, "02"), "line 10, column 11: the values are 02, but the care mask two bytes before has only 01".into()),
+        ((10, 13, "01"), "line 10, column 13: the function bit is 01, but label 03 (line 7) calls no function".into()),
+        ((10, 13, "03"), "line 10, column 13: the function bit is 03; it should be 00, 01, or 02 for none".into()),
+        ((10, 15, "02"), format!("line 10, column 15: the next label is 02, {of_1}, but the row leaves a label of scheme 2")),
+        ((10, 15, "07"), "line 10, column 15: the next label is label 07, but the highest label is 04".into()),
+        ((12, 17, "01"), "line 12, column 17: 01 stands here, but a row has no use for this byte: it should be 00".into()),
+    ];
+    for ((line, column, digits), words) in cases {
+        assert_eq!(told(edited(IMAGE, line, column, digits)), (13, words));
+    }
+}
+
+/// Refusals of states and runs name no line; their words tell the ticks.
+#[test]
+fn refusals_14_to_18() {
+    use fairleadow::{Answer, Library, Proved, State};
+    let told = |answer: Answer| office::explain::refusal(IMAGE.as_bytes(), answer).words;
+    assert_eq!(told(Proved.fresh(33).0), "a stack has 1 to 32 places");
+    let run = |image: &str, state: &State, room: usize| {
+        Proved.run(image.as_bytes(), state, &[0, 0, 1, 0], &mut vec![0; room], &mut vec![0; room]).0
+    };
+    let state = Proved.fresh(2).1;
+    assert_eq!(told(run(IMAGE, &State::NONE, 4)), "the state does not fit the image");
+    assert_eq!(told(run(IMAGE, &state, 3)), "a buffer is too short for the answer");
+    assert_eq!(told(run(IMAGE, &state, 4)), "after 3 ticks a call finds the stack full");
+    let patched = edited(&IMAGE.replace("12030001000102040000E3\n", ""), 1, 9, "03");
+    assert_eq!(told(run(&patched, &state, 4)), "after 2 ticks no row of the label matches the word");
+}
+
+#[test]
+fn a_refusal_printed_by_the_programs_is_known() {
+    let problem = checked(b"FF01000000000000000000\n").unwrap_err();
+    assert!(problem.advice.contains("FF tells a refusal"));
+}
