@@ -8,8 +8,8 @@ use office::plan::Plan;
 use office::source::from_bytes;
 use office::trace::{trace, Arc};
 use reference::frames::text_of;
-use reference::generate::{charts, Random};
-use shared::{example, program, ran, run, Ran};
+use reference::generate::{charts, ladders, Random};
+use shared::{example, file, program, ran, run, Ran};
 
 fn drawn(chart: &str, rest: &[&str]) -> Ran {
     let chart = example(chart);
@@ -69,6 +69,22 @@ fn a_trace_that_is_refused_is_drawn_and_told() {
     let ran = drawn("paper.chart", &["--trace", "--places", "33"]);
     assert_eq!((ran.status, ran.printed.as_str()), (1, ""));
     assert!(ran.said.contains("\n  refusal 14: "), "{}", ran.said);
+}
+
+/// A chart with too many rows can be looked at, to see where they come from; it cannot be run.
+#[test]
+fn too_many_rows_are_drawn_and_not_traced() {
+    let text = text_of(&ladders::with_rows(&mut Random::new(3), 1_025));
+    let chart = file("rows.chart", &text);
+    let chart = chart.to_string_lossy();
+    let ran = run(&["draw", &chart]);
+    assert_eq!((ran.status, ran.said.as_str()), (0, ""));
+    assert!(ran.printed.contains("subgraph cluster_2 {"));
+    for args in [vec!["draw", &chart, "--trace"], vec!["trace", &chart]] {
+        let ran = run(&args);
+        assert_eq!((ran.status, ran.printed.as_str()), (1, ""));
+        assert!(ran.said.contains("\n  refusal 10: "), "{}", ran.said);
+    }
 }
 
 #[test]
