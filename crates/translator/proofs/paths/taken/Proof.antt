@@ -1,7 +1,5 @@
--- `translator::paths::taken` meets its contract: by the value of the condition.
-use Rattle.translator.proofs.PathCases.{taken-zero, taken-one}
 -- `translator::taken`: the arc on a 0 or on a 1.
-use Rattle.translator.proofs.PathCases.{small-number}
+use Rattle.translator.proofs.PathCases.{small-number, taken-zero, taken-one}
 use borrow.Author.Needs.{needs}
 use Rattle.translator.proofs.paths.taken.Statement.{statement}
 use Rattle.translator.proofs.paths.taken.Tie as tie
