@@ -1,5 +1,6 @@
 pub mod BenchSheet
 pub mod Cases
+pub mod Outputs
 pub mod Instances
 pub mod Variants
 pub mod Idlers
