@@ -42,7 +42,7 @@ pub printed-as : (x y : List ℕ) (n : ℕ) (before after : List ℕ) → x ≡ 
 printed-as x y n before after e p = subst (λ z. Prints z n before after) e p
 
 -- ---- what was printed lies within the buffer, so that it can be handed on
-module _ (x : List ℕ) (n : ℕ) (before after : List ℕ) (p : Prints x n before after) (kept : length after ≡ length before) where
+module _ (x : List ℕ) (n : ℕ) (before after : List ℕ) (p : Prints x n before after) where
   pub printed-fits : n ≤ length after
   printed-fits =
       let e : length after ≡ length x + length (drop (length x) before) = ap length (p .written) ∙ length-append x (drop (length x) before) in
