@@ -1,28 +1,16 @@
 // Reads a chart from standard input and prints its image, or the frame that tells why there is none.
-use frames::Answer;
+use console::Input;
 
-fn refuse(answer: Answer) {
-    let Answer::Refused {
-        number,
-        index,
-        count: _,
-    } = answer
-    else {
-        return;
-    };
-    let line = printing::refusal_line(number, index);
-    io::write_all(1, &line);
-}
-
-// One character more than the longest chart is read: a longer text is refused as such.
 fn main() {
-    let mut text = [0u8; 5889];
-    let n = io::read_full(0, &mut text);
-    let mut image = [0u8; 29831];
-    let answer = translator::translate(&text[..n], &mut image);
-    let Answer::Done(count) = answer else {
-        refuse(answer);
+    let mut text = [0u8; programs::CHART_READ];
+    let input = console::read_input(&mut text);
+    let Input::Text(n) = input else {
+        os::fail(b"translate: standard input");
         return;
     };
-    io::write_all(1, &image[..count]);
+    let mut out = [0u8; programs::TRANSLATE_PRINTS];
+    let count = programs::translate_text(&text[..n], &mut out);
+    if !io::write_all(libc::STDOUT_FILENO, &out[..count]) {
+        os::fail(b"translate: standard output");
+    }
 }

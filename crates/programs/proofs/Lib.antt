@@ -1,0 +1,4 @@
+pub mod Printed
+pub mod Translations
+pub mod Runs
+pub mod Limits
