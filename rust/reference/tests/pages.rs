@@ -1,5 +1,6 @@
-//! docs/REFERENCE.md names definitions that stand where it says, and shows lines whose sums are right.
+//! docs/REFERENCE.md names definitions that stand where it says, and shows lines whose sums are right; docs/TRACE.md lists the edits.
 
+use std::collections::BTreeSet;
 use std::fs;
 use std::path::PathBuf;
 
@@ -64,4 +65,33 @@ fn every_line_that_the_reference_shows_sums_to_0() {
             (0..11).map(|k| u8::from_str_radix(&line[2 * k..2 * k + 2], 16).expect("digits")).collect();
         assert_eq!(bytes.iter().fold(0u8, |sum, byte| sum.wrapping_add(*byte)), 0, "{line}");
     }
+}
+
+/// The edits that must be refused, as crate and name.
+fn edits() -> BTreeSet<(String, String)> {
+    let name = |path: PathBuf| path.file_stem().expect("a name").to_string_lossy().into_owned();
+    let entries =
+        |path: PathBuf| fs::read_dir(path).into_iter().flatten().map(|entry| entry.expect("an entry").path());
+    entries(root().join("crates"))
+        .flat_map(|folder| {
+            let crate_name = name(folder.clone());
+            entries(folder.join("must-fail")).map(move |edit| (crate_name.clone(), name(edit)))
+        })
+        .collect()
+}
+
+#[test]
+fn the_trace_lists_the_edits_that_must_be_refused() {
+    let page = fs::read_to_string(root().join("docs/TRACE.md")).expect("the page is there");
+    let (_, table) = page.split_once("| Crate | Edit |").expect("the table is there");
+    let listed: BTreeSet<(String, String)> = table
+        .lines()
+        .skip(2)
+        .take_while(|line| line.starts_with('|'))
+        .map(|line| {
+            let mut cells = line.split('|').skip(1).map(|cell| cell.trim().to_owned());
+            (cells.next().expect("a crate"), cells.next().expect("an edit"))
+        })
+        .collect();
+    assert_eq!(listed, edits());
 }
