@@ -22,6 +22,7 @@ badPair t i = leb 16 (digitOf (getD t i 0)) || leb 16 (digitOf (getD t (i + 1) 0
 abbrev pub storedOf : List ℕ → ℕ → List ℕ
 storedOf t f = map (λ k. byteAt t f k % 256) (range 0 10)
 
--- the contents, modulo 256, at the front of the buffer; where 1 refuses, nothing is stored
+-- the contents, modulo 256, at the front of the buffer; where 1 refuses, nothing is stored. The buffer is scratch space, which a
+-- later refusal leaves changed: a function that promises this is no entry point
 unfoldable pub readInto : ℕ → List ℕ → List ℕ → List ℕ
 readInto most t old = pick (badLength 23 most (length t)) old (over (map (λ x. x % 256) (contents t)) old)

@@ -83,6 +83,7 @@ fn read_frames(text: &[u8], n: usize, out: &mut [u8]) -> Lowest
 }
 
 // 1 to 3, else the number of frames. A fault of form in any frame goes before a wrong sum in any.
+// No entry point: the caller lends scratch space, which 2 and 3 leave changed.
 pub fn read_text(text: &[u8], most: usize, out: &mut [u8]) -> Answer
     requires { ⌜ 10 * most ≤ 23 * length (now out) ⌝ }
     ensures { λ r. ⌜ (reply r ≡ judged (textVerdict most (now (text .entry))) (frameCount (now (text .entry)))) × (now (out .exit) ≡ readInto most (now (text .entry)) (now (out .entry))) ⌝ }

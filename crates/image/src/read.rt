@@ -10,6 +10,7 @@ ghost use Rattle.frames.specs.Read.{readInto};
 ghost use Rattle.image.specs.Check.{imageVerdict};
 
 // The table, ten bytes a frame, is written to the front of the lent buffer; only 1 leaves the buffer as it was.
+// No entry point: the caller lends scratch space, as the image check below and a run do.
 pub fn read_image(text: &[u8], table: &mut [u8]) -> Answer
     requires { ⌜ 12970 ≤ length (now table) ⌝ }
     ensures { λ r. ⌜ (reply r ≡ judged (imageVerdict (now (text .entry))) 0) × (now (table .exit) ≡ readInto 29831 (now (text .entry)) (now (table .entry))) ⌝ }

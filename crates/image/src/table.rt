@@ -23,7 +23,7 @@ pub fn pair(table: &[u8], f: usize, k: usize) -> u16
 }
 
 // Four bytes of frame f from k on, the high one first.
-pub fn quad(table: &[u8], f: usize, k: usize) -> u32
+fn quad(table: &[u8], f: usize, k: usize) -> u32
     requires { ⌜ 10 * f + k + 3 < length (now table) ⌝ }
     ensures { λ r. ⌜ r ≡ quadAt (now (table .entry)) f k ⌝ }
 {
