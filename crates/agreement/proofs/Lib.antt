@@ -13,3 +13,4 @@ pub mod Demand
 pub mod Delivered
 pub mod Numbers
 pub mod ForC
+pub mod Contracts
