@@ -3,7 +3,7 @@ use Prim.Native.Nat.{ℕ}
 use mathlib.Core.Path.{_≡_, refl, sym, _∙_, ap}
 use mathlib.Core.List.{List, [], _∷_, map}
 use lib.ListN.{take}
-use Rattle.frames.specs.Answer.{Reply, success, number, count}
+use Rattle.frames.specs.Answer.{success}
 use Rattle.translator.specs.Entry.{translate}
 use Rattle.machine.specs.declared.State.{State}
 use Rattle.machine.specs.State.{freshState}
@@ -11,7 +11,7 @@ use Rattle.machine.specs.Run.{run}
 use Rattle.fairleadow.specs.Bytes.{stateOf}
 use Rattle.fairleadow.specs.Calls.{LendsC, runFor, RunsC}
 use Rattle.fairleadow.proofs.Kept.{run-held, fresh-held}
-use Rattle.agreement.specs.Agreement.{Asked, Told, told, chain, Agreement}
+use Rattle.agreement.specs.Agreement.{Asked, told, chain, Agreement}
 use Rattle.agreement.specs.ForC.{ToldC, toldC, RunCallsC, none, more, DeliveredC}
 use Rattle.agreement.proofs.Numbers.{translate-success}
 use Rattle.agreement.proofs.Demand.{theorem}

@@ -1,6 +1,6 @@
 -- No refusal of the translator has the number 0, so that a caller from C can tell success by it.
 use Prim.Native.Nat.{ℕ, _/_, _≤_}
-use mathlib.Core.Path.{_≡_, refl, ap, _∙_}
+use mathlib.Core.Path.{_≡_, refl}
 use mathlib.Core.Bool.{Bool, true, false}
 use mathlib.Core.List.{List}
 use native.Mathlib.Omega.{arith}
@@ -12,7 +12,7 @@ use Rattle.lists.specs.Sequences.{over}
 use Rattle.frames.specs.Frame.{contents, size, frameCount}
 use Rattle.frames.specs.Verdict.{Verdict, fine, refused, next, when, atLowest}
 use Rattle.frames.specs.Check.{badLength, badForm, badSum, textVerdict}
-use Rattle.frames.specs.Answer.{Reply, success, refusal, number, count, Lent, lent}
+use Rattle.frames.specs.Answer.{success, refusal, number, count, Lent, lent}
 use Rattle.charts.specs.Chart.{Chart, schemes}
 use Rattle.charts.specs.Check.{badField, badScheme, badArc, badCall, onCircle, cutOff, chartVerdict}
 use Rattle.charts.specs.Entry.{readVerdict}

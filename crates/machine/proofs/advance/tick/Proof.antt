@@ -1,6 +1,6 @@
 -- The tick behind a reference meets its contract: a walk of its MIR, by hand. The borrow is opened, the state is copied out, `tick_image` is called with the copy, the state that it returns is written back, and the borrow is closed there.
 -- Of `tick_image` only its contract is used, and what a State or a TickReport holds is not looked into.
-use mathlib.Core.Path.{_≡_, refl, ap}
+use mathlib.Core.Path.{refl, ap}
 use Prim.Native.Nat.{ℕ, _<_, _^_}
 use mathlib.Core.List.{[], _∷_, List}
 use lib.ListN.{length}
