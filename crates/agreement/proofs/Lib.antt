@@ -11,7 +11,6 @@ pub mod Chain
 pub mod TableFactsHold
 pub mod Demand
 pub mod Delivered
-pub mod Attached
 pub mod Numbers
 pub mod ForC
 pub mod Contracts
