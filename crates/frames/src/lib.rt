@@ -11,6 +11,7 @@ pub use read::read_text;
 pub use write::put_bytes;
 pub use write::put_frame;
 pub use write::put_text;
+ghost use mathlib.Core.Path.{_≡_};
 
 // What an entry point answers: the count that it made, or a refusal's number and frame index with the ticks finished before it.
 pub enum Answer {
@@ -20,6 +21,17 @@ pub enum Answer {
         index: usize,
         count: usize,
     },
+}
+
+// A refusal that counts nothing, as 1 to 16 are.
+pub fn refused(number: u8, index: usize) -> Answer
+    ensures { λ r. ⌜ r ≡ Answer.Refused number index 0 ⌝ }
+{
+    Answer::Refused {
+        number,
+        index,
+        count: 0,
+    }
 }
 
 // A byte of a text as its two characters give it, and whether one of them is no digit.
