@@ -14,3 +14,4 @@ pub mod Delivered
 pub mod Numbers
 pub mod ForC
 pub mod Contracts
+pub mod Asks

@@ -1,0 +1,79 @@
+-- No entry point asks anything of its caller: what the checker has a caller show before a call is nothing, whatever the arguments.
+use contract.Lifetimes.{Lfts}
+use borrow.Fn.World.{ArgsD}
+use Rattle.charts.proofs.read_chart as read-chart
+use Rattle.charts.proofs.read_chart.Reads as read-chart-reads
+use Rattle.charts.proofs.write_chart as write-chart
+use Rattle.charts.proofs.write_chart.Reads as write-chart-reads
+use Rattle.translator.proofs.translate as translate
+use Rattle.translator.proofs.translate.Reads as translate-reads
+use Rattle.image.proofs.check_image as check-image
+use Rattle.image.proofs.check_image.Reads as check-image-reads
+use Rattle.machine.proofs.State.fresh as fresh
+use Rattle.machine.proofs.State.fresh.Reads as fresh-reads
+use Rattle.machine.proofs.run as run
+use Rattle.machine.proofs.run.Reads as run-reads
+use Rattle.machine.proofs.tick_image as tick-image
+use Rattle.machine.proofs.tick_image.Reads as tick-image-reads
+use Rattle.fairleadow.proofs.fairleadow_read_chart as c-read-chart
+use Rattle.fairleadow.proofs.fairleadow_read_chart.Reads as c-read-chart-reads
+use Rattle.fairleadow.proofs.fairleadow_write_chart as c-write-chart
+use Rattle.fairleadow.proofs.fairleadow_write_chart.Reads as c-write-chart-reads
+use Rattle.fairleadow.proofs.fairleadow_translate as c-translate
+use Rattle.fairleadow.proofs.fairleadow_translate.Reads as c-translate-reads
+use Rattle.fairleadow.proofs.fairleadow_check_image as c-check-image
+use Rattle.fairleadow.proofs.fairleadow_check_image.Reads as c-check-image-reads
+use Rattle.fairleadow.proofs.fairleadow_fresh as c-fresh
+use Rattle.fairleadow.proofs.fairleadow_fresh.Reads as c-fresh-reads
+use Rattle.fairleadow.proofs.fairleadow_run as c-run
+use Rattle.fairleadow.proofs.fairleadow_run.Reads as c-run-reads
+use Rattle.fairleadow.proofs.fairleadow_tick as c-tick
+use Rattle.fairleadow.proofs.fairleadow_tick.Reads as c-tick-reads
+use Rattle.fairleadow.proofs.fairleadow_meaning as c-meaning
+use Rattle.fairleadow.proofs.fairleadow_meaning.Reads as c-meaning-reads
+
+pub read-chart-asks-nothing : (κs : Lfts 2) (a : ArgsD read-chart.signature κs) → read-chart-reads.Asked κs a
+read-chart-asks-nothing κs a = tt
+
+pub write-chart-asks-nothing : (κs : Lfts 2) (a : ArgsD write-chart.signature κs) → write-chart-reads.Asked κs a
+write-chart-asks-nothing κs a = tt
+
+pub translate-asks-nothing : (κs : Lfts 2) (a : ArgsD translate.signature κs) → translate-reads.Asked κs a
+translate-asks-nothing κs a = tt
+
+pub check-image-asks-nothing : (κs : Lfts 1) (a : ArgsD check-image.signature κs) → check-image-reads.Asked κs a
+check-image-asks-nothing κs a = tt
+
+pub fresh-asks-nothing : (κs : Lfts 0) (a : ArgsD fresh.signature κs) → fresh-reads.Asked κs a
+fresh-asks-nothing κs a = tt
+
+pub run-asks-nothing : (κs : Lfts 4) (a : ArgsD run.signature κs) → run-reads.Asked κs a
+run-asks-nothing κs a = tt
+
+pub tick-image-asks-nothing : (κs : Lfts 1) (a : ArgsD tick-image.signature κs) → tick-image-reads.Asked κs a
+tick-image-asks-nothing κs a = tt
+
+-- ---- the functions for C
+pub c-read-chart-asks-nothing : (κs : Lfts 4) (a : ArgsD c-read-chart.signature κs) → c-read-chart-reads.Asked κs a
+c-read-chart-asks-nothing κs a = tt
+
+pub c-write-chart-asks-nothing : (κs : Lfts 4) (a : ArgsD c-write-chart.signature κs) → c-write-chart-reads.Asked κs a
+c-write-chart-asks-nothing κs a = tt
+
+pub c-translate-asks-nothing : (κs : Lfts 4) (a : ArgsD c-translate.signature κs) → c-translate-reads.Asked κs a
+c-translate-asks-nothing κs a = tt
+
+pub c-check-image-asks-nothing : (κs : Lfts 3) (a : ArgsD c-check-image.signature κs) → c-check-image-reads.Asked κs a
+c-check-image-asks-nothing κs a = tt
+
+pub c-fresh-asks-nothing : (κs : Lfts 3) (a : ArgsD c-fresh.signature κs) → c-fresh-reads.Asked κs a
+c-fresh-asks-nothing κs a = tt
+
+pub c-run-asks-nothing : (κs : Lfts 7) (a : ArgsD c-run.signature κs) → c-run-reads.Asked κs a
+c-run-asks-nothing κs a = tt
+
+pub c-tick-asks-nothing : (κs : Lfts 6) (a : ArgsD c-tick.signature κs) → c-tick-reads.Asked κs a
+c-tick-asks-nothing κs a = tt
+
+pub c-meaning-asks-nothing : (κs : Lfts 1) (a : ArgsD c-meaning.signature κs) → c-meaning-reads.Asked κs a
+c-meaning-asks-nothing κs a = tt
