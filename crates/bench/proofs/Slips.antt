@@ -24,7 +24,7 @@ use Rattle.bench.proofs.Tables.{imageHome, imageFunction, imageChoice}
 use Rattle.bench.proofs.Instances.{at-home, at-deep, at-shallow, at-function, at-choice}
 use Rattle.bench.proofs.Variants.{Step, ticksBy, runBy, codeAt}
 
--- the label at the top, its tick kind, the scheme it calls
+-- the label at the top, its tick kind, and the label beneath it
 abbrev top : State → ℕ
 top s = placeAt s (s .depth - 1)
 
