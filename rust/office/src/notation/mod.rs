@@ -1,7 +1,7 @@
 //! The readable notation: one line a node, with names for nodes, schemes, conditions and outputs in the same text.
 //!
 //! ```text
-//! # The roughing calls itself as long as the feeler reports wood.
+//! # The roughing calls itself once more for each cut, until condition 2 is 0.
 //! condition 2 wood
 //! output 0 spindle
 //!
