@@ -23,10 +23,10 @@ use Rattle.frames.proofs.Chains.{done-fine, refused-verdict}
 use Rattle.image.specs.Check.{tableVerdict, imageVerdict}
 use Rattle.image.proofs.Accepted.{image-table}
 use Rattle.image.proofs.ReadCases.{good-text, front-contents, front-length}
-use Rattle.machine.specs.declared.State.{State}
+use Rattle.state.specs.declared.State.{State}
 use Rattle.machine.specs.declared.Ended.{Ended}
-use Rattle.machine.specs.declared.Answered.{Answered}
-use Rattle.machine.specs.State.{unfit}
+use Rattle.state.specs.declared.Answered.{Answered}
+use Rattle.state.specs.State.{unfit}
 use Rattle.machine.specs.Run.{Ran, Run, Runs, ticks, noRoom, runVerdict, runOn, run}
 use Rattle.machine.specs.Parts.{stateOf, verdictOf, Ends, runTable}
 use Rattle.machine.proofs.TurnCases.{number-verdict}

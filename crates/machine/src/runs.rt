@@ -2,11 +2,11 @@
 use super::Answered;
 use super::Ended;
 use super::State;
-use crate::fit::is_unfit;
 use crate::parts::tick_parts;
 use crate::rows::index_rows;
 use frames::Answer;
 use image::read_image;
+use state::is_unfit;
 ghost use mathlib.Core.Path.{_≡_};
 ghost use Prim.Native.Nat.{_≤_};
 ghost use lib.ListN.{length};
