@@ -2,6 +2,7 @@
 use super::Answered;
 use super::State;
 use frames::Answer;
+use frames::refused;
 ghost use mathlib.Core.Path.{_≡_};
 ghost use Rattle.state.specs.State.{badSize, freshState, Makes};
 
@@ -23,11 +24,7 @@ impl State {
         let places = [0u8; State::PLACES];
         let bits = [false; State::SCHEMES];
         if bad_size(size) {
-            let answer = Answer::Refused {
-                number: 14,
-                index: 0,
-                count: 0,
-            };
+            let answer = refused(14, 0);
             let state = State {
                 size: 0,
                 depth: 0,
