@@ -9,8 +9,8 @@ use Rattle.translator.proofs.translate as translate
 use Rattle.translator.proofs.translate.Reads as translate-reads
 use Rattle.image.proofs.check_image as check-image
 use Rattle.image.proofs.check_image.Reads as check-image-reads
-use Rattle.machine.proofs.State.fresh as fresh
-use Rattle.machine.proofs.State.fresh.Reads as fresh-reads
+use Rattle.state.proofs.State.fresh as fresh
+use Rattle.state.proofs.State.fresh.Reads as fresh-reads
 use Rattle.machine.proofs.run as run
 use Rattle.machine.proofs.run.Reads as run-reads
 use Rattle.machine.proofs.tick_image as tick-image

@@ -23,11 +23,11 @@ use Rattle.image.specs.Check.{imageVerdict}
 use Rattle.image.proofs.Sound.{Sound}
 use Rattle.image.proofs.Accepted.{image-sound}
 use Rattle.translator.specs.Table.{table}
-use Rattle.machine.specs.declared.State.{State}
-use Rattle.machine.specs.State.{fresh, noState, Made, freshState}
+use Rattle.state.specs.declared.State.{State}
+use Rattle.state.specs.State.{fresh, noState, Made, freshState}
 use Rattle.machine.specs.Run.{Ran, ticks, Run, noRoom, runOn, run}
-use Rattle.machine.proofs.Fitness.{Fits, fits}
-use Rattle.machine.proofs.Sizes.{size-good}
+use Rattle.state.proofs.Fitness.{Fits, fits}
+use Rattle.state.proofs.Sizes.{size-good}
 use Rattle.machine.proofs.Keeps.{fresh-fits, ticks-keep}
 use Rattle.agreement.specs.Agreement.{Asked, Told, told, chain, short, joined, bound, refusedShort, expectedAll}
 use Rattle.agreement.proofs.TableFacts.{TableFacts}

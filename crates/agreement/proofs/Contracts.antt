@@ -7,10 +7,10 @@ use Rattle.frames.specs.Answer.{Lends}
 use Rattle.translator.specs.Entry.{translate}
 use Rattle.translator.proofs.translate as translator-translate
 use Rattle.translator.proofs.translate.Reads as translator-translate-reads
-use Rattle.machine.specs.State.{freshState, Makes}
+use Rattle.state.specs.State.{freshState, Makes}
 use Rattle.machine.specs.Run.{run, Runs}
-use Rattle.machine.proofs.State.fresh as machine-fresh
-use Rattle.machine.proofs.State.fresh.Reads as machine-fresh-reads
+use Rattle.state.proofs.State.fresh as state-fresh
+use Rattle.state.proofs.State.fresh.Reads as state-fresh-reads
 use Rattle.machine.proofs.run as machine-run
 use Rattle.machine.proofs.run.Reads as machine-run-reads
 use Rattle.fairleadow.specs.Calls.{LendsC, MakesC, runFor, RunsC}
@@ -21,14 +21,14 @@ use Rattle.fairleadow.proofs.fairleadow_fresh.Reads as c-fresh-reads
 use Rattle.fairleadow.proofs.fairleadow_run as c-run
 use Rattle.fairleadow.proofs.fairleadow_run.Reads as c-run-reads
 
--- ---- translator::translate, machine::State::fresh, machine::run
+-- ---- translator::translate, state::State::fresh, machine::run
 pub translate-lends : (κs : Lfts 2) (a : ArgsD translator-translate.signature κs) (r : ResD translator-translate.signature κs)
     (s : AtExit translator-translate.ended κs)
     → translator-translate-reads.Learnt κs a r s → Lends (translate (a .0 .now) (a .1 .0 .now)) r (s .1 .0 .now)
 translate-lends κs a r s e = e
 
-pub fresh-makes : (κs : Lfts 0) (a : ArgsD machine-fresh.signature κs) (r : ResD machine-fresh.signature κs) (s : AtExit machine-fresh.ended κs)
-    → machine-fresh-reads.Learnt κs a r s → Makes (freshState (a .0)) r
+pub fresh-makes : (κs : Lfts 0) (a : ArgsD state-fresh.signature κs) (r : ResD state-fresh.signature κs) (s : AtExit state-fresh.ended κs)
+    → state-fresh-reads.Learnt κs a r s → Makes (freshState (a .0)) r
 fresh-makes κs a r s e = e
 
 pub run-runs : (κs : Lfts 4) (a : ArgsD machine-run.signature κs) (r : ResD machine-run.signature κs) (s : AtExit machine-run.ended κs)

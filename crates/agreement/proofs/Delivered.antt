@@ -4,9 +4,9 @@ use mathlib.Core.Path.{_≡_, refl, sym, _∙_, ap}
 use mathlib.Core.List.{List, [], _∷_}
 use lib.ListN.{take}
 use Rattle.frames.specs.Answer.{reply}
-use Rattle.machine.specs.declared.State.{State}
-use Rattle.machine.specs.declared.Answered.{Answered}
-use Rattle.machine.specs.State.{freshState}
+use Rattle.state.specs.declared.State.{State}
+use Rattle.state.specs.declared.Answered.{Answered}
+use Rattle.state.specs.State.{freshState}
 use Rattle.machine.specs.Run.{run, Runs}
 use Rattle.agreement.specs.Agreement.{Asked, Told, told, chain, Agreement}
 use Rattle.agreement.specs.Calls.{RunCalls, none, more, Delivered}

@@ -11,7 +11,7 @@ use Rattle.image.specs.Image.{imageText}
 use Rattle.translator.specs.Table.{table}
 use Rattle.translator.specs.Entry.{translateVerdict, translate}
 use Rattle.translator.proofs.Translated.{translated-read, translated-fine, translated-image}
-use Rattle.machine.specs.State.{freshState}
+use Rattle.state.specs.State.{freshState}
 use Rattle.machine.specs.Run.{run}
 use Rattle.agreement.specs.Agreement.{chain, Agreement}
 use Rattle.agreement.proofs.TableFactsHold.{table-facts}

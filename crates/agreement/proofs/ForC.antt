@@ -5,8 +5,8 @@ use mathlib.Core.List.{List, [], _∷_, map}
 use lib.ListN.{take}
 use Rattle.frames.specs.Answer.{success}
 use Rattle.translator.specs.Entry.{translate}
-use Rattle.machine.specs.declared.State.{State}
-use Rattle.machine.specs.State.{freshState}
+use Rattle.state.specs.declared.State.{State}
+use Rattle.state.specs.State.{freshState}
 use Rattle.machine.specs.Run.{run}
 use Rattle.fairleadow.specs.Bytes.{stateOf}
 use Rattle.fairleadow.specs.Calls.{LendsC, runFor, RunsC}

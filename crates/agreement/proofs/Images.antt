@@ -12,8 +12,8 @@ use Rattle.translator.specs.Table.{table}
 use Rattle.translator.specs.Entry.{translateVerdict}
 use Rattle.translator.proofs.SoundTable.{table-fine, table-decoded}
 use Rattle.translator.proofs.Translated.{translated-few}
-use Rattle.machine.specs.declared.State.{State}
-use Rattle.machine.specs.State.{unfit}
+use Rattle.state.specs.declared.State.{State}
+use Rattle.state.specs.State.{unfit}
 use Rattle.machine.specs.Run.{Run, noRoom, ticks, runOn, runVerdict, run}
 
 -- refusals 15 and 16, and the ticks, on an image that is given as such

@@ -8,7 +8,7 @@ use native.Mathlib.Omega.{arith}
 use Rattle.charts.specs.Chart.{Chart}
 use Rattle.walk.proofs.Trace.{Position}
 use Rattle.translator.specs.Labels.{label}
-use Rattle.machine.specs.declared.State.{State}
+use Rattle.state.specs.declared.State.{State}
 
 -- the callers' labels, in front of what is given
 unfoldable pub below : Chart → List ℕ → List ℕ → List ℕ

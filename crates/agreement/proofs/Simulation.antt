@@ -21,8 +21,8 @@ use Rattle.image.specs.Image.{Image, Label}
 use Rattle.translator.specs.Labels.{label}
 use Rattle.translator.specs.Rows.{rows}
 use Rattle.translator.specs.Table.{table}
-use Rattle.machine.specs.declared.State.{State}
-use Rattle.machine.specs.State.{labelAt, entryAt, placeAt}
+use Rattle.state.specs.declared.State.{State}
+use Rattle.state.specs.State.{labelAt, entryAt, placeAt}
 use Rattle.machine.specs.Tick.{Found, found, firstRow, rowOf, Ticked, ticked, stopped, moved, pushed, tickBy, tick}
 use Rattle.agreement.specs.Agreement.{isFullCall}
 use Rattle.agreement.proofs.TableFacts.{TableFacts}

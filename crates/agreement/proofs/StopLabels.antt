@@ -15,7 +15,7 @@ use Rattle.walk.proofs.Views.{View, a-plain, a-call, a-function, a-home, a-back
 use Rattle.image.specs.Image.{Label}
 use Rattle.translator.specs.Labels.{numbered, label, labelOf, homeLabel, returnLabel}
 use Rattle.translator.specs.Table.{table}
-use Rattle.machine.specs.State.{labelAt}
+use Rattle.state.specs.State.{labelAt}
 use Rattle.agreement.proofs.TableFacts.{TableFacts}
 
 abbrev pub heldBy : Chart → ℕ → Stop → Label

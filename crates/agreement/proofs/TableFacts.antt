@@ -10,7 +10,7 @@ use Rattle.walk.specs.Stops.{stops, byArc, byWord}
 use Rattle.translator.specs.Labels.{numbered, label, entry, homeLabel, returnLabel, labelOf}
 use Rattle.translator.specs.Rows.{rows}
 use Rattle.translator.specs.Table.{table}
-use Rattle.machine.specs.State.{labelAt, entryAt}
+use Rattle.state.specs.State.{labelAt, entryAt}
 use Rattle.machine.specs.Tick.{found, firstRow}
 
 pub record TableFacts (c : Chart) : Type 0 where

@@ -18,7 +18,7 @@ use Rattle.walk.proofs.Facts.{Facts}
 use Rattle.walk.proofs.Views.{View, a-plain, a-call, a-function, a-home, a-back, a-begin, a-condition}
 use Rattle.walk.proofs.Trace.{Position, tickOf, returned, movedBy, tickAt, move, trace, Good, view-of, moves}
 use Rattle.translator.specs.Table.{table}
-use Rattle.machine.specs.declared.State.{State}
+use Rattle.state.specs.declared.State.{State}
 use Rattle.machine.specs.Tick.{ticked, stopped}
 use Rattle.machine.specs.Run.{Ran, then, ticks}
 use Rattle.agreement.specs.Agreement.{isFullCall, bound}

@@ -11,8 +11,8 @@ use Rattle.frames.specs.Frame.{contents}
 use Rattle.frames.specs.Answer.{Reply, success, refusal, Lent}
 use Rattle.walk.specs.Walk.{Tick, walk}
 use Rattle.translator.specs.Entry.{translate}
-use Rattle.machine.specs.declared.State.{State}
-use Rattle.machine.specs.State.{Made}
+use Rattle.state.specs.declared.State.{State}
+use Rattle.state.specs.State.{Made}
 use Rattle.machine.specs.Run.{Run, noRoom}
 
 -- ---- the three functions that the demand speaks of

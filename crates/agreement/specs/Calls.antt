@@ -9,9 +9,9 @@ use Rattle.frames.specs.Answer.{reply, success, Lends}
 use Rattle.frames.specs.declared.Answer.{Answer}
 use Rattle.walk.specs.Walk.{walk}
 use Rattle.translator.specs.Entry.{translate}
-use Rattle.machine.specs.declared.State.{State}
-use Rattle.machine.specs.declared.Answered.{Answered}
-use Rattle.machine.specs.State.{freshState, Makes}
+use Rattle.state.specs.declared.State.{State}
+use Rattle.state.specs.declared.Answered.{Answered}
+use Rattle.state.specs.State.{freshState, Makes}
 use Rattle.machine.specs.Run.{run, Runs}
 use Rattle.agreement.specs.Agreement.{Asked, Told, joined, bound, expectedAll}
 

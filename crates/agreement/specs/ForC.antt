@@ -8,7 +8,7 @@ use Rattle.frames.specs.Frame.{contents}
 use Rattle.frames.specs.Answer.{number, index, count}
 use Rattle.walk.specs.Walk.{walk}
 use Rattle.translator.specs.Entry.{translate}
-use Rattle.machine.specs.State.{freshState}
+use Rattle.state.specs.State.{freshState}
 use Rattle.fairleadow.specs.Calls.{LendsC, MakesC, runFor, RunsC}
 use Rattle.agreement.specs.Agreement.{Asked, Told, joined, bound, expectedAll}
 

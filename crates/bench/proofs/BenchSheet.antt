@@ -7,7 +7,7 @@ use lib.ListN.{replicate}
 use Rattle.frames.specs.Verdict.{fine}
 use Rattle.frames.specs.Answer.{refusal, Lent}
 use Rattle.translator.specs.Entry.{translate}
-use Rattle.machine.specs.State.{fresh}
+use Rattle.state.specs.State.{fresh}
 use Rattle.machine.specs.Tick.{firstRow, tick}
 use Rattle.machine.specs.Run.{Run, ticks, runOn}
 use Rattle.bench.specs.Bench.{BenchSheet, imageP, words, chartHome, chartSmall, chartCircle, chartFunction, freshRun, imageOf}

@@ -17,7 +17,7 @@ use Rattle.translator.specs.Labels.{label}
 use Rattle.translator.specs.Rows.{paths, rowsOf, rows}
 use Rattle.translator.specs.Table.{table}
 use Rattle.translator.specs.Entry.{translateVerdict, translate}
-use Rattle.machine.specs.State.{freshState, unfit}
+use Rattle.state.specs.State.{freshState, unfit}
 use Rattle.machine.specs.Tick.{firstRow, tick}
 use Rattle.machine.specs.Run.{ticks, runVerdict, run}
 use Rattle.bench.specs.Bench.{characters}

@@ -13,8 +13,8 @@ use Rattle.frames.specs.Answer.{Reply, success, refusal, Lent, lent, number, co
 use Rattle.frames.proofs.Lent.{Success, lent-told, front}
 use Rattle.charts.specs.Entry.{readVerdict}
 use Rattle.translator.specs.Entry.{translateVerdict, translate}
-use Rattle.machine.specs.declared.State.{State}
-use Rattle.machine.specs.State.{fresh, freshState}
+use Rattle.state.specs.declared.State.{State}
+use Rattle.state.specs.State.{fresh, freshState}
 use Rattle.machine.specs.Tick.{ticked, tick}
 use Rattle.machine.specs.Run.{Run, runVerdict, run}
 use Rattle.agreement.specs.Agreement.{Runner, Translator, Asked, Told, chain, Agreement, Translates}

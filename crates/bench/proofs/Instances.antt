@@ -10,8 +10,8 @@ use Rattle.frames.proofs.Lent.{lent-fits, filledWith, front}
 use Rattle.walk.specs.Walk.{Tick, walk}
 use Rattle.image.specs.Image.{Image}
 use Rattle.translator.specs.Entry.{translate}
-use Rattle.machine.specs.declared.State.{State}
-use Rattle.machine.specs.State.{fresh, freshState}
+use Rattle.state.specs.declared.State.{State}
+use Rattle.state.specs.State.{fresh, freshState}
 use Rattle.agreement.specs.Agreement.{Runner, Asked, Told, told, joined, chain, bound, expectedAll, Agreement}
 use Rattle.agreement.proofs.Chain.{fresh-is}
 use Rattle.bench.specs.Bench.{chartP, imageP, words, chartHome, chartFunction}

@@ -18,11 +18,11 @@ use Rattle.walk.specs.Walk.{spent, after, ticksOf, tick as oneTick, perform, wa
 use Rattle.image.specs.Image.{Image}
 use Rattle.image.proofs.Sound.{Sound}
 use Rattle.image.proofs.Accepted.{image-sound}
-use Rattle.machine.specs.declared.State.{State}
-use Rattle.machine.specs.State.{fresh}
+use Rattle.state.specs.declared.State.{State}
+use Rattle.state.specs.State.{fresh}
 use Rattle.machine.specs.Tick.{Ticked, ticked, pushed, firstRow, tick}
 use Rattle.machine.specs.Run.{Run, Ran, then, ticks, noRoom, runOn, run}
-use Rattle.machine.proofs.Fitness.{fits}
+use Rattle.state.proofs.Fitness.{fits}
 use Rattle.machine.proofs.Keeps.{fresh-fits}
 use Rattle.agreement.proofs.Images.{run-image}
 use Rattle.agreement.proofs.Chain.{fresh-is}

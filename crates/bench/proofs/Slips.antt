@@ -14,8 +14,8 @@ use Rattle.frames.specs.Answer.{Lent, lent, count as replyCount}
 use Rattle.image.specs.Image.{Image, Row, imageText}
 use Rattle.translator.specs.Table.{table}
 use Rattle.translator.specs.Entry.{translateVerdict, translate}
-use Rattle.machine.specs.declared.State.{State}
-use Rattle.machine.specs.State.{labelAt, placeAt, freshState}
+use Rattle.state.specs.declared.State.{State}
+use Rattle.state.specs.State.{labelAt, placeAt, freshState}
 use Rattle.machine.specs.Tick.{Ticked, ticked, stopped, Found, moved, rowOf, firstRow, tick}
 use Rattle.agreement.specs.Agreement.{Translator, Agreement, Translates}
 use Rattle.bench.specs.Bench.{lines, imageP, words}

@@ -6,7 +6,7 @@ use Rattle.frames.specs.Verdict.{fine}
 use Rattle.frames.specs.Frame.{contents}
 use Rattle.image.specs.Image.{Image}
 use Rattle.image.specs.Decode.{decoded}
-use Rattle.machine.specs.declared.State.{State}
+use Rattle.state.specs.declared.State.{State}
 use Rattle.machine.specs.Tick.{Ticked}
 use Rattle.machine.specs.Run.{Ran, then, runVerdict, runOn}
 use Rattle.agreement.specs.Agreement.{Runner, Told}

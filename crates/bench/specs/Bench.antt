@@ -12,7 +12,7 @@ use Rattle.lists.specs.Sequences.{concatMap}
 use Rattle.frames.specs.Frame.{contents}
 use Rattle.walk.specs.Walk.{walk}
 use Rattle.translator.specs.Entry.{translate}
-use Rattle.machine.specs.State.{fresh, freshState}
+use Rattle.state.specs.State.{fresh, freshState}
 use Rattle.machine.specs.Run.{Run, run}
 
 unfoldable pub characters : String → List ℕ

@@ -14,8 +14,8 @@ use Rattle.charts.specs.Entry.{readVerdict, readChart, writeVerdict}
 use Rattle.translator.specs.Rows.{rows}
 use Rattle.translator.specs.Entry.{translateVerdict}
 use Rattle.image.specs.Check.{imageVerdict}
-use Rattle.machine.specs.declared.State.{State}
-use Rattle.machine.specs.State.{freshState, fresh, noState}
+use Rattle.state.specs.declared.State.{State}
+use Rattle.state.specs.State.{freshState, fresh, noState}
 use Rattle.machine.specs.Run.{Run, run}
 use Rattle.bench.specs.Bench.{chartP, imageP, words, freshRun}
 

@@ -5,8 +5,8 @@ use mathlib.Core.List.{List}
 use borrow.Author.Tests.{eq-eqb, ne-eqb}
 use Rattle.lists.specs.Pick.{pick}
 use Rattle.frames.specs.Answer.{Reply, number, reply}
-use Rattle.machine.specs.declared.State.{State}
-use Rattle.machine.specs.declared.Answered.{Answered}
+use Rattle.state.specs.declared.State.{State}
+use Rattle.state.specs.declared.Answered.{Answered}
 use Rattle.machine.specs.declared.TickReport.{TickReport}
 use Rattle.machine.specs.Run.{Run, Runs, run}
 use Rattle.machine.specs.Advance.{Advance, Advances, advance}

@@ -12,7 +12,7 @@ use Rattle.frames.specs.Frame.{contents}
 use Rattle.frames.specs.Verdict.{Verdict, fine, refused}
 use Rattle.frames.specs.Answer.{success, refusal, number, replied}
 use Rattle.image.specs.Decode.{decoded}
-use Rattle.machine.specs.State.{fresh, noState, badSize, Made, freshState}
+use Rattle.state.specs.State.{fresh, noState, badSize, Made, freshState}
 use Rattle.machine.specs.Run.{Ran, runOn, runVerdict, ticks, run}
 use Rattle.machine.proofs.Normal.{Same, Late, ticks-same, ticks-late}
 use Rattle.fairleadow.specs.Bytes.{stateOf, bytesOf}

@@ -10,8 +10,8 @@ use lib.ListN.{length, getD}
 use Rattle.lists.specs.Pick.{pick}
 use Rattle.lists.specs.Numbers.{range}
 use Rattle.lists.proofs.Ranges.{map-count}
-use Rattle.machine.specs.declared.State.{State}
-use Rattle.machine.specs.State.{placeAt}
+use Rattle.state.specs.declared.State.{State}
+use Rattle.state.specs.State.{placeAt}
 use Rattle.fairleadow.specs.Bytes.{resultByte, stateOf, bytesOf}
 
 -- a cast of a result is its byte

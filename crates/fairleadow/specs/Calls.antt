@@ -6,7 +6,7 @@ use mathlib.Core.List.{List}
 use lib.Dec.{eqb, leb}
 use Rattle.lists.specs.Pick.{pick}
 use Rattle.frames.specs.Answer.{Reply, number, index, count, Lent}
-use Rattle.machine.specs.State.{Made}
+use Rattle.state.specs.State.{Made}
 use Rattle.machine.specs.Run.{Run, run}
 use Rattle.machine.specs.Advance.{Advance, advance}
 use Rattle.fairleadow.specs.Bytes.{stateOf, bytesOf}

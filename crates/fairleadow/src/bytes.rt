@@ -5,7 +5,7 @@ ghost use mathlib.Core.List.{map};
 ghost use lib.ListN.{length};
 ghost use Rattle.lists.specs.Numbers.{range};
 ghost use Rattle.lists.specs.Sequences.{written};
-ghost use Rattle.machine.specs.State.{placeAt};
+ghost use Rattle.state.specs.State.{placeAt};
 ghost use Rattle.fairleadow.specs.Bytes.{placeIn, resultIn, resultByte, stateOf, bytesOf};
 ghost use Rattle.fairleadow.specs.Calls.{leaves};
 ghost use Rattle.lists.specs.Pick.{pick};

@@ -15,7 +15,7 @@ ghost use Rattle.frames.specs.Answer.{judged};
 ghost use Rattle.charts.specs.Entry.{readChart, writeChart};
 ghost use Rattle.image.specs.Check.{imageVerdict};
 ghost use Rattle.translator.specs.Entry.{translate};
-ghost use Rattle.machine.specs.State.{freshState};
+ghost use Rattle.state.specs.State.{freshState};
 ghost use Rattle.fairleadow.specs.Calls.{Told, LendsC, MakesC, runFor, RunsC, tickFor, AdvancesC};
 ghost use Rattle.fairleadow.specs.Meant.{Meant};
 

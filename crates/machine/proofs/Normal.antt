@@ -10,8 +10,8 @@ use Rattle.lists.specs.Pick.{pick}
 use Rattle.bits.specs.Results.{Results, withResult}
 use Rattle.frames.specs.Verdict.{Verdict, fine, refused}
 use Rattle.image.specs.Image.{Image, Label}
-use Rattle.machine.specs.declared.State.{State}
-use Rattle.machine.specs.State.{labelAt, entryAt, placeAt}
+use Rattle.state.specs.declared.State.{State}
+use Rattle.state.specs.State.{labelAt, entryAt, placeAt}
 use Rattle.machine.specs.Tick.{Found, found, missing, rowOf, Ticked, ticked, stopped, moved, pushed, tickBy, tick}
 use Rattle.machine.specs.Run.{then, ticks}
 

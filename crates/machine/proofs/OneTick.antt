@@ -8,8 +8,8 @@ use Rattle.frames.specs.Verdict.{Verdict, fine, refused, next, when}
 use Rattle.frames.specs.Answer.{success, refusal}
 use Rattle.image.specs.Decode.{decoded}
 use Rattle.image.specs.Check.{imageVerdict}
-use Rattle.machine.specs.declared.State.{State}
-use Rattle.machine.specs.State.{unfit}
+use Rattle.state.specs.declared.State.{State}
+use Rattle.state.specs.State.{unfit}
 use Rattle.machine.specs.Tick.{Ticked, ticked, stopped, tick}
 use Rattle.machine.specs.Run.{run, runVerdict, ticks}
 use Rattle.machine.specs.Advance.{Advance, advance}

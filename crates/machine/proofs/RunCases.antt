@@ -6,9 +6,9 @@ use Prim.Native.Nat.{ℕ, _*_, _≤_, _<_}
 use native.Mathlib.Omega.{arith}
 use lib.Dec.{ltb}
 use lib.ListN.{length, take}
-use borrow.Author.Tests.{lt-ltb, le-ltb}
+use borrow.Author.Tests.{lt-ltb, le-ltb, ltb-false}
 use Rattle.lists.specs.Sequences.{over}
-use Rattle.lists.proofs.Tests.{or-true-l, or-true-r, or-none}
+use Rattle.lists.proofs.Tests.{or-l, or-r, or-none}
 use Rattle.bits.specs.Results.{Results}
 use Rattle.frames.specs.Frame.{frameCount, contents}
 use Rattle.frames.specs.Verdict.{Verdict, fine, refused, next, when}
@@ -23,13 +23,27 @@ use Rattle.frames.proofs.Chains.{done-fine, refused-verdict}
 use Rattle.image.specs.Check.{tableVerdict, imageVerdict}
 use Rattle.image.proofs.Accepted.{image-table}
 use Rattle.image.proofs.ReadCases.{good-text, front-contents, front-length}
-use Rattle.machine.specs.declared.State.{State}
+use Rattle.state.specs.declared.State.{State}
 use Rattle.machine.specs.declared.Ended.{Ended}
-use Rattle.machine.specs.declared.Answered.{Answered}
-use Rattle.machine.specs.State.{unfit}
+use Rattle.state.specs.declared.Answered.{Answered}
+use Rattle.state.specs.State.{unfit}
 use Rattle.machine.specs.Run.{Ran, Run, Runs, ticks, noRoom, runVerdict, runOn, run}
 use Rattle.machine.specs.Parts.{stateOf, verdictOf, Ends, runTable}
 use Rattle.machine.proofs.TurnCases.{number-verdict}
+
+-- ---- a buffer has less room than words, or both have enough
+module _ (ws ms ks : List ℕ) where
+  pub room-first : length ms < length ws → true ≡ noRoom ws ms ks
+  room-first h = rw (lt-ltb (length ms) (length ws) h)
+
+  pub room-second : length ws ≤ length ms → ltb (length ks) (length ws) ≡ noRoom ws ms ks
+  room-second h = rw (le-ltb (length ms) (length ws) h)
+
+  pub room-masks : noRoom ws ms ks ≡ false → length ws ≤ length ms
+  room-masks e = ltb-false (length ms) (length ws) (or-l (ltb (length ms) (length ws)) (ltb (length ks) (length ws)) e)
+
+  pub room-codes : noRoom ws ms ks ≡ false → length ws ≤ length ks
+  room-codes e = ltb-false (length ks) (length ws) (or-r (ltb (length ms) (length ws)) (ltb (length ks) (length ws)) e)
 
 -- ---- on an accepted table
 module _ (b : List ℕ) (s : State) (ws ms₀ ks₀ : List ℕ) where
@@ -43,9 +57,9 @@ module _ (b : List ℕ) (s : State) (ws ms₀ ks₀ : List ℕ) where
   kept n = record { reply = refusal n 0 0; state = s; masks = ms₀; codes = ks₀ }
 
   -- a run that is refused before its first tick keeps what it was given
-  kept-runs : (n : ℕ) → given ≡ kept n → Runs given (record { answer = Refused n 0 0; state = s }) ms₀ ks₀
-  kept-runs n g = record {
-    answered = sym (ap (λ (x : Run). x .reply) g);
+  kept-runs : (n : ℕ) → given ≡ kept n → (a : Answer) → a ≡ Refused n 0 0 → Runs given (record { answer = a; state = s }) ms₀ ks₀
+  kept-runs n g a e = record {
+    answered = ap reply e ∙ sym (ap (λ (x : Run). x .reply) g);
     state = sym (ap (λ (x : Run). x .state) g);
     masks = sym (ap (λ (x : Run). x .masks) g);
     codes = sym (ap (λ (x : Run). x .codes) g);
@@ -62,15 +76,8 @@ module _ (b : List ℕ) (s : State) (ws ms₀ ks₀ : List ℕ) where
         ap (λ (u : Bool). runOn (next (when 15 u) λ _. when 16 (noRoom ws ms₀ ks₀)) (λ _. ran) s ms₀ ks₀) e
         ∙ ap (λ (u : Bool). runOn (when 16 u) (λ _. ran) s ms₀ ks₀) r
 
-    pub masks-short : length ms₀ < length ws → Runs given (record { answer = Refused 16 0 0; state = s }) ms₀ ks₀
-    masks-short h =
-        kept-runs 16 (table-room true
-        (or-true-l (ltb (length ms₀) (length ws)) (ltb (length ks₀) (length ws)) (lt-ltb (length ms₀) (length ws) h)))
-
-    pub codes-short : length ks₀ < length ws → Runs given (record { answer = Refused 16 0 0; state = s }) ms₀ ks₀
-    codes-short h =
-        kept-runs 16 (table-room true
-        (or-true-r (ltb (length ms₀) (length ws)) (ltb (length ks₀) (length ws)) (lt-ltb (length ks₀) (length ws) h)))
+    pub room-short : noRoom ws ms₀ ks₀ ≡ true → (a : Answer) → a ≡ Refused 16 0 0 → Runs given (record { answer = a; state = s }) ms₀ ks₀
+    room-short r = kept-runs 16 (table-room true r)
 
     module _ (p : length ws ≤ length ms₀) (q : length ws ≤ length ks₀) (r : Ended) (ps : List ℕ) (bs : Results)
         (ms ks : List ℕ) (E : Ends b s ws ms₀ ks₀ r ps bs ms ks) where
@@ -108,7 +115,7 @@ module _ (b : List ℕ) (s : State) (ws ms₀ ks₀ : List ℕ) where
           → Runs given (record { answer = Refused (r .number) 0 (r .count); state = stateOf (s .size) (r .depth) ps bs }) ms ks
       some-done z = ended-runs (Refused (r .number) 0 (r .count)) (sym (ap (λ (v : Verdict). replied v (r .count)) (number-verdict (r .number) z)))
 
-  pub unfit-runs : unfit (decoded b) s ≡ true → Runs given (record { answer = Refused 15 0 0; state = s }) ms₀ ks₀
+  pub unfit-runs : unfit (decoded b) s ≡ true → (a : Answer) → a ≡ Refused 15 0 0 → Runs given (record { answer = a; state = s }) ms₀ ks₀
   unfit-runs e = kept-runs 15 (table-unfit e)
 
 -- ---- by the image's text

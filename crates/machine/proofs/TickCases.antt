@@ -15,11 +15,11 @@ use Rattle.image.specs.Decode.{schemeCount, lastLabel, labelsFrom, entryIn, lab
 use Rattle.image.proofs.Sound.{homeLabel, returnLabel, nthLabel, noRow, SoundLabel, Sound}
 use Rattle.image.proofs.Accepted.{entries-count, labels-count, entry-read, label-read, counted, accepted-sound}
 use Rattle.codes.specs.Codes.{codeOf}
-use Rattle.machine.specs.declared.State.{State}
-use Rattle.machine.specs.State.{labelAt, entryAt, placeAt}
+use Rattle.state.specs.declared.State.{State}
+use Rattle.state.specs.State.{labelAt, entryAt, placeAt}
 use Rattle.machine.specs.Tick.{Found, found, missing, firstRow, rowOf, Ticked, ticked, stopped, moved, pushed, tickBy, tick}
 use Rattle.machine.specs.Parts.{nextOf, Ready, after, stepOf, Steps}
-use Rattle.machine.proofs.Fitness.{Fits, unfits}
+use Rattle.state.proofs.Fitness.{Fits, unfits}
 use Rattle.machine.proofs.Keeps.{row-leads}
 use Rattle.machine.proofs.RowCases.{any-bit, label-inside}
 

@@ -15,12 +15,12 @@ use Rattle.image.specs.Image.{Image}
 use Rattle.image.specs.Decode.{decoded}
 use Rattle.image.proofs.Sound.{Sound}
 use Rattle.image.proofs.Accepted.{accepted-sound}
-use Rattle.machine.specs.declared.State.{State}
+use Rattle.state.specs.declared.State.{State}
 use Rattle.machine.specs.declared.Stepped.{Stepped}
 use Rattle.machine.specs.Tick.{Ticked, ticked, stopped, tick}
 use Rattle.machine.specs.Run.{Ran, then, ticks}
 use Rattle.machine.specs.Parts.{stateOf, Ready, after, stepOf, Steps, verdictOf, Ends}
-use Rattle.machine.proofs.Fitness.{Fits, fits, unfits}
+use Rattle.state.proofs.Fitness.{Fits, fits, unfits}
 use Rattle.machine.proofs.Keeps.{Keeps, tick-keeps}
 use Rattle.machine.proofs.Normal.{Normal, tick-normal}
 

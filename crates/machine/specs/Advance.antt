@@ -4,7 +4,7 @@ use mathlib.Core.Path.{_≡_}
 use mathlib.Core.List.{List, [], _∷_}
 use lib.ListN.{getD}
 use Rattle.frames.specs.Answer.{Reply, reply}
-use Rattle.machine.specs.declared.State.{State}
+use Rattle.state.specs.declared.State.{State}
 use Rattle.machine.specs.declared.TickReport.{TickReport}
 use Rattle.machine.specs.Run.{run}
 

@@ -1,4 +1,3 @@
-pub mod State
 pub mod Tick
 pub mod Run
 pub mod Parts

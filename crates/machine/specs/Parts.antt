@@ -13,10 +13,10 @@ use Rattle.frames.specs.Verdict.{Verdict, fine, refused, next, when}
 use Rattle.image.specs.Image.{Row}
 use Rattle.image.specs.Decode.{rowsFrom, decoded}
 use Rattle.image.specs.Check.{tableVerdict}
-use Rattle.machine.specs.declared.State.{State}
+use Rattle.state.specs.declared.State.{State}
 use Rattle.machine.specs.declared.Stepped.{Stepped}
 use Rattle.machine.specs.declared.Ended.{Ended}
-use Rattle.machine.specs.State.{unfit}
+use Rattle.state.specs.State.{unfit}
 use Rattle.machine.specs.Tick.{matches, Found, found, missing, Ticked, ticked, stopped, tick}
 use Rattle.machine.specs.Run.{Run, ticks, noRoom, runOn}
 

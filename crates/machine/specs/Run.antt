@@ -12,9 +12,9 @@ use Rattle.frames.specs.Answer.{Reply, refusal, reply, replied}
 use Rattle.image.specs.Image.{Image}
 use Rattle.image.specs.Decode.{decoded}
 use Rattle.image.specs.Check.{imageVerdict}
-use Rattle.machine.specs.declared.State.{State}
-use Rattle.machine.specs.declared.Answered.{Answered}
-use Rattle.machine.specs.State.{unfit}
+use Rattle.state.specs.declared.State.{State}
+use Rattle.state.specs.declared.Answered.{Answered}
+use Rattle.state.specs.State.{unfit}
 use Rattle.machine.specs.Tick.{Ticked, ticked, stopped, tick}
 
 -- the finished ticks, the state after them, and 17 or 18 where that ended the run

@@ -8,8 +8,8 @@ use Rattle.lists.specs.Pick.{pick}
 use Rattle.bits.specs.Word.{agrees}
 use Rattle.bits.specs.Results.{Results, resultOf, withResult}
 use Rattle.image.specs.Image.{Image, Label, Row}
-use Rattle.machine.specs.declared.State.{State}
-use Rattle.machine.specs.State.{labelAt, entryAt, placeAt}
+use Rattle.state.specs.declared.State.{State}
+use Rattle.state.specs.State.{labelAt, entryAt, placeAt}
 
 -- a row matches a word and the bit of the scheme that its label calls
 abbrev pub matches : ℕ → ℕ → Row → Bool

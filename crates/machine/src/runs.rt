@@ -2,17 +2,18 @@
 use super::Answered;
 use super::Ended;
 use super::State;
-use crate::fit::is_unfit;
 use crate::parts::tick_parts;
 use crate::rows::index_rows;
 use frames::Answer;
+use frames::refused;
 use image::read_image;
+use state::is_unfit;
 ghost use mathlib.Core.Path.{_≡_};
 ghost use Prim.Native.Nat.{_≤_};
 ghost use lib.ListN.{length};
 ghost use Rattle.frames.specs.Verdict.{fine};
 ghost use Rattle.image.specs.Check.{tableVerdict};
-ghost use Rattle.machine.specs.Run.{run, Runs};
+ghost use Rattle.machine.specs.Run.{noRoom, run, Runs};
 ghost use Rattle.machine.specs.Parts.{firstFrames, stateOf, Ready, Ends, runTable};
 
 // One tick a word, until one is stopped.
@@ -109,6 +110,16 @@ fn run_ticks(
     }
 }
 
+// Whether a buffer has less room than words.
+fn no_room(words: &[u16], masks: &[u32], codes: &[u8]) -> bool
+    ensures { λ r. ⌜ r ≡ noRoom (now (words .entry)) (now (masks .entry)) (now (codes .entry)) ⌝ }
+{
+    if masks.len() < words.len() {
+        return true;
+    }
+    codes.len() < words.len()
+}
+
 // 15 and 16, then the ticks.
 fn run_table(
     table: &[u8],
@@ -121,34 +132,12 @@ fn run_table(
     ensures { λ r. ⌜ Runs (runTable (now (table .entry)) state (now (words .entry)) (now (masks .entry)) (now (codes .entry))) r (now (masks .exit)) (now (codes .exit)) ⌝ }
 {
     if is_unfit(table, state) {
-        return Answered {
-            answer: Answer::Refused {
-                number: 15,
-                index: 0,
-                count: 0,
-            },
-            state,
-        };
+        let answer = refused(15, 0);
+        return Answered { answer, state };
     }
-    if masks.len() < words.len() {
-        return Answered {
-            answer: Answer::Refused {
-                number: 16,
-                index: 0,
-                count: 0,
-            },
-            state,
-        };
-    }
-    if codes.len() < words.len() {
-        return Answered {
-            answer: Answer::Refused {
-                number: 16,
-                index: 0,
-                count: 0,
-            },
-            state,
-        };
+    if no_room(words, masks, codes) {
+        let answer = refused(16, 0);
+        return Answered { answer, state };
     }
     run_ticks(table, state, words, masks, codes)
 }

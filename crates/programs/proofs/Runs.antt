@@ -14,8 +14,8 @@ use Rattle.frames.specs.declared.Answer.{Answer}
 use Rattle.frames.specs.declared.Answer.the-variants.{Done, Refused}
 use Rattle.image.specs.Image.{Image}
 use Rattle.image.specs.Decode.{decoded}
-use Rattle.machine.specs.declared.State.{State}
-use Rattle.machine.specs.State.{freshState}
+use Rattle.state.specs.declared.State.{State}
+use Rattle.state.specs.State.{freshState}
 use Rattle.machine.specs.Tick.{Ticked, ticked, stopped, tick}
 use Rattle.machine.specs.Run.{Ran, then, ticks, runVerdict, runOn, run}
 use Rattle.printing.specs.Lines.{codeLine, refusalLine}

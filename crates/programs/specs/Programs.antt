@@ -11,7 +11,7 @@ use Rattle.frames.specs.Answer.{Reply, success, refusal, count}
 use Rattle.image.specs.Image.{imageText}
 use Rattle.translator.specs.Table.{table}
 use Rattle.translator.specs.Entry.{translateVerdict}
-use Rattle.machine.specs.State.{freshState}
+use Rattle.state.specs.State.{freshState}
 use Rattle.machine.specs.Run.{Run, run}
 use Rattle.printing.specs.Lines.{refusalLine, codeLine}
 

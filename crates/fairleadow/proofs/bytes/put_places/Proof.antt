@@ -3,7 +3,7 @@ use Prim.Native.Nat.{_-_}
 use borrow.Author.Needs.{needs}
 use mathlib.Core.Path.{refl}
 use Rattle.lists.proofs.Fills.{Values, values-none, values-turn, values-all}
-use Rattle.machine.specs.State.{placeAt}
+use Rattle.state.specs.State.{placeAt}
 use Rattle.fairleadow.proofs.bytes.put_places.Statement.{statement}
 use Rattle.fairleadow.proofs.bytes.put_places.Tie as tie
 

@@ -42,12 +42,12 @@ use denote.Triple.Clauses.{ensured, lasts}
 use denote.Exit.{yes}
 use Rattle.machine.specs.Advance.{advance, Advances}
 use Rattle.machine.specs.declared.Reported.{Reported}
-use Rattle.machine.specs.declared.State.{State}
+use Rattle.state.specs.declared.State.{State}
 use Rattle.machine.specs.declared.TickReport.{TickReport}
 use Rattle.machine.proofs.TickReport as R
 use Rattle.machine.proofs.TickReport.Laws as R′
-use Rattle.machine.proofs.State as T
-use Rattle.machine.proofs.State.Laws as T′
+use Rattle.state.proofs.State as T
+use Rattle.state.proofs.State.Laws as T′
 use Rattle.machine.proofs.Reported as S
 use Rattle.machine.proofs.Reported.Laws as S′
 use Rattle.machine.proofs.advance.tick_image as core

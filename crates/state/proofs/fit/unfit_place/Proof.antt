@@ -1,0 +1,56 @@
+-- `state::fit::unfit_place` meets its contract: by its cases: no label of the image, the top, a label that is kept.
+use Rattle.state.proofs.FitCases.{place-high, place-kept, place-top}
+use borrow.Author.Needs.{needs}
+use Rattle.state.proofs.fit.unfit_place.Statement.{statement}
+use Rattle.state.proofs.fit.unfit_place.Tie as tie
+
+element-copy-out-l : tie.Need-element-copy-out-l
+element-copy-out-l c = search needs
+
+byte-requires : tie.Need-byte-requires
+byte-requires c κs = search needs
+
+returns : tie.Need-returns
+returns c = place-high _ (c .before .before .before .before .args .t2) (c .before .before .before .before .args .k) _ (c .before .byte .ensures) (c .if1 .taken)
+
+add-next : tie.Need-add-next
+add-next c = search needs
+
+cast-depth : tie.Need-cast-depth
+cast-depth c = search needs
+
+element-copy-out-above : tie.Need-element-copy-out-above
+element-copy-out-above c = search needs
+
+may-carry-requires : tie.Need-may-carry-requires
+may-carry-requires c κs = search needs
+
+returns-2 : tie.Need-returns-2
+returns-2 c =
+    let start = c .before .before .before .before .before .before .before in
+    let t2 = start .args .t2 in
+    let k = start .args .k in
+    let byte = c .before .before .before .before .byte in
+    place-kept _ t2 k _ (byte .ensures) (c .before .before .before .if1 .left) (c .before .before .if2 .taken) _
+    (c .may-carry .ensures)
+
+returns-3 : tie.Need-returns-3
+returns-3 c =
+    let start = c .before .before .before .before .before in
+    let t2 = start .args .t2 in
+    let k = start .args .k in
+    place-top _ t2 k _ (c .before .before .byte .ensures) (c .before .if1 .left) (c .if2 .left)
+
+pub unfit-place-spec : {M : Type 1} → statement M
+unfit-place-spec =
+    tie.close
+    (tie.spec
+    element-copy-out-l
+    byte-requires
+    returns
+    add-next
+    cast-depth
+    element-copy-out-above
+    may-carry-requires
+    returns-2
+    returns-3)

@@ -1,0 +1,45 @@
+// A fresh state from a stack size, and refusal 14.
+use super::Answered;
+use super::State;
+use frames::Answer;
+use frames::refused;
+ghost use mathlib.Core.Path.{_≡_};
+ghost use Rattle.state.specs.State.{badSize, freshState, Makes};
+
+// Whether a stack size lies outside 1 to 32.
+pub fn bad_size(size: usize) -> bool
+    ensures { λ r. ⌜ r ≡ badSize size ⌝ }
+{
+    if size == 0 {
+        return true;
+    }
+    State::PLACES < size
+}
+
+impl State {
+    // Depth 1 and label 0; a size outside 1 to 32 is refused with a state of nothing but 0.
+    pub fn fresh(size: usize) -> Answered
+        ensures { λ r. ⌜ Makes (freshState size) r ⌝ }
+    {
+        let places = [0u8; State::PLACES];
+        let bits = [false; State::SCHEMES];
+        if bad_size(size) {
+            let answer = refused(14, 0);
+            let state = State {
+                size: 0,
+                depth: 0,
+                places,
+                bits,
+            };
+            return Answered { answer, state };
+        }
+        let answer = Answer::Done(0);
+        let state = State {
+            size: size as u8,
+            depth: 1,
+            places,
+            bits,
+        };
+        Answered { answer, state }
+    }
+}
