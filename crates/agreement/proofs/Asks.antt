@@ -1,10 +1,10 @@
 -- No entry point asks anything of its caller: what the checker has a caller show before a call is nothing, whatever the arguments.
 use contract.Lifetimes.{Lfts}
 use borrow.Fn.World.{ArgsD}
-use Rattle.charts.proofs.read_chart as read-chart
-use Rattle.charts.proofs.read_chart.Reads as read-chart-reads
-use Rattle.charts.proofs.write_chart as write-chart
-use Rattle.charts.proofs.write_chart.Reads as write-chart-reads
+use Rattle.chart_text.proofs.read_chart as read-chart
+use Rattle.chart_text.proofs.read_chart.Reads as read-chart-reads
+use Rattle.chart_text.proofs.write_chart as write-chart
+use Rattle.chart_text.proofs.write_chart.Reads as write-chart-reads
 use Rattle.translator.proofs.translate as translate
 use Rattle.translator.proofs.translate.Reads as translate-reads
 use Rattle.image.proofs.check_image as check-image

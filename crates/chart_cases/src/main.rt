@@ -46,12 +46,12 @@ fn report(entry: u8, answer: Answer, bytes: usize) {
 }
 
 fn read_into(text: &[u8], out: &mut [u8]) {
-    let answer = charts::read_chart(text, out);
+    let answer = chart_text::read_chart(text, out);
     report(0, answer, changed(out));
 }
 
 fn write_into(records: &[u8], out: &mut [u8]) {
-    let answer = charts::write_chart(records, out);
+    let answer = chart_text::write_chart(records, out);
     report(1, answer, changed(out));
 }
 
@@ -189,10 +189,10 @@ fn main() {
     let mut text = [0u8; 161];
     io::read_full(0, &mut text);
     let mut records = [0u8; 70];
-    let there = charts::read_chart(&text, &mut records);
+    let there = chart_text::read_chart(&text, &mut records);
     report(0, there, 0);
     let mut again = [0u8; 161];
-    let back = charts::write_chart(&records, &mut again);
+    let back = chart_text::write_chart(&records, &mut again);
     report(1, back, 0);
     io::write_all(1, &again);
     lengths(&text, &records);

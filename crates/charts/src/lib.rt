@@ -1,15 +1,11 @@
-// Charts as node records of ten bytes: their checks, reading and writing.
+// Charts as node records of ten bytes: their fields, and refusals 4 to 7.
 mod arcs;
-mod check;
-mod circles;
-mod entry;
 mod fields;
-mod finished;
-mod joined;
-mod marks;
 mod schemes;
 
-pub use entry::read_chart;
-pub use entry::write_chart;
+pub use arcs::lowest_arc;
+pub use arcs::lowest_call;
 pub use fields::field;
+pub use fields::lowest_field;
+pub use schemes::any_bad_scheme;
 pub use schemes::highest_scheme;

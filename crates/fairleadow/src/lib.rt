@@ -28,7 +28,7 @@ pub extern "C" fn fairleadow_read_chart(
 ) -> u8
     ensures { λ r. ⌜ LendsC (readChart (now (text .entry)) (now (records .entry))) r (now (at .exit)) (now (made .exit)) (now (records .exit)) ⌝ }
 {
-    let answer = charts::read_chart(text, records);
+    let answer = chart_text::read_chart(text, records);
     tell(answer, at, made)
 }
 
@@ -41,7 +41,7 @@ pub extern "C" fn fairleadow_write_chart(
 ) -> u8
     ensures { λ r. ⌜ LendsC (writeChart (now (records .entry)) (now (text .entry))) r (now (at .exit)) (now (made .exit)) (now (text .exit)) ⌝ }
 {
-    let answer = charts::write_chart(records, text);
+    let answer = chart_text::write_chart(records, text);
     tell(answer, at, made)
 }
 

@@ -1,7 +1,7 @@
 // The translator: a chart's text to the text of its image.
 use crate::table::write_image;
+use chart_text::read_chart;
 use charts::highest_scheme;
-use charts::read_chart;
 use frames::Answer;
 ghost use Rattle.frames.specs.Answer.{Lends};
 ghost use Rattle.translator.specs.Entry.{translate};

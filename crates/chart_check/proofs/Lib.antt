@@ -1,0 +1,4 @@
+pub mod MarkCases
+pub mod FinishedCases
+pub mod CutOff
+pub mod Chain

@@ -1,0 +1,34 @@
+-- `chart_check::circles::find_circle` meets its contract: at first all conditions are unfinished.
+use Rattle.chart_check.proofs.FinishedCases.{finished-none}
+use borrow.Author.Needs.{needs}
+use Rattle.chart_check.proofs.circles.find_circle.Statement.{statement}
+use Rattle.chart_check.proofs.circles.find_circle.Tie as tie
+
+mark-kind-requires : tie.Need-mark-kind-requires
+mark-kind-requires c κs = search needs
+
+finish-all-requires : tie.Need-finish-all-requires
+finish-all-requires c κs = ((search needs, search needs), finished-none _ _ (c .before .before .before .before .mark-kind .ensures))
+
+search-circle-requires : tie.Need-search-circle-requires
+search-circle-requires c κs = search needs
+
+same-length : tie.Need-same-length
+same-length c = search needs
+
+same-length-2 : tie.Need-same-length-2
+same-length-2 c = search needs
+
+returns : tie.Need-returns
+returns c = search needs
+
+pub find-circle-spec : {M : Type 1} → statement M
+find-circle-spec =
+    tie.close
+    (tie.spec
+    mark-kind-requires
+    finish-all-requires
+    search-circle-requires
+    same-length
+    same-length-2
+    returns)

@@ -1,0 +1,47 @@
+-- `chart_check::circles::on_circle` meets its contract: a condition, and whether it leads back.
+use mathlib.Core.Path.{sym}
+use mathlib.Core.Bool.{false}
+use Rattle.frames.specs.Frame.{size}
+use Rattle.chart_check.proofs.MarkCases.{part-of, part-long, circle-other, circle-back}
+use borrow.Author.Needs.{needs}
+use Rattle.chart_check.proofs.circles.on_circle.Statement.{statement}
+use Rattle.chart_check.proofs.circles.on_circle.Tie as tie
+
+field-requires : tie.Need-field-requires
+field-requires c κs = search needs
+
+returns : tie.Need-returns
+returns c =
+    let start = c .before .before .before .before in
+    circle-other (start .args .records .now) (start .args .v) _ (c .before .field .ensures) (c .if1 .taken)
+
+array-borrow-prefix-marks : tie.Need-array-borrow-prefix-marks
+array-borrow-prefix-marks c = search needs
+
+slice-aggregate-leads-back : tie.Need-slice-aggregate-leads-back
+slice-aggregate-leads-back c = sym (part-long 256 (size (c .before .before .before .before .before .args .records .now)) false (search needs))
+
+leads-back-requires : tie.Need-leads-back-requires
+leads-back-requires c κs = ((search needs, search needs), part-of 256 (size (c .before .before .before .before .before .before .args .records .now)) false (search needs))
+
+same-length : tie.Need-same-length
+same-length c = search needs
+
+returns-2 : tie.Need-returns-2
+returns-2 c =
+    let start = c .before .before .before .before .before .before .before .before .before .before in
+    let leads-back = c .before .before .before .leads-back in
+    circle-back (start .args .records .now) (start .args .v) _ (c .before .before .before .before .before .before .before .field .ensures)
+    (c .before .before .before .before .before .before .if1 .left) _ _ (leads-back .ensures .0) (leads-back .ensures .1)
+
+pub on-circle-spec : {M : Type 1} → statement M
+on-circle-spec =
+    tie.close
+    (tie.spec
+    field-requires
+    returns
+    array-borrow-prefix-marks
+    slice-aggregate-leads-back
+    leads-back-requires
+    same-length
+    returns-2)

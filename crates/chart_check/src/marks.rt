@@ -1,0 +1,80 @@
+// Marks on the nodes of a chart, spread over all arcs or over the arcs of conditions alone.
+use charts::field;
+ghost use mathlib.Core.Path.{_≡_};
+ghost use Prim.Native.Nat.{_+_, _*_, _≤_};
+ghost use lib.ListN.{length};
+ghost use Rattle.graph.specs.Reach.{reach};
+ghost use Rattle.graph.specs.Marking.{markAll};
+ghost use Rattle.graph.specs.Listed.{Listed, Longer};
+ghost use Rattle.frames.specs.Frame.{size};
+ghost use Rattle.charts.specs.Marks.{arcsBy, kindMarks};
+
+// How many arcs of node v count.
+fn arc_count(records: &[u8], conditions: bool, v: usize) -> usize
+    requires { ⌜ 10 * v + 10 ≤ length (now records) ⌝ }
+    ensures { λ r. ⌜ r ≡ length (arcsBy (now (records .entry)) conditions v) ⌝ }
+{
+    let kind = field(records, v, 0);
+    if conditions {
+        if kind != 3 {
+            return 0;
+        }
+    }
+    match kind {
+        1 => 0,
+        3..=4 => 2,
+        _ => 1,
+    }
+}
+
+// The nodes that the arcs of node v lead to are marked, and listed where they were not; how many are listed then.
+pub fn follow(
+    records: &[u8],
+    conditions: bool,
+    v: usize,
+    marks: &mut [bool],
+    list: &mut [u8],
+    count: usize,
+) -> usize
+    requires { ⌜ (10 * v + 10 ≤ length (now records)) × (length (now marks) ≤ length (now list)) ⌝ }
+    requires { ⌜ Listed (now marks) (now list) count ⌝ }
+    ensures { λ r. ⌜ now (marks .exit) ≡ markAll (arcsBy (now (records .entry)) conditions v) (now (marks .entry)) ⌝ }
+    ensures { λ r. ⌜ Listed (now (marks .exit)) (now (list .exit)) r × Longer (now (list .entry)) (now (list .exit)) count r ⌝ }
+{
+    let arcs = arc_count(records, conditions, v);
+    if arcs == 0 {
+        return count;
+    }
+    let first = graph::enlist(marks, list, count, field(records, v, 3));
+    if arcs == 1 {
+        return first;
+    }
+    graph::enlist(marks, list, first, field(records, v, 4))
+}
+
+// Every node that arcs join from a marked one is marked; the first of the list are the marked ones.
+pub fn join(records: &[u8], conditions: bool, marks: &mut [bool], list: &mut [u8], count: usize)
+    requires { ⌜ (length (now marks) ≡ size (now records)) × (size (now records) ≤ length (now list)) ⌝ }
+    requires { ⌜ Listed (now marks) (now list) count ⌝ }
+    ensures { λ _. ⌜ now (marks .exit) ≡ reach (size (now (records .entry))) (arcsBy (now (records .entry)) conditions) (size (now (records .entry))) (now (marks .entry)) ⌝ }
+{
+    let mut end = count;
+    let mut i: usize = 0;
+    while i < end {
+        end = follow(records, conditions, list[i] as usize, marks, list, end);
+        i += 1;
+    }
+}
+
+// The nodes of a kind are marked, and no others.
+pub fn mark_kind(records: &[u8], kind: u8, marks: &mut [bool])
+    requires { ⌜ length (now marks) ≡ size (now records) ⌝ }
+    ensures { λ _. ⌜ now (marks .exit) ≡ kindMarks (now (records .entry)) kind ⌝ }
+{
+    let n = records.len() / 10;
+    let mut v: usize = 0;
+    while v < n {
+        marks[v] = field(records, v, 0) == kind;
+        v += 1;
+    }
+}

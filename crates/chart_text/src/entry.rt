@@ -1,0 +1,62 @@
+// The chart reader and the chart writer. Nothing is written before every refusal is settled.
+use chart_check::check_chart;
+use frames::Answer;
+use frames::bad_length;
+use frames::put_bytes;
+use frames::put_text;
+use frames::read_text;
+ghost use Rattle.frames.specs.Answer.{Lends};
+ghost use Rattle.charts.specs.Entry.{readChart, writeChart};
+
+// A chart's text to its node records, ten bytes each: refusals 1 to 9 and 16, else the number of records.
+pub fn read_chart(text: &[u8], out: &mut [u8]) -> Answer
+    ensures { λ r. ⌜ Lends (readChart (now (text .entry)) (now (out .entry))) r (now (out .exit)) ⌝ }
+{
+    let mut table = [0u8; 2560];
+    let form = read_text(text, 5888, &mut table);
+    let Answer::Done(count) = form else {
+        return form;
+    };
+    let end = 10 * count;
+    let records = &table[..end];
+    let chart = check_chart(records);
+    let Answer::Done(_) = chart else {
+        return chart;
+    };
+    if out.len() < end {
+        return Answer::Refused {
+            number: 16,
+            index: 0,
+            count: 0,
+        };
+    }
+    put_bytes(out, 0, records);
+    Answer::Done(count)
+}
+
+// Node records to the chart's text: refusals 1, 4 to 9 and 16, else the number of characters.
+pub fn write_chart(records: &[u8], out: &mut [u8]) -> Answer
+    ensures { λ r. ⌜ Lends (writeChart (now (records .entry)) (now (out .entry))) r (now (out .exit)) ⌝ }
+{
+    if bad_length(10, 2560, records.len()) {
+        return Answer::Refused {
+            number: 1,
+            index: 0,
+            count: 0,
+        };
+    }
+    let meaning = check_chart(records);
+    let Answer::Done(_) = meaning else {
+        return meaning;
+    };
+    let count = 23 * (records.len() / 10);
+    if out.len() < count {
+        return Answer::Refused {
+            number: 16,
+            index: 0,
+            count: 0,
+        };
+    }
+    put_text(out, 0, records);
+    Answer::Done(count)
+}

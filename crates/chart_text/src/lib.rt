@@ -1,0 +1,5 @@
+// The chart reader and the chart writer: a chart's text to its node records and back.
+mod entry;
+
+pub use entry::read_chart;
+pub use entry::write_chart;
