@@ -25,13 +25,12 @@ use Rattle.frames.proofs.FrameLoops.{length-frame}
 use Rattle.frames.proofs.Chains.{when-holds, when-fails}
 use Rattle.frames.proofs.Lent.{lent-refused, lent-short, lent-done}
 use Rattle.charts.specs.Chart.{Chart, schemes}
-use Rattle.walk.proofs.Facts.{Facts}
 use Rattle.image.specs.Image.{Row, entryFrame, labelFrame, rowFrame, imageFrames, imageText}
 use Rattle.translator.specs.Labels.{numbered, label, entry, homeLabel, returnLabel, labelOf, numberedNodes}
 use Rattle.translator.specs.Rows.{rows}
 use Rattle.translator.specs.Table.{table}
 use Rattle.translator.specs.Parts.{rowsText, nodeRows, headerText, entryText, fixedText, nodeLabelText, nodeRowsText, upTo, imageLent}
-use Rattle.translator.specs.Ready.{Labelled}
+use Rattle.translator.specs.Ready.{Ready, Charted, Sizes}
 use Rattle.translator.proofs.LabelLaws.{length-labels, length-entries}
 use Rattle.translator.proofs.LabelSteps.{label-own, labelled}
 use Rattle.translator.proofs.RowSteps.{below-all}
@@ -196,12 +195,6 @@ chain out o₁ o₂ o₃ o₄ o₅ a b d e f p q r s ep eq er es room e₁ e₂ 
     let g : (((a ++ b) ++ d) ++ e) ++ f ≡ a ++ (b ++ (d ++ (e ++ f))) = simp append-assoc in
     w₅ ∙ ap (written out 0) g
 
--- the record of what the functions that write the image are given
-pub record Sizes (c : Chart) (highest own n : ℕ) : Type 0 where
-  pub schemed : highest ≡ schemes c
-  pub owned : own ≡ count (numbered c) 0 (size c)
-  pub rowed : n ≡ length (rows c)
-
 module _ (c : Chart) (highest own n : ℕ) (s : Sizes c highest own n) where
   pub image-long : length (imageText (table c)) ≡ 23 * (3 + highest + own + n)
   image-long =
@@ -252,7 +245,7 @@ module _ (c : Chart) (old : List ℕ) (total : ℕ) (counted : total ≡ min 102
   image-few h = omega arith
 
   module _ (few : total ≤ 1024) (highest own : ℕ) (eh : highest ≡ schemes c) (eo : own ≡ count (numbered c) 0 (size c)) where
-    sizes : Sizes c highest own total
+    pub sizes : Sizes c highest own total
     sizes = record { schemed = eh; owned = eo; rowed = image-few few }
 
     allowed : when 10 (ltb 1024 (length (rows c))) ≡ fine
@@ -271,6 +264,7 @@ module _ (c : Chart) (old : List ℕ) (total : ℕ) (counted : total ≡ min 102
         (23 * (3 + highest + own + total)) (omega arith) out
         (e ∙ written-front old (imageText (table c)))
 
-pub labelled-local : (c : Chart) (labels : List ℕ) → Facts c
-    → labels ≡ written (replicate 256 0) 0 (map (label c) (range 0 (size c))) → Labelled c labels
-labelled-local c labels F e = let n : length (replicate {A = ℕ} 256 0) ≡ 256 = refl in labelled c (replicate 256 0) labels (omega (arith, F .few)) e
+pub charted-local : (c : Chart) (labels : List ℕ) → Ready c
+    → labels ≡ written (replicate 256 0) 0 (map (label c) (range 0 (size c))) → Charted c labels
+charted-local c labels ready e = let n : length (replicate {A = ℕ} 256 0) ≡ 256 = refl in
+    record { ready = ready; labelled = labelled c (replicate 256 0) labels (omega (arith, ready .facts .few)) e }

@@ -20,17 +20,20 @@ use Rattle.charts.proofs.Rank.{rank, rank-falls0, rank-falls1}
 use Rattle.walk.specs.Stops.{stops}
 use Rattle.image.specs.Image.{Row}
 use Rattle.walk.proofs.Follow.{goes-on, stops-other}
-use Rattle.translator.specs.Labels.{numbered}
+use Rattle.translator.specs.Labels.{numbered, label}
 use Rattle.translator.specs.Rows.{paths}
-use Rattle.translator.specs.Ready.{Ready, Entered, Labelled}
+use Rattle.translator.specs.Ready.{Ready, Entered, OfKind, OnPath}
 use Rattle.translator.proofs.LabelSteps.{label-own, own-label}
 use Rattle.translator.proofs.PathSteps.{pathRow, entered0, entered1, at-stop, at-new}
 use Rattle.translator.proofs.Settled.{Settled}
 
 -- ---- where a path ends
-module _ (c : Chart) (labels : List ℕ) (ok : Labelled c labels) (v k : ℕ) (t : Entered c v) (e : k ≡ kind c v) where
+module _ {c : Chart} {labels : List ℕ} {v k : ℕ} (p : OnPath c labels v) (e : k ≡ kind c v) where
+  read : getD labels v 0 ≡ label c v
+  read = p .chart .labelled .at v (p .entered .inside)
+
   pub ends-other : (k ≡ 3 → ⊥) → true ≡ stops c v
-  ends-other n = sym (stops-other c v (t .noBegin) (λ q. n (e ∙ q)))
+  ends-other n = sym (stops-other c v (p .entered .noBegin) (λ q. n (e ∙ q)))
 
   pub ends-condition : k ≡ 3 → leb 2 (getD labels v 0) ≡ stops c v
   ends-condition three = go (stops c v) refl
@@ -43,10 +46,10 @@ module _ (c : Chart) (labels : List ℕ) (ok : Labelled c labels) (v k : ℕ) (t
           unit false = refl
 
       go : (s : Bool) → stops c v ≡ s → leb 2 (getD labels v 0) ≡ stops c v
-      go true s = le-leb 2 (getD labels v 0) (omega (arith, ok .at v (t .inside), label-own c v (plain ∙ s))) ∙ sym s
+      go true s = le-leb 2 (getD labels v 0) (omega (arith, read, label-own c v (plain ∙ s))) ∙ sym s
       go false s = ⊎-elim
           (λ (y : leb 2 (getD labels v 0) ≡ true).
-          no-both (stops c v) (sym plain ∙ own-label c v (omega (arith, ok .at v (t .inside), leb-true 2 (getD labels v 0) y)))
+          no-both (stops c v) (sym plain ∙ own-label c v (omega (arith, read, leb-true 2 (getD labels v 0) y)))
           s)
           (λ (y : leb 2 (getD labels v 0) ≡ false). y ∙ sym s) (cases (leb 2 (getD labels v 0)))
 
@@ -57,12 +60,11 @@ known-stop c v b s = sym (ap (λ x. not x && b) s)
 pub known-test : (c : Chart) (v : ℕ) (r b : Bool) → stops c v ≡ false → r ≡ b → r ≡ (not (stops c v) && b)
 known-test c v r b s e = e ∙ sym (ap (λ x. not x && b) s)
 
-module _ (c : Chart) (ready : Ready c) where
-  pub small-number : (v i : ℕ) → v < size c → kind c v ≡ 3 → i ≡ argument c v → i < 16
-  small-number v i l k e = omega (arith, ready .facts .conditions v l k)
+pub small-number : {c : Chart} {v i : ℕ} → OfKind c 3 v → i ≡ argument c v → i < 16
+small-number {c} {v} node e = omega (arith, node .ready .facts .conditions v (node .inside) (node .kind))
 
-  pub small-on-path : (v i : ℕ) → Entered c v → stops c v ≡ false → i ≡ argument c v → i < 16
-  small-on-path v i t s e = small-number v i (t .inside) (goes-on c v (t .noBegin) s) e
+pub small-on-path : {c : Chart} {v i : ℕ} → Ready c → Entered c v → stops c v ≡ false → i ≡ argument c v → i < 16
+small-on-path {c} {v} ready t s e = small-number (record { ready = ready; inside = t .inside; kind = goes-on c v (t .noBegin) s }) e
 
 -- a new condition: where its two sides go on, with which mask and values
 pub record Fork (c : Chart) (care values v tested valued w0 w1 : ℕ) : Type 0 where
@@ -89,7 +91,7 @@ pub record New (c : Chart) (care values v u i : ℕ) : Type 0 where
 
 module _ (c : Chart) (care values v u i : ℕ) (new : New c care values v u i) where
   pub new-small : i < 16
-  new-small = small-on-path c (new .ready) u i (new .settled .entered) (new .goes) (new .number)
+  new-small = small-on-path (new .ready) (new .settled .entered) (new .goes) (new .number)
 
   condition : kind c u ≡ 3
   condition = goes-on c u (new .settled .entered .noBegin) (new .goes)

@@ -1,5 +1,5 @@
 -- The steps of the functions that write the image's parts, at plain values: pieces of text written one after the other.
-use mathlib.Core.Path.{_≡_, refl, sym, _∙_, ap, ap₂}
+use mathlib.Core.Path.{_≡_, refl, sym, _∙_, ap, ap₂, subst}
 use mathlib.Core.Bool.{Bool, true, false, _&&_, not}
 use mathlib.Core.List.{List, [], _∷_, _++_, map, append-nil}
 use Prim.Native.Nat.{ℕ, zero, suc, _+_, _-_, _*_, _^_, _≤_, _<_}
@@ -18,13 +18,14 @@ use Rattle.lists.proofs.Written.{written-none, written-more}
 use Rattle.lists.proofs.Fills.{Pieces, pieces-turn}
 use Rattle.frames.specs.Frame.{size, quad, frameText, framesText}
 use Rattle.frames.proofs.FrameLoops.{length-frame}
-use Rattle.charts.specs.Chart.{Chart, kind, scheme, argument, next0, next1, result, mask, schemes, begin}
+use Rattle.charts.specs.Chart.{Chart, kind, scheme, argument, next0, next1, result, mask, begin}
 use Rattle.walk.specs.Stops.{stops, start}
+use Rattle.walk.proofs.Facts.{Facts}
 use Rattle.image.specs.Image.{Label, Row, entryFrame, labelFrame, rowFrame}
 use Rattle.translator.specs.Labels.{numbered, label, entry, labelOf}
 use Rattle.translator.specs.Rows.{paths, rowsOf}
-use Rattle.translator.specs.Ready.{Ready, Labelled}
-use Rattle.translator.specs.Parts.{rowOf, rowsText, sides, nodeRows, entryText, nodeLabelText, nodeRowsText, upTo}
+use Rattle.translator.specs.Ready.{Labelled, OfKind, Charted, OfScheme, AtNode}
+use Rattle.translator.specs.Parts.{rowOf, rowsText, sides, nodeRows, entryText, nodeLabelText, nodeRowsText, upTo, Put}
 use Rattle.translator.proofs.RowSteps.{rows-function, rows-condition, rows-other}
 use Rattle.translator.proofs.LabelSteps.{own-label, no-own-label}
 use Rattle.translator.proofs.Settled.{Settled}
@@ -41,16 +42,18 @@ module _ (out out₁ out₂ a b t : List ℕ) (at mid r : ℕ) (e : t ≡ a ++ b
   pub both-second : (n m : ℕ) → at + length t ≤ n → mid ≡ at + length a → m ≡ n → mid + length b ≤ m
   both-second n m h p q = omega (arith, lengths)
 
-  pub both-done : at + length t ≤ length out → mid ≡ at + length a → out₁ ≡ written out at a → r ≡ mid + length b
-      → out₂ ≡ written out₁ mid b
-      → (r ≡ at + length t) × (out₂ ≡ written out at t)
-  both-done h p e₁ q e₂ = (
-    omega (arith, lengths),
-    written-more out at a b out₁ out₂ mid p (omega (arith, lengths)) e₁ e₂ ∙ ap (written out at) (sym e),
-  )
+  pub both-done : at + length t ≤ length out → Put out at a mid out₁ → Put out₁ mid b r out₂ → Put out at t r out₂
+  both-done h p q = record {
+    ends = omega (arith, lengths);
+    holds = written-more out at a b out₁ out₂ mid (p .ends) (omega (arith, lengths)) (p .holds) (q .holds)
+        ∙ ap (written out at) (sym e);
+  }
 
-pub nothing-put : (out t : List ℕ) (at : ℕ) → t ≡ [] → (at ≡ at + length t) × (out ≡ written out at t)
-nothing-put out t at e = (omega (arith, ap (λ (x : List ℕ). length x) e), sym (written-none out at) ∙ ap (written out at) (sym e))
+pub nothing-put : (out t : List ℕ) (at : ℕ) → t ≡ [] → Put out at t at out
+nothing-put out t at e = record {
+  ends = omega (arith, ap (λ (x : List ℕ). length x) e);
+  holds = sym (written-none out at) ∙ ap (written out at) (sym e);
+}
 
 -- ---- rows
 pub rows-append : (a b : List Row) → rowsText (a ++ b) ≡ rowsText a ++ rowsText b
@@ -59,10 +62,10 @@ rows-append a b = ap framesText (map-append rowFrame a b) ∙ concat-append fram
 pub row-alone : (r : Row) → rowsText (r ∷ []) ≡ frameText (rowFrame r)
 row-alone r = concat-cons frameText (rowFrame r) [] ∙ (unfold concatMap in append-nil (frameText (rowFrame r)))
 
-module _ (c : Chart) (ready : Ready c) (labels : List ℕ) (ok : Labelled c labels) (care values v u : ℕ)
-    (st : Settled c care values v u) (s : stops c u ≡ true) (l f : ℕ) where
+module _ (c : Chart) (labels : List ℕ) (chart : Charted c labels) (care values v u : ℕ) (st : Settled c care values v u)
+    (s : stops c u ≡ true) (l f : ℕ) where
   leaf-text : rowsText (paths (size c) c l f care values v) ≡ frameText (rowFrame (rowOf l care values f (label c u)))
-  leaf-text = ap rowsText (stop-paths c ready care values v u st s l f) ∙ row-alone (rowOf l care values f (label c u))
+  leaf-text = ap rowsText (stop-paths c (chart .ready) care values v u st s l f) ∙ row-alone (rowOf l care values f (label c u))
 
   leaf-length : length (rowsText (paths (size c) c l f care values v)) ≡ 23
   leaf-length = ap (λ (x : List ℕ). length x) leaf-text ∙ length-frame (rowFrame (rowOf l care values f (label c u))) refl
@@ -71,14 +74,14 @@ module _ (c : Chart) (ready : Ready c) (labels : List ℕ) (ok : Labelled c labe
   leaf-room at n h = omega (arith, leaf-length)
 
   pub leaf-done : (out out′ : List ℕ) (at : ℕ) → out′ ≡ written out at (frameText (rowFrame (rowOf l care values f (getD labels u 0))))
-      → (at + 23 ≡ at + length (rowsText (paths (size c) c l f care values v)))
-      × (out′ ≡ written out at (rowsText (paths (size c) c l f care values v)))
-  leaf-done out out′ at e = (
-    omega (arith, leaf-length),
-    e ∙ ap (λ (x : ℕ). written out at (frameText (rowFrame (rowOf l care values f x))))
-        (ok .at u (st .entered .inside))
-        ∙ ap (written out at) (sym leaf-text),
-  )
+      → Put out at (rowsText (paths (size c) c l f care values v)) (at + 23) out′
+  leaf-done out out′ at e = record {
+    ends = omega (arith, leaf-length);
+    holds = e
+        ∙ ap (λ (x : ℕ). written out at (frameText (rowFrame (rowOf l care values f x))))
+        (chart .labelled .at u (st .entered .inside))
+        ∙ ap (written out at) (sym leaf-text);
+  }
 
 module _ (c : Chart) (care values v tested valued w0 w1 : ℕ) (k : Fork c care values v tested valued w0 w1) (l f : ℕ) where
   pub fork-text : rowsText (paths (size c) c l f care values v)
@@ -138,13 +141,12 @@ module _ (piece : ℕ → List ℕ) where
       pub appended-room : place + length (piece v) ≤ length out
       appended-room = omega (arith, upper, t .here, t .size)
 
-      pub appended-on : (out′ : List ℕ) (place′ : ℕ) → length out′ ≡ length out → place′ ≡ place + length (piece v)
-          → out′ ≡ written out place (piece v)
+      pub appended-on : (out′ : List ℕ) (place′ : ℕ) → length out′ ≡ length out → Put out place (piece v) place′ out′
           → Appended piece out₀ out′ at place′ n (v + 1)
-      appended-on out′ place′ k p e =
+      appended-on out′ place′ k p =
           let q = both-done out₀ out out′ (upTo piece v) (piece v) (upTo piece (v + 1)) at place place′ (up-more v)
-          (omega (arith, upper, ap (λ (x : List ℕ). length x) (up-more v) ∙ length-append (upTo piece v) (piece v))) (t .here) (t .buffer) p e in
-          record { within = omega arith; size = k ∙ t .size; here = q .0; buffer = q .1 }
+          (omega (arith, upper, ap (λ (x : List ℕ). length x) (up-more v) ∙ length-append (upTo piece v) (piece v))) (record { ends = t .here; holds = t .buffer }) p in
+          record { within = omega arith; size = k ∙ t .size; here = q .ends; buffer = q .holds }
 
     pub appended-done : n ≤ v → out ≡ written out₀ at (upTo piece n)
     appended-done h = let e : v ≡ n = omega (arith, t .within) in t .buffer ∙ ap (λ (k : ℕ). written out₀ at (upTo piece k)) e
@@ -157,26 +159,34 @@ numbered-stop c v n = ap (λ x. stops c v && not x) (ne-eqb (kind c v) 1 n) ∙ 
     unit true = refl
     unit false = refl
 
-module _ (c : Chart) (ready : Ready c) (labels : List ℕ) (ok : Labelled c labels) (h v : ℕ) (low : 1 ≤ h)
-    (high : h ≤ schemes c) (e : v ≡ begin c h) where
+module _ {c : Chart} {labels : List ℕ} {h v : ℕ} (s : OfScheme c labels h) (e : v ≡ begin c h) where
+  known-facts : Facts c
+  known-facts = s .chart .ready .facts
+
+  ok : Labelled c labels
+  ok = s .chart .labelled
+
   begin-inside : v < size c
-  begin-inside = omega (arith, ready .facts .begins h low high .0)
+  begin-inside = omega (arith, known-facts .begins h (s .low) (s .high) .0)
 
   begin-kind : kind c v ≡ 0
-  begin-kind = ap (kind c) e ∙ ready .facts .begins h low high .1
+  begin-kind = ap (kind c) e ∙ known-facts .begins h (s .low) (s .high) .1
+
+  next-inside : next0 c v < size c
+  next-inside = known-facts .arc0 v begin-inside (λ z. omega (arith, begin-kind)) .inside
 
   pub entry-read : v < length labels
   entry-read = omega (arith, ok .long, begin-inside)
 
   pub entry-field : 10 * v + 3 < length c
-  entry-field = omega (arith, ready .facts .whole, begin-inside)
+  entry-field = omega (arith, known-facts .whole, begin-inside)
 
   pub entry-next : (w : ℕ) → w ≡ next0 c v → w < length labels
-  entry-next w q = omega (arith, ok .long, ready .facts .arc0 v begin-inside (λ z. omega (arith, begin-kind)) .inside)
+  entry-next w q = omega (arith, ok .long, next-inside)
 
   starts : (b : Bool) → stops c v ≡ b → start c h ≡ pick b v (next0 c v)
   unfolding start
-  starts b s = ap (λ (x : ℕ). pick (stops c x) x (next0 c x)) (sym e) ∙ ap (λ y. pick y v (next0 c v)) s
+  starts b q = ap (λ (x : ℕ). pick (stops c x) x (next0 c x)) (sym e) ∙ ap (λ y. pick y v (next0 c v)) q
 
   stop-by : numbered c v ≡ stops c v
   stop-by = numbered-stop c v (λ z. omega (arith, begin-kind))
@@ -189,8 +199,7 @@ module _ (c : Chart) (ready : Ready c) (labels : List ℕ) (ok : Labelled c labe
   pub entry-other : getD labels v 0 < 2 → (w : ℕ) → w ≡ next0 c v → getD labels w 0 ≡ entry c h
   entry-other g w q =
       let m : getD labels v 0 ≡ label c v = ok .at v begin-inside in
-      let i : next0 c v < size c = ready .facts .arc0 v begin-inside (λ z. omega (arith, begin-kind)) .inside in
-      ap (λ (x : ℕ). getD labels x 0) q ∙ ok .at (next0 c v) i
+      ap (λ (x : ℕ). getD labels x 0) q ∙ ok .at (next0 c v) next-inside
       ∙ ap (label c) (sym (starts false (sym stop-by ∙ no-own-label c v (omega arith))))
 
 pub entries-turn : (c : Chart) (out₀ out out′ : List ℕ) (at n k place l : ℕ) → Pieces (entryText c) 23 out₀ out at n k → k < n
@@ -224,12 +233,12 @@ module _ (c : Chart) (v l : ℕ) where
   other-label : (kind c v ≡ 2 → ⊥) → (kind c v ≡ 4 → ⊥) → labelOf c v ≡ labelWith 0 0 (scheme c v) 0 0
   other-label n m = rw (ne-eqb (kind c v) 4 m, ne-eqb (kind c v) 2 n)
 
-  pub operation-bytes : Ready c → kind c v ≡ 2 → (t g o r m0 m1 m2 m3 : ℕ) → t ≡ pick (not (eqb g 0)) 1 0 → g ≡ argument c v
+  pub operation-bytes : OfKind c 2 v → (t g o r m0 m1 m2 m3 : ℕ) → t ≡ pick (not (eqb g 0)) 1 0 → g ≡ argument c v
       → o ≡ scheme c v → r ≡ result c v
       → m0 ≡ getD c (10 * v + 6) 0 → m1 ≡ getD c (10 * v + 7) 0 → m2 ≡ getD c (10 * v + 8) 0 → m3 ≡ getD c (10 * v + 9) 0
       → (17 ∷ l ∷ t ∷ g ∷ o ∷ r ∷ m0 ∷ m1 ∷ m2 ∷ m3 ∷ []) ≡ labelFrame l (labelOf c v)
-  operation-bytes ready k t g o r m0 m1 m2 m3 et eg eo er e0 e1 e2 e3 =
-      let B : (j : ℕ) → getD c j 0 < 256 = ready .facts .bytes in
+  operation-bytes node t g o r m0 m1 m2 m3 et eg eo er e0 e1 e2 e3 =
+      let B : (j : ℕ) → getD c j 0 < 256 = node .ready .facts .bytes in
       let q : quad (mask c v) ≡ m0 ∷ m1 ∷ m2 ∷ m3 ∷ [] =
       quad-bytes (getD c (10 * v + 6) 0) (getD c (10 * v + 7) 0) (getD c (10 * v + 8) 0) (getD c (10 * v + 9) 0) (B _) (B _) (B _) (B _)
       ∙ ap₂ (λ (x : ℕ) (xs : List ℕ). x ∷ xs) (sym e0)
@@ -238,7 +247,7 @@ module _ (c : Chart) (v l : ℕ) where
       ap (λ (xs : List ℕ). 17 ∷ l ∷ t ∷ g ∷ o ∷ r ∷ xs) (sym q)
       ∙ ap₂ (λ (x y : ℕ). 17 ∷ l ∷ x ∷ y ∷ o ∷ r ∷ quad (mask c v)) p eg
       ∙ ap₂ (λ (x y : ℕ). 17 ∷ l ∷ pick (not (eqb (argument c v) 0)) 1 0 ∷ argument c v ∷ x ∷ y ∷ quad (mask c v)) eo er
-      ∙ ap (labelFrame l) (sym (operation-label k))
+      ∙ ap (labelFrame l) (sym (operation-label (node .kind)))
 
   pub function-bytes : kind c v ≡ 4 → (g o : ℕ) → g ≡ argument c v → o ≡ scheme c v
       → (17 ∷ l ∷ 2 ∷ g ∷ o ∷ 0 ∷ 0 ∷ 0 ∷ 0 ∷ 0 ∷ []) ≡ labelFrame l (labelOf c v)
@@ -249,14 +258,17 @@ module _ (c : Chart) (v l : ℕ) where
       → (17 ∷ l ∷ 0 ∷ 0 ∷ o ∷ 0 ∷ 0 ∷ 0 ∷ 0 ∷ 0 ∷ []) ≡ labelFrame l (labelOf c v)
   other-bytes n m o eo = ap (λ (x : ℕ). 17 ∷ l ∷ 0 ∷ 0 ∷ x ∷ 0 ∷ 0 ∷ 0 ∷ 0 ∷ 0 ∷ []) eo ∙ ap (labelFrame l) (sym (other-label n m))
 
-module _ (c : Chart) (labels : List ℕ) (ok : Labelled c labels) (v : ℕ) (inside : v < size c) where
+module _ {c : Chart} {labels : List ℕ} {v : ℕ} (node : AtNode c labels v) where
+  read : getD labels v 0 ≡ label c v
+  read = node .chart .labelled .at v (node .inside)
+
   pub label-none : getD labels v 0 < 2 → nodeLabelText c v ≡ []
-  label-none h = let m : getD labels v 0 ≡ label c v = ok .at v inside in
-      no-pick (numbered c v) (frameText (labelFrame (label c v) (labelOf c v))) [] (no-own-label c v (omega arith))
+  label-none h =
+      no-pick (numbered c v) (frameText (labelFrame (label c v) (labelOf c v))) [] (no-own-label c v (omega (arith, read)))
 
   label-one : 2 ≤ getD labels v 0 → nodeLabelText c v ≡ frameText (labelFrame (label c v) (labelOf c v))
-  label-one h = let m : getD labels v 0 ≡ label c v = ok .at v inside in
-      yes-pick (numbered c v) (frameText (labelFrame (label c v) (labelOf c v))) [] (own-label c v (omega arith))
+  label-one h =
+      yes-pick (numbered c v) (frameText (labelFrame (label c v) (labelOf c v))) [] (own-label c v (omega (arith, read)))
 
   label-long : 2 ≤ getD labels v 0 → length (nodeLabelText c v) ≡ 23
   label-long h = ap (λ (x : List ℕ). length x) (label-one h) ∙ length-frame (labelFrame (label c v) (labelOf c v)) refl
@@ -266,19 +278,18 @@ module _ (c : Chart) (labels : List ℕ) (ok : Labelled c labels) (v : ℕ) (ins
 
   pub label-done : 2 ≤ getD labels v 0 → (out out′ : List ℕ) (at : ℕ)
       → out′ ≡ written out at (frameText (labelFrame (getD labels v 0) (labelOf c v)))
-      → (at + 23 ≡ at + length (nodeLabelText c v)) × (out′ ≡ written out at (nodeLabelText c v))
-  label-done h out out′ at e = (
-    omega (arith, label-long h),
-    e ∙ ap (λ (x : ℕ). written out at (frameText (labelFrame x (labelOf c v)))) (ok .at v inside) ∙ ap (written out at) (sym (label-one h)),
-  )
+      → Put out at (nodeLabelText c v) (at + 23) out′
+  label-done h out out′ at e = record {
+    ends = omega (arith, label-long h);
+    holds = e ∙ ap (λ (x : ℕ). written out at (frameText (labelFrame x (labelOf c v)))) read ∙ ap (written out at) (sym (label-one h));
+  }
 
 -- ---- a node's rows, by its kind
 pub room-as : (t u : List ℕ) (at n : ℕ) → t ≡ u → at + length t ≤ n → at + length u ≤ n
 room-as t u at n e h = omega (arith, ap (λ (x : List ℕ). length x) e)
 
-pub done-as : (t u out out′ : List ℕ) (at r : ℕ) → t ≡ u → (r ≡ at + length u) × (out′ ≡ written out at u)
-    → (r ≡ at + length t) × (out′ ≡ written out at t)
-done-as t u out out′ at r e q = (omega (arith, ap (λ (x : List ℕ). length x) e, q .0), q .1 ∙ ap (written out at) (sym e))
+pub done-as : (t u out out′ : List ℕ) (at r : ℕ) → t ≡ u → Put out at u r out′ → Put out at t r out′
+done-as t u out out′ at r e q = subst (λ (x : List ℕ). Put out at x r out′) (sym e) q
 
 pub node-none : (c : Chart) (v : ℕ) → nodeRows c v ≡ [] → nodeRowsText c v ≡ []
 node-none c v e = ap rowsText e ∙ (unfold concatMap in refl)

@@ -22,18 +22,18 @@ use Rattle.walk.specs.Stops.{stops}
 use Rattle.image.specs.Image.{Row}
 use Rattle.translator.specs.Labels.{numbered, label}
 use Rattle.translator.specs.Rows.{paths, rowsOf, rows}
-use Rattle.translator.specs.Ready.{Ready, Entered, Labelled}
+use Rattle.translator.specs.Ready.{Entered, AtNode, SidesAt}
 use Rattle.translator.specs.Parts.{sides, nodeRows}
 use Rattle.translator.proofs.LabelSteps.{own-label, no-own-label}
 use Rattle.translator.proofs.PathSteps.{entered0, entered1}
 
 -- ---- both arcs of a node
-module _ (c : Chart) (ready : Ready c) (v w0 w1 : ℕ) (l : v < size c) (k : 3 ≤ kind c v) where
-  pub side-entered0 : w0 ≡ next0 c v → Entered c w0
-  side-entered0 e = subst (Entered c) (sym e) (entered0 c ready v l (λ q. omega arith))
+module _ {c : Chart} {labels : List ℕ} {care values v : ℕ} (s : SidesAt c labels care values v) where
+  pub side-entered0 : {w : ℕ} → w ≡ next0 c v → Entered c w
+  side-entered0 e = subst (Entered c) (sym e) (entered0 c (s .chart .ready) v (s .inside) (λ q. omega (arith, s .two)))
 
-  pub side-entered1 : w1 ≡ next1 c v → Entered c w1
-  side-entered1 e = subst (Entered c) (sym e) (entered1 c ready v l k)
+  pub side-entered1 : {w : ℕ} → w ≡ next1 c v → Entered c w
+  side-entered1 e = subst (Entered c) (sym e) (entered1 c (s .chart .ready) v (s .inside) (s .two))
 
 pub count-sides : (c : Chart) (v care values most w0 w1 low high : ℕ) → w0 ≡ next0 c v → w1 ≡ next1 c v
     → ((l f : ℕ) → low ≡ min most (length (paths (size c) c l f care 0 w0)))
@@ -65,17 +65,9 @@ module _ (c : Chart) (v k : ℕ) (ek : k ≡ kind c v) where
   unfolding rowsOf
   rows-other h = rw (rowsOf, ne-eqb (kind c v) 4 (λ q. omega arith), ne-eqb (kind c v) 3 (λ q. omega arith))
 
--- the kind after a condition's is a function's
-pub function-kind : (c : Chart) → Ready c → (v k : ℕ) → v < size c → k ≡ kind c v → 3 ≤ k → (k ≡ 3 → ⊥) → k ≡ 4
-function-kind c ready v k l e h n = omega (arith, ready .facts .kinds v l)
-
 -- the mask of a stopping condition's own test
 pub own-mask : (c : Chart) (v i own : ℕ) → i ≡ argument c v → own ≡ bitOr 0 (2 ^ i) → own ≡ 2 ^ argument c v
 own-mask c v i own e m = m ∙ sym (add-is-or 0 i (bit-none i)) ∙ zero-add (2 ^ i) ∙ ap (λ (j : ℕ). 2 ^ j) e
-
-pub other-entered : (c : Chart) → Ready c → (v w : ℕ) → v < size c → numbered c v ≡ true → w ≡ next0 c v → Entered c w
-other-entered c ready v w l n e =
-    subst (Entered c) (sym e) (entered0 c ready v l (eqb-false (kind c v) 1 (not-true (is c 1 v) (and-r (stops c v) (not (is c 1 v)) n))))
 
 module _ (c : Chart) (v k most r : ℕ) (ek : k ≡ kind c v) (own : nodeRows c v ≡ rowsOf c v) where
   counted : (rs : List Row) → rowsOf c v ≡ rs → r ≡ min most (length rs) → r ≡ min most (length (nodeRows c v))
@@ -97,15 +89,27 @@ module _ (c : Chart) (v k most r : ℕ) (ek : k ≡ kind c v) (own : nodeRows c 
       (rows-other c v k ek h ∙ ap (paths (size c) c (label c v) 2 0 0) (sym e)) (q (label c v) 2)
 
 -- ---- a node without a label of its own, and one with it
-module _ (c : Chart) (labels : List ℕ) (ok : Labelled c labels) (v x : ℕ) (l : v < size c) (e : x ≡ getD labels v 0) where
-  pub own-number : 2 ≤ x → numbered c v ≡ true
-  own-number h = own-label c v (omega (arith, ok .at v l))
+module _ {c : Chart} {labels : List ℕ} {v : ℕ} (node : AtNode c labels v) where
+  read : getD labels v 0 ≡ label c v
+  read = node .chart .labelled .at v (node .inside)
 
-  pub no-rows : x < 2 → nodeRows c v ≡ []
-  no-rows h = no-pick (numbered c v) (rowsOf c v) [] (no-own-label c v (omega (arith, ok .at v l)))
+  own-number : 2 ≤ getD labels v 0 → numbered c v ≡ true
+  own-number h = own-label c v (omega (arith, read))
 
-  pub own-rows : 2 ≤ x → nodeRows c v ≡ rowsOf c v
+  pub no-rows : getD labels v 0 < 2 → nodeRows c v ≡ []
+  no-rows h = no-pick (numbered c v) (rowsOf c v) [] (no-own-label c v (omega (arith, read)))
+
+  pub own-rows : 2 ≤ getD labels v 0 → nodeRows c v ≡ rowsOf c v
   own-rows h = yes-pick (numbered c v) (rowsOf c v) [] (own-number h)
+
+  pub other-entered : 2 ≤ getD labels v 0 → {w : ℕ} → w ≡ next0 c v → Entered c w
+  other-entered h e =
+      subst (Entered c) (sym e) (entered0 c (node .chart .ready) v (node .inside)
+      (eqb-false (kind c v) 1 (not-true (is c 1 v) (and-r (stops c v) (not (is c 1 v)) (own-number h)))))
+
+  -- the kind after a condition's is a function's
+  pub function-kind : {k : ℕ} → k ≡ kind c v → 3 ≤ k → (k ≡ 3 → ⊥) → k ≡ 4
+  function-kind e h n = omega (arith, node .chart .ready .facts .kinds v (node .inside))
 
 pub count-nothing : (c : Chart) (v most : ℕ) → nodeRows c v ≡ [] → 0 ≡ min most (length (nodeRows c v))
 count-nothing c v most e = omega (arith, ap (λ (rs : List Row). length rs) e)

@@ -1,12 +1,13 @@
 -- Parts of the rows and of the image's text, as the functions that count and write them have them, node by node.
 use Prim.Native.Nat.{ℕ, zero, suc, _+_}
 use mathlib.Core.Bool.{Bool, true, false, _&&_, not}
+use mathlib.Core.Path.{_≡_}
 use mathlib.Core.List.{List, [], _∷_, _++_, map}
 use lib.Dec.{ltb, eqb}
 use lib.ListN.{length, replicate}
 use Rattle.lists.specs.Pick.{pick}
 use Rattle.lists.specs.Numbers.{range}
-use Rattle.lists.specs.Sequences.{concatMap}
+use Rattle.lists.specs.Sequences.{concatMap, written}
 use Rattle.bits.specs.Word.{bit}
 use Rattle.frames.specs.Frame.{size, pair, frameText, framesText}
 use Rattle.frames.specs.Verdict.{when}
@@ -63,6 +64,11 @@ nodeRowsText c v = rowsText (nodeRows c v)
 -- those of the nodes or schemes below n, joined
 abbrev pub upTo : (ℕ → List ℕ) → ℕ → List ℕ
 upTo text n = concatMap text (range 0 n)
+
+-- a text that was written at an offset of a buffer, and the offset after it
+pub record Put (old : List ℕ) (at : ℕ) (text : List ℕ) (after : ℕ) (new : List ℕ) : Type 0 where
+  pub ends : after ≡ at + length text
+  pub holds : new ≡ written old at text
 
 -- what the functions leave in the buffer and answer, for an accepted chart: 10 and 16 are still to be tried
 abbrev pub imageLent : Chart → List ℕ → Lent

@@ -4,7 +4,7 @@ use crate::nodes::is_numbered;
 use charts::field;
 ghost use mathlib.Core.Path.{_≡_};
 ghost use mathlib.Core.List.{map};
-ghost use Prim.Native.Nat.{_+_, _<_, _≤_};
+ghost use Prim.Native.Nat.{_≤_};
 ghost use lib.ListN.{length};
 ghost use Rattle.lists.specs.Numbers.{range, count};
 ghost use Rattle.lists.specs.Sequences.{written};
@@ -12,6 +12,7 @@ ghost use Rattle.frames.specs.Frame.{size};
 ghost use Rattle.charts.specs.Chart.{begin, next0};
 ghost use Rattle.walk.proofs.Facts.{Facts};
 ghost use Rattle.translator.specs.Labels.{numbered, label};
+ghost use Rattle.translator.specs.Ready.{Beside};
 
 // The node that the Begin of scheme 1 leads to.
 pub fn first_node(records: &[u8]) -> u8
@@ -24,10 +25,8 @@ pub fn first_node(records: &[u8]) -> u8
 
 // The label of a node, given how many nodes before it have one of their own.
 fn label_of(records: &[u8], first: u8, own: usize, v: usize) -> u8
-    requires { ⌜ Facts (now records) ⌝ }
-    requires { ⌜ first ≡ next0 (now records) (begin (now records) 1) ⌝ }
+    requires { ⌜ Beside (now records) first v ⌝ }
     requires { ⌜ own ≡ count (numbered (now records)) 0 v ⌝ }
-    requires { ⌜ v < size (now records) ⌝ }
     ensures { λ r. ⌜ r ≡ label (now (records .entry)) v ⌝ }
 {
     if is_numbered(records, first, v) {

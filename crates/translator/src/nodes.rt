@@ -10,6 +10,7 @@ ghost use Rattle.charts.specs.Chart.{scheme, is, isOf, begin, next0};
 ghost use Rattle.walk.proofs.Facts.{Facts};
 ghost use Rattle.walk.specs.Stops.{stops};
 ghost use Rattle.translator.specs.Labels.{numbered};
+ghost use Rattle.translator.specs.Ready.{Beside};
 
 fn is_begin(records: &[u8], v: usize, scheme: u8) -> bool
     requires { ⌜ 10 * v + 1 < length (now records) ⌝ }
@@ -46,9 +47,7 @@ fn begin_stops(records: &[u8], v: usize) -> bool
 
 // Whether a node takes a tick; `first` is the node that the Begin of scheme 1 leads to.
 pub fn stops(records: &[u8], first: u8, v: usize) -> bool
-    requires { ⌜ Facts (now records) ⌝ }
-    requires { ⌜ first ≡ next0 (now records) (begin (now records) 1) ⌝ }
-    requires { ⌜ v < size (now records) ⌝ }
+    requires { ⌜ Beside (now records) first v ⌝ }
     ensures { λ r. ⌜ r ≡ stops (now (records .entry)) v ⌝ }
 {
     match field(records, v, 0) {
@@ -60,9 +59,7 @@ pub fn stops(records: &[u8], first: u8, v: usize) -> bool
 
 // Whether a node has a label of its own.
 pub fn is_numbered(records: &[u8], first: u8, v: usize) -> bool
-    requires { ⌜ Facts (now records) ⌝ }
-    requires { ⌜ first ≡ next0 (now records) (begin (now records) 1) ⌝ }
-    requires { ⌜ v < size (now records) ⌝ }
+    requires { ⌜ Beside (now records) first v ⌝ }
     ensures { λ r. ⌜ r ≡ numbered (now (records .entry)) v ⌝ }
 {
     stops(records, first, v) && field(records, v, 0) != 1

@@ -3,21 +3,18 @@ use bits::bit;
 use bits::with_bit;
 use charts::field;
 ghost use mathlib.Core.Path.{_≡_};
-ghost use Prim.Native.Nat.{ℕ, _+_, _<_, min};
-ghost use lib.Bits.{bitAnd};
+ghost use Prim.Native.Nat.{ℕ, min};
 ghost use lib.ListN.{length};
 ghost use Rattle.frames.specs.Frame.{size};
-ghost use Rattle.charts.specs.Chart.{kind, taken};
+ghost use Rattle.charts.specs.Chart.{taken};
 ghost use Rattle.walk.specs.Stops.{stops};
 ghost use Rattle.translator.specs.Rows.{paths};
-ghost use Rattle.translator.specs.Ready.{Ready, Entered, Labelled};
+ghost use Rattle.translator.specs.Ready.{OfKind, OnPath, PathAt};
 ghost use Rattle.translator.specs.Parts.{known, settled};
 
 // Whether a node that an arc leads to ends a path. A condition does where it has a label of its own.
 pub fn ends_path(records: &[u8], labels: &[u8], node: u8) -> bool
-    requires { ⌜ Ready (now records) ⌝ }
-    requires { ⌜ Labelled (now records) (now labels) ⌝ }
-    requires { ⌜ Entered (now records) node ⌝ }
+    requires { ⌜ OnPath (now records) (now labels) node ⌝ }
     ensures { λ r. ⌜ r ≡ stops (now (records .entry)) node ⌝ }
 {
     let v = node as usize;
@@ -29,9 +26,7 @@ pub fn ends_path(records: &[u8], labels: &[u8], node: u8) -> bool
 
 // Whether a path comes to a condition whose number it has met before.
 fn is_known(records: &[u8], labels: &[u8], node: u8, care: u16) -> bool
-    requires { ⌜ Ready (now records) ⌝ }
-    requires { ⌜ Labelled (now records) (now labels) ⌝ }
-    requires { ⌜ Entered (now records) node ⌝ }
+    requires { ⌜ OnPath (now records) (now labels) node ⌝ }
     ensures { λ r. ⌜ r ≡ known (now (records .entry)) care node ⌝ }
 {
     if ends_path(records, labels, node) {
@@ -42,9 +37,7 @@ fn is_known(records: &[u8], labels: &[u8], node: u8, care: u16) -> bool
 
 // The arc of a condition by the values.
 fn taken(records: &[u8], values: u16, node: u8) -> u8
-    requires { ⌜ Ready (now records) ⌝ }
-    requires { ⌜ node < size (now records) ⌝ }
-    requires { ⌜ kind (now records) node ≡ 3 ⌝ }
+    requires { ⌜ OfKind (now records) 3 node ⌝ }
     ensures { λ r. ⌜ r ≡ taken (now (records .entry)) values node ⌝ }
 {
     let v = node as usize;
@@ -56,9 +49,7 @@ fn taken(records: &[u8], values: u16, node: u8) -> u8
 
 // Past the conditions that the path has met before, to a stop or to a condition that is new.
 pub fn settle(records: &[u8], labels: &[u8], node: u8, care: u16, values: u16) -> u8
-    requires { ⌜ Ready (now records) ⌝ }
-    requires { ⌜ Labelled (now records) (now labels) ⌝ }
-    requires { ⌜ Entered (now records) node ⌝ }
+    requires { ⌜ OnPath (now records) (now labels) node ⌝ }
     ensures { λ r. ⌜ r ≡ settled (size (now (records .entry))) (now (records .entry)) care values node ⌝ }
 {
     let mut at = node;
@@ -77,10 +68,7 @@ pub fn count_paths(
     values: u16,
     most: usize,
 ) -> usize
-    requires { ⌜ Ready (now records) ⌝ }
-    requires { ⌜ Labelled (now records) (now labels) ⌝ }
-    requires { ⌜ Entered (now records) node ⌝ }
-    requires { ⌜ bitAnd values care ≡ values ⌝ }
+    requires { ⌜ PathAt (now records) (now labels) care values node ⌝ }
     ensures { λ r. ⌜ ((l f : ℕ) → r ≡ min most (length (paths (size (now (records .entry))) (now (records .entry)) l f care values node))) ⌝ }
 {
     if most == 0 {

@@ -4,17 +4,16 @@ use charts::field;
 use frames::put_frame;
 ghost use mathlib.Core.Path.{_≡_};
 ghost use mathlib.Core.Bool.{not};
-ghost use Prim.Native.Nat.{_+_, _*_, _≤_, _<_};
+ghost use Prim.Native.Nat.{_+_, _*_, _≤_};
 ghost use lib.Dec.{eqb};
 ghost use lib.ListN.{length};
 ghost use Rattle.lists.specs.Pick.{pick};
 ghost use Rattle.lists.specs.Sequences.{written};
 ghost use Rattle.frames.specs.Frame.{size, frameText};
-ghost use Rattle.charts.specs.Chart.{kind, schemes};
 ghost use Rattle.image.specs.Image.{entryFrame, labelFrame};
 ghost use Rattle.translator.specs.Labels.{entry, labelOf};
-ghost use Rattle.translator.specs.Ready.{Ready, Labelled};
-ghost use Rattle.translator.specs.Parts.{headerText, entryText, fixedText, nodeLabelText, upTo};
+ghost use Rattle.translator.specs.Ready.{Inner, OfKind, Charted, OfScheme, Schemed, AtNode};
+ghost use Rattle.translator.specs.Parts.{headerText, entryText, fixedText, nodeLabelText, upTo, Put};
 
 pub fn put_header(out: &mut [u8], highest: u8, last: u8, rows: usize)
     requires { ⌜ 23 ≤ length (now out) ⌝ }
@@ -29,10 +28,7 @@ pub fn put_header(out: &mut [u8], highest: u8, last: u8, rows: usize)
 
 // The label where performing a scheme starts: its Begin's, where that is a stop, else that of the node after it.
 fn entry_of(records: &[u8], labels: &[u8], scheme: u8) -> u8
-    requires { ⌜ Ready (now records) ⌝ }
-    requires { ⌜ Labelled (now records) (now labels) ⌝ }
-    requires { ⌜ 1 ≤ scheme ⌝ }
-    requires { ⌜ scheme ≤ schemes (now records) ⌝ }
+    requires { ⌜ OfScheme (now records) (now labels) scheme ⌝ }
     ensures { λ r. ⌜ r ≡ entry (now (records .entry)) scheme ⌝ }
 {
     let v = begin(records, scheme);
@@ -52,9 +48,7 @@ fn put_entry(out: &mut [u8], at: usize, scheme: u8, label: u8)
 }
 
 pub fn put_entries(records: &[u8], labels: &[u8], highest: u8, out: &mut [u8], at: usize)
-    requires { ⌜ Ready (now records) ⌝ }
-    requires { ⌜ Labelled (now records) (now labels) ⌝ }
-    requires { ⌜ highest ≡ schemes (now records) ⌝ }
+    requires { ⌜ Schemed (now records) (now labels) highest ⌝ }
     requires { ⌜ at + 23 * highest ≤ length (now out) ⌝ }
     ensures { λ _. ⌜ now (out .exit) ≡ written (now (out .entry)) at (upTo (entryText (now (records .entry))) highest) ⌝ }
 {
@@ -81,9 +75,7 @@ pub fn put_fixed(out: &mut [u8], at: usize)
 
 // The label of an operation: with a call its kind is 1.
 fn put_operation(records: &[u8], v: usize, label: u8, out: &mut [u8], at: usize)
-    requires { ⌜ Ready (now records) ⌝ }
-    requires { ⌜ v < size (now records) ⌝ }
-    requires { ⌜ kind (now records) v ≡ 2 ⌝ }
+    requires { ⌜ OfKind (now records) 2 v ⌝ }
     requires { ⌜ at + 23 ≤ length (now out) ⌝ }
     ensures { λ _. ⌜ now (out .exit) ≡ written (now (out .entry)) at (frameText (labelFrame label (labelOf (now (records .entry)) v))) ⌝ }
 {
@@ -119,8 +111,7 @@ fn call_kind(called: u8) -> u8
 
 // The label of a stop: an operation's, a function's, or that of a Begin or a condition.
 fn put_label(records: &[u8], v: usize, label: u8, out: &mut [u8], at: usize)
-    requires { ⌜ Ready (now records) ⌝ }
-    requires { ⌜ v < size (now records) ⌝ }
+    requires { ⌜ Inner (now records) v ⌝ }
     requires { ⌜ at + 23 ≤ length (now out) ⌝ }
     ensures { λ _. ⌜ now (out .exit) ≡ written (now (out .entry)) at (frameText (labelFrame label (labelOf (now (records .entry)) v))) ⌝ }
 {
@@ -141,11 +132,9 @@ fn put_label(records: &[u8], v: usize, label: u8, out: &mut [u8], at: usize)
 
 // The label of a node, where it has one of its own; the offset after it.
 fn put_node_label(records: &[u8], labels: &[u8], v: usize, out: &mut [u8], at: usize) -> usize
-    requires { ⌜ Ready (now records) ⌝ }
-    requires { ⌜ Labelled (now records) (now labels) ⌝ }
-    requires { ⌜ v < size (now records) ⌝ }
+    requires { ⌜ AtNode (now records) (now labels) v ⌝ }
     requires { ⌜ at + length (nodeLabelText (now records) v) ≤ length (now out) ⌝ }
-    ensures { λ r. ⌜ (r ≡ at + length (nodeLabelText (now (records .entry)) v)) × (now (out .exit) ≡ written (now (out .entry)) at (nodeLabelText (now (records .entry)) v)) ⌝ }
+    ensures { λ r. ⌜ Put (now (out .entry)) at (nodeLabelText (now (records .entry)) v) r (now (out .exit)) ⌝ }
 {
     let label = labels[v];
     if label < 2 {
@@ -157,8 +146,7 @@ fn put_node_label(records: &[u8], labels: &[u8], v: usize, out: &mut [u8], at: u
 
 // The labels of all nodes that have one of their own.
 pub fn put_labels(records: &[u8], labels: &[u8], out: &mut [u8], at: usize)
-    requires { ⌜ Ready (now records) ⌝ }
-    requires { ⌜ Labelled (now records) (now labels) ⌝ }
+    requires { ⌜ Charted (now records) (now labels) ⌝ }
     requires { ⌜ at + length (upTo (nodeLabelText (now records)) (size (now records))) ≤ length (now out) ⌝ }
     ensures { λ _. ⌜ now (out .exit) ≡ written (now (out .entry)) at (upTo (nodeLabelText (now (records .entry))) (size (now (records .entry)))) ⌝ }
 {

@@ -5,17 +5,15 @@ use bits::with_bit;
 use charts::field;
 use frames::put_frame;
 ghost use mathlib.Core.Path.{_≡_};
-ghost use Prim.Native.Nat.{_+_, _≤_, _<_};
-ghost use lib.Bits.{bitAnd};
+ghost use Prim.Native.Nat.{_+_, _≤_};
 ghost use lib.ListN.{length};
 ghost use Rattle.lists.specs.Sequences.{written};
 ghost use Rattle.frames.specs.Frame.{size, frameText};
-ghost use Rattle.charts.specs.Chart.{kind};
 ghost use Rattle.image.specs.Image.{rowFrame};
 ghost use Rattle.translator.specs.Labels.{label};
 ghost use Rattle.translator.specs.Rows.{paths};
-ghost use Rattle.translator.specs.Ready.{Ready, Entered, Labelled};
-ghost use Rattle.translator.specs.Parts.{rowOf, rowsText, sides, nodeRowsText, upTo};
+ghost use Rattle.translator.specs.Ready.{Charted, AtNode, PathAt, SidesAt};
+ghost use Rattle.translator.specs.Parts.{rowOf, rowsText, sides, nodeRowsText, upTo, Put};
 
 fn put_row(out: &mut [u8], at: usize, from: u8, care: u16, values: u16, bit: u8, next: u8)
     requires { ⌜ at + 23 ≤ length (now out) ⌝ }
@@ -41,12 +39,9 @@ fn put_paths(
     out: &mut [u8],
     at: usize,
 ) -> usize
-    requires { ⌜ Ready (now records) ⌝ }
-    requires { ⌜ Labelled (now records) (now labels) ⌝ }
-    requires { ⌜ Entered (now records) node ⌝ }
-    requires { ⌜ bitAnd values care ≡ values ⌝ }
+    requires { ⌜ PathAt (now records) (now labels) care values node ⌝ }
     requires { ⌜ at + length (rowsText (paths (size (now records)) (now records) from bit care values node)) ≤ length (now out) ⌝ }
-    ensures { λ r. ⌜ (r ≡ at + length (rowsText (paths (size (now (records .entry))) (now (records .entry)) from bit care values node))) × (now (out .exit) ≡ written (now (out .entry)) at (rowsText (paths (size (now (records .entry))) (now (records .entry)) from bit care values node))) ⌝ }
+    ensures { λ r. ⌜ Put (now (out .entry)) at (rowsText (paths (size (now (records .entry))) (now (records .entry)) from bit care values node)) r (now (out .exit)) ⌝ }
 {
     let end = settle(records, labels, node, care, values);
     let v = end as usize;
@@ -75,13 +70,9 @@ fn put_sides(
     out: &mut [u8],
     at: usize,
 ) -> usize
-    requires { ⌜ Ready (now records) ⌝ }
-    requires { ⌜ Labelled (now records) (now labels) ⌝ }
-    requires { ⌜ v < size (now records) ⌝ }
-    requires { ⌜ 3 ≤ kind (now records) v ⌝ }
-    requires { ⌜ bitAnd values care ≡ values ⌝ }
+    requires { ⌜ SidesAt (now records) (now labels) care values v ⌝ }
     requires { ⌜ at + length (rowsText (sides (now records) (label (now records) v) first second care values v)) ≤ length (now out) ⌝ }
-    ensures { λ r. ⌜ (r ≡ at + length (rowsText (sides (now (records .entry)) (label (now (records .entry)) v) first second care values v))) × (now (out .exit) ≡ written (now (out .entry)) at (rowsText (sides (now (records .entry)) (label (now (records .entry)) v) first second care values v))) ⌝ }
+    ensures { λ r. ⌜ Put (now (out .entry)) at (rowsText (sides (now (records .entry)) (label (now (records .entry)) v) first second care values v)) r (now (out .exit)) ⌝ }
 {
     let from = labels[v];
     let next0 = field(records, v, 3);
@@ -92,11 +83,9 @@ fn put_sides(
 
 // The rows of a node: none where it has no label of its own.
 fn put_node(records: &[u8], labels: &[u8], v: usize, out: &mut [u8], at: usize) -> usize
-    requires { ⌜ Ready (now records) ⌝ }
-    requires { ⌜ Labelled (now records) (now labels) ⌝ }
-    requires { ⌜ v < size (now records) ⌝ }
+    requires { ⌜ AtNode (now records) (now labels) v ⌝ }
     requires { ⌜ at + length (nodeRowsText (now records) v) ≤ length (now out) ⌝ }
-    ensures { λ r. ⌜ (r ≡ at + length (nodeRowsText (now (records .entry)) v)) × (now (out .exit) ≡ written (now (out .entry)) at (nodeRowsText (now (records .entry)) v)) ⌝ }
+    ensures { λ r. ⌜ Put (now (out .entry)) at (nodeRowsText (now (records .entry)) v) r (now (out .exit)) ⌝ }
 {
     let from = labels[v];
     if from < 2 {
@@ -124,8 +113,7 @@ fn put_node(records: &[u8], labels: &[u8], v: usize, out: &mut [u8], at: usize) 
 
 // The rows of all nodes.
 pub fn put_rows(records: &[u8], labels: &[u8], out: &mut [u8], at: usize)
-    requires { ⌜ Ready (now records) ⌝ }
-    requires { ⌜ Labelled (now records) (now labels) ⌝ }
+    requires { ⌜ Charted (now records) (now labels) ⌝ }
     requires { ⌜ at + length (upTo (nodeRowsText (now records)) (size (now records))) ≤ length (now out) ⌝ }
     ensures { λ _. ⌜ now (out .exit) ≡ written (now (out .entry)) at (upTo (nodeRowsText (now (records .entry))) (size (now (records .entry)))) ⌝ }
 {

@@ -3,13 +3,10 @@ use crate::paths::count_paths;
 use bits::with_bit;
 use charts::field;
 ghost use mathlib.Core.Path.{_≡_};
-ghost use Prim.Native.Nat.{ℕ, _≤_, _<_, min};
-ghost use lib.Bits.{bitAnd};
+ghost use Prim.Native.Nat.{ℕ, min};
 ghost use lib.ListN.{length};
-ghost use Rattle.frames.specs.Frame.{size};
-ghost use Rattle.charts.specs.Chart.{kind};
 ghost use Rattle.translator.specs.Rows.{rows};
-ghost use Rattle.translator.specs.Ready.{Ready, Labelled};
+ghost use Rattle.translator.specs.Ready.{Charted, AtNode, SidesAt};
 ghost use Rattle.translator.specs.Parts.{sides, nodeRows};
 
 // How many paths go on from the two arcs of a node.
@@ -21,11 +18,7 @@ fn count_sides(
     values: u16,
     most: usize,
 ) -> usize
-    requires { ⌜ Ready (now records) ⌝ }
-    requires { ⌜ Labelled (now records) (now labels) ⌝ }
-    requires { ⌜ v < size (now records) ⌝ }
-    requires { ⌜ 3 ≤ kind (now records) v ⌝ }
-    requires { ⌜ bitAnd values care ≡ values ⌝ }
+    requires { ⌜ SidesAt (now records) (now labels) care values v ⌝ }
     ensures { λ r. ⌜ ((l f g : ℕ) → r ≡ min most (length (sides (now (records .entry)) l f g care values v))) ⌝ }
 {
     let low = count_paths(records, labels, field(records, v, 3), care, 0, most);
@@ -42,9 +35,7 @@ fn count_sides(
 
 // How many rows a node has: none where it has no label of its own.
 fn count_node(records: &[u8], labels: &[u8], v: usize, most: usize) -> usize
-    requires { ⌜ Ready (now records) ⌝ }
-    requires { ⌜ Labelled (now records) (now labels) ⌝ }
-    requires { ⌜ v < size (now records) ⌝ }
+    requires { ⌜ AtNode (now records) (now labels) v ⌝ }
     ensures { λ r. ⌜ r ≡ min most (length (nodeRows (now (records .entry)) v)) ⌝ }
 {
     if labels[v] < 2 {
@@ -62,8 +53,7 @@ fn count_node(records: &[u8], labels: &[u8], v: usize, most: usize) -> usize
 
 // How many rows there are in all.
 pub fn count_rows(records: &[u8], labels: &[u8], most: usize) -> usize
-    requires { ⌜ Ready (now records) ⌝ }
-    requires { ⌜ Labelled (now records) (now labels) ⌝ }
+    requires { ⌜ Charted (now records) (now labels) ⌝ }
     ensures { λ r. ⌜ r ≡ min most (length (rows (now (records .entry)))) ⌝ }
 {
     let n = records.len() / 10;

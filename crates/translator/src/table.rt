@@ -8,29 +8,17 @@ use crate::put_rows::put_rows;
 use crate::rows::count_rows;
 use frames::Answer;
 ghost use mathlib.Core.Path.{_≡_};
-ghost use Prim.Native.Nat.{_+_, _*_, _≤_};
-ghost use lib.ListN.{length};
-ghost use Rattle.lists.specs.Numbers.{count};
 ghost use Rattle.lists.specs.Sequences.{written};
-ghost use Rattle.frames.specs.Frame.{size};
 ghost use Rattle.frames.specs.Answer.{Lends};
 ghost use Rattle.charts.specs.Chart.{schemes};
 ghost use Rattle.image.specs.Image.{imageText};
-ghost use Rattle.translator.specs.Labels.{numbered};
-ghost use Rattle.translator.specs.Rows.{rows};
 ghost use Rattle.translator.specs.Table.{table};
-ghost use Rattle.translator.specs.Ready.{Ready, Labelled};
+ghost use Rattle.translator.specs.Ready.{Ready, ImageRoom};
 ghost use Rattle.translator.specs.Parts.{imageLent};
 
 // `own` nodes have a label of their own, and there are `total` rows.
 fn put_image(records: &[u8], labels: &[u8], highest: u8, own: usize, total: usize, out: &mut [u8])
-    requires { ⌜ Ready (now records) ⌝ }
-    requires { ⌜ Labelled (now records) (now labels) ⌝ }
-    requires { ⌜ highest ≡ schemes (now records) ⌝ }
-    requires { ⌜ own ≡ count (numbered (now records)) 0 (size (now records)) ⌝ }
-    requires { ⌜ total ≡ length (rows (now records)) ⌝ }
-    requires { ⌜ total ≤ 1024 ⌝ }
-    requires { ⌜ 23 * (3 + highest + own + total) ≤ length (now out) ⌝ }
+    requires { ⌜ ImageRoom (now records) (now labels) highest own total (now out) ⌝ }
     ensures { λ _. ⌜ now (out .exit) ≡ written (now (out .entry)) 0 (imageText (table (now (records .entry)))) ⌝ }
 {
     put_header(out, highest, (own + 1) as u8, total);

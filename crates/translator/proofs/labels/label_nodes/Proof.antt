@@ -23,7 +23,7 @@ loop-holds c = labelling-start _ _
 label-of-requires : tie.Need-label-of-requires Inv-loop μ-loop
 label-of-requires c κs =
     let asked = c .before .before .before .before .before .pre in
-    (asked .0, (c .before .before .first-node .ensures, (c .before .loop .inv .owned, search needs)))
+    (record { facts = asked .0; leads = c .before .before .first-node .ensures; inside = search needs }, c .before .loop .inv .owned)
 
 slice-write-labels : tie.Need-slice-write-labels Inv-loop μ-loop
 slice-write-labels c = search needs
@@ -39,8 +39,9 @@ loop-less c = search needs
 
 loop-again : tie.Need-loop-again Inv-loop μ-loop
 loop-again c =
-    let asked = c .before .before .before .before .before .before .before .pre in
-    labelling-on _ _ _ _ _ (asked .1) (c .before .before .before .loop .inv) (search needs) _
+    let turn = c .before .before .before in
+    let asked = turn .before .before .before .before .pre in
+    labelling-on _ _ _ _ _ (asked .1) (turn .loop .inv) (search needs) _
     (c .before .label-of .ensures) _ (⊎-elim (λ w. inl (w .0 .taken, w .1)) (λ w. inr (w .0 .left, w .1)) (c .if1 .came))
 
 same-length : tie.Need-same-length Inv-loop μ-loop

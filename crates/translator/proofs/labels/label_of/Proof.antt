@@ -15,7 +15,7 @@ add-result c =
     let asked = c .before .before .before .pre in
     omega (
       arith,
-      own-small _ (asked .0) _ _ (asked .1 .1 .1) (asked .1 .1 .0) (sym (c .before .is-numbered .ensures) ∙ c .if1 .taken),
+      own-small _ (asked .0 .facts) _ _ (asked .0 .inside) (asked .1) (sym (c .before .is-numbered .ensures) ∙ c .if1 .taken),
     )
 
 cast-result : tie.Need-cast-result
@@ -23,11 +23,11 @@ cast-result c =
     let asked = c .before .before .before .pre in
     omega (
       arith,
-      own-small _ (asked .0) _ _ (asked .1 .1 .1) (asked .1 .1 .0) (sym (c .before .is-numbered .ensures) ∙ c .if1 .taken),
+      own-small _ (asked .0 .facts) _ _ (asked .0 .inside) (asked .1) (sym (c .before .is-numbered .ensures) ∙ c .if1 .taken),
     )
 
 returns : tie.Need-returns
-returns c = own-done _ _ _ (c .before .before .before .pre .1 .1 .0) (sym (c .before .is-numbered .ensures) ∙ c .if1 .taken)
+returns c = own-done _ _ _ (c .before .before .before .pre .1) (sym (c .before .is-numbered .ensures) ∙ c .if1 .taken)
 
 field-requires : tie.Need-field-requires
 field-requires c κs = search needs

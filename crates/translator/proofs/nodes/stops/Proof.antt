@@ -14,7 +14,7 @@ field-requires c κs = search needs
 begin-stops-requires : tie.Need-begin-stops-requires
 begin-stops-requires c κs =
     let asked = c .before .before .before .pre in
-    begin-asks _ (asked .0) _ _ (asked .1 .1) (c .before .field .ensures) (c .match .keys1)
+    begin-asks _ (asked .facts) _ _ (asked .inside) (c .before .field .ensures) (c .match .keys1)
 
 field-requires-2 : tie.Need-field-requires-2
 field-requires-2 c κs = search needs
@@ -26,13 +26,13 @@ returns-2 : tie.Need-returns-2
 returns-2 c =
     let asked = c .before .before .before .before .before .pre in
     condition-second _ _ _ _ _ (c .before .before .before .field .ensures) (c .before .before .match .keys2)
-    (c .before .field2 .ensures) (asked .1 .0) (c .if1 .taken)
+    (c .before .field2 .ensures) (asked .leads) (c .if1 .taken)
 
 returns-3 : tie.Need-returns-3
 returns-3 c =
     let asked = c .before .before .before .before .before .pre in
     condition-first _ _ _ _ _ (c .before .before .before .field .ensures) (c .before .before .match .keys2)
-    (c .before .field2 .ensures) (asked .1 .0) (c .if1 .left)
+    (c .before .field2 .ensures) (asked .leads) (c .if1 .left)
 
 returns-4 : tie.Need-returns-4
 returns-4 c = sym (stops-other _ _ (λ e. c .match .rest .0 .1 (c .before .field .ensures ∙ e)) (λ e. c .match .rest .1 (c .before .field .ensures ∙ e)))

@@ -49,7 +49,7 @@ module _ (t : ℕ) where
 
   arrived : (c : At lts.After-settle) → let a = start c .args in
       Settled (a .records .now) (a .care) (a .values) (a .node) (c .settle .result)
-  arrived c = is-settled _ (start c .pre .1 .0) _ _ _ _ (start c .pre .1 .1 .1 .0) (c .settle .ensures)
+  arrived c = is-settled _ (start c .pre .1 .chart .ready) _ _ _ _ (start c .pre .1 .entered) (c .settle .ensures)
 
   abbrev begun : At lts.After-field → At lts.Start
   begun c = start (c .before .before .before)
@@ -57,10 +57,10 @@ module _ (t : ℕ) where
   new : (c : At lts.After-field) → let a = begun c .args in
       New (a .records .now) (a .care) (a .values) (a .node) (c .before .before .before .settle .result) (c .field .result)
   new c = record {
-    ready = begun c .pre .1 .0;
+    ready = begun c .pre .1 .chart .ready;
     settled = arrived (c .before .before .before);
     goes = sym (c .before .before .ends-path .ensures) ∙ c .before .if2 .left;
-    within = begun c .pre .1 .1 .1 .1;
+    within = begun c .pre .1 .within;
     number = c .field .ensures;
   }
 
@@ -81,7 +81,7 @@ module _ (t : ℕ) where
       let here = c .before .before in
       let a = start here .args in
       count-stop (a .records .now) (a .care) (a .values) (a .node) _ _ (here .before .if1 .left)
-      (stop-paths _ (start here .pre .1 .0) _ _ _ _ (arrived here) (sym (c .before .ends-path .ensures) ∙ c .if2 .taken))
+      (stop-paths _ (start here .pre .1 .chart .ready) _ _ _ _ (arrived here) (sym (c .before .ends-path .ensures) ∙ c .if2 .taken))
 
   returns-3 : At lts.Need-returns-3
   returns-3 c =
@@ -89,10 +89,10 @@ module _ (t : ℕ) where
       (c .count-paths2 .ensures)
 
   settle-requires : At lts.Need-settle-requires
-  settle-requires c κs = let pre = c .before .before .before .pre in (pre .1 .0, (pre .1 .1 .0, pre .1 .1 .1 .0))
+  settle-requires c κs = let asked = c .before .before .before .pre .1 in record { chart = asked .chart; entered = asked .entered }
 
   ends-path-requires : At lts.Need-ends-path-requires
-  ends-path-requires c κs = (start c .pre .1 .0, (start c .pre .1 .1 .0, arrived c .entered))
+  ends-path-requires c κs = record { chart = start c .pre .1 .chart; entered = arrived c .entered }
 
   cast-v : At lts.Need-cast-v
   cast-v c = search needs
@@ -111,7 +111,7 @@ module _ (t : ℕ) where
       let pre = begun (c .before .before) .pre in
       let k =
       fork _ _ _ _ _ _ (new (c .before .before)) _ _ (c .before .with-bit .ensures) refl _ _ (c .field2 .ensures) refl in
-      (omega (arith, k .falls0, pre .0), (pre .1 .0, (pre .1 .1 .0, (k .entered0, k .within0))))
+      (omega (arith, k .falls0, pre .0), record { chart = pre .1 .chart; entered = k .entered0; within = k .within0 })
 
   field-requires-3 : At lts.Need-field-requires-3
   field-requires-3 c κs = let l = new (c .before .before .before) .settled .entered .inside in search needs
@@ -126,7 +126,7 @@ module _ (t : ℕ) where
   count-paths-requires-2 c κs =
       let pre = begun (c .before .before .before .before .before) .pre in
       let k = forked c in
-      (omega (arith, k .falls1, pre .0), (pre .1 .0, (pre .1 .1 .0, (k .entered1, k .within1))))
+      (omega (arith, k .falls1, pre .0), record { chart = pre .1 .chart; entered = k .entered1; within = k .within1 })
 
   add-result : At lts.Need-add-result
   add-result c =

@@ -8,17 +8,13 @@ field-requires : tie.Need-field-requires
 field-requires c κs = search needs
 
 returns : tie.Need-returns
-returns c =
-    let asked = c .before .before .before .before .pre in
-    ends-other _ _ (asked .1 .0) _ _ (asked .1 .1) (c .before .field .ensures) (c .if1 .taken)
+returns c = ends-other (c .before .before .before .before .pre) (c .before .field .ensures) (c .if1 .taken)
 
 shared-slice-read-result : tie.Need-shared-slice-read-result
 shared-slice-read-result c = search needs
 
 returns-2 : tie.Need-returns-2
-returns-2 c =
-    let asked = c .before .before .before .before .before .pre in
-    ends-condition _ _ (asked .1 .0) _ _ (asked .1 .1) (c .before .before .field .ensures) (c .before .if1 .left)
+returns-2 c = ends-condition (c .before .before .before .before .before .pre) (c .before .before .field .ensures) (c .before .if1 .left)
 
 pub ends-path-spec : {M : Type 1} → statement M
 ends-path-spec = tie.close (tie.spec field-requires returns shared-slice-read-result returns-2)

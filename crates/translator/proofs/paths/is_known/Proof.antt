@@ -20,13 +20,14 @@ field-requires c κs = search needs
 bit-requires : tie.Need-bit-requires
 bit-requires c κs =
     let asked = c .before .before .before .before .before .pre in
-    small-on-path _ (asked .0) _ _ (asked .1 .1) (sym (c .before .before .ends-path .ensures) ∙ c .before .if1 .left)
+    small-on-path (asked .chart .ready) (asked .entered) (sym (c .before .before .ends-path .ensures) ∙ c .before .if1 .left)
     (c .field .ensures)
 
 returns-2 : tie.Need-returns-2
 returns-2 c =
-    let care = c .before .before .before .before .before .before .args .care in
-    known-test _ _ _ _ (sym (c .before .before .before .ends-path .ensures) ∙ c .before .before .if1 .left)
+    let other = c .before .before in
+    let care = other .before .before .before .before .args .care in
+    known-test _ _ _ _ (sym (other .before .ends-path .ensures) ∙ other .if1 .left)
     (ap (λ (x : ℕ). eqb x 1) (c .bit .ensures ∙ ap (bit care) (c .before .field .ensures)))
 
 pub is-known-spec : {M : Type 1} → statement M

@@ -1,6 +1,9 @@
 -- `translator::settle`: each turn passes one condition, and the rank falls.
-use mathlib.Core.Path.{sym, _∙_}
+use mathlib.Core.Bool.{true}
+use mathlib.Core.Path.{_≡_, sym, _∙_}
 use Rattle.charts.proofs.Rank.{rank}
+use Rattle.translator.specs.Ready.{Ready}
+use Rattle.translator.specs.Parts.{known}
 use Rattle.translator.proofs.Settled.{Passing, passing-start, passing-on, passing-done, known-condition, known-falls}
 use Rattle.translator.proofs.paths.settle.Statement.{statement}
 use Rattle.translator.proofs.paths.settle.Tie as tie
@@ -12,28 +15,33 @@ abbrev μ-loop : tie.MeasureT-loop
 μ-loop records labels node care values at₀ at = rank records at
 
 loop-holds : tie.Need-loop-holds Inv-loop μ-loop
-loop-holds c = passing-start _ _ _ _ (c .before .before .pre .1 .1)
+loop-holds c = passing-start _ _ _ _ (c .before .before .pre .entered)
 
 is-known-requires : tie.Need-is-known-requires Inv-loop μ-loop
-is-known-requires c κs = let asked = c .before .before .before .pre in (asked .0, (asked .1 .0, c .loop .inv .entered))
+is-known-requires c κs = record { chart = c .before .before .before .pre .chart; entered = c .loop .inv .entered }
+
+-- ---- a turn: the node is a condition that was met before
+abbrev turn : tie.Then1 Inv-loop μ-loop → tie.At-loop Inv-loop μ-loop
+turn c = c .before .before
+
+ready : (c : tie.Then1 Inv-loop μ-loop) → Ready (turn c .before .before .before .args .records .now)
+ready c = turn c .before .before .before .pre .chart .ready
+
+met : (c : tie.Then1 Inv-loop μ-loop) → let a = turn c .before .before .before .args in
+    known (a .records .now) (a .care) (turn c .loop .at) ≡ true
+met c = sym (c .before .is-known .ensures) ∙ c .if1 .taken
 
 taken-requires : tie.Need-taken-requires Inv-loop μ-loop
 taken-requires c κs =
-    let asked = c .before .before .before .before .before .pre in
-    let here = c .before .before .loop .inv .entered in
-    (asked .0, (here .inside, known-condition _ _ _ here (sym (c .before .is-known .ensures) ∙ c .if1 .taken)))
+    let here = turn c .loop .inv .entered in
+    record { ready = ready c; inside = here .inside; kind = known-condition _ _ _ here (met c) }
 
 loop-less : tie.Need-loop-less Inv-loop μ-loop
-loop-less c =
-    let asked = c .before .before .before .before .before .before .pre in
-    known-falls _ _ _ (c .before .before .before .loop .inv .entered)
-    (sym (c .before .before .is-known .ensures) ∙ c .before .if1 .taken) (asked .0) _ _ (c .taken .ensures)
+loop-less c = let here = c .before in
+    known-falls _ _ _ (turn here .loop .inv .entered) (met here) (ready here) _ _ (c .taken .ensures)
 
 loop-again : tie.Need-loop-again Inv-loop μ-loop
-loop-again c =
-    let asked = c .before .before .before .before .before .before .pre in
-    passing-on _ _ _ _ _ (c .before .before .before .loop .inv) (asked .0)
-    (sym (c .before .before .is-known .ensures) ∙ c .before .if1 .taken) _ (c .taken .ensures)
+loop-again c = let here = c .before in passing-on _ _ _ _ _ (turn here .loop .inv) (ready here) (met here) _ (c .taken .ensures)
 
 returns : tie.Need-returns Inv-loop μ-loop
 returns c = passing-done _ _ _ _ _ (c .before .before .loop .inv) (sym (c .before .is-known .ensures) ∙ c .if1 .left)

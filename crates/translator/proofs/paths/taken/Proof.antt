@@ -8,7 +8,7 @@ field-requires : tie.Need-field-requires
 field-requires c κs = search needs
 
 bit-requires : tie.Need-bit-requires
-bit-requires c κs = small-number _ (c .before .before .pre .0) _ _ (c .before .before .pre .1 .0) (c .before .before .pre .1 .1) (c .field .ensures)
+bit-requires c κs = small-number (c .before .before .pre) (c .field .ensures)
 
 field-requires-2 : tie.Need-field-requires-2
 field-requires-2 c κs = search needs

@@ -5,41 +5,39 @@ use borrow.Author.Needs.{needs}
 use Rattle.translator.proofs.put_labels.entry_of.Statement.{statement}
 use Rattle.translator.proofs.put_labels.entry_of.Tie as tie
 
+-- ---- the stages
+abbrev start : tie.After-begin → tie.Start
+start c = c .before .before .before
+
+abbrev found : tie.Else1 → tie.After-begin
+found c = c .before .before
+
+-- ---- the needs
 begin-requires : tie.Need-begin-requires
 begin-requires c κs = search needs
 
 shared-slice-read-own : tie.Need-shared-slice-read-own
-shared-slice-read-own c =
-    let asked = c .before .before .before .before .pre in
-    entry-read _ (asked .0) _ (asked .1 .0) _ _ (asked .1 .1 .0) (asked .1 .1 .1) (c .before .begin .ensures)
+shared-slice-read-own c = entry-read (start (c .before) .pre) (c .before .begin .ensures)
 
 returns : tie.Need-returns
-returns c =
-    let asked = c .before .before .before .before .before .pre in
-    entry-own _ (asked .0) _ (asked .1 .0) _ _ (asked .1 .1 .0) (asked .1 .1 .1) (c .before .before .begin .ensures)
-    (omega arith)
+returns c = let here = c .before .before in entry-own (start here .pre) (here .begin .ensures) (omega arith)
 
 field-requires : tie.Need-field-requires
-field-requires c κs =
-    let asked = c .before .before .before .before .before .pre in
-    entry-field _ (asked .0) _ (asked .1 .0) _ _ (asked .1 .1 .0) (asked .1 .1 .1) (c .before .before .begin .ensures)
+field-requires c κs = entry-field (start (found c) .pre) (found c .begin .ensures)
 
 cast-result : tie.Need-cast-result
 cast-result c = search needs
 
 shared-slice-read-result : tie.Need-shared-slice-read-result
 shared-slice-read-result c =
-    let asked = c .before .before .before .before .before .before .before .pre in
-    let begin = c .before .before .before .before .begin in
-    entry-next _ (asked .0) _ (asked .1 .0) _ _ (asked .1 .1 .0) (asked .1 .1 .1) (begin .ensures) _
-    (c .before .field .ensures)
+    let here = found (c .before .before) in
+    entry-next (start here .pre) (here .begin .ensures) _ (c .before .field .ensures)
 
 returns-2 : tie.Need-returns-2
 returns-2 c =
-    let asked = c .before .before .before .before .before .before .before .pre in
-    let begin = c .before .before .before .before .begin in
-    entry-other _ (asked .0) _ (asked .1 .0) _ _ (asked .1 .1 .0) (asked .1 .1 .1) (begin .ensures)
-    (c .before .before .if1 .left) _ (c .before .field .ensures)
+    let other = c .before .before in
+    let here = found other in
+    entry-other (start here .pre) (here .begin .ensures) (other .if1 .left) _ (c .before .field .ensures)
 
 pub entry-of-spec : {M : Type 1} → statement M
 entry-of-spec =

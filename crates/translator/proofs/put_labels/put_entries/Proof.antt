@@ -24,10 +24,14 @@ add-scheme c = search needs
 cast-scheme : tie.Need-cast-scheme Inv-loop μ-loop
 cast-scheme c = search needs
 
+-- ---- the stages: a turn of the loop and the function's start
+abbrev start : tie.At-loop Inv-loop μ-loop → tie.Start Inv-loop μ-loop
+start c = c .before .before .before .before
+
 entry-of-requires : tie.Need-entry-of-requires Inv-loop μ-loop
 entry-of-requires c κs =
-    let asked = c .before .before .before .before .before .pre in
-    (asked .0, (asked .1 .0, (omega arith, omega (arith, asked .1 .1 .0))))
+    let asked = start (c .before) .pre in
+    record { chart = asked .0 .chart; low = omega arith; high = omega (arith, asked .0 .schemed) }
 
 mul-put-entry : tie.Need-mul-put-entry Inv-loop μ-loop
 mul-put-entry c = search needs
@@ -46,11 +50,11 @@ loop-less c = search needs
 
 loop-again : tie.Need-loop-again Inv-loop μ-loop
 loop-again c =
-    let asked = c .before .before .before .before .before .before .before .before .before .before .pre in
-    let loop = c .before .before .before .before .before .before .loop in
-    let entry-of = c .before .before .before .before .entry-of in
-    entries-turn _ _ _ _ _ _ _ _ _ (loop .inv) (search needs) refl (asked .1 .1 .1)
-    (c .before .before .put-entry .kept .0) (entry-of .ensures) (c .before .before .put-entry .ensures)
+    let put = c .before .before in
+    let entry = put .before .before in
+    let turn = entry .before .before in
+    entries-turn _ _ _ _ _ _ _ _ _ (turn .loop .inv) (search needs) refl (start turn .pre .1)
+    (put .put-entry .kept .0) (entry .entry-of .ensures) (put .put-entry .ensures)
 
 same-length : tie.Need-same-length Inv-loop μ-loop
 same-length c = c .before .loop .inv .size

@@ -28,10 +28,11 @@ same-length c = search needs
 
 returns : tie.Need-returns
 returns c =
-    let asked = c .before .before .before .before .before .before .before .before .before .before .before .pre in
-    let put-frame = c .before .before .before .before .before .before .before .put-frame in
-    fixed-done _ _ _ _ _ _ (length-frame (labelFrame 0 homeLabel) refl) asked (put-frame .ensures)
-    (c .before .before .put-frame2 .ensures)
+    let back = c .before .before in
+    let home = back .before .before .before .before .before in
+    let start = home .before .before .before .before in
+    fixed-done _ _ _ _ _ _ (length-frame (labelFrame 0 homeLabel) refl) (start .pre) (home .put-frame .ensures)
+    (back .put-frame2 .ensures)
 
 pub put-fixed-spec : {M : Type 1} → statement M
 put-fixed-spec =

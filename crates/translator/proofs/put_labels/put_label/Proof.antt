@@ -1,14 +1,23 @@
 -- `translator::put_label`: by kind.
-use mathlib.Core.Path.{sym, _∙_, ap}
+use mathlib.Core.Path.{_≡_, sym, _∙_, ap}
 use mathlib.Core.List.{List}
 use Prim.Native.Nat.{ℕ}
 use Rattle.lists.specs.Sequences.{written}
 use Rattle.frames.specs.Frame.{frameText}
+use Rattle.charts.specs.Chart.{scheme}
 use Rattle.translator.proofs.PutSteps.{function-bytes, other-bytes}
 use borrow.Author.Needs.{needs}
 use Rattle.translator.proofs.put_labels.put_label.Statement.{statement}
 use Rattle.translator.proofs.put_labels.put_label.Tie as tie
 
+-- ---- the stages: the kind read, and the owner before it
+abbrev start : tie.After-field2 → tie.Start
+start c = c .before .before .before .before
+
+owner : (c : tie.After-field2) → let a = start c .args in c .before .field .result ≡ scheme (a .records .now) (a .v)
+owner c = c .before .field .ensures
+
+-- ---- the needs
 field-requires : tie.Need-field-requires
 field-requires c κs = search needs
 
@@ -44,36 +53,29 @@ same-length-2 c = search needs
 
 returns-2 : tie.Need-returns-2
 returns-2 c =
-    let start = c .before .before .before .before .before .before .before .before .before .before .before in
-    let out = start .args .out .now in
-    let at = start .args .at in
-    let records = start .args .records .now in
-    let v = start .args .v in
-    let field = c .before .before .before .before .before .before .before .before .field in
-    let field2 = c .before .before .before .before .before .before .before .field2 in
-    let match = c .before .before .before .before .before .before .match in
-    let field3 = c .before .before .before .before .before .field3 in
-    c .before .before .put-frame .ensures
-    ∙ ap (λ (bs : List ℕ). written out at (frameText bs))
-    (function-bytes records v _ (sym (field2 .ensures) ∙ match .keys2) _ _ (field3 .ensures) (field .ensures))
+    let put = c .before .before in
+    let called = put .before .before .before in
+    let arm = called .before in
+    let kind = arm .before in
+    let a = start kind .args in
+    put .put-frame .ensures
+    ∙ ap (λ (bs : List ℕ). written (a .out .now) (a .at) (frameText bs))
+    (function-bytes (a .records .now) (a .v) _ (sym (kind .field2 .ensures) ∙ arm .match .keys2) _ _
+    (called .field3 .ensures) (owner kind))
 
 same-length-3 : tie.Need-same-length-3
 same-length-3 c = search needs
 
 returns-3 : tie.Need-returns-3
 returns-3 c =
-    let start = c .before .before .before .before .before .before .before .before .before .before in
-    let out = start .args .out .now in
-    let at = start .args .at in
-    let records = start .args .records .now in
-    let v = start .args .v in
-    let field = c .before .before .before .before .before .before .before .field in
-    let field2 = c .before .before .before .before .before .before .field2 in
-    let match = c .before .before .before .before .before .match in
-    c .before .before .put-frame2 .ensures
-    ∙ ap (λ (bs : List ℕ). written out at (frameText bs))
-    (other-bytes records v _ (λ e. match .rest .0 .1 (field2 .ensures ∙ e)) (λ e. match .rest .1 (field2 .ensures ∙ e)) _
-    (field .ensures))
+    let put = c .before .before in
+    let arm = put .before .before .before in
+    let kind = arm .before in
+    let a = start kind .args in
+    put .put-frame2 .ensures
+    ∙ ap (λ (bs : List ℕ). written (a .out .now) (a .at) (frameText bs))
+    (other-bytes (a .records .now) (a .v) _ (λ e. arm .match .rest .0 .1 (kind .field2 .ensures ∙ e))
+    (λ e. arm .match .rest .1 (kind .field2 .ensures ∙ e)) _ (owner kind))
 
 pub put-label-spec : {M : Type 1} → statement M
 put-label-spec =

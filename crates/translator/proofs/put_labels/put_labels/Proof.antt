@@ -15,11 +15,16 @@ abbrev μ-loop : tie.MeasureT-loop
 loop-holds : tie.Need-loop-holds Inv-loop μ-loop
 loop-holds c = appended-start _ _ _ _
 
+-- ---- the stages: a turn of the loop and the loop's start
+abbrev start : tie.At-loop Inv-loop μ-loop → tie.Start Inv-loop μ-loop
+start c = c .before .before .before .before
+
 put-node-label-requires : tie.Need-put-node-label-requires Inv-loop μ-loop
 put-node-label-requires c κs =
-    let asked = c .before .before .before .before .before .before .pre in (
-      asked .0,
-      (asked .1 .0, (search needs, appended-room _ _ _ _ _ _ _ (c .before .before .loop .inv) (search needs) (asked .1 .1))),
+    let turn = c .before .before in
+    let asked = start turn .pre in (
+      record { chart = asked .0; inside = search needs },
+      appended-room _ _ _ _ _ _ _ (turn .loop .inv) (search needs) (asked .1),
     )
 
 add-v : tie.Need-add-v Inv-loop μ-loop
@@ -30,11 +35,10 @@ loop-less c = search needs
 
 loop-again : tie.Need-loop-again Inv-loop μ-loop
 loop-again c =
-    let asked = c .before .before .before .before .before .before .before .before .before .pre in
-    let loop = c .before .before .before .before .before .loop in
-    appended-on _ _ _ _ _ _ _ (loop .inv) (search needs) (asked .1 .1) _ _
-    (c .before .before .put-node-label .kept .1 .1 .1 .0) (c .before .before .put-node-label .ensures .0)
-    (c .before .before .put-node-label .ensures .1)
+    let put = c .before .before in
+    let turn = put .before .before .before in
+    appended-on _ _ _ _ _ _ _ (turn .loop .inv) (search needs) (start turn .pre .1) _ _ (put .put-node-label .kept .1 .1 .1 .0)
+    (put .put-node-label .ensures)
 
 same-length : tie.Need-same-length Inv-loop μ-loop
 same-length c = c .before .loop .inv .size

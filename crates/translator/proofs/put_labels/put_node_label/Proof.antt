@@ -4,19 +4,25 @@ use borrow.Author.Needs.{needs}
 use Rattle.translator.proofs.put_labels.put_node_label.Statement.{statement}
 use Rattle.translator.proofs.put_labels.put_node_label.Tie as tie
 
+-- ---- the stage where the node has a label of its own
+abbrev start : tie.Else1 → tie.Start
+start c = c .before .before .before .before .before
+
+-- ---- the needs
 shared-slice-read-label : tie.Need-shared-slice-read-label
 shared-slice-read-label c = search needs
 
 returns : tie.Need-returns
 returns c =
     let asked = c .before .before .before .before .before .pre in
-    nothing-put _ _ _ (label-none _ _ (asked .1 .0) _ (asked .1 .1 .0) (c .if1 .taken))
+    nothing-put _ _ _ (label-none (asked .0) (c .if1 .taken))
 
 put-label-requires : tie.Need-put-label-requires
 put-label-requires c κs =
-    let asked = c .before .before .before .before .before .before .pre in (
-      asked .0,
-      (asked .1 .1 .0, label-room _ _ (asked .1 .0) _ (asked .1 .1 .0) (c .before .if1 .left) _ _ (asked .1 .1 .1)),
+    let own = c .before in
+    let asked = start own .pre in (
+      record { ready = asked .0 .chart .ready; inside = asked .0 .inside },
+      label-room (asked .0) (own .if1 .left) _ _ (asked .1),
     )
 
 add-result : tie.Need-add-result
@@ -27,9 +33,9 @@ same-length c = search needs
 
 returns-2 : tie.Need-returns-2
 returns-2 c =
-    let asked = c .before .before .before .before .before .before .before .before .before .pre in
-    let if1 = c .before .before .before .before .if1 in
-    label-done _ _ (asked .1 .0) _ (asked .1 .1 .0) (if1 .left) _ _ _ (c .before .before .put-label .ensures)
+    let put = c .before .before in
+    let own = put .before .before in
+    label-done (start own .pre .0) (own .if1 .left) _ _ _ (put .put-label .ensures)
 
 pub put-node-label-spec : {M : Type 1} → statement M
 put-node-label-spec =

@@ -44,25 +44,22 @@ same-length c = search needs
 
 returns : tie.Need-returns
 returns c =
-    let call = c .before .before .before .before .before in
-    let start = call .before .before .before .before .before .before .before .before .before .before in
-    let out = start .args .out .now in
-    let at = start .args .at in
-    let records = start .args .records .now in
-    let v = start .args .v in
-    let field = call .before .before .before .before .before .before .before .field in
-    let call-kind = call .before .before .before .before .before .before .call-kind in
-    let field2 = call .before .before .before .before .before .field2 in
-    let field3 = call .before .before .before .before .field3 in
-    let field4 = call .before .before .before .field4 in
-    let field5 = call .before .before .field5 in
-    let field6 = call .before .field6 in
-    let field7 = call .field7 in
-    c .before .before .put-frame .ensures
-    ∙ ap (λ (bs : List ℕ). written out at (frameText bs))
-    (operation-bytes records v _ (start .pre .0) (start .pre .1 .1 .0) _ _ _ _ _ _ _ _ (call-kind .ensures)
-    (field .ensures) (field2 .ensures) (field3 .ensures) (field4 .ensures) (field5 .ensures) (field6 .ensures)
-    (field7 .ensures))
+    let put = c .before .before in
+    let mask3 = put .before .before .before in
+    let mask2 = mask3 .before in
+    let mask1 = mask2 .before in
+    let mask0 = mask1 .before in
+    let result = mask0 .before in
+    let owner = result .before in
+    let tick = owner .before in
+    let called = tick .before in
+    let start = called .before .before .before in
+    let a = start .args in
+    put .put-frame .ensures
+    ∙ ap (λ (bs : List ℕ). written (a .out .now) (a .at) (frameText bs))
+    (operation-bytes (a .records .now) (a .v) _ (start .pre .0) _ _ _ _ _ _ _ _ (tick .call-kind .ensures)
+    (called .field .ensures) (owner .field2 .ensures) (result .field3 .ensures) (mask0 .field4 .ensures)
+    (mask1 .field5 .ensures) (mask2 .field6 .ensures) (mask3 .field7 .ensures))
 
 pub put-operation-spec : {M : Type 1} → statement M
 put-operation-spec =

@@ -56,7 +56,7 @@ module _ (t : ℕ) where
 
   arrived : (c : At lts.After-settle) → let a = start c .args in
       Settled (a .records .now) (a .care) (a .values) (a .node) (c .settle .result)
-  arrived c = is-settled _ (start c .pre .1 .0) _ _ _ _ (start c .pre .1 .1 .1 .0) (c .settle .ensures)
+  arrived c = is-settled _ (start c .pre .1 .0 .chart .ready) _ _ _ _ (start c .pre .1 .0 .entered) (c .settle .ensures)
 
   stopped : (c : At lts.Then1) → let here = c .before .before in stops (start here .args .records .now) (here .settle .result) ≡ true
   stopped c = sym (c .before .ends-path .ensures) ∙ c .if1 .taken
@@ -64,8 +64,8 @@ module _ (t : ℕ) where
   room : (c : At lts.Then1) → let a = start (c .before .before) .args in a .at + 23 ≤ length (a .out .now)
   room c =
       let here = c .before .before in
-      let pre = start here .pre .1 in
-      leaf-room _ (pre .0) _ (pre .1 .0) _ _ _ _ (arrived here) (stopped c) _ _ _ _ (pre .1 .1 .1 .1)
+      let asked = start here .pre .1 in
+      leaf-room _ _ (asked .0 .chart) _ _ _ _ (arrived here) (stopped c) _ _ _ _ (asked .1)
 
   abbrev begun : At lts.After-field → At lts.Start
   begun c = start (c .before .before .before)
@@ -73,10 +73,10 @@ module _ (t : ℕ) where
   new : (c : At lts.After-field) → let a = begun c .args in
       New (a .records .now) (a .care) (a .values) (a .node) (c .before .before .before .settle .result) (c .field .result)
   new c = record {
-    ready = begun c .pre .1 .0;
+    ready = begun c .pre .1 .0 .chart .ready;
     settled = arrived (c .before .before .before);
     goes = sym (c .before .before .ends-path .ensures) ∙ c .before .if1 .left;
-    within = begun c .pre .1 .1 .1 .1 .0;
+    within = begun c .pre .1 .0 .within;
     number = c .field .ensures;
   }
 
@@ -96,8 +96,8 @@ module _ (t : ℕ) where
   returns c =
       let stop = c .before .before .before .before .before in
       let here = stop .before .before in
-      let pre = start here .pre .1 in
-      leaf-done _ (pre .0) _ (pre .1 .0) _ _ _ _ (arrived here) (stopped stop) _ _ _ _ _ (c .before .before .put-row .ensures)
+      let asked = start here .pre .1 in
+      leaf-done _ _ (asked .0 .chart) _ _ _ _ (arrived here) (stopped stop) _ _ _ _ _ (c .before .before .put-row .ensures)
 
   returns-2 : At lts.Need-returns-2
   returns-2 c =
@@ -106,22 +106,21 @@ module _ (t : ℕ) where
       let fork = first .before .before in
       let a = forking fork .args in
       both-done _ _ _ _ _ _ _ _ _ (fork-text _ _ _ _ _ _ _ _ (forked fork) (a .from) (a .bit))
-      (forking fork .pre .1 .1 .1 .1 .1) (first .put-paths .ensures .0) (first .put-paths .ensures .1)
-      (second .put-paths2 .ensures .0) (second .put-paths2 .ensures .1)
+      (forking fork .pre .1 .1) (first .put-paths .ensures) (second .put-paths2 .ensures)
 
   settle-requires : At lts.Need-settle-requires
-  settle-requires c κs = let pre = c .before .before .before .pre in (pre .1 .0, (pre .1 .1 .0, pre .1 .1 .1 .0))
+  settle-requires c κs = let asked = c .before .before .before .pre .1 .0 in record { chart = asked .chart; entered = asked .entered }
 
   cast-v : At lts.Need-cast-v
   cast-v c = search needs
 
   ends-path-requires : At lts.Need-ends-path-requires
-  ends-path-requires c κs = (start c .pre .1 .0, (start c .pre .1 .1 .0, arrived c .entered))
+  ends-path-requires c κs = record { chart = start c .pre .1 .0 .chart; entered = arrived c .entered }
 
   shared-slice-read-put-row : At lts.Need-shared-slice-read-put-row
   shared-slice-read-put-row c =
       let here = c .before .before .before .before in
-      omega (arith, arrived here .entered .inside, start here .pre .1 .1 .0 .long)
+      omega (arith, arrived here .entered .inside, start here .pre .1 .0 .chart .labelled .long)
 
   put-row-requires : At lts.Need-put-row-requires
   put-row-requires c κs = room (c .before .before)
@@ -152,8 +151,8 @@ module _ (t : ℕ) where
       let k = forked (c .before) in
       let pre = forking (c .before) .pre in
       let a = forking (c .before) .args in
-      let fits = fork-first _ _ _ _ _ _ _ _ k (a .from) (a .bit) _ _ (pre .1 .1 .1 .1 .1) in
-      (omega (arith, k .falls0, pre .0), (pre .1 .0, (pre .1 .1 .0, (k .entered0, (k .within0, fits)))))
+      let fits = fork-first _ _ _ _ _ _ _ _ k (a .from) (a .bit) _ _ (pre .1 .1) in
+      (omega (arith, k .falls0, pre .0), (record { chart = pre .1 .0 .chart; entered = k .entered0; within = k .within0 }, fits))
 
   put-paths-requires-2 : At lts.Need-put-paths-requires-2
   put-paths-requires-2 c κs =
@@ -162,9 +161,9 @@ module _ (t : ℕ) where
       let pre = forking (first .before .before) .pre in
       let a = forking (first .before .before) .args in
       let fits =
-      fork-second _ _ _ _ _ _ _ _ k (a .from) (a .bit) _ _ _ _ (pre .1 .1 .1 .1 .1) (first .put-paths .ensures .0)
+      fork-second _ _ _ _ _ _ _ _ k (a .from) (a .bit) _ _ _ _ (pre .1 .1) (first .put-paths .ensures .ends)
       (first .put-paths .kept .1 .1 .1 .1 .1 .1 .1 .0) in
-      (omega (arith, k .falls1, pre .0), (pre .1 .0, (pre .1 .1 .0, (k .entered1, (k .within1, fits)))))
+      (omega (arith, k .falls1, pre .0), (record { chart = pre .1 .0 .chart; entered = k .entered1; within = k .within1 }, fits))
 
   same-length-2 : At lts.Need-same-length-2
   same-length-2 c =

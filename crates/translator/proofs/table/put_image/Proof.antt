@@ -12,7 +12,8 @@ add-put-header c = search needs
 cast-put-header : tie.Need-cast-put-header
 cast-put-header c =
     let asked = c .before .before .before .before .pre in
-    omega (arith, few-numbered _ (asked .0 .facts), asked .0 .facts .few, asked .1 .1 .1 .0)
+    let facts = asked .chart .ready .facts in
+    omega (arith, few-numbered _ facts, facts .few, asked .sizes .owned)
 
 put-header-requires : tie.Need-put-header-requires
 put-header-requires c κs = search needs
@@ -21,7 +22,7 @@ put-entries-requires : tie.Need-put-entries-requires
 put-entries-requires c κs =
     let header = c .before .before .before in
     let asked = header .before .before .before .before .before .pre in
-    (asked .0, (asked .1 .0, (asked .1 .1 .0, omega (arith, asked .1 .1 .1 .1 .1 .1, header .put-header .kept .0))))
+    (record { chart = asked .chart; schemed = asked .sizes .schemed }, omega (arith, asked .room, header .put-header .kept .0))
 
 mul-fixed : tie.Need-mul-fixed
 mul-fixed c = search needs
@@ -44,9 +45,8 @@ put-labels-requires c κs =
     let k₁ = header .put-header .kept .0 in
     let k₂ = entries .put-entries .kept .1 .1 .1 .0 in
     let k₃ = fixed .put-fixed .kept .0 in
-    let asked = start .pre .1 .1 .1 in
-    let long = labels-long (start .args .records .now) in
-    (start .pre .0, (start .pre .1 .0, omega (arith, long, asked .0, asked .1 .1 .1, k₁, k₂, k₃)))
+    let asked = start .pre in
+    (asked .chart, omega (arith, labels-long (start .args .records .now), asked .sizes .owned, asked .room, k₁, k₂, k₃))
 
 mul-put-rows : tie.Need-mul-put-rows
 mul-put-rows c = search needs
@@ -65,9 +65,8 @@ put-rows-requires c κs =
     let k₂ = entries .put-entries .kept .1 .1 .1 .0 in
     let k₃ = fixed .put-fixed .kept .0 in
     let k₄ = labels .put-labels .kept .1 .1 .0 in
-    let asked = start .pre .1 .1 .1 in
-    let long = rows-long (start .args .records .now) in
-    (start .pre .0, (start .pre .1 .0, omega (arith, long, asked .1 .0, asked .1 .1 .1, k₁, k₂, k₃, k₄)))
+    let asked = start .pre in
+    (asked .chart, omega (arith, rows-long (start .args .records .now), asked .sizes .rowed, asked .room, k₁, k₂, k₃, k₄))
 
 same-length : tie.Need-same-length
 same-length c = search needs
@@ -79,9 +78,8 @@ returns c =
     let fixed = labels .before .before .before .before in
     let entries = fixed .before .before .before .before in
     let header = entries .before .before .before .before in
-    let asked = header .before .before .before .before .before .pre .1 .1 in
-    image-done _ _ _ _ (record { schemed = asked .0; owned = asked .1 .0; rowed = asked .1 .1 .0 }) _ _ _ _ _ _
-    (asked .1 .1 .1 .1) (header .put-header .ensures) (entries .put-entries .ensures) (fixed .put-fixed .ensures)
+    let asked = header .before .before .before .before .before .pre in
+    image-done _ _ _ _ (asked .sizes) _ _ _ _ _ _ (asked .room) (header .put-header .ensures) (entries .put-entries .ensures) (fixed .put-fixed .ensures)
     (labels .put-labels .ensures) (rows .put-rows .ensures)
 
 pub put-image-spec : {M : Type 1} → statement M

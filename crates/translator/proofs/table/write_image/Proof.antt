@@ -1,11 +1,29 @@
 -- `translator::write_image`: 10 by the count, 16 by the size, else the whole image.
+use Prim.Native.Nat.{_+_, _≤_}
 use Rattle.translator.proofs.LabelSteps.{few-numbered}
-use Rattle.translator.proofs.ImageSteps.{image-many, image-few, image-short, image-fits, labelled-local}
+use Rattle.translator.proofs.ImageSteps.{image-many, image-short, image-fits, sizes, charted-local}
 use native.Mathlib.Omega.{arith}
 use borrow.Author.Needs.{needs}
 use Rattle.translator.proofs.table.write_image.Statement.{statement}
 use Rattle.translator.proofs.table.write_image.Tie as tie
 
+-- ---- the stages: the labels laid out, the rows counted, 1,024 at most
+abbrev start : tie.After-label-nodes → tie.Start
+start c = c .before .before .before .before
+
+abbrev laid : tie.After-count-rows → tie.After-label-nodes
+laid c = c .before .before .before
+
+abbrev few : tie.Else1 → tie.After-label-nodes
+few c = laid (c .before)
+
+-- the sum of the sizes is far below 2^63
+small : (c : tie.Else1) → few c .label-nodes .result + 2 ≤ 256
+small c =
+    let facts = start (few c) .pre .0 .facts in
+    omega (arith, few-numbered _ facts, facts .few, few c .label-nodes .ensures .0)
+
+-- ---- the needs
 slice-aggregate-label-nodes : tie.Need-slice-aggregate-label-nodes
 slice-aggregate-label-nodes c = search needs
 
@@ -16,9 +34,7 @@ slice-aggregate-count-rows : tie.Need-slice-aggregate-count-rows
 slice-aggregate-count-rows c = search needs
 
 count-rows-requires : tie.Need-count-rows-requires
-count-rows-requires c κs =
-    let asked = c .before .before .before .before .before .before .pre in
-    (asked .0, labelled-local _ _ (asked .0 .facts) (c .before .before .label-nodes .ensures .1))
+count-rows-requires c κs = let made = c .before .before in charted-local _ _ (start made .pre .0) (made .label-nodes .ensures .1)
 
 returns : tie.Need-returns
 returns c = image-many _ _ _ (c .before .count-rows .ensures) (omega arith)
@@ -27,66 +43,47 @@ add-need : tie.Need-add-need
 add-need c = search needs
 
 add-need-2 : tie.Need-add-need-2
-add-need-2 c =
-    let asked = c .before .before .before .before .before .before .before .before .pre in
-    let label-nodes = c .before .before .before .before .label-nodes in
-    omega (arith, few-numbered _ (asked .0 .facts), asked .0 .facts .few, label-nodes .ensures .0, c .if1 .left)
+add-need-2 c = omega (arith, small c, c .if1 .left)
 
 add-need-3 : tie.Need-add-need-3
-add-need-3 c =
-    let asked = c .before .before .before .before .before .before .before .before .pre in
-    let label-nodes = c .before .before .before .before .label-nodes in
-    omega (arith, few-numbered _ (asked .0 .facts), asked .0 .facts .few, label-nodes .ensures .0, c .if1 .left)
+add-need-3 c = omega (arith, small c, c .if1 .left)
 
 mul-need : tie.Need-mul-need
-mul-need c =
-    let asked = c .before .before .before .before .before .before .before .before .pre in
-    let label-nodes = c .before .before .before .before .label-nodes in
-    omega (arith, few-numbered _ (asked .0 .facts), asked .0 .facts .few, label-nodes .ensures .0, c .if1 .left)
+mul-need c = omega (arith, small c, c .if1 .left)
 
 returns-2 : tie.Need-returns-2
 returns-2 c =
-    let asked = c .before .before .before .before .before .before .before .before .before .pre in
-    let label-nodes = c .before .before .before .before .before .label-nodes in
-    image-short _ _ _ (c .before .before .count-rows .ensures) (c .before .if1 .left) _ _ (asked .1)
-    (label-nodes .ensures .0) (omega arith)
+    let here = c .before in
+    image-short _ _ _ (here .before .count-rows .ensures) (here .if1 .left) _ _ (start (few here) .pre .1)
+    (few here .label-nodes .ensures .0) (omega arith)
 
 slice-aggregate-put-image : tie.Need-slice-aggregate-put-image
 slice-aggregate-put-image c = search needs
 
 put-image-requires : tie.Need-put-image-requires
 put-image-requires c κs =
-    let start = c .before .before .before .before .before .before .before .before .before .before .before in
-    let out = start .args .out .now in
-    let label-nodes = c .before .before .before .before .before .before .before .label-nodes in
-    let count-rows = c .before .before .before .before .count-rows in
-    let if1 = c .before .before .before .if1 in (
-      start .pre .0,
-      (
-        labelled-local _ _ (start .pre .0 .facts) (label-nodes .ensures .1),
-        (
-          start .pre .1,
-          (
-            label-nodes .ensures .0,
-            (image-few _ out _ (count-rows .ensures) (if1 .left), (if1 .left, c .before .before .if2 .left)),
-          ),
-        ),
-      ),
-    )
+    let fits = c .before .before in
+    let here = fits .before in
+    let a = start (few here) .args in
+    let asked = start (few here) .pre in
+    let nodes = few here .label-nodes in
+    record {
+      chart = charted-local _ _ (asked .0) (nodes .ensures .1);
+      sizes = sizes _ (a .out .now) _ (here .before .count-rows .ensures) (here .if1 .left) _ _ (asked .1) (nodes .ensures .0);
+      few = here .if1 .left;
+      room = fits .if2 .left;
+    }
 
 same-length : tie.Need-same-length
 same-length c = search needs
 
 returns-3 : tie.Need-returns-3
 returns-3 c =
-    let call = c .before .before .before .before .before in
-    let asked = call .before .before .before .before .before .before .before .before .before .pre in
-    let label-nodes = call .before .before .before .before .before .label-nodes in
-    let count-rows = call .before .before .count-rows in
-    let if1 = call .before .if1 in
-    let if2 = call .if2 in
-    image-fits _ _ _ (count-rows .ensures) (if1 .left) _ _ (asked .1) (label-nodes .ensures .0) (if2 .left) _
-    (c .before .before .put-image .ensures)
+    let put = c .before .before in
+    let fits = put .before .before .before in
+    let here = fits .before in
+    image-fits _ _ _ (here .before .count-rows .ensures) (here .if1 .left) _ _ (start (few here) .pre .1)
+    (few here .label-nodes .ensures .0) (fits .if2 .left) _ (put .put-image .ensures)
 
 pub write-image-spec : {M : Type 1} → statement M
 write-image-spec =
