@@ -1,6 +1,7 @@
 // The chart reader and the chart writer on chart P of standard input: there and back, then one edit of it after the other.
 // Each call prints a frame: 00 for the reader and 01 for the writer, the number or 00, the index, the count, and how many bytes of
 // the lent buffer changed, which the first two calls leave out.
+use edits::patch;
 use frames::Answer;
 
 // How many bytes of a buffer are not 170, which no record and no character here is.
@@ -76,18 +77,6 @@ fn write_front(records: &[u8], n: usize) {
     if n <= records.len() {
         let start = 0;
         write(&records[start..n]);
-    }
-}
-
-// Pairs of a place and the byte that is put there.
-fn patch(bytes: &mut [u8], edits: &[u8]) {
-    let mut i: usize = 0;
-    while i + 1 < edits.len() {
-        let at = edits[i] as usize;
-        if at < bytes.len() {
-            bytes[at] = edits[i + 1];
-        }
-        i += 2;
     }
 }
 

@@ -1,6 +1,7 @@
 // The image check, fresh states and runs, over the tables of the bench sheet and edits of them.
 // Each call prints a frame: 00 for a check, 01 for a run, 02 for a fresh state; then the number or 00, the index, the count.
 // A run of eight words with room for all of them prints its masks and codes too.
+use edits::patch;
 use frames::Answer;
 use machine::State;
 
@@ -30,18 +31,6 @@ fn report(entry: u8, answer: Answer) {
             index,
             count,
         } => print(entry, number, index, count),
-    }
-}
-
-// Pairs of a place and the byte that is put there.
-fn patch(bytes: &mut [u8], edits: &[u8]) {
-    let mut i: usize = 0;
-    while i + 1 < edits.len() {
-        let at = edits[i] as usize;
-        if at < bytes.len() {
-            bytes[at] = edits[i + 1];
-        }
-        i += 2;
     }
 }
 

@@ -1,21 +1,21 @@
--- `chart_cases::patch` keeps the length of the bytes.
-use mathlib.Core.Path.{_≡_, _∙_, ap}
+-- `edits::patch` meets its contract: the edits left are made on the bytes as they are.
 use mathlib.Core.Logic.{⊎-elim}
-use Prim.Native.Nat.{_-_, _≤_}
+use Prim.Native.Nat.{_-_}
 use native.Mathlib.Omega.{arith}
-use lib.ListN.{length, length-set}
+use lib.ListN.{length}
 use borrow.Author.Needs.{needs}
-use Rattle.chart_cases.proofs.patch.Statement.{statement}
-use Rattle.chart_cases.proofs.patch.Tie as tie
+use Rattle.edits.proofs.PatchLoops.{Patching, patching-none, patching-turn, patching-past, patching-end}
+use Rattle.edits.proofs.patch.Statement.{statement}
+use Rattle.edits.proofs.patch.Tie as tie
 
 abbrev Inv-loop : tie.InvT-loop
-Inv-loop bytes₀ edits i₀ bytes i = (i ≤ length edits) × (length bytes ≡ length bytes₀)
+Inv-loop bytes₀ edits i₀ bytes i = Patching bytes₀ edits bytes i
 
 abbrev μ-loop : tie.MeasureT-loop
 μ-loop bytes₀ edits i₀ bytes i = length edits - i
 
 loop-holds : tie.Need-loop-holds Inv-loop μ-loop
-loop-holds c = search needs
+loop-holds c = patching-none _ _
 
 add-loop : tie.Need-add-loop Inv-loop μ-loop
 add-loop c = search needs
@@ -42,13 +42,17 @@ loop-less : tie.Need-loop-less Inv-loop μ-loop
 loop-less c = search needs
 
 loop-again : tie.Need-loop-again Inv-loop μ-loop
-loop-again c = (search needs, ⊎-elim (λ w. ap length (w .2) ∙ simp length-set (search needs)) (λ w. ap length (w .1) ∙ search needs) (c .if1 .came))
+loop-again c =
+    let done = c .before .before .before .loop .inv in
+    ⊎-elim (λ w. rw (w .2) (patching-turn _ _ _ _ done (search needs)))
+    (λ w. rw (w .1) (patching-past _ _ _ _ done (search needs) (w .0 .left)))
+    (c .if1 .came)
 
 same-length : tie.Need-same-length Inv-loop μ-loop
 same-length c = search needs
 
 returns : tie.Need-returns Inv-loop μ-loop
-returns c = search needs
+returns c = patching-end _ _ _ _ (c .before .loop .inv) (search needs)
 
 pub patch-spec : {M : Type 1} → statement M
 patch-spec =
