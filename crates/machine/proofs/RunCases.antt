@@ -28,7 +28,7 @@ use Rattle.machine.specs.declared.Ended.{Ended}
 use Rattle.state.specs.declared.Answered.{Answered}
 use Rattle.state.specs.State.{unfit}
 use Rattle.machine.specs.Run.{Ran, Run, Runs, ticks, noRoom, runVerdict, runOn, run}
-use Rattle.machine.specs.Parts.{stateOf, verdictOf, Ends, runTable}
+use Rattle.machine.specs.Parts.{stateOf, verdictOf, Room, Ends, runTable}
 use Rattle.machine.proofs.TurnCases.{number-verdict}
 
 -- ---- a buffer has less room than words, or both have enough
@@ -39,11 +39,11 @@ module _ (ws ms ks : List ℕ) where
   pub room-second : length ws ≤ length ms → ltb (length ks) (length ws) ≡ noRoom ws ms ks
   room-second h = rw (le-ltb (length ms) (length ws) h)
 
-  pub room-masks : noRoom ws ms ks ≡ false → length ws ≤ length ms
-  room-masks e = ltb-false (length ms) (length ws) (or-l (ltb (length ms) (length ws)) (ltb (length ks) (length ws)) e)
-
-  pub room-codes : noRoom ws ms ks ≡ false → length ws ≤ length ks
-  room-codes e = ltb-false (length ks) (length ws) (or-r (ltb (length ms) (length ws)) (ltb (length ks) (length ws)) e)
+  pub room-enough : noRoom ws ms ks ≡ false → Room ws ms ks
+  room-enough e = record {
+    masks = ltb-false (length ms) (length ws) (or-l (ltb (length ms) (length ws)) (ltb (length ks) (length ws)) e);
+    codes = ltb-false (length ks) (length ws) (or-r (ltb (length ms) (length ws)) (ltb (length ks) (length ws)) e);
+  }
 
 -- ---- on an accepted table
 module _ (b : List ℕ) (s : State) (ws ms₀ ks₀ : List ℕ) where
@@ -79,8 +79,7 @@ module _ (b : List ℕ) (s : State) (ws ms₀ ks₀ : List ℕ) where
     pub room-short : noRoom ws ms₀ ks₀ ≡ true → (a : Answer) → a ≡ Refused 16 0 0 → Runs given (record { answer = a; state = s }) ms₀ ks₀
     room-short r = kept-runs 16 (table-room true r)
 
-    module _ (p : length ws ≤ length ms₀) (q : length ws ≤ length ks₀) (r : Ended) (ps : List ℕ) (bs : Results)
-        (ms ks : List ℕ) (E : Ends b s ws ms₀ ks₀ r ps bs ms ks) where
+    module _ (room : Room ws ms₀ ks₀) (r : Ended) (ps : List ℕ) (bs : Results) (ms ks : List ℕ) (E : Ends b s ws ms₀ ks₀ r ps bs ms ks) where
       abbrev done : Run
       done =
           record {
@@ -92,8 +91,8 @@ module _ (b : List ℕ) (s : State) (ws ms₀ ks₀ : List ℕ) where
 
       table-done : given ≡ done
       table-done = table-room false
-          (or-none (ltb (length ms₀) (length ws)) (ltb (length ks₀) (length ws)) (le-ltb (length ms₀) (length ws) p)
-          (le-ltb (length ks₀) (length ws) q))
+          (or-none (ltb (length ms₀) (length ws)) (ltb (length ks₀) (length ws)) (le-ltb (length ms₀) (length ws) (room .masks))
+          (le-ltb (length ks₀) (length ws) (room .codes)))
 
       after-all : stateOf (s .size) (r .depth) ps bs ≡ given .state
       after-all =
@@ -149,27 +148,35 @@ module _ (t : List ℕ) (s : State) (ws ms ks : List ℕ) where
           codes = sym (ap (λ (x : Run). x .codes) g);
         }
 
-    module _ (m : ℕ) (done : a ≡ Done m) (old table : List ℕ) (left : table ≡ readInto 29831 t old) where
-      accepted : imageVerdict t ≡ fine
-      accepted = done-fine a (imageVerdict t) 0 gives m done .0
+-- the table that reading an accepted image leaves
+pub record Read (t table : List ℕ) : Type 0 where
+  pub accepted : imageVerdict t ≡ fine
+  pub old : List ℕ
+  pub left : table ≡ readInto 29831 t old
 
-      passes : textVerdict 29831 t ≡ fine
-      unfolding imageVerdict
-      passes = next-first (textVerdict 29831 t) (λ _. tableVerdict (contents t)) accepted
+pub image-read : (t : List ℕ) (a : Answer) → reply a ≡ judged (imageVerdict t) 0 → (m : ℕ) → a ≡ Done m
+    → (old table : List ℕ) → table ≡ readInto 29831 t old → Read t table
+image-read t a gives m done old table left = record { accepted = done-fine a (imageVerdict t) 0 gives m done .0; old = old; left = left }
 
-      pub front-is : take (10 * frameCount t) table ≡ contents t
-      front-is = front-contents t old table (frameCount t) (good-text t passes) left
+module _ (t table : List ℕ) (read : Read t table) where
+  passes : textVerdict 29831 t ≡ fine
+  unfolding imageVerdict
+  passes = next-first (textVerdict 29831 t) (λ _. tableVerdict (contents t)) (read .accepted)
 
-      pub front-long : 10 * frameCount t ≡ length (take (10 * frameCount t) table)
-      front-long = front-length t old table (frameCount t) (good-text t passes) left
+  front-is : take (10 * frameCount t) table ≡ contents t
+  front-is = front-contents t (read .old) table (frameCount t) (good-text t passes) (read .left)
 
-      pub front-short : 10 * frameCount t ≤ 12970
-      front-short = omega (arith, good-text t passes .most)
+  pub front-long : 10 * frameCount t ≡ length (take (10 * frameCount t) table)
+  front-long = front-length t (read .old) table (frameCount t) (good-text t passes) (read .left)
 
-      pub front-fine : tableVerdict (take (10 * frameCount t) table) ≡ fine
-      front-fine = ap tableVerdict front-is ∙ image-table t accepted
+  pub front-short : 10 * frameCount t ≤ 12970
+  front-short = omega (arith, good-text t passes .most)
 
-      pub image-run : (r : Answered) (us vs : List ℕ) → Runs (runTable (take (10 * frameCount t) table) s ws ms ks) r us vs
-          → Runs (run t s ws ms ks) r us vs
-      image-run r us vs runs =
-          subst (λ (x : Run). Runs x r us vs) (ap (λ (b : List ℕ). runTable b s ws ms ks) front-is ∙ sym (run-table accepted)) runs
+  pub front-fine : tableVerdict (take (10 * frameCount t) table) ≡ fine
+  front-fine = ap tableVerdict front-is ∙ image-table t (read .accepted)
+
+  pub image-run : (s : State) (ws ms ks : List ℕ) (r : Answered) (us vs : List ℕ)
+      → Runs (runTable (take (10 * frameCount t) table) s ws ms ks) r us vs → Runs (run t s ws ms ks) r us vs
+  image-run s ws ms ks r us vs runs =
+      subst (λ (x : Run). Runs x r us vs)
+      (ap (λ (b : List ℕ). runTable b s ws ms ks) front-is ∙ sym (run-table t s ws ms ks (read .accepted))) runs

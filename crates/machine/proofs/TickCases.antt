@@ -18,7 +18,7 @@ use Rattle.codes.specs.Codes.{codeOf}
 use Rattle.state.specs.declared.State.{State}
 use Rattle.state.specs.State.{labelAt, entryAt, placeAt}
 use Rattle.machine.specs.Tick.{Found, found, missing, firstRow, rowOf, Ticked, ticked, stopped, moved, pushed, tickBy, tick}
-use Rattle.machine.specs.Parts.{nextOf, Ready, after, stepOf, Steps}
+use Rattle.machine.specs.Parts.{firstFrames, nextOf, Ready, Leaves, after, stepOf, Steps}
 use Rattle.state.proofs.Fitness.{Fits, unfits}
 use Rattle.machine.proofs.Keeps.{row-leads}
 use Rattle.machine.proofs.RowCases.{any-bit, label-inside}
@@ -108,6 +108,10 @@ module _ {b : List ℕ} {s : State} (y : Ready b s) where
   pub place-called : (k : ℕ) → k < s .depth → labelIn b (placeAt s k) .called ≤ 16
   place-called k h = called-few (placeAt s k) (place-low k h)
 
+  pub place-leaves : (firsts : List ℕ) → firsts ≡ firstFrames b → (k : ℕ) → k < s .depth → Leaves b firsts (placeAt s k) (s .bits)
+  place-leaves firsts e k h =
+      record { accepted = y .accepted; index = e; label = place-low k h; called = place-called k h; bits = y .bits }
+
   -- ---- the top
   abbrev l : ℕ
   l = placeAt s (s .depth - 1)
@@ -118,14 +122,17 @@ module _ {b : List ℕ} {s : State} (y : Ready b s) where
   low : l ≤ lastLabel b
   low = place-low (s .depth - 1) (omega (arith, depth-some))
 
+  pub top-within : s .depth - 1 < length (s .places)
+  top-within = omega (arith, depth-some, depth-most, y .places)
+
   pub top-inside : labelsFrom b + l < size b
   top-inside = place-inside (s .depth - 1) (omega (arith, depth-some))
 
-  pub top-low : l ≤ lastLabel b
-  top-low = low
-
   pub top-small : l < 256
   top-small = omega (arith, low, y .bytes 2)
+
+  pub top-leaves : (firsts : List ℕ) → firsts ≡ firstFrames b → Leaves b firsts l (s .bits)
+  top-leaves firsts e = place-leaves firsts e (s .depth - 1) (omega (arith, depth-some))
 
   pub top-called : x .called ≤ 16
   top-called = called-few l low

@@ -19,7 +19,7 @@ use Rattle.state.specs.declared.State.{State}
 use Rattle.machine.specs.declared.Stepped.{Stepped}
 use Rattle.machine.specs.Tick.{Ticked, ticked, stopped, tick}
 use Rattle.machine.specs.Run.{Ran, then, ticks}
-use Rattle.machine.specs.Parts.{stateOf, Ready, after, stepOf, Steps, verdictOf, Ends}
+use Rattle.machine.specs.Parts.{stateOf, Ready, after, stepOf, Steps, verdictOf, Room, Ends}
 use Rattle.state.proofs.Fitness.{Fits, fits, unfits}
 use Rattle.machine.proofs.Keeps.{Keeps, tick-keeps}
 use Rattle.machine.proofs.Normal.{Normal, tick-normal}
@@ -137,7 +137,7 @@ number-verdict zero h = absurd (h refl)
 number-verdict (suc n) h = refl
 
 module _ {b : List ℕ} {s₀ : State} {ws ms₀ ks₀ : List ℕ} {s : State} {ms ks : List ℕ} {i : ℕ} (t : Turn b s₀ ws ms₀ ks₀ s ms ks i)
-    (roomMasks : length ws ≤ length ms₀) (roomCodes : length ws ≤ length ks₀) where
+    (room : Room ws ms₀ ks₀) where
   module _ (h : i < length ws) (r : Stepped) (ps : List ℕ) (bs : Results) (q : Steps b s (getD ws i 0) r ps bs) where
     pub turn-on : r .number ≡ 0 → Turn b s₀ ws ms₀ ks₀ (stateOf (s .size) (r .depth) ps bs) (set ms i (r .mask)) (set ks i (r .code)) (i + 1)
     turn-on z =

@@ -1,5 +1,5 @@
 -- What the functions on a table and on the lent parts of a state promise, in terms of one tick.
-use Prim.Native.Nat.{ℕ, zero, suc, _+_, _-_, _<_}
+use Prim.Native.Nat.{ℕ, zero, suc, _+_, _-_, _≤_, _<_}
 use mathlib.Core.Bool.{Bool, false, _&&_}
 use mathlib.Core.Path.{_≡_}
 use mathlib.Core.List.{List}
@@ -11,12 +11,12 @@ use Rattle.bits.specs.Results.{Results}
 use Rattle.frames.specs.Frame.{size, field, pairAt}
 use Rattle.frames.specs.Verdict.{Verdict, fine, refused, next, when}
 use Rattle.image.specs.Image.{Row}
-use Rattle.image.specs.Decode.{rowsFrom, decoded}
+use Rattle.image.specs.Decode.{lastLabel, rowsFrom, labelIn, decoded}
 use Rattle.image.specs.Check.{tableVerdict}
 use Rattle.state.specs.declared.State.{State}
 use Rattle.machine.specs.declared.Stepped.{Stepped}
 use Rattle.machine.specs.declared.Ended.{Ended}
-use Rattle.state.specs.State.{unfit}
+use Rattle.state.specs.State.{placeAt, unfit}
 use Rattle.machine.specs.Tick.{matches, Found, found, missing, Ticked, ticked, stopped, tick}
 use Rattle.machine.specs.Run.{Run, ticks, noRoom, runOn}
 
@@ -54,6 +54,37 @@ pub record Ready (b : List ℕ) (s : State) : Type 0 where
   pub places : length (s .places) ≡ 32
   pub bits : length (s .bits) ≡ 16
 
+-- the same with the index of the table's rows
+pub record Prepared (b firsts : List ℕ) (s : State) : Type 0 where
+  pub ready : Ready b s
+  pub index : firsts ≡ firstFrames b
+
+-- ---- the tick kind of the top label, and what each function of one kind asks
+abbrev pub topKind : List ℕ → State → ℕ
+topKind b s = labelIn b (placeAt s (s .depth - 1)) .kind
+
+pub record TopIs (k : ℕ) (b firsts : List ℕ) (s : State) : Type 0 where
+  pub ready : Ready b s
+  pub index : firsts ≡ firstFrames b
+  pub kind : topKind b s ≡ k
+
+pub record TopCalls (b : List ℕ) (s : State) : Type 0 where
+  pub ready : Ready b s
+  pub low : 1 ≤ topKind b s
+  pub high : topKind b s ≤ 2
+
+pub record TopHome (b : List ℕ) (s : State) : Type 0 where
+  pub ready : Ready b s
+  pub kind : 4 ≤ topKind b s
+
+-- what the search for a label's row asks: an accepted table with its index, one of its labels, and all result bits
+pub record Leaves (b firsts : List ℕ) (l : ℕ) (bs : Results) : Type 0 where
+  pub accepted : tableVerdict b ≡ fine
+  pub index : firsts ≡ firstFrames b
+  pub label : l ≤ lastLabel b
+  pub called : labelIn b l .called ≤ 16
+  pub bits : length bs ≡ 16
+
 -- after a tick of s: the state, and what the function on its lent parts answers
 abbrev pub after : State → Ticked → State
 after s (ticked m k t) = t
@@ -68,6 +99,16 @@ pub record Steps (b : List ℕ) (s : State) (w : ℕ) (r : Stepped) (ps : List �
   pub step : r ≡ stepOf s (tick (decoded b) s w)
   pub places : ps ≡ after s (tick (decoded b) s w) .places
   pub bits : bs ≡ after s (tick (decoded b) s w) .bits
+
+-- room for a mask and a code a word, and what the ticks of a run ask
+pub record Room (ws ms ks : List ℕ) : Type 0 where
+  pub masks : length ws ≤ length ms
+  pub codes : length ws ≤ length ks
+
+pub record Starts (b firsts : List ℕ) (s : State) (ws ms ks : List ℕ) : Type 0 where
+  pub ready : Ready b s
+  pub index : firsts ≡ firstFrames b
+  pub room : Room ws ms ks
 
 -- the verdict of a list of ticks by the number that ended it, 0 where every word had its tick
 abbrev pub verdictOf : ℕ → Verdict

@@ -6,11 +6,10 @@ use image::byte;
 use image::label_byte;
 use image::label_mask;
 ghost use mathlib.Core.Path.{_≡_};
-ghost use Prim.Native.Nat.{_+_, _-_, _≤_, _<_};
-ghost use lib.ListN.{length, getD};
+ghost use Prim.Native.Nat.{_≤_};
+ghost use lib.ListN.{length};
 ghost use Rattle.bits.specs.Results.{withResult};
-ghost use Rattle.image.specs.Decode.{labelIn};
-ghost use Rattle.machine.specs.Parts.{firstFrames, stateOf, Ready, Steps};
+ghost use Rattle.machine.specs.Parts.{stateOf, Prepared, TopIs, TopCalls, TopHome, Steps};
 
 // The result of a tick of a scheme: 0 keeps its bit, 1 and 2 write it.
 fn write_result(bits: &mut [bool], result: u8, owner: u8)
@@ -32,9 +31,7 @@ fn tick_plain(
     bits: &mut [bool],
     word: u16,
 ) -> Stepped
-    requires { ⌜ Ready (now table) (stateOf size depth (now places) (now bits)) ⌝ }
-    requires { ⌜ now firsts ≡ firstFrames (now table) ⌝ }
-    requires { ⌜ labelIn (now table) (getD (now places) (depth - 1) 0) .kind ≡ 0 ⌝ }
+    requires { ⌜ TopIs 0 (now table) (now firsts) (stateOf size depth (now places) (now bits)) ⌝ }
     ensures { λ r. ⌜ Steps (now (table .entry)) (stateOf size depth (now (places .entry)) (now (bits .entry))) word r (now (places .exit)) (now (bits .exit)) ⌝ }
 {
     let top = (depth - 1) as usize;
@@ -71,8 +68,7 @@ fn tick_call(
     bits: &mut [bool],
     word: u16,
 ) -> Stepped
-    requires { ⌜ Ready (now table) (stateOf size depth (now places) (now bits)) ⌝ }
-    requires { ⌜ (1 ≤ labelIn (now table) (getD (now places) (depth - 1) 0) .kind) × (labelIn (now table) (getD (now places) (depth - 1) 0) .kind ≤ 2) ⌝ }
+    requires { ⌜ TopCalls (now table) (stateOf size depth (now places) (now bits)) ⌝ }
     ensures { λ r. ⌜ Steps (now (table .entry)) (stateOf size depth (now (places .entry)) (now (bits .entry))) word r (now (places .exit)) (now (bits .exit)) ⌝ }
 {
     let free = size - depth;
@@ -111,9 +107,7 @@ fn tick_back(
     bits: &mut [bool],
     word: u16,
 ) -> Stepped
-    requires { ⌜ Ready (now table) (stateOf size depth (now places) (now bits)) ⌝ }
-    requires { ⌜ now firsts ≡ firstFrames (now table) ⌝ }
-    requires { ⌜ labelIn (now table) (getD (now places) (depth - 1) 0) .kind ≡ 3 ⌝ }
+    requires { ⌜ TopIs 3 (now table) (now firsts) (stateOf size depth (now places) (now bits)) ⌝ }
     ensures { λ r. ⌜ Steps (now (table .entry)) (stateOf size depth (now (places .entry)) (now (bits .entry))) word r (now (places .exit)) (now (bits .exit)) ⌝ }
 {
     let under = (depth - 2) as usize;
@@ -146,8 +140,7 @@ fn tick_home(
     bits: &mut [bool],
     word: u16,
 ) -> Stepped
-    requires { ⌜ Ready (now table) (stateOf size depth (now places) (now bits)) ⌝ }
-    requires { ⌜ 4 ≤ labelIn (now table) (getD (now places) (depth - 1) 0) .kind ⌝ }
+    requires { ⌜ TopHome (now table) (stateOf size depth (now places) (now bits)) ⌝ }
     ensures { λ r. ⌜ Steps (now (table .entry)) (stateOf size depth (now (places .entry)) (now (bits .entry))) word r (now (places .exit)) (now (bits .exit)) ⌝ }
 {
     places[(depth - 1) as usize] = byte(table, 1, 2);
@@ -169,8 +162,7 @@ pub fn tick_parts(
     bits: &mut [bool],
     word: u16,
 ) -> Stepped
-    requires { ⌜ Ready (now table) (stateOf size depth (now places) (now bits)) ⌝ }
-    requires { ⌜ now firsts ≡ firstFrames (now table) ⌝ }
+    requires { ⌜ Prepared (now table) (now firsts) (stateOf size depth (now places) (now bits)) ⌝ }
     ensures { λ r. ⌜ Steps (now (table .entry)) (stateOf size depth (now (places .entry)) (now (bits .entry))) word r (now (places .exit)) (now (bits .exit)) ⌝ }
 {
     let l = places[(depth - 1) as usize] as usize;

@@ -11,10 +11,10 @@ ghost use Rattle.lists.specs.Numbers.{lowest};
 ghost use Rattle.bits.specs.Results.{resultOf};
 ghost use Rattle.frames.specs.Frame.{size};
 ghost use Rattle.frames.specs.Verdict.{fine};
-ghost use Rattle.image.specs.Decode.{lastLabel, labelIn, decoded};
+ghost use Rattle.image.specs.Decode.{decoded};
 ghost use Rattle.image.specs.Check.{tableVerdict};
 ghost use Rattle.machine.specs.Tick.{firstRow, rowOf};
-ghost use Rattle.machine.specs.Parts.{fitting, reached, firstFrames, nextOf};
+ghost use Rattle.machine.specs.Parts.{fitting, reached, firstFrames, nextOf, Leaves};
 
 // Whether the row in frame f leaves the label and matches.
 fn is_fitting(table: &[u8], f: usize, label: u8, word: u16, bit: u8) -> bool
@@ -108,9 +108,7 @@ fn next_by(table: &[u8], firsts: &[u16], label: u8, word: u16, bit: u8) -> u16
 
 // Where the label's row leads, or 256 where none matches.
 pub fn next_label(table: &[u8], firsts: &[u16], label: u8, word: u16, bits: &[bool]) -> u16
-    requires { ⌜ (tableVerdict (now table) ≡ fine) × (label ≤ lastLabel (now table)) ⌝ }
-    requires { ⌜ now firsts ≡ firstFrames (now table) ⌝ }
-    requires { ⌜ (labelIn (now table) label .called ≤ 16) × (length (now bits) ≡ 16) ⌝ }
+    requires { ⌜ Leaves (now table) (now firsts) label (now bits) ⌝ }
     ensures { λ r. ⌜ r ≡ nextOf (rowOf (decoded (now (table .entry))) (now (bits .entry)) label word) ⌝ }
 {
     let called = label_byte(table, label as usize, 3);

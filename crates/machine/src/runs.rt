@@ -9,12 +9,10 @@ use frames::refused;
 use image::read_image;
 use state::is_unfit;
 ghost use mathlib.Core.Path.{_≡_};
-ghost use Prim.Native.Nat.{_≤_};
-ghost use lib.ListN.{length};
 ghost use Rattle.frames.specs.Verdict.{fine};
 ghost use Rattle.image.specs.Check.{tableVerdict};
 ghost use Rattle.machine.specs.Run.{noRoom, run, Runs};
-ghost use Rattle.machine.specs.Parts.{firstFrames, stateOf, Ready, Ends, runTable};
+ghost use Rattle.machine.specs.Parts.{stateOf, Ready, Room, Starts, Ends, runTable};
 
 // One tick a word, until one is stopped.
 fn tick_all(
@@ -28,9 +26,7 @@ fn tick_all(
     masks: &mut [u32],
     codes: &mut [u8],
 ) -> Ended
-    requires { ⌜ Ready (now table) (stateOf size start (now places) (now bits)) ⌝ }
-    requires { ⌜ now firsts ≡ firstFrames (now table) ⌝ }
-    requires { ⌜ (length (now words) ≤ length (now masks)) × (length (now words) ≤ length (now codes)) ⌝ }
+    requires { ⌜ Starts (now table) (now firsts) (stateOf size start (now places) (now bits)) (now words) (now masks) (now codes) ⌝ }
     ensures { λ r. ⌜ Ends (now (table .entry)) (stateOf size start (now (places .entry)) (now (bits .entry))) (now (words .entry)) (now (masks .entry)) (now (codes .entry)) r (now (places .exit)) (now (bits .exit)) (now (masks .exit)) (now (codes .exit)) ⌝ }
 {
     let mut depth = start;
@@ -66,7 +62,7 @@ fn run_ticks(
     codes: &mut [u8],
 ) -> Answered
     requires { ⌜ Ready (now table) state ⌝ }
-    requires { ⌜ (length (now words) ≤ length (now masks)) × (length (now words) ≤ length (now codes)) ⌝ }
+    requires { ⌜ Room (now words) (now masks) (now codes) ⌝ }
     ensures { λ r. ⌜ Runs (runTable (now (table .entry)) state (now (words .entry)) (now (masks .entry)) (now (codes .entry))) r (now (masks .exit)) (now (codes .exit)) ⌝ }
 {
     let size = state.size;

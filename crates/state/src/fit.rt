@@ -5,12 +5,12 @@ use image::byte;
 use image::label_byte;
 ghost use mathlib.Core.Path.{_≡_};
 ghost use mathlib.Core.Bool.{not};
-ghost use Prim.Native.Nat.{_-_, _≤_, _<_};
+ghost use Prim.Native.Nat.{_-_, _≤_};
 ghost use lib.Dec.{eqb};
 ghost use Rattle.lists.specs.Numbers.{any};
 ghost use Rattle.frames.specs.Frame.{size};
 ghost use Rattle.image.specs.Decode.{lastLabel, rowsFrom, decoded};
-ghost use Rattle.state.specs.State.{labelAt, placeAt, isCall, mayCarry, unfitPlace, badDepth, unfit};
+ghost use Rattle.state.specs.State.{labelAt, placeAt, isCall, mayCarry, unfitPlace, badDepth, unfit, Filled};
 
 // The owner of label l, 0 where the image has no such label.
 fn owner_of(table: &[u8], l: u8) -> u8
@@ -51,8 +51,7 @@ fn may_carry(table: &[u8], l: u8, above: u8) -> bool
 
 // Whether place k, up to the depth, holds no label of the image or one that may not be kept there.
 fn unfit_place(table: &[u8], s: State, k: usize) -> bool
-    requires { ⌜ (rowsFrom (now table) ≤ size (now table)) × (k < s .depth) ⌝ }
-    requires { ⌜ s .depth ≤ 32 ⌝ }
+    requires { ⌜ Filled (now table) s k ⌝ }
     ensures { λ r. ⌜ r ≡ unfitPlace (decoded (now (table .entry))) s k ⌝ }
 {
     let l = s.places[k];

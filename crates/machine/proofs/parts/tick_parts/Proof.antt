@@ -1,32 +1,34 @@
 -- `machine::parts::tick_parts` meets its contract: the tick by the kind of the top label.
 use native.Mathlib.Omega.{arith}
-use Rattle.machine.proofs.TickCases.{depth-some, depth-most, top-small, top-inside}
+use Rattle.machine.proofs.TickCases.{depth-some, top-small, top-within, top-inside}
 use borrow.Author.Needs.{needs}
 use Rattle.machine.proofs.parts.tick_parts.Statement.{statement}
 use Rattle.machine.proofs.parts.tick_parts.Tie as tie
 
+-- the stage at which the buffers are known
+abbrev start : tie.After-slice-known2 → tie.Start
+start c = c .before .before .before .before
+
 sub-l : tie.Need-sub-l
-sub-l c = depth-some (c .before .before .before .before .pre .0)
+sub-l c = depth-some (start c .pre .ready)
 
 cast-l : tie.Need-cast-l
 cast-l c = search needs
 
 slice-read-l : tie.Need-slice-read-l
-slice-read-l c =
-    let asked = c .before .before .before .before .before .pre in
-    omega (arith, depth-some (asked .0), depth-most (asked .0), (asked .0) .places)
+slice-read-l c = omega (arith, top-within (start (c .before) .pre .ready))
 
 cast-l-2 : tie.Need-cast-l-2
-cast-l-2 c = omega (arith, top-small (c .before .before .before .before .before .pre .0))
+cast-l-2 c = omega (arith, top-small (start (c .before) .pre .ready))
 
 label-byte-requires : tie.Need-label-byte-requires
-label-byte-requires c κs = (top-inside (c .before .before .before .before .before .pre .0), search needs)
+label-byte-requires c κs = (top-inside (start (c .before) .pre .ready), search needs)
 
 tick-plain-requires : tie.Need-tick-plain-requires
-tick-plain-requires c κs = (search needs, (search needs, search needs))
+tick-plain-requires c κs = search needs
 
 tick-back-requires : tie.Need-tick-back-requires
-tick-back-requires c κs = (search needs, (search needs, search needs))
+tick-back-requires c κs = search needs
 
 tick-call-requires : tie.Need-tick-call-requires
 tick-call-requires c κs = search needs

@@ -5,12 +5,16 @@ use borrow.Author.Needs.{needs}
 use Rattle.machine.proofs.rows.next_label.Statement.{statement}
 use Rattle.machine.proofs.rows.next_label.Tie as tie
 
+-- ---- the stages: the buffers are known, the called scheme's bit is read
+abbrev start : tie.After-shared-slice-known3 → tie.Start
+start c = c .before .before .before
+
+abbrev begun : tie.After-result-of → tie.Start
+begun c = start (c .before .before)
+
+-- ---- the needs
 label-byte-requires : tie.Need-label-byte-requires
-label-byte-requires c κs =
-    let start = c .before .before .before in
-    let b = start .args .table .now in
-    let label = start .args .label in
-    (label-inside b (start .pre .0 .0) label (start .pre .0 .1), search needs)
+label-byte-requires c κs = let asked = start c .pre in (label-inside _ (asked .accepted) _ (asked .label), search needs)
 
 result-of-requires : tie.Need-result-of-requires
 result-of-requires c κs = search needs
@@ -20,30 +24,20 @@ next-by-requires c κs = search needs
 
 returns : tie.Need-returns
 returns c =
-    let start = c .before .before .before .before .before .before .before in
-    let b = start .args .table .now in
-    let label = start .args .label in
-    let word = start .args .word in
-    let bits = start .args .bits .now in
-    let label-byte = c .before .before .before .label-byte in
-    chosen b (start .pre .0 .0) label word (start .pre .0 .1) bits (label-byte .result)
-    (c .before .before .result-of .result) (label-byte .ensures) (c .before .before .result-of .ensures) true
-    (c .before .if1 .taken) (c .next-by .result) (c .next-by .ensures)
+    let bit = c .before .before in
+    let asked = begun bit .pre in
+    chosen _ (asked .accepted) _ _ (asked .label) (begun bit .args .bits .now) _ _ (bit .before .label-byte .ensures) (bit .result-of .ensures) true
+    (c .before .if1 .taken) _ (c .next-by .ensures)
 
 next-by-requires-2 : tie.Need-next-by-requires-2
 next-by-requires-2 c κs = search needs
 
 returns-2 : tie.Need-returns-2
 returns-2 c =
-    let start = c .before .before .before .before .before .before .before in
-    let b = start .args .table .now in
-    let label = start .args .label in
-    let word = start .args .word in
-    let bits = start .args .bits .now in
-    let label-byte = c .before .before .before .label-byte in
-    chosen b (start .pre .0 .0) label word (start .pre .0 .1) bits (label-byte .result)
-    (c .before .before .result-of .result) (label-byte .ensures) (c .before .before .result-of .ensures) false
-    (c .before .if1 .left) (c .next-by2 .result) (c .next-by2 .ensures)
+    let bit = c .before .before in
+    let asked = begun bit .pre in
+    chosen _ (asked .accepted) _ _ (asked .label) (begun bit .args .bits .now) _ _ (bit .before .label-byte .ensures) (bit .result-of .ensures) false
+    (c .before .if1 .left) _ (c .next-by2 .ensures)
 
 pub next-label-spec : {M : Type 1} → statement M
 next-label-spec =

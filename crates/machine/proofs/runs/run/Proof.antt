@@ -1,10 +1,29 @@
 -- `machine::runs::run` meets its contract: the image is refused, or its table is run.
 use native.Mathlib.Omega.{arith}
-use Rattle.machine.proofs.RunCases.{image-refused, front-long, front-short, front-fine, image-run}
+use Rattle.machine.proofs.RunCases.{Read, image-refused, image-read, front-long, front-short, front-fine, image-run}
 use borrow.Author.Needs.{needs}
 use Rattle.machine.proofs.runs.run.Statement.{statement}
 use Rattle.machine.proofs.runs.run.Tie as tie
 
+-- ---- the stages: the buffers are known, the image is read, it is accepted or refused
+abbrev start : tie.After-slice-known2 → tie.Start
+start c = c .before .before .before .before
+
+abbrev begun : tie.After-read-image → tie.Start
+begun c = start (c .before .before)
+
+abbrev accepted : tie.After-enum-told → tie.After-read-image
+accepted c = c .before .before .before
+
+abbrev run-on : tie.After-run-table → tie.After-enum-told
+run-on c = c .before .before .before .before
+
+read : (c : tie.After-enum-told) → Read (begun (accepted c) .args .image .now) (accepted c .read-image .last .1 .0)
+read c =
+    let image = accepted c .read-image in
+    image-read _ (image .result) (image .ensures .0) _ (c .enum-told .given .1) _ _ (image .ensures .1)
+
+-- ---- the needs
 slice-aggregate-read-image : tie.Need-slice-aggregate-read-image
 slice-aggregate-read-image c = search needs
 
@@ -19,60 +38,20 @@ enum-told-2 c = search needs
 
 returns : tie.Need-returns
 returns c =
-    let start = c .before .before .before .before .before .before .before .before .before in
-    let image = start .args .image .now in
-    let state = start .args .state in
-    let words = start .args .words .now in
-    let masks = start .args .masks .now in
-    let codes = start .args .codes .now in
-    let read-image = c .before .before .before .read-image in
-    image-refused image state words masks codes (read-image .result) (read-image .ensures .0) (c .enum-told2 .given .0 .0)
-    (c .enum-told2 .given .0 .1 .0) (c .enum-told2 .given .0 .1 .1 .0) (c .enum-told2 .given .1)
+    let image = c .before .before .before .read-image in
+    image-refused _ _ _ _ _ (image .result) (image .ensures .0) _ _ _ (c .enum-told2 .given .1)
 
 mul-n : tie.Need-mul-n
 mul-n c = search needs
 
 array-share-prefix-table : tie.Need-array-share-prefix-table
-array-share-prefix-table c =
-    let start = c .before .before .before .before .before .before .before .before .before in
-    let image = start .args .image .now in
-    let state = start .args .state in
-    let words = start .args .words .now in
-    let masks = start .args .masks .now in
-    let codes = start .args .codes .now in
-    let read-image = c .before .before .before .read-image in
-    omega (
-      arith,
-      front-short image state words masks codes (read-image .result) (read-image .ensures .0) (c .enum-told .given .0 .0)
-          (c .enum-told .given .1) _ (read-image .last .1 .0) (read-image .ensures .1),
-      (read-image .kept .1 .0),
-    )
+array-share-prefix-table c = omega (arith, front-short _ _ (read c), accepted c .read-image .kept .1 .0)
 
 slice-aggregate-run-table : tie.Need-slice-aggregate-run-table
-slice-aggregate-run-table c =
-    let start = c .before .before .before .before .before .before .before .before .before .before in
-    let image = start .args .image .now in
-    let state = start .args .state in
-    let words = start .args .words .now in
-    let masks = start .args .masks .now in
-    let codes = start .args .codes .now in
-    let read-image = c .before .before .before .before .read-image in
-    front-long image state words masks codes (read-image .result) (read-image .ensures .0)
-    (c .before .enum-told .given .0 .0) (c .before .enum-told .given .1) _ (read-image .last .1 .0)
-    (read-image .ensures .1)
+slice-aggregate-run-table c = front-long _ _ (read (c .before))
 
 run-table-requires : tie.Need-run-table-requires
-run-table-requires c κs =
-    let start = c .before .before .before .before .before .before .before .before .before .before .before .before in
-    let image = start .args .image .now in
-    let state = start .args .state in
-    let words = start .args .words .now in
-    let masks = start .args .masks .now in
-    let codes = start .args .codes .now in
-    let read-image = c .before .before .before .before .before .before .read-image in
-    let enum-told = c .before .before .before .enum-told in
-    front-fine image state words masks codes (read-image .result) (read-image .ensures .0) (enum-told .given .0 .0)
-    (enum-told .given .1) _ (read-image .last .1 .0) (read-image .ensures .1)
+run-table-requires c κs = front-fine _ _ (read (c .before .before .before))
 
 same-length : tie.Need-same-length
 same-length c = search needs
@@ -82,18 +61,8 @@ same-length-2 c = search needs
 
 returns-2 : tie.Need-returns-2
 returns-2 c =
-    let call = c .before .before .before .before in
-    let start = call .before .before .before .before .before .before .before .before .before .before .before .before .before in
-    let image = start .args .image .now in
-    let state = start .args .state in
-    let words = start .args .words .now in
-    let masks = start .args .masks .now in
-    let codes = start .args .codes .now in
-    let read-image = call .before .before .before .before .before .before .before .read-image in
-    let enum-told = call .before .before .before .before .enum-told in
-    let run-table = call .run-table in
-    image-run image state words masks codes (read-image .result) (read-image .ensures .0) (enum-told .given .0 .0)
-    (enum-told .given .1) _ (read-image .last .1 .0) (read-image .ensures .1) (run-table .result) _ _ (run-table .ensures)
+    let ran = c .before .before .before .before in
+    image-run _ _ (read (run-on ran)) _ _ _ _ (ran .run-table .result) _ _ (ran .run-table .ensures)
 
 pub run-spec : {M : Type 1} → statement M
 run-spec =

@@ -6,7 +6,7 @@ use lib.ListN.{length}
 use Rattle.image.specs.Decode.{decoded}
 use Rattle.state.specs.State.{unfit}
 use Rattle.machine.proofs.RowCases.{rows-inside}
-use Rattle.machine.proofs.RunCases.{room-masks, room-codes, unfit-runs, room-short}
+use Rattle.machine.proofs.RunCases.{room-enough, unfit-runs, room-short}
 use borrow.Author.Needs.{needs}
 use Rattle.machine.proofs.runs.run_table.Statement.{statement}
 use Rattle.machine.proofs.runs.run_table.Tie as tie
@@ -63,9 +63,6 @@ run-ticks-requires : tie.Need-run-ticks-requires
 run-ticks-requires c κs =
     let room = c .before .before .before in
     let first = start (tested room) in
-    let words = first .args .words .now in
-    let masks = first .args .masks .now in
-    let codes = first .args .codes .now in
     let enough = sym (room .no-room .ensures) ∙ c .before .before .if2 .left in (
       record {
         bytes = λ k. omega (arith, known (tested room) .shared-slice-known .given k);
@@ -74,7 +71,7 @@ run-ticks-requires c κs =
         places = whole first;
         bits = all-bits first;
       },
-      (room-masks words masks codes enough, room-codes words masks codes enough),
+      room-enough _ _ _ enough,
     )
 
 same-length-3 : tie.Need-same-length-3

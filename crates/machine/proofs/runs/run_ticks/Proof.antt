@@ -4,6 +4,26 @@ use borrow.Author.Needs.{needs}
 use Rattle.machine.proofs.runs.run_ticks.Statement.{statement}
 use Rattle.machine.proofs.runs.run_ticks.Tie as tie
 
+-- ---- the stages: the buffers are known, the state is taken apart, the rows are indexed, the ticks are made
+abbrev start : tie.After-slice-known2 → tie.Start
+start c = c .before .before .before .before
+
+abbrev apart : tie.After-firsts → tie.After-slice-known2
+apart c = c .before .before .before
+
+abbrev indexed : tie.After-firsts3 → tie.After-firsts
+indexed c = c .before .before .before
+
+abbrev lent : tie.After-tick-all → tie.After-firsts3
+lent c = c .before .before .before .before .before
+
+abbrev begun : tie.After-tick-all → tie.Start
+begun c = start (apart (indexed (lent c)))
+
+abbrev ended : tie.After-slice-known4 → tie.After-tick-all
+ended c = let back = c .before .before .before in back .before .before .before
+
+-- ---- the needs
 slice-aggregate-index-rows : tie.Need-slice-aggregate-index-rows
 slice-aggregate-index-rows c = search needs
 
@@ -30,16 +50,9 @@ same-length-2 c = search needs
 
 returns : tie.Need-returns
 returns c =
-    let call = c .before .before .before .before .before .before .before in
-    let start = call .before .before .before .before .before .before .before .before .before .before .before .before .before .before .before in
-    let b = start .args .table .now in
-    let state = start .args .state in
-    let words = start .args .words .now in
-    let masks = start .args .masks .now in
-    let codes = start .args .codes .now in
-    let tick-all = call .tick-all in
-    all-done b state words masks codes (start .pre .0 .fits) (start .pre .1 .0) (start .pre .1 .1) (tick-all .result) _ _
-    _ _ (tick-all .ensures) (c .if1 .taken)
+    let done = ended (c .before) in
+    let asked = begun done .pre in
+    all-done _ _ _ _ _ (asked .0 .fits) (asked .1) (done .tick-all .result) _ _ _ _ (done .tick-all .ensures) (c .if1 .taken)
 
 same-length-3 : tie.Need-same-length-3
 same-length-3 c = search needs
@@ -49,16 +62,9 @@ same-length-4 c = search needs
 
 returns-2 : tie.Need-returns-2
 returns-2 c =
-    let call = c .before .before .before .before .before .before .before in
-    let start = call .before .before .before .before .before .before .before .before .before .before .before .before .before .before .before in
-    let b = start .args .table .now in
-    let state = start .args .state in
-    let words = start .args .words .now in
-    let masks = start .args .masks .now in
-    let codes = start .args .codes .now in
-    let tick-all = call .tick-all in
-    some-done b state words masks codes (start .pre .0 .fits) (start .pre .1 .0) (start .pre .1 .1) (tick-all .result) _ _
-    _ _ (tick-all .ensures) (c .if1 .left)
+    let done = ended (c .before) in
+    let asked = begun done .pre in
+    some-done _ _ _ _ _ (asked .0 .fits) (asked .1) (done .tick-all .result) _ _ _ _ (done .tick-all .ensures) (c .if1 .left)
 
 pub run-ticks-spec : {M : Type 1} → statement M
 run-ticks-spec =

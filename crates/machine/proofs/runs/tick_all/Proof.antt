@@ -16,100 +16,101 @@ Inv-loop b firsts size start places₀ bits₀ words masks₀ codes₀ depth₀ 
 abbrev μ-loop : tie.MeasureT-loop
 μ-loop b firsts size start places₀ bits₀ words masks₀ codes₀ depth₀ i₀ places bits masks codes depth i = length words - i
 
-loop-holds : tie.Need-loop-holds Inv-loop μ-loop
-loop-holds c = turn-start _ _ _ _ _ (c .before .before .before .before .before .before .before .pre .0)
+-- ---- the stages: the buffers are known, a turn begins, its tick is made
+abbrev At : (tie.InvT-loop → tie.MeasureT-loop → Type 0) → Type 0
+At stage = stage Inv-loop μ-loop
 
-mul-tick-parts : tie.Need-mul-tick-parts Inv-loop μ-loop
+abbrev lent : At tie.After-slice-known4 → At tie.After-slice-known2
+lent c = c .before .before .before
+
+abbrev start : At tie.After-slice-known4 → At tie.Start
+start c = let known = lent c in known .before .before .before .before
+
+abbrev turned : At tie.After-tick-parts → At tie.At-loop
+turned c = c .before .before .before .before .before
+
+abbrev begun : At tie.After-tick-parts → At tie.Start
+begun c = start (turned c .before)
+
+abbrev ticked : At tie.After-slice-known6 → At tie.After-tick-parts
+ticked c = c .before .before .before .before
+
+-- ---- the needs
+loop-holds : At tie.Need-loop-holds
+loop-holds c = turn-start _ _ _ _ _ (start c .pre .ready)
+
+mul-tick-parts : At tie.Need-mul-tick-parts
 mul-tick-parts c = search needs
 
-shared-slice-read-tick-parts : tie.Need-shared-slice-read-tick-parts Inv-loop μ-loop
+shared-slice-read-tick-parts : At tie.Need-shared-slice-read-tick-parts
 shared-slice-read-tick-parts c = search needs
 
-tick-parts-requires : tie.Need-tick-parts-requires Inv-loop μ-loop
+tick-parts-requires : At tie.Need-tick-parts-requires
 tick-parts-requires c κs =
-    let asked = c .before .before .before .before .before .before .before .before .before .before .before .before .pre in
-    let loop = c .before .before .before .before .loop in
-    (loop .inv .ready, asked .1 .0)
+    let turn = c .before .before .before .before in
+    record { ready = turn .loop .inv .ready; index = start (turn .before) .pre .index }
 
-same-length : tie.Need-same-length Inv-loop μ-loop
+same-length : At tie.Need-same-length
 same-length c =
-    let turn = c .before .before .before .before .before .before .before .before .before .before in
-    let asked = turn .before .before .before .before .before .before .before .before .pre in
-    let loop = turn .loop in
-    let tick-parts = c .before .before .before .before .before .tick-parts in
-    (tick-parts .kept .1 .1 .1 .1 .0) ∙ (loop .inv .ready .places) ∙ sym (asked .0 .places)
+    let done = ticked (c .before) in
+    done .tick-parts .kept .1 .1 .1 .1 .0 ∙ turned done .loop .inv .ready .places ∙ sym (begun done .pre .ready .places)
 
-same-length-2 : tie.Need-same-length-2 Inv-loop μ-loop
+same-length-2 : At tie.Need-same-length-2
 same-length-2 c =
-    let turn = c .before .before .before .before .before .before .before .before .before .before in
-    let asked = turn .before .before .before .before .before .before .before .before .pre in
-    let loop = turn .loop in
-    let tick-parts = c .before .before .before .before .before .tick-parts in
-    (tick-parts .kept .1 .1 .1 .1 .1 .0) ∙ (loop .inv .ready .bits) ∙ sym (asked .0 .bits)
+    let done = ticked (c .before) in
+    done .tick-parts .kept .1 .1 .1 .1 .1 .0 ∙ turned done .loop .inv .ready .bits ∙ sym (begun done .pre .ready .bits)
 
-same-length-3 : tie.Need-same-length-3 Inv-loop μ-loop
-same-length-3 c = (c .before .before .before .before .before .before .before .before .before .before .loop .inv .sizeMasks)
+same-length-3 : At tie.Need-same-length-3
+same-length-3 c = turned (ticked (c .before)) .loop .inv .sizeMasks
 
-same-length-4 : tie.Need-same-length-4 Inv-loop μ-loop
-same-length-4 c = (c .before .before .before .before .before .before .before .before .before .before .loop .inv .sizeCodes)
+same-length-4 : At tie.Need-same-length-4
+same-length-4 c = turned (ticked (c .before)) .loop .inv .sizeCodes
 
-returns : tie.Need-returns Inv-loop μ-loop
+returns : At tie.Need-returns
 returns c =
-    let turn = c .before .before .before .before .before .before .before .before .before .before in
-    let asked = turn .before .before .before .before .before .before .before .before .pre in
-    let loop = turn .loop in
-    let tick-parts = c .before .before .before .before .before .tick-parts in
-    turn-stood (loop .inv) (asked .1 .1 .0) (asked .1 .1 .1) (search needs) (tick-parts .result) _ _ (tick-parts .ensures)
-    refl (c .if1 .taken)
+    let done = ticked (c .before) in
+    turn-stood (turned done .loop .inv) (begun done .pre .room) (search needs) (done .tick-parts .result) _ _
+    (done .tick-parts .ensures) refl (c .if1 .taken)
 
-mul-masks : tie.Need-mul-masks Inv-loop μ-loop
+mul-masks : At tie.Need-mul-masks
 mul-masks c = search needs
 
-slice-write-masks : tie.Need-slice-write-masks Inv-loop μ-loop
+slice-write-masks : At tie.Need-slice-write-masks
 slice-write-masks c =
-    let turn = c .before .before .before .before .before .before .before .before .before .before in
-    let asked = turn .before .before .before .before .before .before .before .before .pre in
-    let loop = turn .loop in
-    omega (arith, (loop .inv .sizeMasks), (asked .1 .1 .0))
+    let done = ticked (c .before) in
+    omega (arith, turned done .loop .inv .sizeMasks, begun done .pre .room .masks)
 
-slice-write-codes : tie.Need-slice-write-codes Inv-loop μ-loop
+slice-write-codes : At tie.Need-slice-write-codes
 slice-write-codes c =
-    let turn = c .before .before .before .before .before .before .before .before .before .before in
-    let asked = turn .before .before .before .before .before .before .before .before .pre in
-    let loop = turn .loop in
-    omega (arith, (loop .inv .sizeCodes), (asked .1 .1 .1))
+    let done = ticked (c .before) in
+    omega (arith, turned done .loop .inv .sizeCodes, begun done .pre .room .codes)
 
-add-i : tie.Need-add-i Inv-loop μ-loop
+add-i : At tie.Need-add-i
 add-i c = search needs
 
-loop-less : tie.Need-loop-less Inv-loop μ-loop
+loop-less : At tie.Need-loop-less
 loop-less c = search needs
 
-loop-again : tie.Need-loop-again Inv-loop μ-loop
+loop-again : At tie.Need-loop-again
 loop-again c =
-    let turn = c .before .before .before .before .before .before .before .before .before .before in
-    let asked = turn .before .before .before .before .before .before .before .before .pre in
-    let loop = turn .loop in
-    let tick-parts = c .before .before .before .before .before .tick-parts in
-    turn-on (loop .inv) (asked .1 .1 .0) (asked .1 .1 .1) (search needs) (tick-parts .result) _ _ (tick-parts .ensures)
-    (c .if1 .left)
+    let done = ticked (c .before) in
+    turn-on (turned done .loop .inv) (begun done .pre .room) (search needs) (done .tick-parts .result) _ _
+    (done .tick-parts .ensures) (c .if1 .left)
 
-same-length-5 : tie.Need-same-length-5 Inv-loop μ-loop
-same-length-5 c = (c .before .loop .inv .ready .places) ∙ sym (c .before .before .before .before .before .before .before .before .before .pre .0 .places)
+same-length-5 : At tie.Need-same-length-5
+same-length-5 c = let turn = c .before in turn .loop .inv .ready .places ∙ sym (start (turn .before) .pre .ready .places)
 
-same-length-6 : tie.Need-same-length-6 Inv-loop μ-loop
-same-length-6 c = (c .before .loop .inv .ready .bits) ∙ sym (c .before .before .before .before .before .before .before .before .before .pre .0 .bits)
+same-length-6 : At tie.Need-same-length-6
+same-length-6 c = let turn = c .before in turn .loop .inv .ready .bits ∙ sym (start (turn .before) .pre .ready .bits)
 
-same-length-7 : tie.Need-same-length-7 Inv-loop μ-loop
-same-length-7 c = (c .before .loop .inv .sizeMasks)
+same-length-7 : At tie.Need-same-length-7
+same-length-7 c = c .before .loop .inv .sizeMasks
 
-same-length-8 : tie.Need-same-length-8 Inv-loop μ-loop
-same-length-8 c = (c .before .loop .inv .sizeCodes)
+same-length-8 : At tie.Need-same-length-8
+same-length-8 c = c .before .loop .inv .sizeCodes
 
-returns-2 : tie.Need-returns-2 Inv-loop μ-loop
-returns-2 c =
-    let asked = c .before .before .before .before .before .before .before .before .before .pre in
-    turn-over (c .before .loop .inv) (asked .1 .1 .0) (asked .1 .1 .1) refl (search needs)
+returns-2 : At tie.Need-returns-2
+returns-2 c = let turn = c .before in turn-over (turn .loop .inv) (start (turn .before) .pre .room) refl (search needs)
 
 pub tick-all-spec : {M : Type 1} → statement M
 tick-all-spec =
