@@ -9,7 +9,7 @@ use native.Mathlib.Omega.{arith}
 use lib.Dec.{eqb}
 use lib.ListN.{length}
 use borrow.Author.Tests.{eqb-true, eq-eqb}
-use Rattle.lists.specs.Numbers.{lowest, any, count}
+use Rattle.lists.specs.Numbers.{lowest, count}
 use Rattle.lists.proofs.Tests.{no-both, and-l, and-true, not-false, cases}
 use Rattle.lists.proofs.Searches.{lowest-hit, lowest-past, lowest-alike, any-false, highest-ge, some-both}
 use Rattle.lists.proofs.Counts.{count-lowest, count-one}
@@ -22,9 +22,9 @@ use Rattle.charts.specs.Check.{badField, badScheme, arcs, badEnd, badArc, cutOf
 use Rattle.charts.specs.Marks.{kindMarks}
 use Rattle.charts.proofs.Nodes.{field-scheme, good-end, member-first}
 use Rattle.charts.proofs.Meaning.{member-only}
+use Rattle.chart_check.specs.Asked.{Passed}
 
-module _ (c : Chart) (fields : size c ≤ lowest (badField c) 0 (size c))
-    (counts : any (badScheme c) 1 (schemes c) ≡ false) (ends : size c ≤ lowest (badArc c) 0 (size c)) where
+module _ (c : Chart) (passed : Passed c) where
   -- ---- the Begin of a node's scheme
   one-begin : (v : ℕ) → v < size c → count (isOf c 0 (scheme c v)) 0 (size c) ≡ 1
   one-begin v l =
@@ -32,7 +32,7 @@ module _ (c : Chart) (fields : size c ≤ lowest (badField c) 0 (size c))
       let f : badField c v ≡ false = lowest-past (badField c) 0 (size c) (omega arith) v (omega arith) (omega arith) in
       let a : 1 ≤ scheme c v = field-scheme c v f .0 in
       let b : scheme c v ≤ schemes c = highest-ge (scheme c) 0 (size c) v (omega arith) (omega arith) in
-      let g : badScheme c h ≡ false = any-false (badScheme c) 1 (schemes c) counts h a (omega arith) in
+      let g : badScheme c h ≡ false = any-false (badScheme c) 1 (schemes c) (passed .counts) h a (omega arith) in
       let x : ℕ = count (isOf c 0 h) 0 (size c) in
       let y : ℕ = count (isOf c 1 h) 0 (size c) in
       eqb-true x 1 (and-l (eqb x 1) (eqb y 1) (not-false (eqb x 1 && eqb y 1) g))

@@ -1,5 +1,5 @@
 -- The arcs that marks follow, case by case, and the marks of Begins and of cut-off nodes.
-use mathlib.Core.Path.{_≡_, refl, sym, _∙_, ap}
+use mathlib.Core.Path.{_≡_, refl, sym, _∙_, ap, subst}
 use mathlib.Core.Logic.{_⊎_, inl, inr}
 use mathlib.Core.Bool.{Bool, true, false, _&&_}
 use mathlib.Core.List.{List, [], _∷_, _++_, map, append-nil}
@@ -17,10 +17,13 @@ use Rattle.lists.proofs.Tests.{no-both}
 use Rattle.lists.proofs.Ranges.{length-map-range, map-range-snoc}
 use Rattle.graph.specs.Reach.{marked, joinedFrom}
 use Rattle.graph.specs.Marking.{markAll}
+use Rattle.graph.specs.Listed.{Listed}
+use Rattle.graph.proofs.Lists.{listed-none}
 use Rattle.frames.specs.Frame.{size}
 use Rattle.charts.specs.Chart.{Chart, kind, next0, next1, is}
 use Rattle.charts.specs.Check.{arcs, conditionArcs, onCircle}
 use Rattle.charts.specs.Marks.{arcsBy, kindMarks}
+use Rattle.chart_check.specs.Asked.{Blank, Lent}
 use Rattle.charts.proofs.Nodes.{arcs-end, arcs-one, arcs-condition, arcs-function, two-arcs}
 use Rattle.charts.proofs.Cases.{outside}
 use Rattle.charts.proofs.Meaning.{condition-arcs, no-condition-arcs}
@@ -149,3 +152,15 @@ part-of (suc m) (suc n) a l = ap (λ xs. a ∷ xs) (part-of m n a (omega arith))
 
 pub part-long : {A : Type 0} (m n : ℕ) (a : A) → n ≤ m → length (take n (replicate m a)) ≡ n
 part-long m n a l = ap (λ xs. length xs) (part-of m n a l) ∙ length-replicate n a
+
+-- ---- where no node is marked, the list has none
+module _ (c : Chart) (marks : List Bool) (list : List ℕ) (blank : Blank c marks list) where
+  pub blank-long : length marks ≡ size c
+  blank-long = ap (λ (xs : List Bool). length xs) (blank .none) ∙ length-replicate (size c) false
+
+  pub blank-lent : Lent c marks list 0
+  blank-lent = record {
+    long = blank-long;
+    room = blank .room;
+    listed = subst (λ (xs : List Bool). Listed xs list 0) (sym (blank .none)) (listed-none (size c) list);
+  }

@@ -7,23 +7,13 @@ use charts::lowest_arc;
 use charts::lowest_call;
 use charts::lowest_field;
 use frames::Answer;
+use frames::refused;
 ghost use mathlib.Core.Path.{_≡_};
 ghost use Prim.Native.Nat.{_*_, _≤_};
 ghost use lib.ListN.{length};
 ghost use Rattle.frames.specs.Frame.{size};
 ghost use Rattle.frames.specs.Answer.{reply, judged};
 ghost use Rattle.charts.specs.Check.{chartVerdict};
-
-// A refusal of this number with this node.
-fn refused(number: u8, index: usize) -> Answer
-    ensures { λ r. ⌜ r ≡ Answer.Refused number index 0 ⌝ }
-{
-    Answer::Refused {
-        number,
-        index,
-        count: 0,
-    }
-}
 
 pub fn check_chart(records: &[u8]) -> Answer
     requires { ⌜ (length (now records) ≡ 10 * size (now records)) × (size (now records) ≤ 256) ⌝ }

@@ -5,19 +5,18 @@ use crate::marks::join;
 use crate::marks::mark_kind;
 use charts::field;
 ghost use mathlib.Core.Path.{_≡_};
-ghost use mathlib.Core.Bool.{false};
 ghost use Prim.Native.Nat.{_≤_, _<_};
-ghost use lib.ListN.{length, replicate};
+ghost use lib.ListN.{length};
 ghost use Rattle.lists.specs.Numbers.{lowest};
 ghost use Rattle.graph.specs.Reach.{marked, joinedFrom};
 ghost use Rattle.frames.specs.Frame.{size};
 ghost use Rattle.charts.specs.Check.{arcs, conditionArcs, onCircle};
-ghost use Rattle.charts.specs.Finished.{Finished};
+ghost use Rattle.chart_check.specs.Asked.{Room, Blank, Search};
 
 // The nodes that arcs of conditions join from the next nodes of v are marked; whether v is one of them.
 fn leads_back(records: &[u8], v: usize, marks: &mut [bool], list: &mut [u8]) -> bool
-    requires { ⌜ (v < size (now records)) × (size (now records) ≤ length (now list)) ⌝ }
-    requires { ⌜ now marks ≡ replicate (size (now records)) false ⌝ }
+    requires { ⌜ v < size (now records) ⌝ }
+    requires { ⌜ Blank (now records) (now marks) (now list) ⌝ }
     ensures { λ r. ⌜ (now (marks .exit) ≡ joinedFrom (size (now (records .entry))) (conditionArcs (now (records .entry))) (arcs (now (records .entry)) v)) × (r ≡ marked (now (marks .exit)) v) ⌝ }
 {
     let count = follow(records, false, v, marks, list, 0);
@@ -27,7 +26,8 @@ fn leads_back(records: &[u8], v: usize, marks: &mut [bool], list: &mut [u8]) -> 
 
 // 8: node v is a condition on a circle of conditions.
 fn on_circle(records: &[u8], v: usize, list: &mut [u8]) -> bool
-    requires { ⌜ (v < size (now records)) × (size (now records) ≤ 256) × (size (now records) ≤ length (now list)) ⌝ }
+    requires { ⌜ v < size (now records) ⌝ }
+    requires { ⌜ Room (now records) (now list) ⌝ }
     ensures { λ r. ⌜ r ≡ onCircle (now (records .entry)) v ⌝ }
 {
     if field(records, v, 0) != 3 {
@@ -40,8 +40,7 @@ fn on_circle(records: &[u8], v: usize, list: &mut [u8]) -> bool
 
 // The lowest node on a circle, or the number of nodes. A finished node is on none, so only the others are tried.
 fn search_circle(records: &[u8], unfinished: &[bool], list: &mut [u8]) -> usize
-    requires { ⌜ (size (now records) ≤ 256) × (size (now records) ≤ length (now list)) ⌝ }
-    requires { ⌜ Finished (now records) (now unfinished) ⌝ }
+    requires { ⌜ Search (now records) (now unfinished) (now list) ⌝ }
     ensures { λ r. ⌜ r ≡ lowest (onCircle (now (records .entry))) 0 (size (now (records .entry))) ⌝ }
 {
     let n = records.len() / 10;
@@ -59,7 +58,8 @@ fn search_circle(records: &[u8], unfinished: &[bool], list: &mut [u8]) -> usize
 
 // The same: at first all conditions are unfinished, then what can be is finished, in an accepted chart all. The list serves both as the path and for marks.
 fn find_circle(records: &[u8], unfinished: &mut [bool], list: &mut [u8]) -> usize
-    requires { ⌜ (length (now unfinished) ≡ size (now records)) × (size (now records) ≤ 256) × (size (now records) ≤ length (now list)) ⌝ }
+    requires { ⌜ length (now unfinished) ≡ size (now records) ⌝ }
+    requires { ⌜ Room (now records) (now list) ⌝ }
     ensures { λ r. ⌜ r ≡ lowest (onCircle (now (records .entry))) 0 (size (now (records .entry))) ⌝ }
 {
     mark_kind(records, 3, unfinished);

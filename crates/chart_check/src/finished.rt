@@ -1,10 +1,10 @@
 // Conditions on no circle, by a depth-first search: one is finished once no arc of it leads to an unfinished one.
 use charts::field;
 ghost use mathlib.Core.Path.{_≡_};
-ghost use Prim.Native.Nat.{_≤_, _<_};
-ghost use lib.ListN.{length};
+ghost use Prim.Native.Nat.{_<_};
 ghost use Rattle.frames.specs.Frame.{size};
 ghost use Rattle.charts.specs.Finished.{nextUnfinished, Finished};
+ghost use Rattle.chart_check.specs.Asked.{Search};
 
 // An unfinished next node of condition v, or the number of nodes.
 fn next_unfinished(records: &[u8], unfinished: &[bool], v: usize) -> usize
@@ -25,8 +25,8 @@ fn next_unfinished(records: &[u8], unfinished: &[bool], v: usize) -> usize
 // The path goes on from node v as long as an unfinished node is next; where none is, the node is finished and the path goes back by one.
 // It ends where v is finished, or after as many steps onward as there are nodes, which only a circle allows.
 fn finish_from(records: &[u8], unfinished: &mut [bool], path: &mut [u8], v: usize)
-    requires { ⌜ (v < size (now records)) × (size (now records) ≤ 256) × (size (now records) ≤ length (now path)) ⌝ }
-    requires { ⌜ Finished (now records) (now unfinished) ⌝ }
+    requires { ⌜ v < size (now records) ⌝ }
+    requires { ⌜ Search (now records) (now unfinished) (now path) ⌝ }
     ensures { λ _. ⌜ Finished (now (records .entry)) (now (unfinished .exit)) ⌝ }
 {
     let n = records.len() / 10;
@@ -53,8 +53,7 @@ fn finish_from(records: &[u8], unfinished: &mut [bool], path: &mut [u8], v: usiz
 
 // Conditions are finished, the lowest first, up to one that leads to a circle.
 pub fn finish_all(records: &[u8], unfinished: &mut [bool], path: &mut [u8])
-    requires { ⌜ (size (now records) ≤ 256) × (size (now records) ≤ length (now path)) ⌝ }
-    requires { ⌜ Finished (now records) (now unfinished) ⌝ }
+    requires { ⌜ Search (now records) (now unfinished) (now path) ⌝ }
     ensures { λ _. ⌜ Finished (now (records .entry)) (now (unfinished .exit)) ⌝ }
 {
     let n = records.len() / 10;

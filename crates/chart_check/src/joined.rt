@@ -2,19 +2,19 @@
 use crate::marks::join;
 use crate::marks::mark_kind;
 ghost use mathlib.Core.Path.{_≡_};
-ghost use mathlib.Core.Bool.{false, not};
-ghost use Prim.Native.Nat.{_≤_};
+ghost use mathlib.Core.Bool.{not};
 ghost use lib.ListN.{length};
-ghost use Rattle.lists.specs.Numbers.{lowest, any};
+ghost use Rattle.lists.specs.Numbers.{lowest};
 ghost use Rattle.graph.specs.Reach.{marked, reach};
 ghost use Rattle.frames.specs.Frame.{size};
-ghost use Rattle.charts.specs.Chart.{schemes};
-ghost use Rattle.charts.specs.Check.{arcs, badField, badScheme, badArc, cutOff};
+ghost use Rattle.charts.specs.Check.{arcs, cutOff};
 ghost use Rattle.charts.specs.Marks.{kindMarks};
+ghost use Rattle.chart_check.specs.Asked.{Room, Passed};
 
 // The nodes that arcs join from some Begin are marked; the lowest other one, or the number of nodes.
 fn lowest_apart(records: &[u8], marks: &mut [bool], list: &mut [u8]) -> usize
-    requires { ⌜ (length (now marks) ≡ size (now records)) × (size (now records) ≤ 256) × (size (now records) ≤ length (now list)) ⌝ }
+    requires { ⌜ length (now marks) ≡ size (now records) ⌝ }
+    requires { ⌜ Room (now records) (now list) ⌝ }
     ensures { λ r. ⌜ (now (marks .exit) ≡ reach (size (now (records .entry))) (arcs (now (records .entry))) (size (now (records .entry))) (kindMarks (now (records .entry)) 0)) × (r ≡ lowest (λ v. not (marked (now (marks .exit)) v)) 0 (size (now (records .entry)))) ⌝ }
 {
     mark_kind(records, 0, marks);
@@ -25,10 +25,7 @@ fn lowest_apart(records: &[u8], marks: &mut [bool], list: &mut [u8]) -> usize
 
 // The lowest node that 9 refuses, or the number of nodes. Arcs stay within a scheme, so the marks of all Begins serve every scheme.
 pub fn lowest_cut_off(records: &[u8]) -> usize
-    requires { ⌜ size (now records) ≤ 256 ⌝ }
-    requires { ⌜ size (now records) ≤ lowest (badField (now records)) 0 (size (now records)) ⌝ }
-    requires { ⌜ any (badScheme (now records)) 1 (schemes (now records)) ≡ false ⌝ }
-    requires { ⌜ size (now records) ≤ lowest (badArc (now records)) 0 (size (now records)) ⌝ }
+    requires { ⌜ Passed (now records) ⌝ }
     ensures { λ r. ⌜ r ≡ lowest (cutOff (now (records .entry))) 0 (size (now (records .entry))) ⌝ }
 {
     let n = records.len() / 10;

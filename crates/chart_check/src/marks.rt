@@ -1,13 +1,13 @@
 // Marks on the nodes of a chart, spread over all arcs or over the arcs of conditions alone.
 use charts::field;
 ghost use mathlib.Core.Path.{_≡_};
-ghost use Prim.Native.Nat.{_+_, _*_, _≤_};
+ghost use Prim.Native.Nat.{_+_, _*_, _≤_, _<_};
 ghost use lib.ListN.{length};
 ghost use Rattle.graph.specs.Reach.{reach};
-ghost use Rattle.graph.specs.Marking.{markAll};
-ghost use Rattle.graph.specs.Listed.{Listed, Longer};
 ghost use Rattle.frames.specs.Frame.{size};
 ghost use Rattle.charts.specs.Marks.{arcsBy, kindMarks};
+ghost use Rattle.chart_check.specs.Asked.{Lent};
+ghost use Rattle.chart_check.specs.Spread.{Spread};
 
 // How many arcs of node v count.
 fn arc_count(records: &[u8], conditions: bool, v: usize) -> usize
@@ -36,10 +36,9 @@ pub fn follow(
     list: &mut [u8],
     count: usize,
 ) -> usize
-    requires { ⌜ (10 * v + 10 ≤ length (now records)) × (length (now marks) ≤ length (now list)) ⌝ }
-    requires { ⌜ Listed (now marks) (now list) count ⌝ }
-    ensures { λ r. ⌜ now (marks .exit) ≡ markAll (arcsBy (now (records .entry)) conditions v) (now (marks .entry)) ⌝ }
-    ensures { λ r. ⌜ Listed (now (marks .exit)) (now (list .exit)) r × Longer (now (list .entry)) (now (list .exit)) count r ⌝ }
+    requires { ⌜ v < size (now records) ⌝ }
+    requires { ⌜ Lent (now records) (now marks) (now list) count ⌝ }
+    ensures { λ r. ⌜ Spread (arcsBy (now (records .entry)) conditions v) (now (marks .entry)) (now (marks .exit)) (now (list .entry)) (now (list .exit)) count r ⌝ }
 {
     let arcs = arc_count(records, conditions, v);
     if arcs == 0 {
@@ -54,8 +53,7 @@ pub fn follow(
 
 // Every node that arcs join from a marked one is marked; the first of the list are the marked ones.
 pub fn join(records: &[u8], conditions: bool, marks: &mut [bool], list: &mut [u8], count: usize)
-    requires { ⌜ (length (now marks) ≡ size (now records)) × (size (now records) ≤ length (now list)) ⌝ }
-    requires { ⌜ Listed (now marks) (now list) count ⌝ }
+    requires { ⌜ Lent (now records) (now marks) (now list) count ⌝ }
     ensures { λ _. ⌜ now (marks .exit) ≡ reach (size (now (records .entry))) (arcsBy (now (records .entry)) conditions) (size (now (records .entry))) (now (marks .entry)) ⌝ }
 {
     let mut end = count;

@@ -1,5 +1,5 @@
 -- The two entry points, return by return: what the checks before a return tell of the verdict, the answer and the buffer.
-use mathlib.Core.Path.{_≡_, refl, sym, _∙_, ap}
+use mathlib.Core.Path.{_≡_, refl, sym, _∙_, ap, subst}
 use mathlib.Core.Bool.{true, false}
 use mathlib.Core.List.{List}
 use Prim.Native.Nat.{ℕ, zero, suc, _*_, _/_, _≤_, _<_}
@@ -85,9 +85,11 @@ module _ (t out : List ℕ) where
         lent-refused (readVerdict t) 10 (λ _. contents t) out k i (rest ∙ refused-verdict a (chartVerdict c) 0 e k i m q .0)
         a (refused-reply a (chartVerdict c) 0 e k i m q)
 
-    pub read-short : (m : ℕ) → a ≡ Done m → length out < 10 * n → Lends (readChart t out) (Refused 16 0 0) out
+    pub read-short : (m : ℕ) → a ≡ Done m → length out < 10 * n → (r : Answer) → r ≡ Refused 16 0 0 → Lends (readChart t out) r out
     unfolding readChart
-    read-short m q h = lent-short (readVerdict t) 10 (λ _. contents t) out (rest ∙ done-fine a (chartVerdict c) 0 e m q .0) (omega (arith, F .records))
+    read-short m q h r is16 =
+        subst (λ (x : Answer). Lends (readChart t out) x out) (sym is16)
+        (lent-short (readVerdict t) 10 (λ _. contents t) out (rest ∙ done-fine a (chartVerdict c) 0 e m q .0) (omega (arith, F .records)))
 
     pub read-done : (m : ℕ) → a ≡ Done m → 10 * n ≤ length out → (out′ : List ℕ) → out′ ≡ written out 0 c
         → Lends (readChart t out) (Done n) out′
@@ -117,11 +119,11 @@ pub whole-asked : (c : Chart) → Whole c → (length c ≡ 10 * size c) × (siz
 whole-asked c w = (w .records, w .few)
 
 module _ (c : Chart) (out : List ℕ) where
-  pub write-unwhole : badLength 10 2560 (length c) ≡ true → Lends (writeChart c out) (Refused 1 0 0) out
+  pub write-unwhole : badLength 10 2560 (length c) ≡ true → (r : Answer) → r ≡ Refused 1 0 0 → Lends (writeChart c out) r out
   unfolding writeChart writeVerdict
-  write-unwhole b =
+  write-unwhole b r is1 =
       lent-refused (writeVerdict c) 1 (λ _. textOf c) out 1 0
-      (next-refused (when 1 (badLength 10 2560 (length c))) (λ _. chartVerdict c) 1 0 (when-holds 1 (badLength 10 2560 (length c)) b)) (Refused 1 0 0) refl
+      (next-refused (when 1 (badLength 10 2560 (length c))) (λ _. chartVerdict c) 1 0 (when-holds 1 (badLength 10 2560 (length c)) b)) r (ap reply is1)
 
   module _ (w : Whole c) (a : Answer) (e : reply a ≡ judged (chartVerdict c) 0) where
     on : writeVerdict c ≡ chartVerdict c
@@ -134,10 +136,12 @@ module _ (c : Chart) (out : List ℕ) where
         lent-refused (writeVerdict c) 1 (λ _. textOf c) out k i (on ∙ refused-verdict a (chartVerdict c) 0 e k i m q .0)
         a (refused-reply a (chartVerdict c) 0 e k i m q)
 
-    pub write-short : (m : ℕ) → a ≡ Done m → length out < 23 * size c
-        → Lends (writeChart c out) (Refused 16 0 0) out
+    pub write-short : (m : ℕ) → a ≡ Done m → length out < 23 * size c → (r : Answer) → r ≡ Refused 16 0 0
+        → Lends (writeChart c out) r out
     unfolding writeChart
-    write-short m q h = lent-short (writeVerdict c) 1 (λ _. textOf c) out (on ∙ done-fine a (chartVerdict c) 0 e m q .0) (omega (arith, length-text c))
+    write-short m q h r is16 =
+        subst (λ (x : Answer). Lends (writeChart c out) x out) (sym is16)
+        (lent-short (writeVerdict c) 1 (λ _. textOf c) out (on ∙ done-fine a (chartVerdict c) 0 e m q .0) (omega (arith, length-text c)))
 
     pub write-done : (m : ℕ) → a ≡ Done m → 23 * size c ≤ length out → (out′ : List ℕ) → out′ ≡ written out 0 (textOf c)
         → Lends (writeChart c out) (Done (23 * size c)) out′

@@ -5,6 +5,7 @@ use frames::bad_length;
 use frames::put_bytes;
 use frames::put_text;
 use frames::read_text;
+use frames::refused;
 ghost use Rattle.frames.specs.Answer.{Lends};
 ghost use Rattle.charts.specs.Entry.{readChart, writeChart};
 
@@ -24,11 +25,7 @@ pub fn read_chart(text: &[u8], out: &mut [u8]) -> Answer
         return chart;
     };
     if out.len() < end {
-        return Answer::Refused {
-            number: 16,
-            index: 0,
-            count: 0,
-        };
+        return refused(16, 0);
     }
     put_bytes(out, 0, records);
     Answer::Done(count)
@@ -39,11 +36,7 @@ pub fn write_chart(records: &[u8], out: &mut [u8]) -> Answer
     ensures { λ r. ⌜ Lends (writeChart (now (records .entry)) (now (out .entry))) r (now (out .exit)) ⌝ }
 {
     if bad_length(10, 2560, records.len()) {
-        return Answer::Refused {
-            number: 1,
-            index: 0,
-            count: 0,
-        };
+        return refused(1, 0);
     }
     let meaning = check_chart(records);
     let Answer::Done(_) = meaning else {
@@ -51,11 +44,7 @@ pub fn write_chart(records: &[u8], out: &mut [u8]) -> Answer
     };
     let count = 23 * (records.len() / 10);
     if out.len() < count {
-        return Answer::Refused {
-            number: 16,
-            index: 0,
-            count: 0,
-        };
+        return refused(16, 0);
     }
     put_text(out, 0, records);
     Answer::Done(count)

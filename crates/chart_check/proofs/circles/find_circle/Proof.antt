@@ -8,7 +8,8 @@ mark-kind-requires : tie.Need-mark-kind-requires
 mark-kind-requires c κs = search needs
 
 finish-all-requires : tie.Need-finish-all-requires
-finish-all-requires c κs = ((search needs, search needs), finished-none _ _ (c .before .before .before .before .mark-kind .ensures))
+finish-all-requires c κs =
+    record { few = search needs; room = search needs; finished = finished-none _ _ (c .before .before .before .before .mark-kind .ensures) }
 
 search-circle-requires : tie.Need-search-circle-requires
 search-circle-requires c κs = search needs

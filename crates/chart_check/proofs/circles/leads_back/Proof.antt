@@ -1,54 +1,53 @@
 -- `chart_check::circles::leads_back` meets its contract: the marks are those of the definition, read at the node.
-use mathlib.Core.Path.{refl, sym, _∙_, ap, subst}
-use mathlib.Core.Bool.{Bool, false, true}
+use mathlib.Core.Path.{_≡_, refl, _∙_, ap}
+use mathlib.Core.Bool.{Bool, true}
 use mathlib.Core.List.{List}
 use native.Mathlib.Omega.{arith}
-use lib.ListN.{length, length-replicate}
+use lib.ListN.{length}
 use Rattle.graph.specs.Reach.{reach}
 use Rattle.graph.specs.Marking.{markAll}
-use Rattle.graph.specs.Listed.{Listed}
 use Rattle.graph.proofs.Marking.{all-only}
-use Rattle.graph.proofs.Lists.{listed-none}
 use Rattle.frames.specs.Frame.{size}
 use Rattle.charts.specs.Check.{arcs}
 use Rattle.charts.specs.Marks.{arcsBy}
+use Rattle.chart_check.proofs.MarkCases.{blank-long, blank-lent}
 use borrow.Author.Needs.{needs}
 use Rattle.chart_check.proofs.circles.leads_back.Statement.{statement}
 use Rattle.chart_check.proofs.circles.leads_back.Tie as tie
 
+-- ---- the stages, and how many marks there are
+abbrev start : tie.After-follow-arg2 → tie.Start
+start c = c .before .before .before .before .before
+
+abbrev followed : tie.After-slice-known4 → tie.After-follow
+followed c = c .before .before .before .before
+
+abbrev joined : tie.After-slice-known7 → tie.After-join
+joined c = c .before .before .before .before .before
+
+abbrev listed : tie.After-join → tie.After-slice-known4
+listed c = c .before .before .before
+
+long : (c : tie.After-follow) → length (c .follow .last .1 .1 .1 .0) ≡ size (start (c .before) .args .records .now)
+long c = c .follow .kept .1 .1 .1 .0 ∙ blank-long _ _ _ (start (c .before) .pre .1)
+
+-- ---- the needs
 follow-requires : tie.Need-follow-requires
-follow-requires c κs =
-    let start = c .before .before .before .before .before in
-    let records = start .args .records .now in
-    let list = start .args .list .now in (
-      (search needs, omega (arith, start .pre .0 .1, ap (λ (xs : List Bool). length xs) (start .pre .1), length-replicate (size records) false)),
-      subst (λ (xs : List Bool). Listed xs list 0) (sym (start .pre .1)) (listed-none (size records) list),
-    )
+follow-requires c κs = (start c .pre .0, blank-lent _ _ _ (start c .pre .1))
 
 join-requires : tie.Need-join-requires
 join-requires c κs =
-    let start = c .before .before .before .before .before .before .before .before .before .before .before .before in
-    let records = start .args .records .now in
-    let follow = c .before .before .before .before .before .before .follow in (
-      (
-        follow .kept .1 .1 .1 .0 ∙ ap (λ (xs : List Bool). length xs) (start .pre .1) ∙ length-replicate (size records) false,
-        omega (arith, start .pre .0 .1, follow .kept .1 .1 .1 .1 .0),
-      ),
-      follow .ensures .1 .0,
-    )
+    let first = followed (c .before .before) in
+    record {
+      long = long first;
+      room = omega (arith, start (first .before) .pre .1 .room, first .follow .kept .1 .1 .1 .1 .0);
+      listed = first .follow .ensures .listed;
+    }
 
 slice-read-result : tie.Need-slice-read-result
 slice-read-result c =
-    let start = c .before .before .before .before .before .before .before .before .before .before .before .before .before .before .before .before .before .before in
-    let records = start .args .records .now in
-    omega (
-      arith,
-      start .pre .0 .0,
-      c .before .before .before .before .before .join .kept .1 .1 .0,
-      c .before .before .before .before .before .before .before .before .before .before .before .before .follow .kept .1 .1 .1 .0,
-      ap (λ (xs : List Bool). length xs) (start .pre .1),
-      length-replicate (size records) false,
-    )
+    let first = followed (listed (joined c)) in
+    omega (arith, start (first .before) .pre .0, joined c .join .kept .1 .1 .0, long first)
 
 same-length : tie.Need-same-length
 same-length c = search needs
@@ -58,13 +57,14 @@ same-length-2 c = search needs
 
 returns : tie.Need-returns
 returns c =
-    let start = c .before .before .before .before .before .before .before .before .before .before .before .before .before .before .before .before .before .before in
-    let records = start .args .records .now in
-    let v = start .args .v in (
-      c .before .before .before .before .before .join .ensures
+    let first = followed (listed (joined c)) in
+    let begun = start (first .before) in
+    let records = begun .args .records .now in
+    let v = begun .args .v in (
+      joined c .join .ensures
           ∙ ap (λ (xs : List Bool). reach (size records) (arcsBy records true) (size records) xs)
-          (c .before .before .before .before .before .before .before .before .before .before .before .before .follow .ensures .0
-          ∙ ap (λ (xs : List Bool). markAll (arcs records v) xs) (start .pre .1)
+          (first .follow .ensures .spread
+          ∙ ap (λ (xs : List Bool). markAll (arcs records v) xs) (begun .pre .1 .none)
           ∙ all-only (size records) (arcs records v)),
       refl,
     )

@@ -17,7 +17,7 @@ slice-aggregate-find-circle-2 : tie.Need-slice-aggregate-find-circle-2
 slice-aggregate-find-circle-2 c = search needs
 
 find-circle-requires : tie.Need-find-circle-requires
-find-circle-requires c κs = (part-long 256 (size (c .before .before .before .args .records .now)) false (search needs), search needs, search needs)
+find-circle-requires c κs = (part-long 256 (size (c .before .before .before .args .records .now)) false (search needs), search needs)
 
 returns : tie.Need-returns
 returns c = search needs

@@ -16,6 +16,17 @@ Inv-loop records unfinished list₀ n v₀ list v = (length list ≡ length list
 abbrev μ-loop : tie.MeasureT-loop
 μ-loop records unfinished list₀ n v₀ list v = n - v
 
+abbrev At : ((Inv : tie.InvT-loop) → (μ : tie.MeasureT-loop) → Type 0) → Type 0
+At stage = stage Inv-loop μ-loop
+
+-- ---- the stages: a turn of the loop, and the start before it
+abbrev start : At tie.At-loop → At tie.Start
+start c = c .before .before .before .before
+
+abbrev turn : At tie.After-on-circle → At tie.At-loop
+turn c = c .before .before .before .before .before
+
+-- ---- the needs
 loop-holds : tie.Need-loop-holds Inv-loop μ-loop
 loop-holds c = (refl, searching-first _ _)
 
@@ -29,7 +40,9 @@ same-length : tie.Need-same-length Inv-loop μ-loop
 same-length c = search needs
 
 returns : tie.Need-returns Inv-loop μ-loop
-returns c = searching-found _ _ _ (c .before .before .before .before .before .before .before .before .loop .inv .1) (search needs) (sym (c .before .before .before .on-circle .ensures) ∙ c .if2 .taken)
+returns c =
+    let found = c .before .before .before in
+    searching-found _ _ _ (turn found .loop .inv .1) (search needs) (sym (found .on-circle .ensures) ∙ c .if2 .taken)
 
 add-v : tie.Need-add-v Inv-loop μ-loop
 add-v c = search needs
@@ -39,8 +52,8 @@ loop-less c = search needs
 
 loop-again : tie.Need-loop-again Inv-loop μ-loop
 loop-again c =
-    let loop = c .before .before .before .loop in
-    let start = c .before .before .before .before .before .before .before in
+    let here = c .before .before .before in
+    let loop = here .loop in
     ⊎-elim
     (λ w. (
       ap (λ (xs : List ℕ). length xs) (w .6) ∙ w .2 .kept .1 .1 .0 ∙ loop .inv .0,
@@ -48,7 +61,7 @@ loop-again c =
     ))
     (λ w. (
       ap (λ (xs : List ℕ). length xs) (w .1) ∙ loop .inv .0,
-      searching-next _ _ _ (loop .inv .1) (search needs) (start .pre .1 .off _ (search needs) (w .0 .left)),
+      searching-next _ _ _ (loop .inv .1) (search needs) (start here .pre .finished .off _ (search needs) (w .0 .left)),
     ))
     (c .if1 .came)
 

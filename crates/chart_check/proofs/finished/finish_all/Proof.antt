@@ -17,13 +17,15 @@ abbrev μ-loop : tie.MeasureT-loop
 μ-loop records unfinished₀ path₀ n v₀ unfinished path v = n - v
 
 loop-holds : tie.Need-loop-holds Inv-loop μ-loop
-loop-holds c = (search needs, refl, c .before .before .before .pre .1)
+loop-holds c = (search needs, refl, c .before .before .before .pre .finished)
 
 slice-read-if1 : tie.Need-slice-read-if1 Inv-loop μ-loop
 slice-read-if1 c = search needs
 
 finish-from-requires : tie.Need-finish-from-requires Inv-loop μ-loop
-finish-from-requires c κs = search needs
+finish-from-requires c κs =
+    let here = c .before .before .before .before .before in
+    (search needs, record { few = search needs; room = search needs; finished = here .loop .inv .2 })
 
 slice-read-if2 : tie.Need-slice-read-if2 Inv-loop μ-loop
 slice-read-if2 c = search needs
@@ -45,9 +47,9 @@ loop-less c = search needs
 
 loop-again : tie.Need-loop-again Inv-loop μ-loop
 loop-again c =
-    let loop = c .before .before .before .loop in
-    let start = c .before .before .before .before .before .before .before in
-    let records = start .args .records .now in
+    let here = c .before .before .before in
+    let loop = here .loop in
+    let records = here .before .before .before .before .args .records .now in
     ⊎-elim
     (λ w. (
       search needs,

@@ -15,8 +15,19 @@ Inv-loop records unfinished₀ path₀ v n left₀ depth₀ at₀ unfinished pat
 abbrev μ-loop : tie.MeasureT-loop
 μ-loop records unfinished₀ path₀ v n left₀ depth₀ at₀ unfinished path left depth at = left + left + depth
 
+abbrev At : ((Inv : tie.InvT-loop) → (μ : tie.MeasureT-loop) → Type 0) → Type 0
+At stage = stage Inv-loop μ-loop
+
+-- ---- the stages: no unfinished node is next, in a turn of the loop, and the start before it
+abbrev start : At tie.At-loop → At tie.Start
+start c = c .before .before .before .before
+
+abbrev turn : At tie.Else1 → At tie.At-loop
+turn c = c .before .before .before .before
+
+-- ---- the needs
 loop-holds : tie.Need-loop-holds Inv-loop μ-loop
-loop-holds c = (refl, standing-first _ _ _ _ (c .before .before .before .pre .1) (search needs) (search needs))
+loop-holds c = (refl, standing-first _ _ _ _ (c .before .before .before .pre .1 .finished) (search needs) (search needs))
 
 next-unfinished-requires : tie.Need-next-unfinished-requires Inv-loop μ-loop
 next-unfinished-requires c κs = search needs
@@ -45,13 +56,15 @@ slice-write-unfinished : tie.Need-slice-write-unfinished Inv-loop μ-loop
 slice-write-unfinished c = search needs
 
 same-length : tie.Need-same-length Inv-loop μ-loop
-same-length c = length-set (c .before .before .before .before .before .loop .unfinished) _ _ ∙ c .before .before .before .before .before .loop .inv .1 .finished .long ∙ sym (c .before .before .before .before .before .before .before .before .before .pre .1 .long)
+same-length c =
+    let here = turn (c .before) in
+    length-set (here .loop .unfinished) _ _ ∙ here .loop .inv .1 .finished .long ∙ sym (start here .pre .1 .finished .long)
 
 same-length-2 : tie.Need-same-length-2 Inv-loop μ-loop
-same-length-2 c = c .before .before .before .before .before .loop .inv .0
+same-length-2 c = turn (c .before) .loop .inv .0
 
 returns : tie.Need-returns Inv-loop μ-loop
-returns c = standing-end _ _ _ _ _ _ (c .before .before .before .before .before .loop .inv .1) _ (c .before .before .next-unfinished .ensures) (search needs)
+returns c = standing-end _ _ _ _ _ _ (turn (c .before) .loop .inv .1) _ (c .before .before .next-unfinished .ensures) (search needs)
 
 sub-depth : tie.Need-sub-depth Inv-loop μ-loop
 sub-depth c = search needs
@@ -61,15 +74,15 @@ slice-read-at c = search needs
 
 cast-at : tie.Need-cast-at Inv-loop μ-loop
 cast-at c =
-    let loop = c .before .before .before .before .before .before .loop in
-    omega (arith, loop .inv .1 .before (loop .depth - 1) (search needs), c .before .before .before .before .before .before .before .before .before .before .pre .0 .1)
+    let here = turn (c .before .before) in
+    omega (arith, here .loop .inv .1 .before (here .loop .depth - 1) (search needs), start here .pre .1 .few)
 
 loop-less-2 : tie.Need-loop-less-2 Inv-loop μ-loop
 loop-less-2 c = search needs
 
 loop-again-2 : tie.Need-loop-again-2 Inv-loop μ-loop
 loop-again-2 c =
-    let loop = c .before .before .before .before .before .before .loop in
+    let loop = turn (c .before .before) .loop in
     (loop .inv .0, standing-back _ _ _ _ _ _ (loop .inv .1) _ (c .before .before .before .next-unfinished .ensures) (search needs) (c .before .if2 .left))
 
 same-length-3 : tie.Need-same-length-3 Inv-loop μ-loop

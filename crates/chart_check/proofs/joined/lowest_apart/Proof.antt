@@ -11,6 +11,20 @@ use borrow.Author.Needs.{needs}
 use Rattle.chart_check.proofs.joined.lowest_apart.Statement.{statement}
 use Rattle.chart_check.proofs.joined.lowest_apart.Tie as tie
 
+-- ---- the stages, each from the one after it
+abbrev start : tie.After-mark-kind → tie.Start
+start c = c .before .before .before .before .before
+
+abbrev begins : tie.After-list-marked → tie.After-mark-kind
+begins c = c .before .before .before .before .before
+
+abbrev listed : tie.After-join → tie.After-list-marked
+listed c = c .before .before .before .before .before
+
+abbrev joined : tie.After-lowest-unmarked → tie.After-join
+joined c = let lent = c .before .before in lent .before .before .before .before
+
+-- ---- the needs
 mark-kind-requires : tie.Need-mark-kind-requires
 mark-kind-requires c κs = search needs
 
@@ -31,15 +45,14 @@ same-length-2 c = search needs
 
 returns : tie.Need-returns
 returns c =
-    let start = c .before .before .before .before .before .before .before .before .before .before .before .before .before .before .before .before .before .before .before .before .before in
-    let records = start .args .records .now in
-    let mark-kind = c .before .before .before .before .before .before .before .before .before .before .before .before .before .before .before .before .mark-kind in
-    let join = c .before .before .before .before .before .before .join in (
+    let join = joined c .join in
+    let first = begins (listed (joined c)) in
+    let records = start first .args .records .now in (
       join .ensures
-          ∙ ap (λ (xs : List Bool). reach (size records) (arcsBy records false) (size records) xs) (mark-kind .ensures),
+          ∙ ap (λ (xs : List Bool). reach (size records) (arcsBy records false) (size records) xs) (first .mark-kind .ensures),
       c .lowest-unmarked .ensures
           ∙ ap (λ (k : ℕ). lowest (λ v. not (marked (join .last .1 .1 .0) v)) 0 k)
-          (join .kept .1 .1 .0 ∙ mark-kind .kept .1 .1 .0 ∙ start .pre .0),
+          (join .kept .1 .1 .0 ∙ first .mark-kind .kept .1 .1 .0 ∙ start first .pre .0),
     )
 
 pub lowest-apart-spec : {M : Type 1} → statement M

@@ -18,15 +18,13 @@ slice-aggregate-lowest-apart-2 : tie.Need-slice-aggregate-lowest-apart-2
 slice-aggregate-lowest-apart-2 c = search needs
 
 lowest-apart-requires : tie.Need-lowest-apart-requires
-lowest-apart-requires c κs = (part-long 256 (size (c .before .before .before .args .records .now)) false (search needs), search needs, search needs)
+lowest-apart-requires c κs = (part-long 256 (size (c .before .before .before .args .records .now)) false (search needs), search needs)
 
 returns : tie.Need-returns
 returns c =
-    let start = c .before .before .before .before .before .before in
-    let records = start .args .records .now in
-    c .before .before .lowest-apart .ensures .1
-    ∙ lowest-apart records (start .pre .1 .0) (start .pre .1 .1 .0) (start .pre .1 .1 .1) _
-    (c .before .before .lowest-apart .ensures .0)
+    let apart = c .before .before in
+    let start = apart .before .before .before .before in
+    apart .lowest-apart .ensures .1 ∙ lowest-apart (start .args .records .now) (start .pre) _ (apart .lowest-apart .ensures .0)
 
 pub lowest-cut-off-spec : {M : Type 1} → statement M
 lowest-cut-off-spec =

@@ -5,17 +5,32 @@ use borrow.Author.Needs.{needs}
 use Rattle.chart_check.proofs.marks.follow.Statement.{statement}
 use Rattle.chart_check.proofs.marks.follow.Tie as tie
 
+-- ---- the stages: the arcs are counted, there are some, the first is enlisted, there is another, it is enlisted
+abbrev start : tie.After-arc-count → tie.Start
+start c = c .before .before .before .before
+
+abbrev some : tie.After-enlist → tie.Else1
+some c = c .before .before .before .before
+
+abbrev first : tie.After-slice-known4 → tie.After-enlist
+first c = c .before .before .before .before
+
+abbrev another : tie.After-enlist2 → tie.Else2
+another c = c .before .before .before .before
+
+-- ---- the needs
 arc-count-requires : tie.Need-arc-count-requires
 arc-count-requires c κs = search needs
 
 returns : tie.Need-returns
 returns c =
-    let start = c .before .before .before .before .before in
-    let records = start .args .records .now in
-    let conditions = start .args .conditions in
-    let v = start .args .v in
-    let marks = start .args .marks .now in
-    (marked-none records conditions v _ (c .before .arc-count .ensures) marks (c .if1 .taken), (start .pre .1, longer-same _ _))
+    let counted = c .before in
+    let a = start counted .args in
+    record {
+      spread = marked-none (a .records .now) (a .conditions) (a .v) _ (counted .arc-count .ensures) (a .marks .now) (c .if1 .taken);
+      listed = start counted .pre .1 .listed;
+      longer = longer-same _ _;
+    }
 
 field-requires : tie.Need-field-requires
 field-requires c κs = search needs
@@ -31,14 +46,15 @@ same-length-2 c = search needs
 
 returns-2 : tie.Need-returns-2
 returns-2 c =
-    let start = c .before .before .before .before .before .before .before .before .before .before .before .before .before .before in
-    let records = start .args .records .now in
-    let conditions = start .args .conditions in
-    let v = start .args .v in
-    let marks = start .args .marks .now in (
-      marked-one records conditions v _ (c .before .before .before .before .before .before .before .before .before .before .arc-count .ensures) marks (c .before .before .before .before .before .before .before .before .before .if1 .left) _ _ (c .before .before .before .before .before .before .field .ensures) (c .before .before .before .before .before .enlist .ensures .0) (c .if2 .taken),
-      c .before .before .before .before .before .enlist .ensures .1,
-    )
+    let one = first (c .before) in
+    let counted = some one .before in
+    let a = start counted .args in
+    record {
+      spread = marked-one (a .records .now) (a .conditions) (a .v) _ (counted .arc-count .ensures) (a .marks .now) (some one .if1 .left)
+          _ _ (one .before .field .ensures) (one .enlist .ensures .0) (c .if2 .taken);
+      listed = one .enlist .ensures .1 .0;
+      longer = one .enlist .ensures .1 .1;
+    }
 
 field-requires-2 : tie.Need-field-requires-2
 field-requires-2 c κs = search needs
@@ -54,17 +70,17 @@ same-length-4 c = search needs
 
 returns-3 : tie.Need-returns-3
 returns-3 c =
-    let start = c .before .before .before .before .before .before .before .before .before .before .before .before .before .before .before .before .before .before .before .before .before .before in
-    let records = start .args .records .now in
-    let conditions = start .args .conditions in
-    let v = start .args .v in
-    let marks = start .args .marks .now in
-    let enlist = c .before .before .before .before .before .before .before .before .before .before .before .before .before .enlist in
-    let enlist2 = c .before .before .before .before .enlist2 in (
-      marked-two records conditions v _ (c .before .before .before .before .before .before .before .before .before .before .before .before .before .before .before .before .before .before .arc-count .ensures) marks (c .before .before .before .before .before .before .before .before .before .before .before .before .before .before .before .before .before .if1 .left) _ _ (c .before .before .before .before .before .before .before .before .before .before .before .before .before .before .field .ensures) (enlist .ensures .0)
-          (c .before .before .before .before .before .before .before .before .if2 .left) _ _ (c .before .before .before .before .before .field2 .ensures) (enlist2 .ensures .0),
-      (enlist2 .ensures .1 .0, longer-on _ _ _ _ _ _ (enlist .ensures .1 .1) (enlist2 .ensures .1 .1)),
-    )
+    let two = c .before .before .before .before in
+    let one = first (another two .before) in
+    let counted = some one .before in
+    let a = start counted .args in
+    record {
+      spread = marked-two (a .records .now) (a .conditions) (a .v) _ (counted .arc-count .ensures) (a .marks .now) (some one .if1 .left)
+          _ _ (one .before .field .ensures) (one .enlist .ensures .0) (another two .if2 .left)
+          _ _ (two .before .field2 .ensures) (two .enlist2 .ensures .0);
+      listed = two .enlist2 .ensures .1 .0;
+      longer = longer-on _ _ _ _ _ _ (one .enlist .ensures .1 .1) (two .enlist2 .ensures .1 .1);
+    }
 
 pub follow-spec : {M : Type 1} → statement M
 follow-spec =
