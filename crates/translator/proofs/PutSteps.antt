@@ -14,7 +14,7 @@ use Rattle.lists.specs.Sequences.{concatMap, written}
 use Rattle.lists.proofs.Tests.{yes-pick, no-pick}
 use Rattle.lists.proofs.Ranges.{map-append}
 use Rattle.lists.proofs.Joins.{concat-cons, concat-append, concat-range-snoc}
-use Rattle.lists.proofs.Written.{written-none, written-more}
+use Rattle.lists.proofs.Written.{written-none, written-length, written-more}
 use Rattle.lists.proofs.Fills.{Pieces, pieces-turn}
 use Rattle.frames.specs.Frame.{size, quad, frameText, framesText}
 use Rattle.frames.proofs.FrameLoops.{length-frame}
@@ -31,23 +31,30 @@ use Rattle.translator.proofs.LabelSteps.{own-label, no-own-label}
 use Rattle.translator.proofs.Settled.{Settled}
 use Rattle.translator.proofs.PathCases.{Fork, stop-paths}
 
--- ---- a text put after another
-module _ (out out₁ out₂ a b t : List ℕ) (at mid r : ℕ) (e : t ≡ a ++ b) where
+-- ---- a text put, and one put after another
+pub put-length : {out out′ t : List ℕ} {at r : ℕ} → at + length t ≤ length out → Put out at t r out′ → length out′ ≡ length out
+put-length {out} {out′} {t} {at} h p = ap (λ (x : List ℕ). length x) (p .holds) ∙ written-length out at t h
+
+pub record Parted (t a b : List ℕ) : Type 0 where
+  pub parts : t ≡ a ++ b
+
+module _ {t a b : List ℕ} (d : Parted t a b) where
   lengths : length t ≡ length a + length b
-  lengths = ap (λ (x : List ℕ). length x) e ∙ length-append a b
+  lengths = ap (λ (x : List ℕ). length x) (d .parts) ∙ length-append a b
 
-  pub both-first : (n : ℕ) → at + length t ≤ n → at + length a ≤ n
-  both-first n h = omega (arith, lengths)
+  pub both-first : (at n : ℕ) → at + length t ≤ n → at + length a ≤ n
+  both-first at n h = omega (arith, lengths)
 
-  pub both-second : (n m : ℕ) → at + length t ≤ n → mid ≡ at + length a → m ≡ n → mid + length b ≤ m
-  both-second n m h p q = omega (arith, lengths)
+  module _ {out out₁ : List ℕ} {at mid : ℕ} (h : at + length t ≤ length out) (p : Put out at a mid out₁) where
+    pub both-second : mid + length b ≤ length out₁
+    both-second = omega (arith, lengths, p .ends, put-length (both-first at (length out) h) p)
 
-  pub both-done : at + length t ≤ length out → Put out at a mid out₁ → Put out₁ mid b r out₂ → Put out at t r out₂
-  both-done h p q = record {
-    ends = omega (arith, lengths);
-    holds = written-more out at a b out₁ out₂ mid (p .ends) (omega (arith, lengths)) (p .holds) (q .holds)
-        ∙ ap (written out at) (sym e);
-  }
+    pub both-done : {out₂ : List ℕ} {r : ℕ} → Put out₁ mid b r out₂ → Put out at t r out₂
+    both-done {out₂} q = record {
+      ends = omega (arith, lengths, p .ends, q .ends);
+      holds = written-more out at a b out₁ out₂ mid (p .ends) (omega (arith, lengths, p .ends)) (p .holds) (q .holds)
+          ∙ ap (written out at) (sym (d .parts));
+    }
 
 pub nothing-put : (out t : List ℕ) (at : ℕ) → t ≡ [] → Put out at t at out
 nothing-put out t at e = record {
@@ -84,24 +91,11 @@ module _ (c : Chart) (labels : List ℕ) (chart : Charted c labels) (care values
   }
 
 module _ (c : Chart) (care values v tested valued w0 w1 : ℕ) (k : Fork c care values v tested valued w0 w1) (l f : ℕ) where
-  pub fork-text : rowsText (paths (size c) c l f care values v)
-      ≡ rowsText (paths (size c) c l f tested values w0) ++ rowsText (paths (size c) c l f tested valued w1)
-  fork-text = ap rowsText (k .all l f) ∙ rows-append (paths (size c) c l f tested values w0) (paths (size c) c l f tested valued w1)
-
-  pub fork-first : (at n : ℕ) → at + length (rowsText (paths (size c) c l f care values v)) ≤ n
-      → at + length (rowsText (paths (size c) c l f tested values w0)) ≤ n
-  fork-first at n h =
-      both-first [] [] [] (rowsText (paths (size c) c l f tested values w0))
-      (rowsText (paths (size c) c l f tested valued w1)) (rowsText (paths (size c) c l f care values v)) at 0 0 fork-text n
-      h
-
-  pub fork-second : (at mid n m : ℕ) → at + length (rowsText (paths (size c) c l f care values v)) ≤ n
-      → mid ≡ at + length (rowsText (paths (size c) c l f tested values w0)) → m ≡ n
-      → mid + length (rowsText (paths (size c) c l f tested valued w1)) ≤ m
-  fork-second at mid n m h p q =
-      both-second [] [] [] (rowsText (paths (size c) c l f tested values w0))
-      (rowsText (paths (size c) c l f tested valued w1)) (rowsText (paths (size c) c l f care values v)) at mid 0 fork-text
-      n m h p q
+  pub fork-text : Parted (rowsText (paths (size c) c l f care values v)) (rowsText (paths (size c) c l f tested values w0))
+      (rowsText (paths (size c) c l f tested valued w1))
+  fork-text = record {
+    parts = ap rowsText (k .all l f) ∙ rows-append (paths (size c) c l f tested values w0) (paths (size c) c l f tested valued w1);
+  }
 
 -- ---- pieces of any length, one a node
 pub record Appended (piece : ℕ → List ℕ) (out₀ out : List ℕ) (at place n v : ℕ) : Type 0 where
@@ -141,12 +135,13 @@ module _ (piece : ℕ → List ℕ) where
       pub appended-room : place + length (piece v) ≤ length out
       appended-room = omega (arith, upper, t .here, t .size)
 
-      pub appended-on : (out′ : List ℕ) (place′ : ℕ) → length out′ ≡ length out → Put out place (piece v) place′ out′
-          → Appended piece out₀ out′ at place′ n (v + 1)
-      appended-on out′ place′ k p =
-          let q = both-done out₀ out out′ (upTo piece v) (piece v) (upTo piece (v + 1)) at place place′ (up-more v)
-          (omega (arith, upper, ap (λ (x : List ℕ). length x) (up-more v) ∙ length-append (upTo piece v) (piece v))) (record { ends = t .here; holds = t .buffer }) p in
-          record { within = omega arith; size = k ∙ t .size; here = q .ends; buffer = q .holds }
+      pub appended-on : (out′ : List ℕ) (place′ : ℕ) → Put out place (piece v) place′ out′ → Appended piece out₀ out′ at place′ n (v + 1)
+      appended-on out′ place′ p =
+          let q : Put out₀ at (upTo piece (v + 1)) place′ out′ =
+          both-done (record { parts = up-more v })
+          (omega (arith, upper, ap (λ (x : List ℕ). length x) (up-more v) ∙ length-append (upTo piece v) (piece v)))
+          (record { ends = t .here; holds = t .buffer }) p in
+          record { within = omega arith; size = put-length appended-room p ∙ t .size; here = q .ends; buffer = q .holds }
 
     pub appended-done : n ≤ v → out ≡ written out₀ at (upTo piece n)
     appended-done h = let e : v ≡ n = omega (arith, t .within) in t .buffer ∙ ap (λ (k : ℕ). written out₀ at (upTo piece k)) e
@@ -307,23 +302,12 @@ module _ (c : Chart) (v k : ℕ) (ek : k ≡ kind c v) (own : nodeRows c v ≡ r
       ap rowsText (own ∙ rows-other c v k ek h ∙ ap₂ (λ (x y : ℕ). paths (size c) c x 2 0 0 y) (sym el) (sym ew))
 
 module _ (c : Chart) (v f g care values l w0 w1 : ℕ) (el : l ≡ label c v) (e0 : w0 ≡ next0 c v) (e1 : w1 ≡ next1 c v) where
-  pub sides-text : rowsText (sides c (label c v) f g care values v)
-      ≡ rowsText (paths (size c) c l f care 0 w0) ++ rowsText (paths (size c) c l g care values w1)
-  sides-text =
-      rows-append (paths (size c) c (label c v) f care 0 (next0 c v)) (paths (size c) c (label c v) g care values (next1 c v))
-      ∙ ap₂ (λ (x y : List ℕ). x ++ y)
-      (ap₂ (λ (x y : ℕ). rowsText (paths (size c) c x f care 0 y)) (sym el) (sym e0))
-      (ap₂ (λ (x y : ℕ). rowsText (paths (size c) c x g care values y)) (sym el) (sym e1))
-
-  pub sides-first : (at n : ℕ) → at + length (rowsText (sides c (label c v) f g care values v)) ≤ n
-      → at + length (rowsText (paths (size c) c l f care 0 w0)) ≤ n
-  sides-first at n h =
-      both-first [] [] [] (rowsText (paths (size c) c l f care 0 w0)) (rowsText (paths (size c) c l g care values w1))
-      (rowsText (sides c (label c v) f g care values v)) at 0 0 sides-text n h
-
-  pub sides-second : (at mid n m : ℕ) → at + length (rowsText (sides c (label c v) f g care values v)) ≤ n
-      → mid ≡ at + length (rowsText (paths (size c) c l f care 0 w0)) → m ≡ n
-      → mid + length (rowsText (paths (size c) c l g care values w1)) ≤ m
-  sides-second at mid n m h p q =
-      both-second [] [] [] (rowsText (paths (size c) c l f care 0 w0)) (rowsText (paths (size c) c l g care values w1))
-      (rowsText (sides c (label c v) f g care values v)) at mid 0 sides-text n m h p q
+  pub sides-text : Parted (rowsText (sides c (label c v) f g care values v)) (rowsText (paths (size c) c l f care 0 w0))
+      (rowsText (paths (size c) c l g care values w1))
+  sides-text = record {
+    parts =
+        rows-append (paths (size c) c (label c v) f care 0 (next0 c v)) (paths (size c) c (label c v) g care values (next1 c v))
+        ∙ ap₂ (λ (x y : List ℕ). x ++ y)
+        (ap₂ (λ (x y : ℕ). rowsText (paths (size c) c x f care 0 y)) (sym el) (sym e0))
+        (ap₂ (λ (x y : ℕ). rowsText (paths (size c) c x g care values y)) (sym el) (sym e1));
+  }

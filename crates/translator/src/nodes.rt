@@ -5,7 +5,7 @@ ghost use Prim.Native.Nat.{_+_, _*_, _<_};
 ghost use mathlib.Core.Bool.{_&&_, not};
 ghost use lib.Dec.{eqb};
 ghost use lib.ListN.{length};
-ghost use Rattle.frames.specs.Frame.{size, field};
+ghost use Rattle.frames.specs.Frame.{field};
 ghost use Rattle.charts.specs.Chart.{scheme, is, isOf, begin, next0};
 ghost use Rattle.walk.proofs.Facts.{Facts};
 ghost use Rattle.walk.specs.Stops.{stops};

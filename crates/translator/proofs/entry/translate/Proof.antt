@@ -1,11 +1,22 @@
 -- `translator::translate` meets its contract: the reader's refusal, or what the table's text gives for the chart that it read.
 use mathlib.Core.Path.{sym}
-use Rattle.translator.proofs.EntrySteps.{zeros-long, read-refused, read-told, read-long, read-ready, translated}
+use Rattle.translator.proofs.EntrySteps.{Read, zeros-long, read-refused, read-told, read-long, read-ready, translated}
 use native.Mathlib.Omega.{arith}
 use borrow.Author.Needs.{needs}
 use Rattle.translator.proofs.entry.translate.Statement.{statement}
 use Rattle.translator.proofs.entry.translate.Tie as tie
 
+-- ---- the stages: the reader has answered, its answer was that it is done
+abbrev answered : tie.After-read → tie.After-read-chart
+answered c = c .before .before .before
+
+-- the chart was accepted and stands at the front of the table
+done : (c : tie.After-read) → let here = answered c in
+    Read (here .before .before .before .before .args .text .now) (here .read-chart .last .1 .0) (c .read .given .0 .0)
+done c =
+    let told = answered c .read-chart .ensures in read-told _ _ _ _ _ (told .answered) (c .read .given .1) (told .written)
+
+-- ---- the needs
 slice-aggregate-read-chart : tie.Need-slice-aggregate-read-chart
 slice-aggregate-read-chart c = search needs
 
@@ -24,46 +35,29 @@ returns c =
     (c .enum-told .given .0 .1 .0) (c .enum-told .given .0 .1 .1 .0) (c .enum-told .given .1)
 
 mul-end : tie.Need-mul-end
-mul-end c =
-    let read-chart = c .before .before .before .before .read-chart in
-    omega
-    (arith, (read-told _ _ _ _ _ (read-chart .ensures .answered) (c .before .read .given .1) (read-chart .ensures .written)) .few)
+mul-end c = omega (arith, done (c .before) .few)
 
 array-share-prefix-held : tie.Need-array-share-prefix-held
-array-share-prefix-held c =
-    let read-chart = c .before .before .before .before .read-chart in
-    omega (
-      arith,
-      (read-told _ _ _ _ _ (read-chart .ensures .answered) (c .before .read .given .1) (read-chart .ensures .written)) .few,
-      read-chart .kept .1 .0,
-    )
+array-share-prefix-held c = omega (arith, done (c .before) .few, answered (c .before) .read-chart .kept .1 .0)
 
 slice-aggregate-records : tie.Need-slice-aggregate-records
-slice-aggregate-records c =
-    let read-chart = c .before .before .before .before .before .read-chart in
-    sym (read-long _ _ _
-    (read-told _ _ _ _ _ (read-chart .ensures .answered) (c .before .before .read .given .1) (read-chart .ensures .written)))
+slice-aggregate-records c = sym (read-long _ _ _ (done (c .before .before)))
 
 highest-scheme-requires : tie.Need-highest-scheme-requires
 highest-scheme-requires c κs = search needs
 
 write-image-requires : tie.Need-write-image-requires
-write-image-requires c κs =
-    let read-chart = c .before .before .before .before .before .before .before .read-chart in
-    let read = c .before .before .before .before .read in (
-      read-ready _ _ _ (read-told _ _ _ _ _ (read-chart .ensures .answered) (read .given .1) (read-chart .ensures .written)),
-      c .before .highest-scheme .ensures,
-    )
+write-image-requires c κs = let known = c .before in
+    (read-ready _ _ _ (done (known .before .before .before)), known .highest-scheme .ensures)
 
 same-length : tie.Need-same-length
 same-length c = search needs
 
 returns-2 : tie.Need-returns-2
 returns-2 c =
-    let read-chart = c .before .before .before .before .before .before .before .before .before .before .read-chart in
-    let read = c .before .before .before .before .before .before .before .read in
-    translated _ _ _ (read-told _ _ _ _ _ (read-chart .ensures .answered) (read .given .1) (read-chart .ensures .written)) _ _ _
-    (c .before .before .write-image .ensures)
+    let put = c .before .before in
+    let known = put .before .before in
+    translated _ _ _ (done (known .before .before .before)) _ _ _ (put .write-image .ensures)
 
 pub translate-spec : {M : Type 1} → statement M
 translate-spec =

@@ -2,11 +2,14 @@
 use mathlib.Core.Bool.{true}
 use mathlib.Core.Path.{_≡_, sym, _∙_}
 use lib.ListN.{length}
+use Rattle.frames.specs.Frame.{size}
 use Rattle.charts.proofs.Rank.{rank}
 use Rattle.walk.specs.Stops.{stops}
+use Rattle.translator.specs.Rows.{paths}
+use Rattle.translator.specs.Parts.{rowsText, Put}
 use Rattle.translator.proofs.Settled.{Settled, is-settled}
 use Rattle.translator.proofs.PathCases.{New, Fork, new-small, fork}
-use Rattle.translator.proofs.PutSteps.{leaf-room, leaf-done, fork-text, fork-first, fork-second, both-done}
+use Rattle.translator.proofs.PutSteps.{Parted, put-length, both-first, both-second, both-done, leaf-room, leaf-done, fork-text}
 use borrow.Author.Needs.{needs}
 use native.Mathlib.Omega.{arith}
 use Prim.Native.Nat.{ℕ, _+_, _≤_, _<_}
@@ -91,6 +94,21 @@ module _ (t : ℕ) where
       fork _ _ _ _ _ _ (new (valued .before .before)) _ _ (valued .before .with-bit .ensures) (valued .with-bit2 .ensures) _ _
       (c .before .field2 .ensures) (c .field3 .ensures)
 
+  divided : (c : At lts.After-field3) → let valued = c .before .before in let a = forking c .args in
+      let n = size (a .records .now) in let tested = valued .before .with-bit .result in
+      Parted (rowsText (paths n (a .records .now) (a .from) (a .bit) (a .care) (a .values) (a .node)))
+      (rowsText (paths n (a .records .now) (a .from) (a .bit) tested (a .values) (c .before .field2 .result)))
+      (rowsText (paths n (a .records .now) (a .from) (a .bit) tested (valued .with-bit2 .result) (c .field3 .result)))
+  divided c = fork-text _ _ _ _ _ _ _ _ (forked c) (forking c .args .from) (forking c .args .bit)
+
+  both : (c : At lts.After-put-paths2) → let first = c .before .before .before .before in let a = forking (first .before .before) .args in
+      Put (a .out .now) (a .at) (rowsText (paths (size (a .records .now)) (a .records .now) (a .from) (a .bit) (a .care) (a .values) (a .node)))
+      (c .put-paths2 .result) (c .put-paths2 .last .1 .1 .1 .1 .1 .1 .1 .0)
+  both c =
+      let first = c .before .before .before .before in
+      let fork = first .before .before in
+      both-done (divided fork) (forking fork .pre .1 .1) (first .put-paths .ensures) (c .put-paths2 .ensures)
+
   -- ---- the needs: what is returned, then what the calls ask
   returns : At lts.Need-returns
   returns c =
@@ -100,13 +118,7 @@ module _ (t : ℕ) where
       leaf-done _ _ (asked .0 .chart) _ _ _ _ (arrived here) (stopped stop) _ _ _ _ _ (c .before .before .put-row .ensures)
 
   returns-2 : At lts.Need-returns-2
-  returns-2 c =
-      let second = c .before .before in
-      let first = second .before .before .before .before in
-      let fork = first .before .before in
-      let a = forking fork .args in
-      both-done _ _ _ _ _ _ _ _ _ (fork-text _ _ _ _ _ _ _ _ (forked fork) (a .from) (a .bit))
-      (forking fork .pre .1 .1) (first .put-paths .ensures) (second .put-paths2 .ensures)
+  returns-2 c = both (c .before .before)
 
   settle-requires : At lts.Need-settle-requires
   settle-requires c κs = let asked = c .before .before .before .pre .1 .0 in record { chart = asked .chart; entered = asked .entered }
@@ -148,28 +160,33 @@ module _ (t : ℕ) where
 
   put-paths-requires : At lts.Need-put-paths-requires
   put-paths-requires c κs =
-      let k = forked (c .before) in
-      let pre = forking (c .before) .pre in
-      let a = forking (c .before) .args in
-      let fits = fork-first _ _ _ _ _ _ _ _ k (a .from) (a .bit) _ _ (pre .1 .1) in
-      (omega (arith, k .falls0, pre .0), (record { chart = pre .1 .0 .chart; entered = k .entered0; within = k .within0 }, fits))
+      let fork = c .before in
+      let k = forked fork in
+      let pre = forking fork .pre in (
+        omega (arith, k .falls0, pre .0),
+        (
+          record { chart = pre .1 .0 .chart; entered = k .entered0; within = k .within0 },
+          both-first (divided fork) _ _ (pre .1 .1),
+        ),
+      )
 
   put-paths-requires-2 : At lts.Need-put-paths-requires-2
   put-paths-requires-2 c κs =
       let first = c .before .before .before in
-      let k = forked (first .before .before) in
-      let pre = forking (first .before .before) .pre in
-      let a = forking (first .before .before) .args in
-      let fits =
-      fork-second _ _ _ _ _ _ _ _ k (a .from) (a .bit) _ _ _ _ (pre .1 .1) (first .put-paths .ensures .ends)
-      (first .put-paths .kept .1 .1 .1 .1 .1 .1 .1 .0) in
-      (omega (arith, k .falls1, pre .0), (record { chart = pre .1 .0 .chart; entered = k .entered1; within = k .within1 }, fits))
+      let fork = first .before .before in
+      let k = forked fork in
+      let pre = forking fork .pre in (
+        omega (arith, k .falls1, pre .0),
+        (
+          record { chart = pre .1 .0 .chart; entered = k .entered1; within = k .within1 },
+          both-second (divided fork) (pre .1 .1) (first .put-paths .ensures),
+        ),
+      )
 
   same-length-2 : At lts.Need-same-length-2
   same-length-2 c =
       let second = c .before .before in
-      let first = second .before .before .before .before in
-      second .put-paths2 .kept .1 .1 .1 .1 .1 .1 .1 .0 ∙ first .put-paths .kept .1 .1 .1 .1 .1 .1 .1 .0
+      put-length (forking (second .before .before .before .before .before .before) .pre .1 .1) (both second)
 
 pub +put-paths-spec : {M : Type 1} → statement M
 +put-paths-spec = close measure λ t. lts.spec (claims t)

@@ -1,4 +1,6 @@
 -- `translator::put_image`: header, entries, labels 0 and 1, the other labels, rows, each where the one before ends.
+use mathlib.Core.Path.{_≡_, _∙_}
+use lib.ListN.{length}
 use Rattle.translator.proofs.LabelSteps.{few-numbered}
 use Rattle.translator.proofs.ImageSteps.{labels-long, rows-long, image-done}
 use native.Mathlib.Omega.{arith}
@@ -6,6 +8,28 @@ use borrow.Author.Needs.{needs}
 use Rattle.translator.proofs.table.put_image.Statement.{statement}
 use Rattle.translator.proofs.table.put_image.Tie as tie
 
+-- ---- the stages, named by what was put last
+abbrev start : tie.After-put-header → tie.Start
+start c = c .before .before .before .before .before
+
+abbrev header : tie.After-put-entries → tie.After-put-header
+header c = c .before .before .before .before
+
+abbrev entries : tie.After-put-fixed → tie.After-put-entries
+entries c = c .before .before .before .before
+
+abbrev fixed : tie.After-put-labels → tie.After-put-fixed
+fixed c = c .before .before .before .before
+
+abbrev begun : tie.After-put-fixed → tie.Start
+begun c = start (header (entries c))
+
+-- the buffer keeps its length
+long : (c : tie.After-put-fixed) → length (c .put-fixed .last .0) ≡ length (begun c .args .out .now)
+long c =
+    c .put-fixed .kept .0 ∙ entries c .put-entries .kept .1 .1 .1 .0 ∙ header (entries c) .put-header .kept .0
+
+-- ---- the needs
 add-put-header : tie.Need-add-put-header
 add-put-header c = search needs
 
@@ -20,9 +44,9 @@ put-header-requires c κs = search needs
 
 put-entries-requires : tie.Need-put-entries-requires
 put-entries-requires c κs =
-    let header = c .before .before .before in
-    let asked = header .before .before .before .before .before .pre in
-    (record { chart = asked .chart; schemed = asked .sizes .schemed }, omega (arith, asked .room, header .put-header .kept .0))
+    let put = c .before .before .before in
+    let asked = start put .pre in
+    (record { chart = asked .chart; schemed = asked .sizes .schemed }, omega (arith, asked .room, put .put-header .kept .0))
 
 mul-fixed : tie.Need-mul-fixed
 mul-fixed c = search needs
@@ -38,15 +62,9 @@ add-first c = search needs
 
 put-labels-requires : tie.Need-put-labels-requires
 put-labels-requires c κs =
-    let fixed = c .before .before .before in
-    let entries = fixed .before .before .before .before in
-    let header = entries .before .before .before .before in
-    let start = header .before .before .before .before .before in
-    let k₁ = header .put-header .kept .0 in
-    let k₂ = entries .put-entries .kept .1 .1 .1 .0 in
-    let k₃ = fixed .put-fixed .kept .0 in
-    let asked = start .pre in
-    (asked .chart, omega (arith, labels-long (start .args .records .now), asked .sizes .owned, asked .room, k₁, k₂, k₃))
+    let put = c .before .before .before in
+    let asked = begun put .pre in
+    (asked .chart, omega (arith, labels-long (begun put .args .records .now), asked .sizes .owned, asked .room, long put))
 
 mul-put-rows : tie.Need-mul-put-rows
 mul-put-rows c = search needs
@@ -56,31 +74,31 @@ add-put-rows c = search needs
 
 put-rows-requires : tie.Need-put-rows-requires
 put-rows-requires c κs =
-    let labels = c .before .before .before in
-    let fixed = labels .before .before .before .before in
-    let entries = fixed .before .before .before .before in
-    let header = entries .before .before .before .before in
-    let start = header .before .before .before .before .before in
-    let k₁ = header .put-header .kept .0 in
-    let k₂ = entries .put-entries .kept .1 .1 .1 .0 in
-    let k₃ = fixed .put-fixed .kept .0 in
-    let k₄ = labels .put-labels .kept .1 .1 .0 in
-    let asked = start .pre in
-    (asked .chart, omega (arith, rows-long (start .args .records .now), asked .sizes .rowed, asked .room, k₁, k₂, k₃, k₄))
+    let put = c .before .before .before in
+    let here = fixed put in
+    let asked = begun here .pre in (
+      asked .chart,
+      omega (
+        arith,
+        rows-long (begun here .args .records .now),
+        asked .sizes .rowed,
+        asked .room,
+        long here,
+        put .put-labels .kept .1 .1 .0,
+      ),
+    )
 
 same-length : tie.Need-same-length
 same-length c = search needs
 
 returns : tie.Need-returns
 returns c =
-    let rows = c .before .before in
-    let labels = rows .before .before .before .before in
-    let fixed = labels .before .before .before .before in
-    let entries = fixed .before .before .before .before in
-    let header = entries .before .before .before .before in
-    let asked = header .before .before .before .before .before .pre in
-    image-done _ _ _ _ (asked .sizes) _ _ _ _ _ _ (asked .room) (header .put-header .ensures) (entries .put-entries .ensures) (fixed .put-fixed .ensures)
-    (labels .put-labels .ensures) (rows .put-rows .ensures)
+    let put = c .before .before in
+    let labels = put .before .before .before .before in
+    let fixes = fixed labels in
+    let asked = begun fixes .pre in
+    image-done _ _ _ _ (asked .sizes) _ _ _ _ _ _ (asked .room) (header (entries fixes) .put-header .ensures)
+    (entries fixes .put-entries .ensures) (fixes .put-fixed .ensures) (labels .put-labels .ensures) (put .put-rows .ensures)
 
 pub put-image-spec : {M : Type 1} → statement M
 put-image-spec =
