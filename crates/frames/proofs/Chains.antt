@@ -42,6 +42,10 @@ module _ (v : Verdict) (rest : Unit {0} → Verdict) where
 pub judged-refused : (v : Verdict) (k i n : ℕ) → v ≡ refused k i → refusal k i 0 ≡ judged v n
 judged-refused v k i n e = sym (ap (λ w. judged w n) e)
 
+-- the same through the function that makes a refusal
+pub refused-judged : (a : Answer) (v : Verdict) (k i n : ℕ) → a ≡ Refused k i 0 → v ≡ refused k i → reply a ≡ judged v n
+refused-judged a v k i n e q = ap reply e ∙ judged-refused v k i n q
+
 pub judged-fine : (v : Verdict) (n : ℕ) → v ≡ fine → success n ≡ judged v n
 judged-fine v n e = sym (ap (λ w. judged w n) e)
 

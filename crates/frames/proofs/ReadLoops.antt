@@ -11,7 +11,7 @@ use lib.ListN.{length, getD, set, take, drop, length-append, length-take}
 use lib.Seq.{take-append-le, take-take, drop-at, length-take-le}
 use Rattle.lists.specs.Pick.{pick}
 use Rattle.lists.specs.Numbers.{any, sum, range, lowest}
-use Rattle.lists.specs.Sequences.{concatMap, over, written}
+use Rattle.lists.specs.Sequences.{concatMap, written}
 use Rattle.lists.proofs.Tests.{cases, yes-pick, no-pick}
 use Rattle.lists.proofs.Searches.{lowest-here, lowest-on, lowest-over}
 use Rattle.lists.proofs.Joins.{concat-cons}
@@ -21,6 +21,8 @@ use Rattle.frames.specs.Digit.{digitOf}
 use Rattle.frames.specs.Frame.{byteAt}
 use Rattle.frames.specs.Check.{badForm, badSum}
 use Rattle.frames.specs.Read.{badPair, storedOf}
+use Rattle.frames.specs.Reads.{FrameRead, FramesRead}
+use Rattle.frames.specs.declared.Faults.{Faults}
 use Rattle.frames.proofs.FrameLoops.{sum-turn}
 
 -- ---- one frame
@@ -152,17 +154,17 @@ frames-none t out₀ n =
     }
 
 module _ (t out₀ out : List ℕ) (n f bad wrong : ℕ) (done : Frames t out₀ out n f bad wrong) where
-  pub frames-turn : (out′ : List ℕ) (a b : Bool) (bad′ wrong′ : ℕ) → 10 * n ≤ length out₀ → 0 < f → a ≡ badForm t (f - 1) → b ≡ badSum t (f - 1)
-      → length out′ ≡ length out → out′ ≡ written out (10 * (f - 1)) (storedOf t (f - 1))
-      → bad′ ≡ pick a (f - 1) bad → wrong′ ≡ pick b (f - 1) wrong → Frames t out₀ out′ n (f - 1) bad′ wrong′
-  frames-turn out′ a b bad′ wrong′ room some p q s e x y =
+  pub frames-turn : (out′ : List ℕ) (r : Faults) (bad′ wrong′ : ℕ) → 10 * n ≤ length out₀ → 0 < f
+      → FrameRead t (f - 1) out r out′ → length out′ ≡ length out
+      → bad′ ≡ pick (r .form) (f - 1) bad → wrong′ ≡ pick (r .sum) (f - 1) wrong → Frames t out₀ out′ n (f - 1) bad′ wrong′
+  frames-turn out′ r bad′ wrong′ room some read s x y =
       let place : 10 * f ≡ 10 * (f - 1) + length (storedOf t (f - 1)) = omega arith in
       record {
         low = omega (arith, done .low);
-        form = x ∙ ap (λ (c : Bool). pick c (f - 1) bad) p ∙ lowest-before (badForm t) n f bad some (done .low) (done .form);
-        sum = y ∙ ap (λ (c : Bool). pick c (f - 1) wrong) q ∙ lowest-before (badSum t) n f wrong some (done .low) (done .sum);
+        form = x ∙ ap (λ (c : Bool). pick c (f - 1) bad) (read .form) ∙ lowest-before (badForm t) n f bad some (done .low) (done .form);
+        sum = y ∙ ap (λ (c : Bool). pick c (f - 1) wrong) (read .sum) ∙ lowest-before (badSum t) n f wrong some (done .low) (done .sum);
         size = s ∙ done .size;
-        buffer = e ∙ ap (λ (o : List ℕ). written o (10 * (f - 1)) (storedOf t (f - 1))) (done .buffer)
+        buffer = read .buffer ∙ ap (λ (o : List ℕ). written o (10 * (f - 1)) (storedOf t (f - 1))) (done .buffer)
             ∙ written-before out₀ (10 * (f - 1)) (storedOf t (f - 1)) (concatMap (storedOf t) (range f (n - f))) (10 * f) place (omega (arith, done .low))
             ∙ ap (written out₀ (10 * (f - 1))) (sym (stored-before t n f some (done .low)));
       }
@@ -174,12 +176,10 @@ module _ (t out₀ out : List ℕ) (n f bad wrong : ℕ) (done : Frames t out₀
     whole : {A : Type 0} (g : ℕ → ℕ → A) → g f (n - f) ≡ g 0 n
     whole g = ap (λ (j : ℕ). g j (n - j)) first ∙ ap (g 0) (sub-zero n)
 
-    pub frames-form : bad ≡ lowest (badForm t) 0 n
-    frames-form = done .form ∙ whole (lowest (badForm t))
-
-    pub frames-sum : wrong ≡ lowest (badSum t) 0 n
-    frames-sum = done .sum ∙ whole (lowest (badSum t))
-
-    pub frames-buffer : out ≡ over (concatMap (storedOf t) (range 0 n)) out₀
-    frames-buffer =
-        done .buffer ∙ whole (λ i m. written out₀ (10 * i) (concatMap (storedOf t) (range i m))) ∙ written-front out₀ (concatMap (storedOf t) (range 0 n))
+    pub frames-all : FramesRead t n out₀ (record { form = bad; sum = wrong }) out
+    frames-all = record {
+      form = done .form ∙ whole (lowest (badForm t));
+      sum = done .sum ∙ whole (lowest (badSum t));
+      buffer = done .buffer ∙ whole (λ i m. written out₀ (10 * i) (concatMap (storedOf t) (range i m)))
+          ∙ written-front out₀ (concatMap (storedOf t) (range 0 n));
+    }

@@ -4,3 +4,4 @@ pub mod Verdict
 pub mod Check
 pub mod Read
 pub mod Answer
+pub mod Reads

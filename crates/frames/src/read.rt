@@ -6,22 +6,22 @@ use crate::Lowest;
 use crate::characters::digit;
 use crate::characters::digit_table;
 use crate::check::bad_length;
+use crate::refused;
 ghost use mathlib.Core.Path.{_≡_};
-ghost use Prim.Native.Nat.{_+_, _*_, _≤_, _<_};
+ghost use Prim.Native.Nat.{_+_, _*_, _≤_};
 ghost use lib.ListN.{length};
-ghost use Rattle.lists.specs.Numbers.{range, lowest};
-ghost use Rattle.lists.specs.Sequences.{concatMap, over, written};
 ghost use Rattle.frames.specs.Digit.{digitTable};
 ghost use Rattle.frames.specs.Frame.{frameCount};
-ghost use Rattle.frames.specs.Check.{badForm, badSum, textVerdict};
-ghost use Rattle.frames.specs.Read.{byteFrom, badPair, storedOf, readInto};
+ghost use Rattle.frames.specs.Check.{textVerdict};
+ghost use Rattle.frames.specs.Read.{readInto};
+ghost use Rattle.frames.specs.Reads.{ByteRead, FrameAsked, FrameRead, FramesRead};
 ghost use Rattle.frames.specs.Answer.{reply, judged};
 
 // The byte of the two characters from an offset on.
 fn byte_at(digits: &[u8], text: &[u8], at: usize) -> Byte
     requires { ⌜ now digits ≡ digitTable ⌝ }
     requires { ⌜ at + 2 ≤ length (now text) ⌝ }
-    ensures { λ r. ⌜ (r .value ≡ byteFrom (now (text .entry)) at) × (r .form ≡ badPair (now (text .entry)) at) ⌝ }
+    ensures { λ r. ⌜ ByteRead (now (text .entry)) at r ⌝ }
 {
     let high = digit(digits, text[at]);
     let low = digit(digits, text[at + 1]);
@@ -33,10 +33,8 @@ fn byte_at(digits: &[u8], text: &[u8], at: usize) -> Byte
 
 // Frame f: its eleven bytes and its line feed looked at, the first ten stored.
 fn read_frame(digits: &[u8], text: &[u8], f: usize, out: &mut [u8]) -> Faults
-    requires { ⌜ now digits ≡ digitTable ⌝ }
-    requires { ⌜ 23 * f + 23 ≤ length (now text) ⌝ }
-    requires { ⌜ 10 * f + 10 ≤ length (now out) ⌝ }
-    ensures { λ r. ⌜ (r .form ≡ badForm (now (text .entry)) f) × (r .sum ≡ badSum (now (text .entry)) f) × (now (out .exit) ≡ written (now (out .entry)) (10 * f) (storedOf (now (text .entry)) f)) ⌝ }
+    requires { ⌜ FrameAsked (now digits) (now text) f (now out) ⌝ }
+    ensures { λ r. ⌜ FrameRead (now (text .entry)) f (now (out .entry)) r (now (out .exit)) ⌝ }
 {
     let from = 23 * f;
     let to = 10 * f;
@@ -63,7 +61,7 @@ fn read_frame(digits: &[u8], text: &[u8], f: usize, out: &mut [u8]) -> Faults
 fn read_frames(text: &[u8], n: usize, out: &mut [u8]) -> Lowest
     requires { ⌜ 23 * n ≤ length (now text) ⌝ }
     requires { ⌜ 10 * n ≤ length (now out) ⌝ }
-    ensures { λ r. ⌜ (r .form ≡ lowest (badForm (now (text .entry))) 0 n) × (r .sum ≡ lowest (badSum (now (text .entry))) 0 n) × (now (out .exit) ≡ over (concatMap (storedOf (now (text .entry))) (range 0 n)) (now (out .entry))) ⌝ }
+    ensures { λ r. ⌜ FramesRead (now (text .entry)) n (now (out .entry)) r (now (out .exit)) ⌝ }
 {
     let digits = digit_table();
     let mut form = n;
@@ -86,32 +84,21 @@ fn read_frames(text: &[u8], n: usize, out: &mut [u8]) -> Lowest
 // No entry point: the caller lends scratch space, which 2 and 3 leave changed.
 pub fn read_text(text: &[u8], most: usize, out: &mut [u8]) -> Answer
     requires { ⌜ 10 * most ≤ 23 * length (now out) ⌝ }
-    ensures { λ r. ⌜ (reply r ≡ judged (textVerdict most (now (text .entry))) (frameCount (now (text .entry)))) × (now (out .exit) ≡ readInto most (now (text .entry)) (now (out .entry))) ⌝ }
+    ensures { λ r. ⌜ reply r ≡ judged (textVerdict most (now (text .entry))) (frameCount (now (text .entry))) ⌝ }
+    ensures { λ _. ⌜ now (out .exit) ≡ readInto most (now (text .entry)) (now (out .entry)) ⌝ }
 {
     if bad_length(23, most, text.len()) {
-        return Answer::Refused {
-            number: 1,
-            index: 0,
-            count: 0,
-        };
+        return refused(1, 0);
     }
     let frames = text.len() / 23;
     let found = read_frames(text, frames, out);
     let form = found.form;
     if form < frames {
-        return Answer::Refused {
-            number: 2,
-            index: form,
-            count: 0,
-        };
+        return refused(2, form);
     }
     let sum = found.sum;
     if sum < frames {
-        return Answer::Refused {
-            number: 3,
-            index: sum,
-            count: 0,
-        };
+        return refused(3, sum);
     }
     Answer::Done(frames)
 }

@@ -35,7 +35,10 @@ add-t13 : tie.Need-add-t13
 add-t13 c = search needs
 
 returns : tie.Need-returns
-returns c = (ap₂ (λ (a b : ℕ). 16 * a + b) (c .before .before .digit .ensures) (c .digit2 .ensures), ap₂ (λ (a b : ℕ). leb 16 a || leb 16 b) (c .before .before .digit .ensures) (c .digit2 .ensures))
+returns c =
+    let high = c .before .before .digit .ensures in
+    let low = c .digit2 .ensures in
+    record { value = ap₂ (λ (a b : ℕ). 16 * a + b) high low; form = ap₂ (λ (a b : ℕ). leb 16 a || leb 16 b) high low }
 
 pub byte-at-spec : {M : Type 1} → statement M
 byte-at-spec =

@@ -51,7 +51,10 @@ loop-less : tie.Need-loop-less Inv-loop μ-loop
 loop-less c = search needs
 
 loop-again : tie.Need-loop-again Inv-loop μ-loop
-loop-again c = bytes-turn _ _ _ _ _ _ _ (c .before .before .before .before .before .loop .inv) _ _ (search needs) (search needs) (search needs) (c .before .before .before .byte-at .ensures .0) (c .before .before .before .byte-at .ensures .1)
+loop-again c =
+    let byte = c .before .before .before in
+    bytes-turn _ _ _ _ _ _ _ (byte .before .before .loop .inv) _ _ (search needs) (search needs) (search needs)
+    (byte .byte-at .ensures .value) (byte .byte-at .ensures .form)
 
 add-byte-at-2 : tie.Need-add-byte-at-2 Inv-loop μ-loop
 add-byte-at-2 c = search needs
@@ -76,11 +79,13 @@ same-length c = search needs
 
 returns : tie.Need-returns Inv-loop μ-loop
 returns c =
-    let done = c .before .before .before .before .before .loop .inv in (
-      form-end _ _ _ _ _ _ _ done (search needs) _ (c .before .before .before .byte-at2 .ensures .1),
-      sum-end _ _ _ _ _ _ _ done (search needs) _ (c .before .before .before .byte-at2 .ensures .0),
-      stored-end _ _ _ _ _ _ _ done (search needs),
-    )
+    let last = c .before .before .before in
+    let done = last .before .before .loop .inv in
+    record {
+      form = form-end _ _ _ _ _ _ _ done (search needs) _ (last .byte-at2 .ensures .form);
+      sum = sum-end _ _ _ _ _ _ _ done (search needs) _ (last .byte-at2 .ensures .value);
+      buffer = stored-end _ _ _ _ _ _ _ done (search needs);
+    }
 
 pub read-frame-spec : {M : Type 1} → statement M
 read-frame-spec =

@@ -1,10 +1,12 @@
 -- `frames::read::read_frames` meets its contract: what is known of the frames from f on is known of all.
 use mathlib.Core.Path.{_≡_, sym, _∙_}
 use mathlib.Core.Logic.{⊎-elim}
+use Prim.Native.Nat.{_-_}
 use borrow.Author.Needs.{needs}
+use Rattle.lists.specs.Pick.{pick}
 use Rattle.lists.proofs.Tests.{yes-pick, no-pick}
 use Rattle.frames.specs.Digit.{digitTable}
-use Rattle.frames.proofs.ReadLoops.{Frames, frames-none, frames-turn, frames-form, frames-sum, frames-buffer}
+use Rattle.frames.proofs.ReadLoops.{Frames, frames-none, frames-turn, frames-all}
 use Rattle.frames.proofs.read.read_frames.Statement.{statement}
 use Rattle.frames.proofs.read.read_frames.Tie as tie
 
@@ -13,6 +15,20 @@ Inv-loop text n out₀ digits form₀ sum₀ f₀ out form sum f = (digits ≡ d
 
 abbrev μ-loop : tie.MeasureT-loop
 μ-loop text n out₀ digits form₀ sum₀ f₀ out form sum f = f
+
+-- ---- what holds at the stages
+abbrev At : (tie.InvT-loop → tie.MeasureT-loop → Type 0) → Type 0
+At stage = stage Inv-loop μ-loop
+
+-- the first test follows a frame that was read, in a turn of the loop
+abbrev read : At tie.Joined1 → At tie.After-read-frame
+read c = c .before .before .before
+
+abbrev turn : At tie.Joined1 → At tie.At-loop
+turn c = read c .before .before .before .before
+
+form-set : (c : At tie.Joined1) → c .if1 .form ≡ pick (read c .read-frame .result .form) (turn c .loop .f - 1) (turn c .loop .form)
+form-set c = ⊎-elim (λ w. w .1 ∙ sym (yes-pick _ _ _ (w .0 .taken))) (λ w. w .1 ∙ sym (no-pick _ _ _ (w .0 .left))) (c .if1 .came)
 
 digit-table-requires : tie.Need-digit-table-requires Inv-loop μ-loop
 digit-table-requires c κs = search needs
@@ -33,31 +49,31 @@ loop-less : tie.Need-loop-less Inv-loop μ-loop
 loop-less c = search needs
 
 loop-again : tie.Need-loop-again Inv-loop μ-loop
-loop-again c = (
-  c .before .before .before .before .before .before .before .before .loop .inv .0,
-  frames-turn _ _ _ _ _ _ _ (c .before .before .before .before .before .before .before .before .loop .inv .1) _ (c .before .before .before .before .read-frame .result .form) (c .before .before .before .before .read-frame .result .sum) _ _ (search needs) (search needs) (c .before .before .before .before .read-frame .ensures .0) (c .before .before .before .before .read-frame .ensures .1) (c .before .before .before .before .read-frame .kept .1 .1 .1 .0) (c .before .before .before .before .read-frame .ensures .2)
-      (⊎-elim (λ w. w .1 ∙ sym (yes-pick _ _ _ (w .0 .taken))) (λ w. w .1 ∙ sym (no-pick _ _ _ (w .0 .left))) (c .before .if1 .came))
-      (sym (yes-pick _ _ _ (c .if2 .taken))),
-)
+loop-again c =
+    let faults = read (c .before) .read-frame in
+    let done = turn (c .before) .loop .inv in (
+      done .0,
+      frames-turn _ _ _ _ _ _ _ (done .1) _ _ _ _ (search needs) (search needs) (faults .ensures) (faults .kept .1 .1 .1 .0)
+          (form-set (c .before)) (sym (yes-pick _ _ _ (c .if2 .taken))),
+    )
 
 loop-less-2 : tie.Need-loop-less-2 Inv-loop μ-loop
 loop-less-2 c = search needs
 
 loop-again-2 : tie.Need-loop-again-2 Inv-loop μ-loop
-loop-again-2 c = (
-  c .before .before .before .before .before .before .before .before .loop .inv .0,
-  frames-turn _ _ _ _ _ _ _ (c .before .before .before .before .before .before .before .before .loop .inv .1) _ (c .before .before .before .before .read-frame .result .form) (c .before .before .before .before .read-frame .result .sum) _ _ (search needs) (search needs) (c .before .before .before .before .read-frame .ensures .0) (c .before .before .before .before .read-frame .ensures .1) (c .before .before .before .before .read-frame .kept .1 .1 .1 .0) (c .before .before .before .before .read-frame .ensures .2)
-      (⊎-elim (λ w. w .1 ∙ sym (yes-pick _ _ _ (w .0 .taken))) (λ w. w .1 ∙ sym (no-pick _ _ _ (w .0 .left))) (c .before .if1 .came))
-      (sym (no-pick _ _ _ (c .if2 .left))),
-)
+loop-again-2 c =
+    let faults = read (c .before) .read-frame in
+    let done = turn (c .before) .loop .inv in (
+      done .0,
+      frames-turn _ _ _ _ _ _ _ (done .1) _ _ _ _ (search needs) (search needs) (faults .ensures) (faults .kept .1 .1 .1 .0)
+          (form-set (c .before)) (sym (no-pick _ _ _ (c .if2 .left))),
+    )
 
 same-length : tie.Need-same-length Inv-loop μ-loop
 same-length c = search needs
 
 returns : tie.Need-returns Inv-loop μ-loop
-returns c =
-    let done = c .before .loop .inv .1 in
-    (frames-form _ _ _ _ _ _ _ done (search needs), frames-sum _ _ _ _ _ _ _ done (search needs), frames-buffer _ _ _ _ _ _ _ done (search needs))
+returns c = frames-all _ _ _ _ _ _ _ (c .before .loop .inv .1) (search needs)
 
 pub read-frames-spec : {M : Type 1} → statement M
 read-frames-spec =

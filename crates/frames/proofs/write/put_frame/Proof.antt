@@ -1,8 +1,8 @@
 -- `frames::write::put_frame` meets its contract: the characters of the bytes passed stand in the buffer, and the sum is theirs.
-use Prim.Native.Nat.{_-_}
+use Prim.Native.Nat.{_-_, _<_}
 use mathlib.Core.Path.{_≡_}
 use native.Mathlib.Omega.{arith}
-use lib.ListN.{length-set}
+use lib.ListN.{getD, length-set}
 use borrow.Author.Needs.{needs}
 use Rattle.frames.specs.Digit.{characterTable}
 use Rattle.frames.proofs.FrameLoops.{Digits, digits-none, digits-turn, digits-end}
@@ -15,6 +15,24 @@ Inv-loop out₀ at bytes characters sum₀ k₀ out sum k = (characters ≡ char
 abbrev μ-loop : tie.MeasureT-loop
 μ-loop out₀ at bytes characters sum₀ k₀ out sum k = 10 - k
 
+-- ---- what holds at the stages
+abbrev At : (tie.InvT-loop → tie.MeasureT-loop → Type 0) → Type 0
+At stage = stage Inv-loop μ-loop
+
+-- a byte is read, and put
+abbrev read : At tie.After-put-byte → At tie.After-shared-slice-known2
+read c = c .before .before .before
+
+abbrev turn : At tie.After-put-byte → At tie.At-loop
+turn c = read c .before .before
+
+abbrev start : At tie.At-loop → At tie.Start
+start c = c .before .before .before .before
+
+small : (c : At tie.After-put-byte) → getD (start (turn c) .args .bytes .now) (turn c .loop .k) 0 < 256
+small c = omega (arith, read c .shared-slice-known2 .given (turn c .loop .k))
+
+-- ---- the needs
 character-table-requires : tie.Need-character-table-requires Inv-loop μ-loop
 character-table-requires c κs = search needs
 
@@ -37,10 +55,10 @@ put-byte-requires : tie.Need-put-byte-requires Inv-loop μ-loop
 put-byte-requires c κs = search needs
 
 cast-sum : tie.Need-cast-sum Inv-loop μ-loop
-cast-sum c = omega (arith, c .before .before .before .before .before .shared-slice-known2 .given (c .before .before .before .before .before .before .before .loop .k))
+cast-sum c = omega (arith, small (c .before .before))
 
 add-sum : tie.Need-add-sum Inv-loop μ-loop
-add-sum c = omega (arith, c .before .before .before .before .before .shared-slice-known2 .given (c .before .before .before .before .before .before .before .loop .k))
+add-sum c = omega (arith, small (c .before .before))
 
 add-k : tie.Need-add-k Inv-loop μ-loop
 add-k c = search needs
@@ -50,12 +68,9 @@ loop-less c = search needs
 
 loop-again : tie.Need-loop-again Inv-loop μ-loop
 loop-again c =
-    let before = c .before .before .before .before .before .before .before .loop .inv in (
-      before .0,
-      digits-turn _ _ _ _ _ _ _ (search needs) (before .1) (search needs)
-          (omega (arith, c .before .before .before .before .before .shared-slice-known2 .given (c .before .before .before .before .before .before .before .loop .k)))
-          (c .before .before .put-byte .kept .1 .0) (c .before .before .put-byte .ensures),
-    )
+    let put = c .before .before in
+    let before = turn put .loop .inv in
+    (before .0, digits-turn _ _ _ _ _ _ _ (search needs) (before .1) (search needs) (small put) (put .put-byte .kept .1 .0) (put .put-byte .ensures))
 
 slice-aggregate-put-byte-2 : tie.Need-slice-aggregate-put-byte-2 Inv-loop μ-loop
 slice-aggregate-put-byte-2 c = search needs
@@ -82,7 +97,10 @@ same-length : tie.Need-same-length Inv-loop μ-loop
 same-length c = simp length-set (omega (arith, c .before .before .put-byte2 .kept .1 .0))
 
 returns : tie.Need-returns Inv-loop μ-loop
-returns c = digits-end _ _ _ _ _ _ _ (search needs) (c .before .before .before .before .before .before .loop .inv .1) (search needs) (search needs) (c .before .before .put-byte2 .ensures)
+returns c =
+    let last = c .before .before in
+    let done = last .before .before .before .before .loop .inv .1 in
+    digits-end _ _ _ _ _ _ _ (search needs) done (search needs) (search needs) (last .put-byte2 .ensures)
 
 pub put-frame-spec : {M : Type 1} → statement M
 put-frame-spec =

@@ -49,7 +49,10 @@ loop-less : tie.Need-loop-less Inv-loop μ-loop
 loop-less c = search needs
 
 loop-again : tie.Need-loop-again Inv-loop μ-loop
-loop-again c = text-turn _ _ _ _ _ _ (c .before .before .before .before .before .before .loop .inv) _ (search needs) refl (search needs) (c .before .before .put-frame .kept .0) (c .before .before .put-frame .ensures)
+loop-again c =
+    let put = c .before .before in
+    let done = put .before .before .before .before .loop .inv in
+    text-turn _ _ _ _ _ _ done _ (search needs) refl (search needs) (put .put-frame .kept .0) (put .put-frame .ensures)
 
 same-length : tie.Need-same-length Inv-loop μ-loop
 same-length c = search needs
