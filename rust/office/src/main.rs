@@ -71,21 +71,14 @@ fn main() -> ExitCode {
     let arguments: Vec<String> =
         env::args_os().skip(1).map(|word| word.to_string_lossy().into_owned()).collect();
     let mut out = io::stdout().lock();
-    match run(&arguments, &mut out).and_then(|()| Ok(out.flush()?)) {
-        Ok(()) => ExitCode::SUCCESS,
+    let Err(failure) = run(&arguments, &mut out).and_then(|()| Ok(out.flush()?)) else {
+        return ExitCode::SUCCESS;
+    };
+    match failure {
         // Whoever read the output has enough of it.
-        Err(Failure::Output(error)) if error.kind() == ErrorKind::BrokenPipe => ExitCode::SUCCESS,
-        Err(Failure::Output(error)) => {
-            eprintln!("fairleadow: {error}");
-            ExitCode::FAILURE
-        }
-        Err(Failure::Usage(why)) => {
-            eprintln!("{}", why.trim_end());
-            ExitCode::from(2)
-        }
-        Err(Failure::Refused(why)) => {
-            eprintln!("{why}");
-            ExitCode::FAILURE
-        }
+        Failure::Output(error) if error.kind() == ErrorKind::BrokenPipe => return ExitCode::SUCCESS,
+        // Where standard error cannot be written either, the status is all that is left to tell.
+        _ => drop(io::stderr().write_all(format!("{}\n", failure.to_string().trim_end()).as_bytes())),
     }
+    ExitCode::from(if matches!(failure, Failure::Usage(_)) { 2 } else { 1 })
 }

@@ -159,6 +159,21 @@ fn compose_tells_what_is_no_notation() {
     assert!(told.starts_with("standard input: there is no node in it\n  refusal 1: "), "{told}");
 }
 
+/// A device that takes nothing: the output is told to be lost, and what cannot be told leaves its status.
+#[test]
+fn a_full_device_is_told_and_keeps_the_status() {
+    let full = || Stdio::from(fs::File::options().write(true).open("/dev/full").expect("a device"));
+    let program = || Command::new(env!("CARGO_BIN_EXE_fairleadow"));
+    let ran = program().args(["show", &path("paper.chart")]).stdout(full()).output().expect("it ends");
+    let told = String::from_utf8(ran.stderr).expect("text");
+    assert!(told.starts_with("the output cannot be written: No space left on device"), "{told}");
+    assert_eq!(ran.status.code(), Some(1));
+    for (arguments, status) in [(vec!["check", "no/such.chart"], 1), (vec!["chekc"], 2), (vec!["show"], 2)] {
+        let ran = program().args(&arguments).stderr(full()).output().expect("it ends");
+        assert_eq!(ran.status.code(), Some(status), "{arguments:?}");
+    }
+}
+
 /// A reader that has enough is no fault.
 #[test]
 fn a_closed_pipe_is_no_fault() {
