@@ -25,7 +25,7 @@ impl Source {
     pub fn problem(&self, answer: Answer) -> Problem {
         match &self.notation {
             Some(notation) => notation.problem(answer),
-            None => explain::refusal(&self.text, answer),
+            None => explain::refusal(&self.text, Kind::Chart, answer),
         }
     }
 }

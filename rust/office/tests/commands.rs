@@ -141,6 +141,14 @@ fn show_tells_what_is_refused() {
         fairleadow(&["show", "-"], file("paper.chart").replace('\n', "\r\n").as_bytes());
     assert_eq!((status, out.as_str()), (1, ""));
     assert!(told.starts_with("standard input: line 1 ends with a carriage return, and so do 6 more\n"));
+    let image = "10010000000000000000EF\n".repeat(1_024);
+    let (status, _, told) = fairleadow(&["show", "-"], format!("0F010100000000000000EF\n{image}").as_bytes());
+    assert_eq!(status, 1);
+    assert!(
+        told.starts_with("standard input: the file has 1,025 lines, and a chart has at most 256\n"),
+        "{told}"
+    );
+    assert!(told.ends_with("  look for: an image in place of a chart\n"), "{told}");
     let (status, _, told) = fairleadow(&["show", &path("paper.image")], b"");
     assert_eq!(status, 1);
     assert!(told.contains("0F, 10, 11 and 12 begin the lines of an image, not of a chart"), "{told}");

@@ -358,7 +358,8 @@ fn refusal_13_an_image_field() {
 #[test]
 fn refusals_14_to_18() {
     use fairleadow::{Answer, Library, Proved, State};
-    let told = |answer: Answer| office::explain::refusal(IMAGE.as_bytes(), answer).words;
+    use office::kind::Kind;
+    let told = |answer: Answer| office::explain::refusal(IMAGE.as_bytes(), Kind::Image, answer).words;
     assert_eq!(told(Proved.fresh(33).0), "a stack has 1 to 32 places");
     let run = |image: &str, state: &State, room: usize| {
         Proved.run(image.as_bytes(), state, &[0, 0, 1, 0], &mut vec![0; room], &mut vec![0; room]).0

@@ -23,15 +23,19 @@ pub fn length(text: &[u8], kind: Kind, longest: usize) -> Option<Problem> {
         Some(at) if at < most || text.len() <= longest => {
             lines().nth(at).map(|line| broken_line(text, at + 1, line))
         }
-        _ if text.len() > longest => Some(too_long(kind, lines().count(), most)),
+        _ if text.len() > longest => Some(too_long(text, kind, lines().count(), most)),
         _ => None,
     }
 }
 
-fn too_long(kind: Kind, lines: usize, most: usize) -> Problem {
-    let (kind, most_lines) = (kind.named(), thousands(most));
-    let words = format!("the file has {}, and {kind} has at most {most_lines}", counted(lines, "line"));
-    Problem { line: Some(most + 1), ..Problem::new(words) }.advice("two charts in one file; the wrong file")
+fn too_long(text: &[u8], kind: Kind, lines: usize, most: usize) -> Problem {
+    let (named, most_lines) = (kind.named(), thousands(most));
+    let words = format!("the file has {}, and {named} has at most {most_lines}", counted(lines, "line"));
+    let advice = match Kind::of(text) {
+        Kind::Image if kind == Kind::Chart => "an image in place of a chart",
+        _ => "two texts in one file; the wrong file",
+    };
+    Problem { line: Some(most + 1), ..Problem::new(words) }.advice(advice)
 }
 
 /// The marks that some editors put before a text.
