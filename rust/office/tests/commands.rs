@@ -162,6 +162,15 @@ fn compose_tells_what_is_no_notation() {
         told.contains("paper.chart: this looks like a chart, not like the readable notation\n"),
         "{told}"
     );
+    let (status, _, told) = fairleadow(&["compose", "-"], b"Dear sirs,\n");
+    assert_eq!(status, 1);
+    assert!(told.starts_with("standard input: line 1, column 1: 'Dear', where one of: begin, "), "{told}");
+    let (status, _, told) = fairleadow(&["compose", "-"], b"\xFF\xFEs\0c\0h\0");
+    assert_eq!(status, 1);
+    assert!(
+        told.starts_with("standard input: line 1, column 1: byte FF is no character in UTF-8\n"),
+        "{told}"
+    );
     let (status, _, told) = fairleadow(&["compose", "-"], b"");
     assert_eq!(status, 1);
     assert!(told.starts_with("standard input: there is no node in it\n  refusal 1: "), "{told}");

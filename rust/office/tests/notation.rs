@@ -37,6 +37,22 @@ fn files_of_other_editors_are_read() {
 }
 
 #[test]
+fn a_chart_line_in_a_comment_is_a_comment() {
+    let text = format!("# 00010001000000000000FE\n{}", with("more: if wood then start else end"));
+    assert!(source::from_either(text.as_bytes()).expect("accepted").notation.is_some());
+}
+
+#[test]
+fn other_alphabets_are_read_in_utf_8_alone() {
+    let text = with("more: if wood then größer else end").replace("start", "größer");
+    assert_eq!(source::from_either(text.as_bytes()).expect("accepted").names.node(1), "größer");
+    let latin: Vec<u8> = text.chars().map(|letter| letter as u8).collect();
+    let problem = source::from_either(&latin).expect_err("another encoding");
+    assert_eq!(problem.words, "line 5, column 12: byte F6 is no character in UTF-8");
+    assert_eq!(problem.excerpt.as_deref(), Some("begin -> gr..er"));
+}
+
+#[test]
 fn names_are_the_shops() {
     let names = source::from_notation(&with("more: if wood then start else end")).expect("accepted").names;
     assert_eq!((names.condition(2), names.operation(0)), ("wood".into(), "spindle".into()));
