@@ -1,6 +1,7 @@
 //! What the commands that trace share: their arguments, the chart, and the trace that is asked for.
 
 use std::collections::BTreeMap;
+use std::fs;
 use std::path::Path;
 
 use fairleadow::PLACES;
@@ -91,6 +92,13 @@ impl Arguments {
             Some(name) if self.chart != "-" => name.to_string_lossy().into_owned(),
             _ => "standard input".to_string(),
         }
+    }
+
+    /// Whether a file is the chart or that of the words.
+    pub fn reads(&self, file: &str) -> bool {
+        let read = [self.chart.as_str(), self.words()];
+        fs::canonicalize(file)
+            .is_ok_and(|file| read.iter().any(|own| fs::canonicalize(own).is_ok_and(|own| own == file)))
     }
 
     /// A problem of the chart's file.
