@@ -164,7 +164,12 @@ fn compose_tells_what_is_no_notation() {
     );
     let (status, _, told) = fairleadow(&["compose", "-"], b"Dear sirs,\n");
     assert_eq!(status, 1);
-    assert!(told.starts_with("standard input: line 1, column 1: 'Dear', where one of: begin, "), "{told}");
+    assert!(
+        told.starts_with(
+            "standard input: line 1, column 1: 'Dear', where a name and a colon, or one of: begin, "
+        ),
+        "{told}"
+    );
     let (status, _, told) = fairleadow(&["compose", "-"], b"\xFF\xFEs\0c\0h\0");
     assert_eq!(status, 1);
     assert!(

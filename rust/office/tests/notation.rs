@@ -66,7 +66,8 @@ fn names_are_the_shops() {
 
 #[test]
 fn faults_of_a_line() {
-    let what = "where one of: begin, end, do, write, call, if, condition, output, scheme belongs";
+    let what = "where one of: begin, end, do, write, call, if belongs";
+    let first = "where a name and a colon, or one of: begin, end, condition, output, scheme, belongs";
     let cases = [
         ("more: if wod then start else end", "column 10: no condition is named 'wod'; 'wood' is near to it"),
         ("more: if wood then strat else end", "column 20: no node is named 'strat'; 'start' is near to it"),
@@ -95,8 +96,11 @@ fn faults_of_a_line() {
         ("if: do spindle -> end", "column 1: 'if', where a name belongs"),
         ("start: do spindle -> end", "column 1: 'start' is a node already (line 6)"),
         ("more: do spindle\u{1} -> end", "column 17: '\\u{1}', where '->' belongs"),
+        ("more: do spindle\u{200B} -> end", "column 17: '\\u{200b}', where '->' belongs"),
+        ("more: do spindle -> End", "column 21: no node is named 'End'; 'end' is near to it"),
+        ("more do spindle -> end", "column 6: 'do', where ':' belongs"),
         ("more: wait -> end", &format!("column 7: 'wait', {what}")),
-        ("more", &format!("column 1: 'more', {what}")),
+        ("more", &format!("column 1: 'more', {first}")),
         ("condition 16 start_key", "column 11: '16', where a number from 0 to 15 belongs"),
         ("condition wood = 2", "column 11: 'wood', where a number from 0 to 15 belongs"),
         ("condition 2 chips", "column 13: condition 2 is named 'wood' already (line 1)"),
@@ -117,6 +121,21 @@ fn faults_of_a_line() {
             (Some(9), Some(&*visible), None)
         );
     }
+}
+
+#[test]
+fn numbers_that_are_no_names_are_told_by_their_range() {
+    for (line, names) in [
+        ("more: do y32 -> end", "outputs without a name are y0 to y31"),
+        ("more: if x16 then end else end", "conditions without a name are x0 to x15"),
+        ("more: if x02 then end else end", "conditions without a name are x0 to x15"),
+        ("more: call s17 -> end", "schemes without a name are s1 to s16"),
+    ] {
+        let problem = source::from_notation(&with(line)).expect_err(line);
+        assert_eq!(&*problem.advice, format!("the {names}"));
+    }
+    let problem = source::from_notation(&with("more: do feed -> end")).expect_err("no such output");
+    assert_eq!(&*problem.advice, "a line such as 'output 2 feed'; without a name it is y2");
 }
 
 #[test]

@@ -1,5 +1,7 @@
 //! A line of the notation as words and signs, each with its column.
 
+use crate::problem::visible;
+
 /// A word or a sign and where it stands, counted from 1.
 #[derive(Clone, Debug, PartialEq, Eq)]
 pub struct Word {
@@ -28,11 +30,7 @@ impl Word {
 
     /// As it stands, or by its code where it cannot be seen.
     pub fn shown(&self) -> String {
-        if self.text.chars().any(char::is_control) {
-            self.text.escape_default().to_string()
-        } else {
-            self.text.clone()
-        }
+        visible(&self.text)
     }
 }
 
