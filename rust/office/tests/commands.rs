@@ -178,7 +178,10 @@ fn compose_tells_what_is_no_notation() {
     );
     let (status, _, told) = fairleadow(&["compose", "-"], b"");
     assert_eq!(status, 1);
-    assert!(told.starts_with("standard input: there is no node in it\n  refusal 1: "), "{told}");
+    assert!(
+        told.starts_with("standard input: there is no node in it\n  refusal 1: a chart has 1 to 256 nodes, "),
+        "{told}"
+    );
 }
 
 /// A device that takes nothing: the output is told to be lost, and what cannot be told leaves its status.

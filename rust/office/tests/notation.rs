@@ -161,7 +161,7 @@ fn refusals_in_the_notations_words() {
     );
     refused(
         "more: call shaping -> end",
-        "line 9 (node more): an operation calls scheme shaping, which nothing calls",
+        "line 9 (node more): an operation calls scheme shaping, which nothing may call",
     );
     refused(
         "more: if x0 then more else end",

@@ -206,10 +206,17 @@ fn refusal_7_a_call() {
     each(
         7,
         &[
-            (edited(CHART, 2, 5, "01"), "line 2, column 5: an operation calls scheme 1, which nothing calls"),
+            (
+                edited(CHART, 2, 5, "01"),
+                "line 2, column 5: an operation calls scheme 1, which nothing may call",
+            ),
             (
                 edited(CHART, 2, 5, "09"),
-                "line 2, column 5: an operation calls scheme 09, but the highest is scheme 2",
+                "line 2, column 5: an operation calls scheme 9, but the highest is scheme 2",
+            ),
+            (
+                edited(CHART, 2, 5, "11"),
+                "line 2, column 5: an operation calls scheme 17 (11), but the highest is scheme 2",
             ),
             (
                 edited(CHART, 7, 1, "04020005050000000000"),

@@ -207,6 +207,9 @@ fn refusals_of_the_library_end_it() {
         assert_eq!((ran.status, ran.printed.as_str()), (1, ""));
         assert!(ran.said.contains(&format!("\n  refusal {number}: ")), "{}", ran.said);
     }
+    let ran = run(&["trace", &chart, "--places", "33"]);
+    let told = "a stack of 33 places is asked for\n  refusal 14: a stack has 1 to 32 places\n";
+    assert!(ran.said.starts_with(&format!("{chart}: {told}")), "{}", ran.said);
     let ran = run(&["trace", "no/such.chart"]);
     assert_eq!(ran.status, 1);
     assert_eq!(ran.said, "no/such.chart: there is no such file\n");
