@@ -1,6 +1,7 @@
 //! Commands of the office program.
 
 use std::env;
+use std::ffi::OsString;
 use std::io::{self, ErrorKind, Write};
 use std::process::ExitCode;
 
@@ -67,11 +68,18 @@ fn run(arguments: &[String], out: &mut dyn Write) -> Result<(), Failure> {
     })
 }
 
+/// The arguments, which are text.
+fn arguments() -> Result<Vec<String>, Failure> {
+    let told = |word: OsString| {
+        Failure::Usage(format!("{} is not in UTF-8: give such a file as -, by <", word.to_string_lossy()))
+    };
+    env::args_os().skip(1).map(|word| word.into_string().map_err(told)).collect()
+}
+
 fn main() -> ExitCode {
-    let arguments: Vec<String> =
-        env::args_os().skip(1).map(|word| word.to_string_lossy().into_owned()).collect();
     let mut out = io::stdout().lock();
-    let Err(failure) = run(&arguments, &mut out).and_then(|()| Ok(out.flush()?)) else {
+    let done = arguments().and_then(|arguments| run(&arguments, &mut out)).and_then(|()| Ok(out.flush()?));
+    let Err(failure) = done else {
         return ExitCode::SUCCESS;
     };
     match failure {

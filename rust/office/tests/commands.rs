@@ -184,6 +184,17 @@ fn compose_tells_what_is_no_notation() {
     );
 }
 
+#[test]
+fn a_name_that_is_no_text_is_a_wrong_call() {
+    use std::os::unix::ffi::OsStrExt;
+    let name = std::ffi::OsStr::from_bytes(b"Fr\xE4ser.chart");
+    let ran =
+        Command::new(env!("CARGO_BIN_EXE_fairleadow")).arg("check").arg(name).output().expect("it ends");
+    assert_eq!(ran.status.code(), Some(2));
+    let told = String::from_utf8(ran.stderr).expect("text");
+    assert!(told.starts_with("Fr\u{FFFD}ser.chart is not in UTF-8"), "{told}");
+}
+
 /// A device that takes nothing: the output is told to be lost, and what cannot be told leaves its status.
 #[test]
 fn a_full_device_is_told_and_keeps_the_status() {
