@@ -6,6 +6,9 @@ use fairleadow::Refusal;
 
 use crate::explain::rules;
 
+/// What to look for where a carriage return stands by itself.
+pub const LONE_RETURNS: &str = "line ends that are carriage returns alone: save with line feeds";
+
 /// A refusal of the library in words, or a fault of a file that does not get as far as the library.
 #[derive(Clone, Debug, PartialEq, Eq)]
 pub struct Problem {

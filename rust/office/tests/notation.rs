@@ -143,6 +143,10 @@ fn faults_of_the_whole() {
     assert_eq!(told("begin -> end\n"), "line 1, column 1: a node belongs to a scheme, and none is named yet");
     assert_eq!(told("scheme 1\nbegin -> end\n"), "line 2, column 10: scheme 1 has no 'end' line");
     assert_eq!(told("# nothing\n"), "there is no node in it");
+    assert_eq!(
+        told("# Größen\rscheme 1\rbegin -> end\rend\r"),
+        "line 1, column 9: a carriage return within the line"
+    );
 }
 
 /// The library's refusals, by lines and names of the notation.

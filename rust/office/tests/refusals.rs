@@ -116,6 +116,9 @@ fn refusal_2_a_character() {
             (shifted, "line 2 has 21 characters, not 22"),
         ],
     );
+    let alone = checked(CHART.replace('\n', "\r").as_bytes()).expect_err("no line feed");
+    assert_eq!(alone.words, "line 1, column 23: a carriage return after the 22 digits");
+    assert!(alone.advice.contains("carriage returns alone"), "{alone}");
     let byte = "line 1, column 1: a character outside plain text, byte FF (only 0-9 and A-F)";
     assert_eq!(told([b"\xFF", &CHART.as_bytes()[1..]].concat()), (2, byte.to_string()));
 }

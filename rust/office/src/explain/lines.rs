@@ -3,7 +3,7 @@
 use fairleadow::LINE;
 
 use crate::kind::Kind;
-use crate::problem::{counted, thousands, Problem};
+use crate::problem::{counted, thousands, Problem, LONE_RETURNS};
 
 /// The digits of a line.
 const DIGITS: usize = LINE - 1;
@@ -118,8 +118,9 @@ pub fn character_of(text: &[u8], index: usize) -> Option<Problem> {
             carriage_return(text, number, column)
         }
         _ if at == DIGITS => {
+            let lost = "a digit too many in this line, or a line feed lost at its end";
             Problem::at(number, column, format!("{} after the {DIGITS} digits", character(byte)))
-                .advice("a digit too many in this line, or a line feed lost at its end")
+                .advice(if byte == b'\r' { LONE_RETURNS } else { lost })
         }
         _ => Problem::at(number, column, format!("{} (only 0-9 and A-F)", character(byte)))
             .advice(likely(byte)),
