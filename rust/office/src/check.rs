@@ -35,7 +35,7 @@ pub fn checked(bytes: &[u8]) -> Result<String, Problem> {
     if Kind::of(bytes) == Kind::Image {
         return match Proved.check_image(bytes) {
             Answer::Done(_) => Ok(explain::accepted(None, bytes)),
-            answer => Err(explain::refusal(bytes, answer)),
+            answer => Err(explain::refusal(bytes, Kind::Image, answer)),
         };
     }
     let source = source::from_either(bytes)?;

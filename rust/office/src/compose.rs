@@ -6,7 +6,7 @@ use fairleadow::{Answer, Library, Proved, RECORD, RECORDS};
 
 use crate::check::translated;
 use crate::command::{one_file, Failure};
-use crate::kind::Kind;
+use crate::kind::{has_digits, Kind};
 use crate::notation::Notation;
 use crate::problem::Problem;
 use crate::source;
@@ -23,13 +23,12 @@ pub fn compose(arguments: &[String], out: &mut dyn Write) -> Result<(), Failure>
 /// Chart lines that the library accepts and can translate.
 fn composed(bytes: &[u8]) -> Result<Vec<u8>, Problem> {
     let kind = Kind::of(bytes);
-    if kind != Kind::Notation && !bytes.is_empty() {
+    if has_digits(bytes) {
         let words = format!("this looks like {}, not like {}", kind.named(), Kind::Notation.named());
         return Err(Problem::new(words)
             .advice("the wrong file; `fairleadow show` turns chart lines into the notation"));
     }
-    let text = std::str::from_utf8(bytes).map_err(|_| Problem::new("this is no text"))?;
-    let source = source::from_notation(text)?;
+    let source = source::from_notation(source::text_of(bytes)?)?;
     translated(&source)?;
     Ok(source.text)
 }

@@ -30,11 +30,16 @@ impl Kind {
     }
 }
 
-/// Whether this could be a line of digits, damaged or not.
+/// Whether this could be a line of digits, damaged or not; in a comment of the notation one may stand.
 fn like_digits(line: &[u8]) -> bool {
     let line = line.trim_ascii();
     let digits = line.iter().filter(|byte| byte.is_ascii_hexdigit()).count();
-    line.len() >= 16 && digits * 10 >= line.len() * 9
+    line.len() >= 16 && digits * 10 >= line.len() * 9 && !line.starts_with(b"#")
+}
+
+/// Whether some line could be one of digits.
+pub fn has_digits(bytes: &[u8]) -> bool {
+    bytes.split(|byte| *byte == b'\n').any(like_digits)
 }
 
 /// Whether this line can only be notation: an arrow or one of the first words of its statements.
@@ -50,12 +55,10 @@ fn only_comments(text: &str) -> bool {
     lines.peek().is_some() && lines.all(|line| line.starts_with('#'))
 }
 
+/// Also where it is not in UTF-8, so that this is told.
 fn is_notation(bytes: &[u8]) -> bool {
-    let Ok(text) = std::str::from_utf8(bytes) else {
-        return false;
-    };
-    let digits = text.lines().any(|line| like_digits(line.as_bytes()));
-    !digits && (text.lines().any(like_notation) || only_comments(text))
+    let text = String::from_utf8_lossy(bytes);
+    !has_digits(bytes) && (text.lines().any(like_notation) || only_comments(&text))
 }
 
 /// By the first line's first byte; where that belongs to neither, by what most lines begin with.
@@ -89,6 +92,8 @@ mod tests {
         assert_eq!(Kind::of(b"\r\n scheme 1\r\nbegin -> end\r\nend\r\n"), Kind::Notation);
         assert_eq!(Kind::of(b"# nothing yet\n"), Kind::Notation);
         assert_eq!(Kind::of(b"cut: do spindle\n"), Kind::Notation);
+        assert_eq!(Kind::of(b"# 00010001000000000000FE\nscheme 1\n"), Kind::Notation);
+        assert_eq!(Kind::of(b"scheme 1 Fr\xE4sen\n"), Kind::Notation);
         assert_eq!(Kind::of(b"\xFF\xFEs\0c\0"), Kind::Chart);
     }
 }

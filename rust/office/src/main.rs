@@ -1,6 +1,7 @@
 //! Commands of the office program.
 
 use std::env;
+use std::ffi::OsString;
 use std::io::{self, ErrorKind, Write};
 use std::process::ExitCode;
 
@@ -35,7 +36,7 @@ fn help() -> String {
         let gap = if call.len() > 16 { format!("\n{:19}", "") } else { " ".repeat(17 - call.len()) };
         text.push_str(&format!("  {call}{gap}{}\n", command.help));
     }
-    text.push_str("\nA FILE holds chart lines or the readable notation; - is standard input.\n");
+    text.push_str("\nA FILE or CHART holds chart lines or the readable notation, for check also an image; - is standard input.\n");
     text.push_str(
         "`fairleadow COMMAND --help` tells of one command. Status 1 means refused, 2 a wrong call.\n",
     );
@@ -67,25 +68,25 @@ fn run(arguments: &[String], out: &mut dyn Write) -> Result<(), Failure> {
     })
 }
 
+/// The arguments, which are text.
+fn arguments() -> Result<Vec<String>, Failure> {
+    let told = |word: OsString| {
+        Failure::Usage(format!("{} is not in UTF-8: give such a file as -, by <", word.to_string_lossy()))
+    };
+    env::args_os().skip(1).map(|word| word.into_string().map_err(told)).collect()
+}
+
 fn main() -> ExitCode {
-    let arguments: Vec<String> =
-        env::args_os().skip(1).map(|word| word.to_string_lossy().into_owned()).collect();
     let mut out = io::stdout().lock();
-    match run(&arguments, &mut out).and_then(|()| Ok(out.flush()?)) {
-        Ok(()) => ExitCode::SUCCESS,
+    let done = arguments().and_then(|arguments| run(&arguments, &mut out)).and_then(|()| Ok(out.flush()?));
+    let Err(failure) = done else {
+        return ExitCode::SUCCESS;
+    };
+    match failure {
         // Whoever read the output has enough of it.
-        Err(Failure::Output(error)) if error.kind() == ErrorKind::BrokenPipe => ExitCode::SUCCESS,
-        Err(Failure::Output(error)) => {
-            eprintln!("fairleadow: {error}");
-            ExitCode::FAILURE
-        }
-        Err(Failure::Usage(why)) => {
-            eprintln!("{}", why.trim_end());
-            ExitCode::from(2)
-        }
-        Err(Failure::Refused(why)) => {
-            eprintln!("{why}");
-            ExitCode::FAILURE
-        }
+        Failure::Output(error) if error.kind() == ErrorKind::BrokenPipe => return ExitCode::SUCCESS,
+        // Where standard error cannot be written either, the status is all that is left to tell.
+        _ => drop(io::stderr().write_all(format!("{}\n", failure.to_string().trim_end()).as_bytes())),
     }
+    ExitCode::from(if matches!(failure, Failure::Usage(_)) { 2 } else { 1 })
 }

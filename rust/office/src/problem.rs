@@ -6,6 +6,9 @@ use fairleadow::Refusal;
 
 use crate::explain::rules;
 
+/// What to look for where a carriage return stands by itself.
+pub const LONE_RETURNS: &str = "line ends that are carriage returns alone: save with line feeds";
+
 /// A refusal of the library in words, or a fault of a file that does not get as far as the library.
 #[derive(Clone, Debug, PartialEq, Eq)]
 pub struct Problem {
@@ -74,6 +77,21 @@ fn shown(line: &[u8]) -> Box<str> {
     String::from_utf8_lossy(line).chars().map(visible).collect()
 }
 
+/// The most characters of a word that a message repeats.
+const LONGEST_WORD: usize = 40;
+
+/// A word with each character that cannot be seen as its code, cut where it is long.
+pub fn visible(word: &str) -> String {
+    let mut shown = String::new();
+    for character in word.chars().take(LONGEST_WORD) {
+        match character {
+            '\'' | '"' | '\\' => shown.push(character),
+            _ => shown.extend(character.escape_debug()),
+        }
+    }
+    shown + if word.chars().nth(LONGEST_WORD).is_some() { "..." } else { "" }
+}
+
 impl fmt::Display for Problem {
     fn fmt(&self, f: &mut fmt::Formatter<'_>) -> fmt::Result {
         f.write_str(&self.words)?;
@@ -128,6 +146,13 @@ mod tests {
         assert_eq!(thousands(1_048_576), "1,048,576");
         assert_eq!((counted(1, "row"), counted(1_024, "row")), ("1 row".into(), "1,024 rows".into()));
         assert_eq!(listed(&["a".into(), "b".into(), "c".into()]), "a, b and c");
+    }
+
+    #[test]
+    fn a_word_is_shown_as_it_can_be_seen() {
+        assert_eq!(visible("größe \"it's\" \\ »"), "größe \"it's\" \\ »");
+        assert_eq!(visible("a\u{200B}\t\u{FEFF}"), "a\\u{200b}\\t\\u{feff}");
+        assert_eq!(visible(&"x".repeat(41)), format!("{}...", "x".repeat(40)));
     }
 
     #[test]

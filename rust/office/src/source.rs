@@ -25,7 +25,7 @@ impl Source {
     pub fn problem(&self, answer: Answer) -> Problem {
         match &self.notation {
             Some(notation) => notation.problem(answer),
-            None => explain::refusal(&self.text, answer),
+            None => explain::refusal(&self.text, Kind::Chart, answer),
         }
     }
 }
@@ -41,10 +41,23 @@ pub fn from_notation(text: &str) -> Result<Source, Problem> {
     Ok(Source { text: notation.chart_lines()?, names: notation.names.clone(), notation: Some(notation) })
 }
 
+/// The text of the bytes of a file in the notation, which is UTF-8.
+pub fn text_of(bytes: &[u8]) -> Result<&str, Problem> {
+    std::str::from_utf8(bytes).map_err(|error| {
+        let (before, rest) = bytes.split_at(error.valid_up_to());
+        let before = String::from_utf8_lossy(before);
+        let (line, column) =
+            before.split('\n').map(|line| line.chars().count()).enumerate().last().unwrap_or((0, 0));
+        Problem::at(line + 1, column + 1, format!("byte {:02X} is no character in UTF-8", rest[0]))
+            .advice("the editor's setting: save as UTF-8; the wrong file")
+            .excerpt(bytes)
+    })
+}
+
 /// From the bytes of a file of either sort, told apart by what stands in it.
 pub fn from_either(bytes: &[u8]) -> Result<Source, Problem> {
-    match (Kind::of(bytes), std::str::from_utf8(bytes)) {
-        (Kind::Notation, Ok(text)) => from_notation(text),
+    match Kind::of(bytes) {
+        Kind::Notation => from_notation(text_of(bytes)?),
         _ => Ok(from_bytes(bytes)),
     }
 }

@@ -62,3 +62,17 @@ fn each_line_that_the_page_explains_has_its_sum() {
         assert!(charts.iter().any(|chart| chart.lines().any(|own| own == line)), "{line}");
     }
 }
+
+/// Each file that a page for people leads to, by a link or as a picture, is there.
+#[test]
+fn each_link_leads_to_a_file() {
+    for page in ["README.md", "docs/CHARTS.md", "examples/README.md"] {
+        let page = top().join(page);
+        let text = fs::read_to_string(&page).expect("the page");
+        let links = text.split("](").skip(1).filter_map(|rest| rest.split([')', '#']).next());
+        for link in links.filter(|link| !link.is_empty()) {
+            let file = page.parent().expect("a folder").join(link);
+            assert!(file.exists(), "{} of {}", link, page.display());
+        }
+    }
+}

@@ -50,6 +50,7 @@ fn help_and_wrong_calls() {
     for name in ["check FILE", "compose FILE", "show FILE"] {
         assert!(help.lines().any(|line| line.trim_start().starts_with(name) && line.len() > 30), "{name}");
     }
+    assert!(help.contains("for check also an image; - is standard input.\n"), "{help}");
     assert_eq!(fairleadow(&["-h"], b"").1, help);
     assert_eq!(fairleadow(&[], b""), (2, String::new(), help.clone()));
     let (status, out, told) = fairleadow(&["chekc", "x"], b"");
@@ -141,6 +142,14 @@ fn show_tells_what_is_refused() {
         fairleadow(&["show", "-"], file("paper.chart").replace('\n', "\r\n").as_bytes());
     assert_eq!((status, out.as_str()), (1, ""));
     assert!(told.starts_with("standard input: line 1 ends with a carriage return, and so do 6 more\n"));
+    let image = "10010000000000000000EF\n".repeat(1_024);
+    let (status, _, told) = fairleadow(&["show", "-"], format!("0F010100000000000000EF\n{image}").as_bytes());
+    assert_eq!(status, 1);
+    assert!(
+        told.starts_with("standard input: the file has 1,025 lines, and a chart has at most 256\n"),
+        "{told}"
+    );
+    assert!(told.ends_with("  look for: an image in place of a chart\n"), "{told}");
     let (status, _, told) = fairleadow(&["show", &path("paper.image")], b"");
     assert_eq!(status, 1);
     assert!(told.contains("0F, 10, 11 and 12 begin the lines of an image, not of a chart"), "{told}");
@@ -154,9 +163,52 @@ fn compose_tells_what_is_no_notation() {
         told.contains("paper.chart: this looks like a chart, not like the readable notation\n"),
         "{told}"
     );
+    let (status, _, told) = fairleadow(&["compose", "-"], b"Dear sirs,\n");
+    assert_eq!(status, 1);
+    assert!(
+        told.starts_with(
+            "standard input: line 1, column 1: 'Dear', where a name and a colon, or one of: begin, "
+        ),
+        "{told}"
+    );
+    let (status, _, told) = fairleadow(&["compose", "-"], b"\xFF\xFEs\0c\0h\0");
+    assert_eq!(status, 1);
+    assert!(
+        told.starts_with("standard input: line 1, column 1: byte FF is no character in UTF-8\n"),
+        "{told}"
+    );
     let (status, _, told) = fairleadow(&["compose", "-"], b"");
     assert_eq!(status, 1);
-    assert!(told.starts_with("standard input: there is no node in it\n  refusal 1: "), "{told}");
+    assert!(
+        told.starts_with("standard input: there is no node in it\n  refusal 1: a chart has 1 to 256 nodes, "),
+        "{told}"
+    );
+}
+
+#[test]
+fn a_name_that_is_no_text_is_a_wrong_call() {
+    use std::os::unix::ffi::OsStrExt;
+    let name = std::ffi::OsStr::from_bytes(b"Fr\xE4ser.chart");
+    let ran =
+        Command::new(env!("CARGO_BIN_EXE_fairleadow")).arg("check").arg(name).output().expect("it ends");
+    assert_eq!(ran.status.code(), Some(2));
+    let told = String::from_utf8(ran.stderr).expect("text");
+    assert!(told.starts_with("Fr\u{FFFD}ser.chart is not in UTF-8"), "{told}");
+}
+
+/// A device that takes nothing: the output is told to be lost, and what cannot be told leaves its status.
+#[test]
+fn a_full_device_is_told_and_keeps_the_status() {
+    let full = || Stdio::from(fs::File::options().write(true).open("/dev/full").expect("a device"));
+    let program = || Command::new(env!("CARGO_BIN_EXE_fairleadow"));
+    let ran = program().args(["show", &path("paper.chart")]).stdout(full()).output().expect("it ends");
+    let told = String::from_utf8(ran.stderr).expect("text");
+    assert!(told.starts_with("the output cannot be written: No space left on device"), "{told}");
+    assert_eq!(ran.status.code(), Some(1));
+    for (arguments, status) in [(vec!["check", "no/such.chart"], 1), (vec!["chekc"], 2), (vec!["show"], 2)] {
+        let ran = program().args(&arguments).stderr(full()).output().expect("it ends");
+        assert_eq!(ran.status.code(), Some(status), "{arguments:?}");
+    }
 }
 
 /// A reader that has enough is no fault.

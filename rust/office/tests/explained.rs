@@ -6,6 +6,7 @@ use std::path::Path;
 
 use fairleadow::{Answer, Library, Proved, CHART_TEXT, IMAGE_TEXT, LINE};
 use office::explain::{self, UNEXPLAINED};
+use office::kind::Kind;
 use office::notation::Notation;
 use office::problem::Problem;
 use reference::frames::{text_of, Frame};
@@ -15,10 +16,10 @@ use reference::generate::{charts, damage, images, Random};
 type Met = BTreeMap<u8, usize>;
 
 /// A reason that names the library's line, and a column of it where it names one.
-fn held(text: &[u8], answer: Answer, met: &mut Met) {
+fn held(text: &[u8], asked: Kind, answer: Answer, met: &mut Met) {
     let Err(refusal) = answer.ok() else { return };
     *met.entry(refusal.number).or_default() += 1;
-    let problem = explain::refusal(text, answer);
+    let problem = explain::refusal(text, asked, answer);
     let shown = || format!("{problem}\n{answer:?}\n{}", text.escape_ascii());
     assert!(problem.words != UNEXPLAINED && !problem.advice.is_empty(), "{}", shown());
     assert_eq!(problem.refusal, Some(refusal));
@@ -42,11 +43,11 @@ fn repaired(text: &[u8], problem: &Problem) {
 }
 
 fn hold_chart(text: &[u8], met: &mut Met) {
-    held(text, Proved.translate(text, &mut [0; IMAGE_TEXT]), met);
+    held(text, Kind::Chart, Proved.translate(text, &mut [0; IMAGE_TEXT]), met);
 }
 
 fn hold_image(text: &[u8], met: &mut Met) {
-    held(text, Proved.check_image(text), met);
+    held(text, Kind::Image, Proved.check_image(text), met);
 }
 
 /// The same records, refused in the notation: a reason at the line of the node.
@@ -108,21 +109,25 @@ fn with_byte(text: &[u8], line: usize, byte: usize, value: u8) -> Vec<u8> {
 
 /// Some other byte in the field that is blamed settles it: the library has nothing against this line any more, or the
 /// fault is at a later field.
-fn hold_blame(text: &[u8], ask: fn(&[u8]) -> Answer, met: &mut Met) {
+fn hold_blame(text: &[u8], asked: Kind, met: &mut Met) {
+    let ask = |text: &[u8]| match asked {
+        Kind::Image => Proved.check_image(text),
+        _ => Proved.translate(text, &mut [0; IMAGE_TEXT]),
+    };
     let answer = ask(text);
     let Some(refusal) = answer.ok().err().filter(|refusal| matches!(refusal.number, 4 | 6 | 7 | 12 | 13))
     else {
         return;
     };
     *met.entry(refusal.number).or_default() += 1;
-    let problem = explain::refusal(text, answer);
+    let problem = explain::refusal(text, asked, answer);
     let (line, column) = (problem.line.expect("a line"), problem.column.expect("a column"));
     let settled = (0..=255).any(|value| {
         let repaired = with_byte(text, line, (column - 1) / 2, value);
         let again = ask(&repaired);
         let same = again.number() == refusal.number
             && again.ok().err().is_some_and(|new| new.index == refusal.index);
-        !same || explain::refusal(&repaired, again).column > Some(column)
+        !same || explain::refusal(&repaired, asked, again).column > Some(column)
     });
     assert!(settled, "{problem}\n{}", text.escape_ascii());
 }
@@ -134,8 +139,8 @@ fn the_field_that_is_blamed_is_the_fault() {
         let random = &mut Random::new(seed);
         let records = charts::chart(random);
         let chart = text_of(&damage::records(random, &records));
-        hold_blame(&chart, |text| Proved.translate(text, &mut [0; IMAGE_TEXT]), &mut met);
-        hold_blame(&images::text(random), |text| Proved.check_image(text), &mut met);
+        hold_blame(&chart, Kind::Chart, &mut met);
+        hold_blame(&images::text(random), Kind::Image, &mut met);
     }
     assert!([4, 6, 7, 12, 13].iter().all(|number| met[number] >= 20), "{met:?}");
 }
@@ -148,7 +153,7 @@ fn rows_of_the_longest_paths_are_counted() {
         let text = text_of(&longest_path(before, 16));
         let answer = Proved.translate(&text, &mut [0; IMAGE_TEXT]);
         assert_eq!(answer.number(), 10);
-        let words = explain::refusal(&text, answer).words;
+        let words = explain::refusal(&text, Kind::Chart, answer).words;
         assert!(words.contains(" has 65,536") || words.contains(" has 131,072"), "{words}");
     }
 }

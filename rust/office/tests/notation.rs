@@ -37,6 +37,22 @@ fn files_of_other_editors_are_read() {
 }
 
 #[test]
+fn a_chart_line_in_a_comment_is_a_comment() {
+    let text = format!("# 00010001000000000000FE\n{}", with("more: if wood then start else end"));
+    assert!(source::from_either(text.as_bytes()).expect("accepted").notation.is_some());
+}
+
+#[test]
+fn other_alphabets_are_read_in_utf_8_alone() {
+    let text = with("more: if wood then größer else end").replace("start", "größer");
+    assert_eq!(source::from_either(text.as_bytes()).expect("accepted").names.node(1), "größer");
+    let latin: Vec<u8> = text.chars().map(|letter| letter as u8).collect();
+    let problem = source::from_either(&latin).expect_err("another encoding");
+    assert_eq!(problem.words, "line 5, column 12: byte F6 is no character in UTF-8");
+    assert_eq!(problem.excerpt.as_deref(), Some("begin -> gr..er"));
+}
+
+#[test]
 fn names_are_the_shops() {
     let names = source::from_notation(&with("more: if wood then start else end")).expect("accepted").names;
     assert_eq!((names.condition(2), names.operation(0)), ("wood".into(), "spindle".into()));
@@ -50,7 +66,8 @@ fn names_are_the_shops() {
 
 #[test]
 fn faults_of_a_line() {
-    let what = "where one of: begin, end, do, write, call, if, condition, output, scheme belongs";
+    let what = "where one of: begin, end, do, write, call, if belongs";
+    let first = "where a name and a colon, or one of: begin, end, condition, output, scheme, belongs";
     let cases = [
         ("more: if wod then start else end", "column 10: no condition is named 'wod'; 'wood' is near to it"),
         ("more: if wood then strat else end", "column 20: no node is named 'strat'; 'start' is near to it"),
@@ -79,8 +96,11 @@ fn faults_of_a_line() {
         ("if: do spindle -> end", "column 1: 'if', where a name belongs"),
         ("start: do spindle -> end", "column 1: 'start' is a node already (line 6)"),
         ("more: do spindle\u{1} -> end", "column 17: '\\u{1}', where '->' belongs"),
+        ("more: do spindle\u{200B} -> end", "column 17: '\\u{200b}', where '->' belongs"),
+        ("more: do spindle -> End", "column 21: no node is named 'End'; 'end' is near to it"),
+        ("more do spindle -> end", "column 6: 'do', where ':' belongs"),
         ("more: wait -> end", &format!("column 7: 'wait', {what}")),
-        ("more", &format!("column 1: 'more', {what}")),
+        ("more", &format!("column 1: 'more', {first}")),
         ("condition 16 start_key", "column 11: '16', where a number from 0 to 15 belongs"),
         ("condition wood = 2", "column 11: 'wood', where a number from 0 to 15 belongs"),
         ("condition 2 chips", "column 13: condition 2 is named 'wood' already (line 1)"),
@@ -104,10 +124,29 @@ fn faults_of_a_line() {
 }
 
 #[test]
+fn numbers_that_are_no_names_are_told_by_their_range() {
+    for (line, names) in [
+        ("more: do y32 -> end", "outputs without a name are y0 to y31"),
+        ("more: if x16 then end else end", "conditions without a name are x0 to x15"),
+        ("more: if x02 then end else end", "conditions without a name are x0 to x15"),
+        ("more: call s17 -> end", "schemes without a name are s1 to s16"),
+    ] {
+        let problem = source::from_notation(&with(line)).expect_err(line);
+        assert_eq!(&*problem.advice, format!("the {names}"));
+    }
+    let problem = source::from_notation(&with("more: do feed -> end")).expect_err("no such output");
+    assert_eq!(&*problem.advice, "a line such as 'output 2 feed'; without a name it is y2");
+}
+
+#[test]
 fn faults_of_the_whole() {
     assert_eq!(told("begin -> end\n"), "line 1, column 1: a node belongs to a scheme, and none is named yet");
     assert_eq!(told("scheme 1\nbegin -> end\n"), "line 2, column 10: scheme 1 has no 'end' line");
     assert_eq!(told("# nothing\n"), "there is no node in it");
+    assert_eq!(
+        told("# Größen\rscheme 1\rbegin -> end\rend\r"),
+        "line 1, column 9: a carriage return within the line"
+    );
 }
 
 /// The library's refusals, by lines and names of the notation.
@@ -126,7 +165,7 @@ fn refusals_in_the_notations_words() {
     );
     refused(
         "more: call shaping -> end",
-        "line 9 (node more): an operation calls scheme shaping, which nothing calls",
+        "line 9 (node more): an operation calls scheme shaping, which nothing may call",
     );
     refused(
         "more: if x0 then more else end",

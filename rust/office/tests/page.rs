@@ -134,3 +134,30 @@ fn refusals_of_the_library_leave_no_page() {
     assert_eq!((ran.status, Path::new(&file).exists()), (1, false));
     assert!(ran.said.contains("\n  refusal 14: "), "{}", ran.said);
 }
+
+/// Neither the chart nor the words are written over.
+#[test]
+fn what_is_read_is_kept() {
+    let chart = std::fs::read(example("paper.chart")).expect("an example");
+    let [chart, words] = [shared::file("kept.chart", &chart), shared::file("kept.words", b"0\n1\n")];
+    for lost in [&chart, &words] {
+        let before = std::fs::read(lost).expect("a file");
+        let [chart, words, lost] = [&chart, &words, lost].map(|path| path.to_string_lossy());
+        let ran = run(&["page", &chart, "--words", &words, "-o", &lost]);
+        assert_eq!((ran.status, ran.printed.as_str()), (2, ""));
+        assert!(ran.said.starts_with(&format!("{lost} is what the page is made of")), "{}", ran.said);
+        assert_eq!(std::fs::read(&*lost).expect("a file"), before);
+    }
+}
+
+#[test]
+fn a_page_goes_to_standard_output() {
+    let folder = Path::new(env!("CARGO_TARGET_TMPDIR"));
+    let ran = ran(program(&["page", &example("paper.chart"), "-o", "-"]).current_dir(folder));
+    assert!(!folder.join("-").exists());
+    if ran.said.starts_with("dot is not installed") {
+        return println!("left out: dot is not installed");
+    }
+    assert_eq!((ran.status, ran.said.as_str()), (0, ""));
+    assert!(ran.printed.starts_with("<!doctype html>") && ran.printed.ends_with("</html>\n"));
+}

@@ -116,6 +116,9 @@ fn refusal_2_a_character() {
             (shifted, "line 2 has 21 characters, not 22"),
         ],
     );
+    let alone = checked(CHART.replace('\n', "\r").as_bytes()).expect_err("no line feed");
+    assert_eq!(alone.words, "line 1, column 23: a carriage return after the 22 digits");
+    assert!(alone.advice.contains("carriage returns alone"), "{alone}");
     let byte = "line 1, column 1: a character outside plain text, byte FF (only 0-9 and A-F)";
     assert_eq!(told([b"\xFF", &CHART.as_bytes()[1..]].concat()), (2, byte.to_string()));
 }
@@ -206,10 +209,17 @@ fn refusal_7_a_call() {
     each(
         7,
         &[
-            (edited(CHART, 2, 5, "01"), "line 2, column 5: an operation calls scheme 1, which nothing calls"),
+            (
+                edited(CHART, 2, 5, "01"),
+                "line 2, column 5: an operation calls scheme 1, which nothing may call",
+            ),
             (
                 edited(CHART, 2, 5, "09"),
-                "line 2, column 5: an operation calls scheme 09, but the highest is scheme 2",
+                "line 2, column 5: an operation calls scheme 9, but the highest is scheme 2",
+            ),
+            (
+                edited(CHART, 2, 5, "11"),
+                "line 2, column 5: an operation calls scheme 17 (11), but the highest is scheme 2",
             ),
             (
                 edited(CHART, 7, 1, "04020005050000000000"),
@@ -358,7 +368,8 @@ fn refusal_13_an_image_field() {
 #[test]
 fn refusals_14_to_18() {
     use fairleadow::{Answer, Library, Proved, State};
-    let told = |answer: Answer| office::explain::refusal(IMAGE.as_bytes(), answer).words;
+    use office::kind::Kind;
+    let told = |answer: Answer| office::explain::refusal(IMAGE.as_bytes(), Kind::Image, answer).words;
     assert_eq!(told(Proved.fresh(33).0), "a stack has 1 to 32 places");
     let run = |image: &str, state: &State, room: usize| {
         Proved.run(image.as_bytes(), state, &[0, 0, 1, 0], &mut vec![0; room], &mut vec![0; room]).0

@@ -163,8 +163,30 @@ fn words_come_from_a_file() {
     assert_eq!((ran.status, ran.printed.as_str()), (1, ""));
     assert_eq!(
         ran.said,
-        format!("{}, line 2: '0x1FFFF' is more than 65535, the largest word\n", bad.display())
+        format!("{}: line 2: '0x1FFFF' is more than 65535, the largest word\n", bad.display())
     );
+    let many = file("many_words.txt", "0\n".repeat(100_001).as_bytes());
+    let ran = traced("home.chart", &["--words", &many.to_string_lossy()]);
+    assert_eq!((ran.status, ran.printed.as_str()), (2, ""));
+    assert!(
+        ran.said.starts_with("100001 words are given; --ticks takes 1 to 100000 of them\n"),
+        "{}",
+        ran.said
+    );
+    let ran = traced("home.chart", &["--words", &many.to_string_lossy(), "--ticks", "2"]);
+    assert_eq!((ran.status, rows(&ran).len()), (0, 2));
+}
+
+#[test]
+fn words_come_from_standard_input() {
+    let chart = example("paper.chart");
+    let stdin =
+        || std::process::Stdio::from(std::fs::File::open(file("piped.txt", b"0\n0\n1\n")).expect("a file"));
+    let ran = shared::ran(shared::program(&["trace", &chart, "--words", "-"]).stdin(stdin()));
+    assert_eq!((ran.status, rows(&ran)), (0, rows(&traced("paper.chart", &["--words", "0,0,1"]))));
+    let ran = shared::ran(shared::program(&["trace", "-", "--words", "-"]).stdin(stdin()));
+    assert_eq!(ran.status, 2);
+    assert!(ran.said.starts_with("chart and words cannot both be standard input\n"), "{}", ran.said);
 }
 
 #[test]
@@ -185,6 +207,9 @@ fn refusals_of_the_library_end_it() {
         assert_eq!((ran.status, ran.printed.as_str()), (1, ""));
         assert!(ran.said.contains(&format!("\n  refusal {number}: ")), "{}", ran.said);
     }
+    let ran = run(&["trace", &chart, "--places", "33"]);
+    let told = "a stack of 33 places is asked for\n  refusal 14: a stack has 1 to 32 places\n";
+    assert!(ran.said.starts_with(&format!("{chart}: {told}")), "{}", ran.said);
     let ran = run(&["trace", "no/such.chart"]);
     assert_eq!(ran.status, 1);
     assert_eq!(ran.said, "no/such.chart: there is no such file\n");
@@ -202,13 +227,14 @@ fn wrong_arguments_get_the_usage() {
         vec!["trace", &chart, "--ticks", "0"],
         vec!["trace", &chart, "--ticks", "100001"],
         vec!["trace", &chart, "--ticks", "1", "--ticks", "2"],
+        vec!["trace", &chart, "--words", "0,x"],
+        vec!["trace", &chart, "--words", "random:x"],
     ] {
         let ran = run(&args);
         assert_eq!((ran.status, ran.printed.as_str()), (2, ""), "{args:?}");
         assert!(ran.said.contains("\nusage: fairleadow trace CHART "), "{}", ran.said);
     }
     let ran = run(&["trace", &chart, "--words", "0,x"]);
-    assert_eq!((ran.status, ran.printed.as_str()), (1, ""));
     assert!(ran.said.starts_with("in the words 0,x: 'x' is no word"), "{}", ran.said);
     let ran = run(&["trace", "--help"]);
     assert_eq!((ran.status, ran.said.as_str()), (0, ""));

@@ -1,6 +1,7 @@
 //! What the commands that trace share: their arguments, the chart, and the trace that is asked for.
 
 use std::collections::BTreeMap;
+use std::fs;
 use std::path::Path;
 
 use fairleadow::PLACES;
@@ -26,8 +27,8 @@ pub const TRACING_HELP: &str = "
                    random:SEED    random words, the same for the same seed
                    count          0, 1, 2 and so on
                    0,1,0x8004     these words
-                   FILE           one word a line, # before a comment; ./FILE if its name
-                                  begins with a digit
+                   FILE           one word a line, # before a comment; - is standard input,
+                                  ./FILE one whose name begins with a digit
                  random:1 if not given, so that every condition is 0 and 1 in turn
   --ticks N      how many ticks, 1 to 100000. If not given, as many as the words of a list
                  or a file, else 64. A list or a file that is shorter begins again.";
@@ -61,6 +62,9 @@ impl Arguments {
         }
         match charts.as_slice() {
             [] => Err(Failure::Usage("a chart is missing".to_string())),
+            [chart] if chart == "-" && taken.value("--words") == Some("-") => {
+                Err(Failure::Usage("chart and words cannot both be standard input".to_string()))
+            }
             [chart] => Ok(Arguments { chart: chart.clone(), ..taken }),
             [_, second, ..] => Err(Failure::Usage(format!("one chart only, and {second} is one more"))),
         }
@@ -90,6 +94,13 @@ impl Arguments {
         }
     }
 
+    /// Whether a file is the chart or that of the words.
+    pub fn reads(&self, file: &str) -> bool {
+        let read = [self.chart.as_str(), self.words()];
+        fs::canonicalize(file)
+            .is_ok_and(|file| read.iter().any(|own| fs::canonicalize(own).is_ok_and(|own| own == file)))
+    }
+
     /// A problem of the chart's file.
     pub fn failure(&self, problem: impl std::fmt::Display) -> Failure {
         Failure::of(&self.chart, problem)
@@ -112,7 +123,13 @@ impl Arguments {
         if ticks.is_some_and(|ticks| !(1..=MOST_TICKS).contains(&ticks)) {
             return Err(Failure::Usage(format!("--ticks takes 1 to {MOST_TICKS}")));
         }
-        let words = Words::given(self.words()).map_err(Failure::Refused)?.take(ticks);
+        let words = Words::given(self.words())?.take(ticks);
+        if words.len() > MOST_TICKS {
+            let given = words.len();
+            return Err(Failure::Usage(format!(
+                "{given} words are given; --ticks takes 1 to {MOST_TICKS} of them"
+            )));
+        }
         trace::trace(plan, places, &words).map_err(|problem| self.failure(problem))
     }
 }

@@ -3,7 +3,7 @@
 use fairleadow::LINE;
 
 use crate::kind::Kind;
-use crate::problem::{counted, thousands, Problem};
+use crate::problem::{counted, thousands, Problem, LONE_RETURNS};
 
 /// The digits of a line.
 const DIGITS: usize = LINE - 1;
@@ -23,15 +23,19 @@ pub fn length(text: &[u8], kind: Kind, longest: usize) -> Option<Problem> {
         Some(at) if at < most || text.len() <= longest => {
             lines().nth(at).map(|line| broken_line(text, at + 1, line))
         }
-        _ if text.len() > longest => Some(too_long(kind, lines().count(), most)),
+        _ if text.len() > longest => Some(too_long(text, kind, lines().count(), most)),
         _ => None,
     }
 }
 
-fn too_long(kind: Kind, lines: usize, most: usize) -> Problem {
-    let (kind, most_lines) = (kind.named(), thousands(most));
-    let words = format!("the file has {}, and {kind} has at most {most_lines}", counted(lines, "line"));
-    Problem { line: Some(most + 1), ..Problem::new(words) }.advice("two charts in one file; the wrong file")
+fn too_long(text: &[u8], kind: Kind, lines: usize, most: usize) -> Problem {
+    let (named, most_lines) = (kind.named(), thousands(most));
+    let words = format!("the file has {}, and {named} has at most {most_lines}", counted(lines, "line"));
+    let advice = match Kind::of(text) {
+        Kind::Image if kind == Kind::Chart => "an image in place of a chart",
+        _ => "two texts in one file; the wrong file",
+    };
+    Problem { line: Some(most + 1), ..Problem::new(words) }.advice(advice)
 }
 
 /// The marks that some editors put before a text.
@@ -114,8 +118,9 @@ pub fn character_of(text: &[u8], index: usize) -> Option<Problem> {
             carriage_return(text, number, column)
         }
         _ if at == DIGITS => {
+            let lost = "a digit too many in this line, or a line feed lost at its end";
             Problem::at(number, column, format!("{} after the {DIGITS} digits", character(byte)))
-                .advice("a digit too many in this line, or a line feed lost at its end")
+                .advice(if byte == b'\r' { LONE_RETURNS } else { lost })
         }
         _ => Problem::at(number, column, format!("{} (only 0-9 and A-F)", character(byte)))
             .advice(likely(byte)),

@@ -20,22 +20,20 @@ use voice::Voice;
 /// Said where no reason is found, which the tests never meet.
 pub const UNEXPLAINED: &str = "the library turns this back, and no reason was found";
 
-/// Why the library refuses this text of a chart or an image, or a run of it.
-pub fn refusal(text: &[u8], answer: Answer) -> Problem {
+/// Why the library refuses this text as a chart or as an image, or a run of it.
+pub fn refusal(text: &[u8], asked: Kind, answer: Answer) -> Problem {
     let Err(refusal) = answer.ok() else {
         return Problem::new("nothing is refused");
     };
-    let problem = reason(text, &refusal).unwrap_or_else(|| Problem::new(UNEXPLAINED));
+    let problem = reason(text, asked, &refusal).unwrap_or_else(|| Problem::new(UNEXPLAINED));
     problem.refused(refusal).excerpt(text)
 }
 
-fn reason(text: &[u8], refusal: &Refusal) -> Option<Problem> {
+fn reason(text: &[u8], asked: Kind, refusal: &Refusal) -> Option<Problem> {
     let index = refusal.index;
     match refusal.number {
-        1 => match Kind::of(text) {
-            Kind::Image => lines::length(text, Kind::Image, IMAGE_TEXT),
-            _ => lines::length(text, Kind::Chart, CHART_TEXT),
-        },
+        1 if asked == Kind::Image => lines::length(text, asked, IMAGE_TEXT),
+        1 => lines::length(text, asked, CHART_TEXT),
         2 => lines::character_of(text, index),
         3 => lines::sum(text, index),
         4..=10 => of_records(&frames(text)?, refusal, Voice::Lines),

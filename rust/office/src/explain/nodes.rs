@@ -227,18 +227,17 @@ pub fn call(records: &[Record], index: usize, voice: Voice) -> Option<Problem> {
         (FUNCTION, _) if highest == 1 => (0, format!("{named} calls a scheme, but there is one scheme only")),
         (FUNCTION, 0) => (ARGUMENT, format!("{named} calls a scheme, and 00 is none")),
         (OPERATION | FUNCTION, 1) => {
-            (ARGUMENT, format!("{named} calls {}, which nothing calls", voice.scheme(1)))
+            (ARGUMENT, format!("{named} calls {}, which nothing may call", voice.scheme(1)))
         }
         (OPERATION | FUNCTION, called) if called > highest => {
-            let highest = voice.scheme(highest);
-            let called = voice.either(&both(called), &called.to_string()).to_string();
-            (ARGUMENT, format!("{named} calls scheme {called}, but the highest is {highest}"))
+            let (called, highest) = (voice.scheme(called), voice.scheme(highest));
+            (ARGUMENT, format!("{named} calls {called}, but the highest is {highest}"))
         }
         _ => return None,
     };
     let advice = voice.either(
         "a scheme that was left out; a digit one place too far; an operation turned into a function",
-        "a scheme that was left out",
+        "a scheme that was left out; the name of another scheme",
     );
     Some(voice.problem(index, byte, &what).advice(advice))
 }

@@ -46,11 +46,13 @@ impl Voice<'_> {
         }
     }
 
+    /// A scheme in decimal, with its digits where these look different, or by its name.
     pub fn scheme(&self, number: u8) -> String {
         match self {
             Voice::Notation { names, .. } if names.schemes.contains_key(&number) => {
                 format!("scheme {}", names.scheme(number))
             }
+            Voice::Lines if number > 9 => format!("scheme {number} ({number:02X})"),
             _ => format!("scheme {number}"),
         }
     }

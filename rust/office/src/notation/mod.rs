@@ -31,7 +31,7 @@ use fairleadow::{Answer, Library, Proved, CHART_TEXT};
 use crate::chart::{nodes, Node};
 use crate::explain;
 use crate::names::Names;
-use crate::problem::Problem;
+use crate::problem::{Problem, LONE_RETURNS};
 
 use statement::Statement;
 
@@ -76,6 +76,12 @@ impl Notation {
     fn parsed(text: &str) -> Result<Notation, Problem> {
         let (mut lines, mut statements, mut nodes) = (Vec::new(), Vec::new(), 0);
         for (at, line) in text.lines().enumerate() {
+            if let Some((before, _)) = line.trim_end_matches('\r').split_once('\r') {
+                let column = before.chars().count() + 1;
+                return Err(
+                    Problem::at(at + 1, column, "a carriage return within the line").advice(LONE_RETURNS)
+                );
+            }
             let words = words::words(line);
             let statement = statement::statement(&words, at + 1)?;
             lines.push(Line { part: part(statement.as_ref(), &mut nodes), comment: words.comment });

@@ -1,10 +1,14 @@
 //! The name that was likely meant.
 
+/// The most bytes of a name that others are held against.
+const LONGEST: usize = 100;
+
 /// The nearest of the known names, if it is at most two slips away and not another word altogether.
 pub fn nearest<'a>(name: &str, known: impl Iterator<Item = &'a str>) -> Option<&'a str> {
-    let distant = |other: &&str| slips(name, other);
-    let near = known.min_by_key(distant)?;
-    (slips(name, near) <= 2.min(name.chars().count() / 2)).then_some(near)
+    let most = 2.min(name.chars().count() / 2);
+    let near =
+        known.filter(|other| name.len().max(other.len()) <= LONGEST).map(|other| (slips(name, other), other));
+    near.filter(|(slips, _)| *slips <= most).min().map(|(_, other)| other)
 }
 
 /// How many characters must be put in, taken out or changed.
@@ -42,5 +46,8 @@ mod tests {
         assert_eq!(nearest("wod", known()), Some("wood"));
         assert_eq!(nearest("x", known()), None);
         assert_eq!(nearest("polishing", known()), None);
+        // long names are not held against each other, which would take long
+        let [one, other] = ["w".repeat(500_000), "v".repeat(500_000)];
+        assert_eq!(nearest(&one, [other.as_str(), &one].into_iter()), None);
     }
 }

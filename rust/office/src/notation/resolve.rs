@@ -61,10 +61,17 @@ impl Table {
         let given = self.numbers.get(&name.text).map(|(number, _)| *number);
         given.or_else(|| kind.own_number(&name.text)).ok_or_else(|| {
             let known = self.numbers.keys().map(String::as_str);
-            unknown(line, name, kind.noun, known).advice(format!(
-                "a line such as '{} 2 {}'; without a name it is {}2",
-                kind.noun, name.text, kind.prefix
-            ))
+            let advice = if kind.is_numbered(&name.text) {
+                kind.range()
+            } else {
+                format!(
+                    "a line such as '{} 2 {}'; without a name it is {}2",
+                    kind.noun,
+                    name.shown(),
+                    kind.prefix
+                )
+            };
+            unknown(line, name, kind.noun, known).advice(advice)
         })
     }
 
@@ -81,7 +88,7 @@ fn unknown<'a>(
     known: impl Iterator<Item = &'a str>,
 ) -> Problem {
     let meant = nearest(&name.text, known).map_or(String::new(), |near| format!("; '{near}' is near to it"));
-    Problem::at(line, name.column, format!("no {noun} is named '{}'{meant}", name.text))
+    Problem::at(line, name.column, format!("no {noun} is named '{}'{meant}", name.shown()))
 }
 
 /// What is named: the noun, the letter of the names that stand for numbers, and the numbers.
@@ -97,6 +104,18 @@ const OUTPUT: Kind = Kind { noun: "output", prefix: "y", first: 0, count: OPERAT
 const SCHEME: Kind = Kind { noun: "scheme", prefix: "s", first: 1, count: SCHEMES };
 
 impl Kind {
+    /// Whether this is meant as the name of a number.
+    fn is_numbered(&self, name: &str) -> bool {
+        let number = name.strip_prefix(self.prefix);
+        number.is_some_and(|number| !number.is_empty() && number.bytes().all(|digit| digit.is_ascii_digit()))
+    }
+
+    /// Which names of numbers there are.
+    fn range(&self) -> String {
+        let Kind { noun, prefix, first, count } = self;
+        format!("the {noun}s without a name are {prefix}{first} to {prefix}{}", first + count - 1)
+    }
+
     /// The number of a name such as x2, y31 or s16.
     fn own_number(&self, name: &str) -> Option<u8> {
         let number: usize = name.strip_prefix(self.prefix)?.parse().ok()?;
@@ -165,7 +184,7 @@ impl Tables {
             let end = self.ends.get(&scheme).copied();
             end.ok_or_else(|| Problem::at(line, to.column, format!("scheme {scheme} has no 'end' line")))
         } else {
-            let known = self.labels.keys().map(String::as_str);
+            let known = self.labels.keys().map(String::as_str).chain(["end"]);
             let found = self.labels.get(&to.text).map(|(index, _)| *index);
             found.ok_or_else(|| unknown(line, to, "node", known))
         };

@@ -12,6 +12,9 @@ pub enum Statement {
     Node { label: Option<Word>, step: Step },
 }
 
+/// The first words of what a node does.
+const STEPS: [&str; 6] = ["begin", "end", "do", "write", "call", "if"];
+
 /// What a node does.
 #[derive(Clone, Debug, PartialEq, Eq)]
 pub enum Step {
@@ -132,7 +135,14 @@ impl Reader<'_> {
         let label = if labelled { Some(self.name("a name")?) } else { None };
         self.at += usize::from(labelled);
         let start = self.at;
-        let step = self.step()?;
+        let without_colon = label.is_none()
+            && self.words[start].is_name()
+            && self.words.get(start + 1).is_some_and(|word| STEPS.contains(&word.text.as_str()));
+        if without_colon {
+            self.at += 1;
+            return Err(self.wanted("':'"));
+        }
+        let step = self.step(label.is_some())?;
         if label.is_none() && !matches!(step, Step::Begin { .. } | Step::End) {
             self.at = start;
             return Err(self.wanted("a name for this node and a colon"));
@@ -140,7 +150,7 @@ impl Reader<'_> {
         Ok(Statement::Node { label, step })
     }
 
-    fn step(&mut self) -> Result<Step, Problem> {
+    fn step(&mut self, labelled: bool) -> Result<Step, Problem> {
         match self.peek() {
             Some("begin") => {
                 self.expect("begin")?;
@@ -152,7 +162,8 @@ impl Reader<'_> {
             }
             Some("if") => self.choice(),
             Some("do" | "write" | "call") => self.operation(),
-            _ => Err(self.wanted("one of: begin, end, do, write, call, if, condition, output, scheme")),
+            _ if labelled => Err(self.wanted(&format!("one of: {}", STEPS.join(", ")))),
+            _ => Err(self.wanted("a name and a colon, or one of: begin, end, condition, output, scheme,")),
         }
     }
 

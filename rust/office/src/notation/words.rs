@@ -1,5 +1,7 @@
 //! A line of the notation as words and signs, each with its column.
 
+use crate::problem::visible;
+
 /// A word or a sign and where it stands, counted from 1.
 #[derive(Clone, Debug, PartialEq, Eq)]
 pub struct Word {
@@ -28,11 +30,7 @@ impl Word {
 
     /// As it stands, or by its code where it cannot be seen.
     pub fn shown(&self) -> String {
-        if self.text.chars().any(char::is_control) {
-            self.text.escape_default().to_string()
-        } else {
-            self.text.clone()
-        }
+        visible(&self.text)
     }
 }
 
@@ -48,9 +46,13 @@ pub fn words(line: &str) -> Words {
         None => (line, None),
     };
     let mut words: Vec<Word> = Vec::new();
-    let mut rest = statement.trim_start();
-    while let Some(first) = rest.chars().next() {
-        let column = statement[..statement.len() - rest.len()].chars().count() + 1;
+    let mut rest = statement;
+    let mut column = 1;
+    loop {
+        let word = rest.trim_start();
+        column += rest[..rest.len() - word.len()].chars().count();
+        rest = word;
+        let Some(first) = rest.chars().next() else { break };
         let length = match rest.find(|c| !in_word(c)) {
             Some(0) if rest.starts_with("->") => 2,
             Some(0) => first.len_utf8(),
@@ -58,7 +60,8 @@ pub fn words(line: &str) -> Words {
             None => rest.len(),
         };
         words.push(Word { text: rest[..length].to_string(), column });
-        rest = rest[length..].trim_start();
+        column += rest[..length].chars().count();
+        rest = &rest[length..];
     }
     Words { words, comment, end: statement.trim_end().chars().count() + 1 }
 }
@@ -82,6 +85,13 @@ mod tests {
         let line = words("a=-> »b");
         let shown: Vec<_> = line.words.iter().map(|word| (word.text.as_str(), word.column)).collect();
         assert_eq!(shown, [("a", 1), ("=", 2), ("->", 3), ("»", 6), ("b", 7)]);
+    }
+
+    /// A file of the longest size in one line is taken apart at once.
+    #[test]
+    fn a_long_line_has_its_columns_too() {
+        let line = words(&"é -> ".repeat(150_000));
+        assert_eq!((line.words.len(), line.words[299_999].column), (300_000, 749_998));
     }
 
     #[test]

@@ -7,7 +7,7 @@ use super::Coverage;
 use crate::check::translated;
 use crate::marking::called;
 use crate::plan::Plan;
-use crate::problem::Problem;
+use crate::problem::{counted, Problem};
 
 /// What a tick does, by its code.
 #[derive(Clone, Copy, Debug, PartialEq, Eq)]
@@ -75,7 +75,8 @@ pub fn trace(plan: &Plan, places: usize, words: &[u16]) -> Result<Trace, Problem
     let image = translated(&plan.source)?;
     let (answer, mut state) = Proved.fresh(places);
     if answer.number() != 0 {
-        return Err(plan.source.problem(answer));
+        let words = format!("a stack of {} is asked for", counted(places, "place"));
+        return Err(Problem { words, ..plan.source.problem(answer) });
     }
     let mut trace = Trace { places, ticks: Vec::new(), stopped: None, coverage: Coverage::none(plan) };
     for word in words {

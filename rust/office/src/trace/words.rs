@@ -1,6 +1,8 @@
 //! The words that a trace is fed: a list, a file, counted up, or random from a seed.
 
-use std::fs;
+use crate::command::Failure;
+use crate::problem::{visible, Problem};
+use crate::source;
 
 /// How many ticks are made where the words have no end of their own.
 pub const TICKS: usize = 64;
@@ -14,20 +16,22 @@ pub enum Words {
 }
 
 impl Words {
-    /// From what was given: `random:SEED`, `count`, a list that begins with a digit, or the name of a file.
-    pub fn given(text: &str) -> Result<Words, String> {
+    /// From what was given: `random:SEED`, `count`, a list that begins with a digit, or the name of a file, where `-`
+    /// is standard input.
+    pub fn given(text: &str) -> Result<Words, Failure> {
         if text == "count" {
             return Ok(Words::Counted);
         }
         if let Some(seed) = text.strip_prefix("random:") {
-            let seed = seed.parse().map_err(|_| format!("the seed of {text} is no number"))?;
-            return Ok(Words::Random(seed));
+            let told = |_| Failure::Usage(format!("the seed of {text} is no number from 0 to {}", u64::MAX));
+            return seed.parse().map(Words::Random).map_err(told);
         }
         if text.starts_with(|first: char| first.is_ascii_digit()) {
-            return listed(text);
+            return listed(text).map_err(Failure::Usage);
         }
-        let bytes = fs::read(text).map_err(|error| format!("cannot read the words of {text}: {error}"))?;
-        lines(&bytes).map_err(|message| format!("{text}{message}"))
+        let forms = "words are random:SEED, count, a list such as 0,1,0x8004, or a file";
+        let bytes = source::read(text).map_err(|problem| problem.advice(forms));
+        bytes.and_then(|bytes| lines(&bytes)).map_err(|problem| Failure::of(text, problem))
     }
 
     /// So many words. A list is taken once where no number is given, and begins again where the number is larger.
@@ -47,16 +51,17 @@ fn listed(text: &str) -> Result<Words, String> {
 }
 
 /// One word a line; what stands after a # is a comment.
-fn lines(bytes: &[u8]) -> Result<Words, String> {
+fn lines(bytes: &[u8]) -> Result<Words, Problem> {
+    let text = String::from_utf8_lossy(bytes);
     let mut list = Vec::new();
-    for (number, line) in String::from_utf8_lossy(bytes).lines().enumerate() {
+    for (at, line) in text.trim_start_matches('\u{FEFF}').lines().enumerate() {
         let piece = line.split('#').next().unwrap_or("").trim();
         if !piece.is_empty() {
-            list.push(word(piece).map_err(|message| format!(", line {}: {message}", number + 1))?);
+            list.push(word(piece).map_err(|message| Problem::new(format!("line {}: {message}", at + 1)))?);
         }
     }
     if list.is_empty() {
-        return Err(" has no words".to_string());
+        return Err(Problem::new("there is no word in it").advice("one word a line, # before a comment"));
     }
     Ok(Words::List(list))
 }
@@ -68,9 +73,10 @@ fn word(piece: &str) -> Result<u16, String> {
         None => (piece, 10),
     };
     if digits.is_empty() || !digits.chars().all(|digit| digit.is_digit(radix)) {
-        return Err(format!("'{piece}' is no word: write 0 to 65535, or 0x0 to 0xFFFF"));
+        return Err(format!("'{}' is no word: write 0 to 65535, or 0x0 to 0xFFFF", visible(piece)));
     }
-    u16::from_str_radix(digits, radix).map_err(|_| format!("'{piece}' is more than 65535, the largest word"))
+    u16::from_str_radix(digits, radix)
+        .map_err(|_| format!("'{}' is more than 65535, the largest word", visible(piece)))
 }
 
 /// Words of 16 random bits each (splitmix64), the same for the same seed.
@@ -91,9 +97,10 @@ mod tests {
 
     #[test]
     fn words_are_decimal_or_hexadecimal() {
-        assert_eq!(Words::given("0,1, 0x8004,65535"), Ok(Words::List(vec![0, 1, 0x8004, 65535])));
-        assert_eq!(Words::given("count"), Ok(Words::Counted));
-        assert_eq!(Words::given("random:7"), Ok(Words::Random(7)));
+        let given = |text: &str| Words::given(text).expect("words");
+        assert_eq!(given("0,1, 0x8004,65535"), Words::List(vec![0, 1, 0x8004, 65535]));
+        assert_eq!(given("count"), Words::Counted);
+        assert_eq!(given("random:7"), Words::Random(7));
     }
 
     #[test]
@@ -105,11 +112,15 @@ mod tests {
             ("0,65536", "in the words 0,65536: '65536' is more than 65535"),
             ("1,-1", "in the words 1,-1: '-1' is no word"),
             ("0,+1", "in the words 0,+1: '+1' is no word"),
-            ("random:x", "the seed of random:x is no number"),
-            ("no/such/file", "cannot read the words of no/such/file: "),
+            ("random:x", "the seed of random:x is no number from 0 to 18446744073709551615"),
         ] {
-            let error = Words::given(given).expect_err(given);
+            let Err(Failure::Usage(error)) = Words::given(given) else { panic!("{given} is no wrong call") };
             assert!(error.starts_with(told), "{given}: {error}");
+        }
+        for given in ["random", "no/such/file"] {
+            let Err(Failure::Refused(error)) = Words::given(given) else { panic!("{given} is a file") };
+            let told = "there is no such file\n  look for: words are random:SEED, count, a list such as 0,1,0x8004, or";
+            assert!(error.starts_with(&format!("{given}: {told}")), "{error}");
         }
     }
 
@@ -117,12 +128,13 @@ mod tests {
     fn a_file_has_one_word_a_line_with_comments() {
         let text = b"# a rehearsal\n0\n0x10 # feeler\n\n65535\n";
         assert_eq!(lines(text), Ok(Words::List(vec![0, 16, 65535])));
-        assert_eq!(lines(b"# nothing\n"), Err(" has no words".to_string()));
-        let error = lines(b"0\n1\n2 3\n").expect_err("two words in a line");
-        assert_eq!(error, ", line 3: '2 3' is no word: write 0 to 65535, or 0x0 to 0xFFFF");
-        let error = lines(b"70000\n").expect_err("too large");
-        assert_eq!(error, ", line 1: '70000' is more than 65535, the largest word");
-        assert!(lines(b"0\n\xFF\n").expect_err("no text").starts_with(", line 2: "));
+        assert_eq!(lines(b"\xEF\xBB\xBF7\r\n8\r\n"), Ok(Words::List(vec![7, 8])));
+        let told = |bytes: &[u8]| lines(bytes).expect_err("a fault").words;
+        assert_eq!(told(b"# nothing\n"), "there is no word in it");
+        assert_eq!(told(b"0\n1\n2 3\n"), "line 3: '2 3' is no word: write 0 to 65535, or 0x0 to 0xFFFF");
+        assert_eq!(told(b"70000\n"), "line 1: '70000' is more than 65535, the largest word");
+        assert!(told(b"0\n\xFF\x01\n").starts_with("line 2: '\u{FFFD}\\u{1}' is no word"));
+        assert!(told(&[b'9'; 5_000]).len() < 100);
     }
 
     #[test]
