@@ -31,7 +31,8 @@ pub data Position : Type 0 where
   rowAt : ℕ → Position
 
 unfoldable pub positionOf : List ℕ → ℕ → Position
-positionOf b f = pick (eqb f 0) header (pick (ltb f (labelsFrom b)) (entryAt f) (pick (ltb f (rowsFrom b)) (labelAt (f - labelsFrom b)) (rowAt (f - rowsFrom b))))
+positionOf b f =
+    pick (eqb f 0) header (pick (ltb f (labelsFrom b)) (entryAt f) (pick (ltb f (rowsFrom b)) (labelAt (f - labelsFrom b)) (rowAt (f - rowsFrom b))))
 
 -- 12. Byte 0 or byte 1 is not what the position asks for, or rows are out of order.
 abbrev pub falls : List ℕ → ℕ → Bool

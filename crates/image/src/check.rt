@@ -3,6 +3,7 @@ use crate::fields::lowest_bad;
 use crate::positions::bad_header;
 use crate::positions::lowest_stray;
 use frames::Answer;
+use frames::refused;
 ghost use mathlib.Core.Path.{_≡_};
 ghost use Prim.Native.Nat.{_<_};
 ghost use Rattle.frames.specs.Frame.{size};
@@ -15,28 +16,16 @@ pub fn check_table(table: &[u8]) -> Answer
     ensures { λ r. ⌜ reply r ≡ judged (tableVerdict (now (table .entry))) 0 ⌝ }
 {
     if bad_header(table) {
-        return Answer::Refused {
-            number: 11,
-            index: 0,
-            count: 0,
-        };
+        return refused(11, 0);
     }
     let frames = table.len() / 10;
     let stray = lowest_stray(table, frames);
     if stray < frames {
-        return Answer::Refused {
-            number: 12,
-            index: stray,
-            count: 0,
-        };
+        return refused(12, stray);
     }
     let bad = lowest_bad(table, frames);
     if bad < frames {
-        return Answer::Refused {
-            number: 13,
-            index: bad,
-            count: 0,
-        };
+        return refused(13, bad);
     }
     Answer::Done(0)
 }

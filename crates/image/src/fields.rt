@@ -74,7 +74,7 @@ fn bad_kind(table: &[u8], l: usize) -> bool
     let kind = label_byte(table, l, 2);
     match kind {
         0 => called != 0,
-        1 | 2 => {
+        1..=2 => {
             if called < 2 {
                 return true;
             }

@@ -13,7 +13,8 @@ ghost use Rattle.image.specs.Check.{imageVerdict};
 // No entry point: the caller lends scratch space, as the image check below and a run do.
 pub fn read_image(text: &[u8], table: &mut [u8]) -> Answer
     requires { ⌜ 12970 ≤ length (now table) ⌝ }
-    ensures { λ r. ⌜ (reply r ≡ judged (imageVerdict (now (text .entry))) 0) × (now (table .exit) ≡ readInto 29831 (now (text .entry)) (now (table .entry))) ⌝ }
+    ensures { λ r. ⌜ reply r ≡ judged (imageVerdict (now (text .entry))) 0 ⌝ }
+    ensures { λ _. ⌜ now (table .exit) ≡ readInto 29831 (now (text .entry)) (now (table .entry)) ⌝ }
 {
     let answer = read_text(text, 29831, table);
     let Answer::Done(frames) = answer else {

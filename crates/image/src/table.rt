@@ -1,10 +1,11 @@
 // What stands in a decoded table: bytes, two-byte and four-byte fields, and where labels and rows begin.
 ghost use mathlib.Core.Path.{_≡_};
-ghost use Prim.Native.Nat.{_+_, _*_, _-_, _≤_, _<_};
+ghost use Prim.Native.Nat.{_+_, _*_, _-_, _<_};
 ghost use lib.ListN.{length};
 ghost use Rattle.frames.specs.Frame.{size, field, pairAt, quadAt};
 ghost use Rattle.image.specs.Decode.{labelsFrom, rowsFrom};
 ghost use Rattle.image.specs.Check.{filled};
+ghost use Rattle.image.specs.Parts.{BytesAsked};
 
 // Byte k of frame f.
 pub fn byte(table: &[u8], f: usize, k: usize) -> u8
@@ -80,8 +81,7 @@ pub fn row_pair(table: &[u8], k: usize, j: usize) -> u16
 
 // Whether a byte of frame f from k up to end is not 0.
 pub fn filled_to(table: &[u8], f: usize, k: usize, end: usize) -> bool
-    requires { ⌜ (f < size (now table)) × (k ≤ end) ⌝ }
-    requires { ⌜ end ≤ 10 ⌝ }
+    requires { ⌜ BytesAsked (now table) f k end ⌝ }
     ensures { λ r. ⌜ r ≡ filled (now (table .entry)) f k (end - k) ⌝ }
 {
     let mut j = k;

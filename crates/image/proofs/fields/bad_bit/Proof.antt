@@ -1,6 +1,6 @@
 -- `image::fields::bad_bit` meets its contract: 2 may stand anywhere, 0 and 1 by the label that the row leaves.
 use mathlib.Core.Path.{_∙_, ap}
-use Prim.Native.Nat.{ℕ, _+_, _-_}
+use Prim.Native.Nat.{ℕ, _+_}
 use lib.Dec.{eqb}
 use mathlib.Core.Bool.{not}
 use Rattle.image.specs.Decode.{rowIn, labelsFrom}
@@ -10,22 +10,19 @@ use borrow.Author.Needs.{needs}
 use Rattle.image.proofs.fields.bad_bit.Statement.{statement}
 use Rattle.image.proofs.fields.bad_bit.Tie as tie
 
+-- ---- what holds at the stages
+abbrev start : tie.After-row-byte → tie.Start
+start c = c .before .before
+
+-- ---- the needs
 row-byte-requires : tie.Need-row-byte-requires
 row-byte-requires c κs = search needs
 
 returns : tie.Need-returns
-returns c =
-    let start = c .before .before .before in
-    let b = start .args .table .now in
-    let k = start .args .k in
-    bit-above b (rowIn b k) (search needs)
+returns c = let a = start (c .before) .args in bit-above (a .table .now) (rowIn (a .table .now) (a .k)) (search needs)
 
 returns-2 : tie.Need-returns-2
-returns-2 c =
-    let start = c .before .before .before .before in
-    let b = start .args .table .now in
-    let k = start .args .k in
-    bit-none b (rowIn b k) (search needs)
+returns-2 c = let a = start (c .before .before) .args in bit-none (a .table .now) (rowIn (a .table .now) (a .k)) (search needs)
 
 row-byte-requires-2 : tie.Need-row-byte-requires-2
 row-byte-requires-2 c κs = search needs
@@ -38,12 +35,11 @@ label-byte-requires c κs = search needs
 
 returns-3 : tie.Need-returns-3
 returns-3 c =
-    let start = c .before .before .before .before .before .before in
-    let b = start .args .table .now in
-    let k = start .args .k in
+    let a = start (c .before .before .before .before) .args in
+    let b = a .table .now in
     ap (λ (n : ℕ). not (eqb n 2))
     (c .label-byte .ensures ∙ ap (λ (n : ℕ). field b (labelsFrom b + n) 2) (c .before .row-byte2 .ensures))
-    ∙ bit-function b (rowIn b k) (search needs) (search needs)
+    ∙ bit-function b (rowIn b (a .k)) (search needs) (search needs)
 
 pub bad-bit-spec : {M : Type 1} → statement M
 bad-bit-spec =

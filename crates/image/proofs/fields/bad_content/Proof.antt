@@ -1,5 +1,4 @@
 -- `image::fields::bad_content` meets its contract: by the position of the frame.
-use Prim.Native.Nat.{_-_}
 use native.Mathlib.Omega.{arith}
 use Rattle.image.proofs.PositionCases.{label-above, row-above}
 use Rattle.image.proofs.FieldCases.{content-entry, content-label, content-row, content-header}
@@ -7,6 +6,11 @@ use borrow.Author.Needs.{needs}
 use Rattle.image.proofs.fields.bad_content.Statement.{statement}
 use Rattle.image.proofs.fields.bad_content.Tie as tie
 
+-- ---- what holds at the stages
+abbrev start : tie.After-kind-at → tie.Start
+start c = c .before .before
+
+-- ---- the needs
 kind-at-requires : tie.Need-kind-at-requires
 kind-at-requires c κs = search needs
 
@@ -17,7 +21,7 @@ labels-from-requires : tie.Need-labels-from-requires
 labels-from-requires c κs = search needs
 
 sub-bad-label : tie.Need-sub-bad-label
-sub-bad-label c = omega (arith, label-above (c .before .before .before .before .args .table .now) (c .before .before .before .before .args .f) (search needs))
+sub-bad-label c = let a = start (c .before .before) .args in omega (arith, label-above (a .table .now) (a .f) (search needs))
 
 bad-label-requires : tie.Need-bad-label-requires
 bad-label-requires c κs = search needs
@@ -26,35 +30,26 @@ rows-from-requires : tie.Need-rows-from-requires
 rows-from-requires c κs = search needs
 
 sub-bad-row : tie.Need-sub-bad-row
-sub-bad-row c = omega (arith, row-above (c .before .before .before .before .args .table .now) (c .before .before .before .before .args .f) (search needs))
+sub-bad-row c = let a = start (c .before .before) .args in omega (arith, row-above (a .table .now) (a .f) (search needs))
 
 bad-row-requires : tie.Need-bad-row-requires
-bad-row-requires c κs = omega (arith, row-above (c .before .before .before .before .args .table .now) (c .before .before .before .before .args .f) (search needs))
+bad-row-requires c κs = let a = start (c .before .before) .args in omega (arith, row-above (a .table .now) (a .f) (search needs))
 
 returns : tie.Need-returns
 returns c =
-    let start = c .before .before .before .before in
-    let b = start .args .table .now in
-    let f = start .args .f in
-    content-entry b f _ (search needs) (c .bad-entry .ensures)
+    content-entry _ _ _ (search needs) (c .bad-entry .ensures)
 
 returns-2 : tie.Need-returns-2
 returns-2 c =
-    let start = c .before .before .before .before .before in
-    let b = start .args .table .now in
-    let f = start .args .f in
-    content-label b f _ _ (search needs) (c .before .labels-from .ensures) (c .bad-label .ensures)
+    content-label _ _ _ _ (search needs) (c .before .labels-from .ensures) (c .bad-label .ensures)
 
 returns-3 : tie.Need-returns-3
 returns-3 c =
-    let start = c .before .before .before .before .before in
-    let b = start .args .table .now in
-    let f = start .args .f in
-    content-row b f _ _ (search needs) (row-above b f (search needs)) (c .before .rows-from .ensures)
-    (c .bad-row .ensures)
+    let a = start (c .before .before .before) .args in
+    content-row _ _ _ _ (search needs) (row-above (a .table .now) (a .f) (search needs)) (c .before .rows-from .ensures) (c .bad-row .ensures)
 
 returns-4 : tie.Need-returns-4
-returns-4 c = content-header (c .before .before .before .args .table .now) (c .before .before .before .args .f) (search needs) (search needs) (search needs)
+returns-4 c = content-header _ _ (search needs) (search needs) (search needs)
 
 pub bad-content-spec : {M : Type 1} → statement M
 bad-content-spec =

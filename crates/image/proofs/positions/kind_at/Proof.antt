@@ -5,30 +5,24 @@ use Rattle.image.proofs.positions.kind_at.Statement.{statement}
 use Rattle.image.proofs.positions.kind_at.Tie as tie
 
 returns : tie.Need-returns
-returns c = kind-header (c .before .before .args .table .now) (c .before .before .args .f) (search needs)
+returns c = kind-header _ _ (search needs)
 
 labels-from-requires : tie.Need-labels-from-requires
 labels-from-requires c κs = search needs
 
 returns-2 : tie.Need-returns-2
-returns-2 c = kind-entry (c .before .before .before .before .args .table .now) (c .before .before .before .before .args .f) (search needs) (search needs)
+returns-2 c = kind-entry _ _ (search needs) (search needs)
 
 rows-from-requires : tie.Need-rows-from-requires
 rows-from-requires c κs = search needs
 
 returns-3 : tie.Need-returns-3
 returns-3 c =
-    let start = c .before .before .before .before .before .before in
-    let b = start .args .table .now in
-    let f = start .args .f in
-    kind-label b f (search needs) (search needs) (search needs)
+    kind-label _ _ (search needs) (search needs) (search needs)
 
 returns-4 : tie.Need-returns-4
 returns-4 c =
-    let start = c .before .before .before .before .before .before in
-    let b = start .args .table .now in
-    let f = start .args .f in
-    kind-row b f (search needs) (search needs)
+    kind-row _ _ (search needs) (search needs)
 
 pub kind-at-spec : {M : Type 1} → statement M
 kind-at-spec =

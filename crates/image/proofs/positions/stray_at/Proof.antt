@@ -1,5 +1,4 @@
 -- `image::positions::stray_at` meets its contract: by the kind that the position asks for.
-use Prim.Native.Nat.{_-_}
 use native.Mathlib.Omega.{arith}
 use Rattle.image.proofs.PositionCases.{label-above, row-above, stray-entry-kind, stray-entry, stray-label-kind}
 use Rattle.image.proofs.PositionCases.{stray-label, stray-row-kind, stray-row, stray-header}
@@ -7,6 +6,11 @@ use borrow.Author.Needs.{needs}
 use Rattle.image.proofs.positions.stray_at.Statement.{statement}
 use Rattle.image.proofs.positions.stray_at.Tie as tie
 
+-- ---- what holds at the stages
+abbrev start : tie.After-kind-at → tie.Start
+start c = c .before .before .before
+
+-- ---- the needs
 byte-requires : tie.Need-byte-requires
 byte-requires c κs = search needs
 
@@ -15,10 +19,7 @@ kind-at-requires c κs = search needs
 
 returns : tie.Need-returns
 returns c =
-    let start = c .before .before .before .before .before in
-    let b = start .args .table .now in
-    let f = start .args .f in
-    stray-entry-kind b f (search needs) (search needs)
+    stray-entry-kind _ _ (search needs) (search needs)
 
 byte-requires-2 : tie.Need-byte-requires-2
 byte-requires-2 c κs = search needs
@@ -28,10 +29,7 @@ cast-result c = search needs
 
 returns-2 : tie.Need-returns-2
 returns-2 c =
-    let start = c .before .before .before .before .before in
-    let b = start .args .table .now in
-    let f = start .args .f in
-    stray-label-kind b f (search needs) (search needs)
+    stray-label-kind _ _ (search needs) (search needs)
 
 byte-requires-3 : tie.Need-byte-requires-3
 byte-requires-3 c κs = search needs
@@ -43,63 +41,36 @@ labels-from-requires : tie.Need-labels-from-requires
 labels-from-requires c κs = search needs
 
 sub-result : tie.Need-sub-result
-sub-result c =
-    let start = c .before .before .before .before .before .before .before in
-    let b = start .args .table .now in
-    let f = start .args .f in
-    omega (arith, label-above b f (search needs))
+sub-result c = let a = start (c .before .before .before .before) .args in omega (arith, label-above (a .table .now) (a .f) (search needs))
 
 returns-3 : tie.Need-returns-3
 returns-3 c =
-    let start = c .before .before .before .before .before in
-    let b = start .args .table .now in
-    let f = start .args .f in
-    stray-row-kind b f (search needs) (search needs)
+    stray-row-kind _ _ (search needs) (search needs)
 
 rows-from-requires : tie.Need-rows-from-requires
 rows-from-requires c κs = search needs
 
 sub-falls-at : tie.Need-sub-falls-at
-sub-falls-at c =
-    let start = c .before .before .before .before .before .before in
-    let b = start .args .table .now in
-    let f = start .args .f in
-    omega (arith, row-above b f (search needs))
+sub-falls-at c = let a = start (c .before .before .before) .args in omega (arith, row-above (a .table .now) (a .f) (search needs))
 
 falls-at-requires : tie.Need-falls-at-requires
-falls-at-requires c κs =
-    let start = c .before .before .before .before .before .before in
-    let b = start .args .table .now in
-    let f = start .args .f in
-    omega (arith, row-above b f (search needs))
+falls-at-requires c κs = let a = start (c .before .before .before) .args in omega (arith, row-above (a .table .now) (a .f) (search needs))
 
 returns-4 : tie.Need-returns-4
 returns-4 c =
-    let start = c .before .before .before .before .before .before in
-    let b = start .args .table .now in
-    let f = start .args .f in
-    stray-entry b f _ (search needs) (search needs) (c .byte2 .ensures)
+    stray-entry _ _ _ (search needs) (search needs) (c .byte2 .ensures)
 
 returns-5 : tie.Need-returns-5
 returns-5 c =
-    let start = c .before .before .before .before .before .before .before in
-    let b = start .args .table .now in
-    let f = start .args .f in
-    stray-label b f _ _ (search needs) (search needs) (c .before .byte3 .ensures) (c .labels-from .ensures)
+    stray-label _ _ _ _ (search needs) (search needs) (c .before .byte3 .ensures) (c .labels-from .ensures)
 
 returns-6 : tie.Need-returns-6
 returns-6 c =
-    let start = c .before .before .before .before .before .before .before in
-    let b = start .args .table .now in
-    let f = start .args .f in
-    stray-row b f _ _ (search needs) (search needs) (c .before .rows-from .ensures) (c .falls-at .ensures)
+    stray-row _ _ _ _ (search needs) (search needs) (c .before .rows-from .ensures) (c .falls-at .ensures)
 
 returns-7 : tie.Need-returns-7
 returns-7 c =
-    let start = c .before .before .before .before in
-    let b = start .args .table .now in
-    let f = start .args .f in
-    stray-header b f (search needs) (search needs) (search needs)
+    stray-header _ _ (search needs) (search needs) (search needs)
 
 pub stray-at-spec : {M : Type 1} → statement M
 stray-at-spec =
