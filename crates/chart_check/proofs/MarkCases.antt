@@ -1,7 +1,7 @@
 -- The arcs that marks follow, case by case, and the marks of Begins and of cut-off nodes.
 use mathlib.Core.Path.{_≡_, refl, sym, _∙_, ap, subst}
 use mathlib.Core.Logic.{_⊎_, inl, inr}
-use mathlib.Core.Bool.{Bool, true, false, _&&_}
+use mathlib.Core.Bool.{Bool, true, false, _&&_, not}
 use mathlib.Core.List.{List, [], _∷_, _++_, map, append-nil}
 use Prim.Native.Nat.{ℕ, zero, suc, _+_, _≤_, _<_}
 use native.Mathlib.Numerals.{add-one}
@@ -12,12 +12,13 @@ use lib.ListN.{length, getD, set, take, drop, replicate, drop-of-length-le, leng
 use lib.Seq.{drop-cons, set-at, append-snoc}
 use borrow.Author.Tests.{eq-eqb, ne-eqb}
 use Rattle.lists.specs.Pick.{pick}
-use Rattle.lists.specs.Numbers.{range}
+use Rattle.lists.specs.Numbers.{range, lowest}
 use Rattle.lists.proofs.Tests.{no-both}
 use Rattle.lists.proofs.Ranges.{length-map-range, map-range-snoc}
-use Rattle.graph.specs.Reach.{marked, joinedFrom}
+use Rattle.graph.specs.Reach.{marked, reach, joinedFrom}
 use Rattle.graph.specs.Marking.{markAll}
 use Rattle.graph.specs.Listed.{Listed}
+use Rattle.graph.proofs.Marking.{all-only}
 use Rattle.graph.proofs.Lists.{listed-none}
 use Rattle.frames.specs.Frame.{size}
 use Rattle.charts.specs.Chart.{Chart, kind, next0, next1, is}
@@ -142,6 +143,23 @@ module _ (c : Chart) (v x : ℕ) (p : x ≡ kind c v) where
   circle-back q ms r e t =
       t ∙ ap (λ (xs : List Bool). marked xs v) e
       ∙ sym (ap (λ b. b && marked (joinedFrom (size c) (conditionArcs c) (arcs c v)) v) (eq-eqb (kind c v) 3 (sym p ∙ q)))
+
+-- the marks of the next nodes of v, spread: those of the definition
+pub spread-back : (c : Chart) (v : ℕ) (blank first joined : List Bool) → blank ≡ replicate (size c) false → first ≡ markAll (arcs c v) blank
+    → joined ≡ reach (size c) (conditionArcs c) (size c) first → joined ≡ joinedFrom (size c) (conditionArcs c) (arcs c v)
+spread-back c v blank first joined none marks spread =
+    spread
+    ∙ ap (λ (xs : List Bool). reach (size c) (conditionArcs c) (size c) xs)
+    (marks ∙ ap (λ (xs : List Bool). markAll (arcs c v) xs) none ∙ all-only (size c) (arcs c v))
+
+-- ---- the marks of all Begins, spread, and the lowest node without one
+pub spread-apart : (c : Chart) (begins joined : List Bool) (r : ℕ) → begins ≡ kindMarks c 0
+    → joined ≡ reach (size c) (arcs c) (size c) begins → length joined ≡ size c → r ≡ lowest (λ v. not (marked joined v)) 0 (length joined)
+    → (joined ≡ reach (size c) (arcs c) (size c) (kindMarks c 0)) × (r ≡ lowest (λ v. not (marked joined v)) 0 (size c))
+spread-apart c begins joined r first spread long found = (
+  spread ∙ ap (λ (xs : List Bool). reach (size c) (arcs c) (size c) xs) first,
+  found ∙ ap (λ (k : ℕ). lowest (λ v. not (marked joined v)) 0 k) long,
+)
 
 -- ---- marks that a table of 256 lends
 pub part-of : {A : Type 0} (m n : ℕ) (a : A) → n ≤ m → take n (replicate m a) ≡ replicate n a

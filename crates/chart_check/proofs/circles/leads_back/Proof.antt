@@ -1,16 +1,9 @@
 -- `chart_check::circles::leads_back` meets its contract: the marks are those of the definition, read at the node.
-use mathlib.Core.Path.{_≡_, refl, _∙_, ap}
-use mathlib.Core.Bool.{Bool, true}
-use mathlib.Core.List.{List}
+use mathlib.Core.Path.{_≡_, refl, _∙_}
 use native.Mathlib.Omega.{arith}
 use lib.ListN.{length}
-use Rattle.graph.specs.Reach.{reach}
-use Rattle.graph.specs.Marking.{markAll}
-use Rattle.graph.proofs.Marking.{all-only}
 use Rattle.frames.specs.Frame.{size}
-use Rattle.charts.specs.Check.{arcs}
-use Rattle.charts.specs.Marks.{arcsBy}
-use Rattle.chart_check.proofs.MarkCases.{blank-long, blank-lent}
+use Rattle.chart_check.proofs.MarkCases.{blank-long, blank-lent, spread-back}
 use borrow.Author.Needs.{needs}
 use Rattle.chart_check.proofs.circles.leads_back.Statement.{statement}
 use Rattle.chart_check.proofs.circles.leads_back.Tie as tie
@@ -59,15 +52,7 @@ returns : tie.Need-returns
 returns c =
     let first = followed (listed (joined c)) in
     let begun = start (first .before) in
-    let records = begun .args .records .now in
-    let v = begun .args .v in (
-      joined c .join .ensures
-          ∙ ap (λ (xs : List Bool). reach (size records) (arcsBy records true) (size records) xs)
-          (first .follow .ensures .spread
-          ∙ ap (λ (xs : List Bool). markAll (arcs records v) xs) (begun .pre .1 .none)
-          ∙ all-only (size records) (arcs records v)),
-      refl,
-    )
+    (spread-back (begun .args .records .now) (begun .args .v) _ _ _ (begun .pre .1 .none) (first .follow .ensures .spread) (joined c .join .ensures), refl)
 
 pub leads-back-spec : {M : Type 1} → statement M
 leads-back-spec =

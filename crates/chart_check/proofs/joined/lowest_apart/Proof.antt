@@ -1,12 +1,6 @@
 -- `chart_check::joined::lowest_apart` meets its contract: the Begins are marked, the marks spread, the lowest node without one is found.
-use Prim.Native.Nat.{ℕ}
-use mathlib.Core.Path.{_∙_, ap}
-use mathlib.Core.Bool.{Bool, false, not}
-use mathlib.Core.List.{List}
-use Rattle.lists.specs.Numbers.{lowest}
-use Rattle.graph.specs.Reach.{marked, reach}
-use Rattle.frames.specs.Frame.{size}
-use Rattle.charts.specs.Marks.{arcsBy}
+use mathlib.Core.Path.{_∙_}
+use Rattle.chart_check.proofs.MarkCases.{spread-apart}
 use borrow.Author.Needs.{needs}
 use Rattle.chart_check.proofs.joined.lowest_apart.Statement.{statement}
 use Rattle.chart_check.proofs.joined.lowest_apart.Tie as tie
@@ -47,13 +41,9 @@ returns : tie.Need-returns
 returns c =
     let join = joined c .join in
     let first = begins (listed (joined c)) in
-    let records = start first .args .records .now in (
-      join .ensures
-          ∙ ap (λ (xs : List Bool). reach (size records) (arcsBy records false) (size records) xs) (first .mark-kind .ensures),
-      c .lowest-unmarked .ensures
-          ∙ ap (λ (k : ℕ). lowest (λ v. not (marked (join .last .1 .1 .0) v)) 0 k)
-          (join .kept .1 .1 .0 ∙ first .mark-kind .kept .1 .1 .0 ∙ start first .pre .0),
-    )
+    let begun = start first in
+    spread-apart (begun .args .records .now) _ _ _ (first .mark-kind .ensures) (join .ensures)
+    (join .kept .1 .1 .0 ∙ first .mark-kind .kept .1 .1 .0 ∙ begun .pre .0) (c .lowest-unmarked .ensures)
 
 pub lowest-apart-spec : {M : Type 1} → statement M
 lowest-apart-spec =

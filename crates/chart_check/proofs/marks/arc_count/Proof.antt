@@ -6,37 +6,47 @@ use borrow.Author.Needs.{needs}
 use Rattle.chart_check.proofs.marks.arc_count.Statement.{statement}
 use Rattle.chart_check.proofs.marks.arc_count.Tie as tie
 
+-- ---- the stage where the kind is read
+abbrev start : tie.After-field → tie.Start
+start c = c .before .before
+
+-- ---- the needs
 field-requires : tie.Need-field-requires
 field-requires c κs = search needs
 
 returns : tie.Need-returns
 returns c =
-    let start = c .before .before .before .before in
-    count-none (start .args .records .now) (start .args .conditions) (start .args .v) _ (c .before .before .field .ensures) (c .before .if1 .taken) (c .if2 .taken)
+    let read = c .before .before in
+    let a = start read .args in
+    count-none (a .records .now) (a .conditions) (a .v) _ (read .field .ensures) (c .before .if1 .taken) (c .if2 .taken)
 
 returns-2 : tie.Need-returns-2
 returns-2 c =
-    let start = c .before .before .before .before in
-    count-end (start .args .records .now) (start .args .conditions) (start .args .v) _ (c .before .before .field .ensures)
-    (⊎-elim (λ w t. w .1 .left) (λ w t. no-both _ t (w .left)) (c .before .if1 .came)) (c .match .keys1)
+    let told = c .before in
+    let a = start (told .before) .args in
+    count-end (a .records .now) (a .conditions) (a .v) _ (told .before .field .ensures)
+    (⊎-elim (λ w t. w .1 .left) (λ w t. no-both _ t (w .left)) (told .if1 .came)) (c .match .keys1)
 
 returns-3 : tie.Need-returns-3
 returns-3 c =
-    let start = c .before .before .before .before .before .before in
-    count-two (start .args .records .now) (start .args .conditions) (start .args .v) _ (c .before .before .before .before .field .ensures)
-    (⊎-elim (λ w t. w .1 .left) (λ w t. no-both _ t (w .left)) (c .before .before .before .if1 .came)) (c .before .if3 .left) (c .if4 .taken)
+    let told = c .before .before .before in
+    let a = start (told .before) .args in
+    count-two (a .records .now) (a .conditions) (a .v) _ (told .before .field .ensures)
+    (⊎-elim (λ w t. w .1 .left) (λ w t. no-both _ t (w .left)) (told .if1 .came)) (c .before .if3 .left) (c .if4 .taken)
 
 returns-4 : tie.Need-returns-4
 returns-4 c =
-    let start = c .before .before .before .before .before in
-    count-one (start .args .records .now) (start .args .conditions) (start .args .v) _ (c .before .before .before .field .ensures)
-    (⊎-elim (λ w t. w .1 .left) (λ w t. no-both _ t (w .left)) (c .before .before .if1 .came)) (c .before .match .rest .1) (inl (c .if3 .taken))
+    let told = c .before .before in
+    let a = start (told .before) .args in
+    count-one (a .records .now) (a .conditions) (a .v) _ (told .before .field .ensures)
+    (⊎-elim (λ w t. w .1 .left) (λ w t. no-both _ t (w .left)) (told .if1 .came)) (c .before .match .rest .1) (inl (c .if3 .taken))
 
 returns-5 : tie.Need-returns-5
 returns-5 c =
-    let start = c .before .before .before .before .before .before in
-    count-one (start .args .records .now) (start .args .conditions) (start .args .v) _ (c .before .before .before .before .field .ensures)
-    (⊎-elim (λ w t. w .1 .left) (λ w t. no-both _ t (w .left)) (c .before .before .before .if1 .came)) (c .before .before .match .rest .1) (inr (c .if4 .left))
+    let told = c .before .before .before in
+    let a = start (told .before) .args in
+    count-one (a .records .now) (a .conditions) (a .v) _ (told .before .field .ensures)
+    (⊎-elim (λ w t. w .1 .left) (λ w t. no-both _ t (w .left)) (told .if1 .came)) (c .before .before .match .rest .1) (inr (c .if4 .left))
 
 pub arc-count-spec : {M : Type 1} → statement M
 arc-count-spec =

@@ -27,17 +27,18 @@ returns c = end-arc (c .before .before .before .args .records .now) (c .before .
 
 returns-2 : tie.Need-returns-2
 returns-2 c =
-    let start = c .before .before .before .before .before .before in
+    let read = c .before .before .before .before in
+    let a = read .before .before .args in
     c .bad-pair .ensures
-    ∙ double-arc (start .args .records .now) (start .args .v) _ (c .before .before .before .before .field .ensures) (c .before .before .if1 .left) (c .before .if2 .taken)
+    ∙ double-arc (a .records .now) (a .v) _ (read .field .ensures) (c .before .before .if1 .left) (c .before .if2 .taken)
 
 returns-3 : tie.Need-returns-3
 returns-3 c =
-    let start = c .before .before .before .before .before .before in
-    let records = start .args .records .now in
-    let v = start .args .v in
+    let read = c .before .before .before .before in
+    let records = read .before .before .args .records .now in
+    let v = read .before .before .args .v in
     c .bad-end .ensures ∙ ap (badEnd records v) (c .before .field2 .ensures)
-    ∙ single-arc records v _ (c .before .before .before .before .field .ensures) (c .before .before .before .match .rest .1)
+    ∙ single-arc records v _ (read .field .ensures) (c .before .before .before .match .rest .1)
     (⊎-elim (λ w. inl (w .taken)) (λ w. inr (w .1 .left)) (c .before .before .if1 .came))
 
 pub bad-arc-spec : {M : Type 1} → statement M

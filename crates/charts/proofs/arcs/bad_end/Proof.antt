@@ -28,12 +28,9 @@ field-requires-3 c κs = search needs
 
 returns-3 : tie.Need-returns-3
 returns-3 c =
-    let start = c .before .before .before .before .before .before in
-    let records = start .args .records .now in
-    let v = start .args .v in
-    let u = start .args .u in
-    let if1 = c .before .before .before .before .if1 in
-    end-inside records v u _ _ _ (if1 .left) (c .before .before .before .field .ensures)
+    let first = c .before .before .before in
+    let a = first .before .before .before .args in
+    end-inside (a .records .now) (a .v) (a .u) _ _ _ (first .before .if1 .left) (first .field .ensures)
     (c .before .before .field2 .ensures) (c .before .if2 .left) (c .field3 .ensures)
 
 pub bad-end-spec : {M : Type 1} → statement M

@@ -31,11 +31,9 @@ bad-end-requires-2 c κs = search needs
 
 returns-2 : tie.Need-returns-2
 returns-2 c =
-    let start = c .before .before .before .before .before .before in
-    let records = start .args .records .now in
-    let v = start .args .v in
-    let field = c .before .before .before .before .field in
-    pair-second records v _ _ (field .ensures) (c .before .before .before .bad-end .ensures) _ _
+    let first = c .before .before .before in
+    let a = first .before .before .before .args in
+    pair-second (a .records .now) (a .v) _ _ (first .before .field .ensures) (first .bad-end .ensures) _ _
     (c .before .before .if1 .left) (c .before .field2 .ensures) (c .bad-end2 .ensures)
 
 pub bad-pair-spec : {M : Type 1} → statement M

@@ -28,13 +28,11 @@ any-not-one-requires c κs = search needs
 
 returns : tie.Need-returns
 returns c =
-    let start = c .before .before .before .before .before .before .before .before .before .before in
-    let records = start .args .records .now in
-    let highest = start .args .highest in
-    let count-by-scheme = c .before .before .before .before .before .before .before .count-by-scheme in
-    let count-by-scheme2 = c .before .before .before .before .count-by-scheme2 in
+    let ends = c .before .before .before .before in
+    let begins = ends .before .before .before in
+    let a = begins .before .before .before .args in
     c .any-not-one .ensures
-    ∙ bad-counts records _ _ highest (count-by-scheme .ensures) (count-by-scheme2 .ensures) (search needs)
+    ∙ bad-counts (a .records .now) _ _ (a .highest) (begins .count-by-scheme .ensures) (ends .count-by-scheme2 .ensures) (search needs)
 
 pub any-bad-scheme-spec : {M : Type 1} → statement M
 any-bad-scheme-spec =

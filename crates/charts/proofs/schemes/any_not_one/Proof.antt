@@ -37,11 +37,11 @@ shared-slice-read-if1 c = search needs
 
 returns : tie.Need-returns Inv-loop μ-loop
 returns c =
-    let start = c .before .before .before .before in
-    let begins = start .args .begins .now in
-    let ends = start .args .ends .now in
-    let highest = start .args .highest in
-    let loop = c .before .before .before .loop in
+    let here = c .before .before .before in
+    let begins = here .before .args .begins .now in
+    let ends = here .before .args .ends .now in
+    let highest = here .before .args .highest in
+    let loop = here .loop in
     sym (any-here (notOne begins ends) (highest + 1) (loop .scheme + 1) (search needs)
     (not-begin begins ends (loop .scheme + 1) (c .if1 .taken)))
     ∙ loop .inv .1
@@ -54,13 +54,14 @@ shared-slice-read-if2 c = search needs
 
 returns-2 : tie.Need-returns-2 Inv-loop μ-loop
 returns-2 c =
-    let start = c .before .before .before .before .before .before in
-    let begins = start .args .begins .now in
-    let ends = start .args .ends .now in
-    let highest = start .args .highest in
-    let loop = c .before .before .before .before .before .loop in
+    let begun = c .before .before in
+    let here = begun .before .before .before in
+    let begins = here .before .args .begins .now in
+    let ends = here .before .args .ends .now in
+    let highest = here .before .args .highest in
+    let loop = here .loop in
     sym (any-here (notOne begins ends) (highest + 1) (loop .scheme + 1) (search needs)
-    (not-end begins ends (loop .scheme + 1) (c .before .before .if1 .left) (c .if2 .taken)))
+    (not-end begins ends (loop .scheme + 1) (begun .if1 .left) (c .if2 .taken)))
     ∙ loop .inv .1
 
 loop-less : tie.Need-loop-less Inv-loop μ-loop
@@ -68,14 +69,15 @@ loop-less c = search needs
 
 loop-again : tie.Need-loop-again Inv-loop μ-loop
 loop-again c =
-    let start = c .before .before .before .before .before .before in
-    let begins = start .args .begins .now in
-    let ends = start .args .ends .now in
-    let highest = start .args .highest in
-    let loop = c .before .before .before .before .before .loop in (
+    let begun = c .before .before in
+    let here = begun .before .before .before in
+    let begins = here .before .args .begins .now in
+    let ends = here .before .args .ends .now in
+    let highest = here .before .args .highest in
+    let loop = here .loop in (
       search needs,
       sym (any-on (notOne begins ends) (highest + 1) (loop .scheme + 1) (search needs)
-          (one-each begins ends (loop .scheme + 1) (c .before .before .if1 .left) (c .if2 .left)))
+          (one-each begins ends (loop .scheme + 1) (begun .if1 .left) (c .if2 .left)))
           ∙ loop .inv .1,
     )
 

@@ -18,6 +18,17 @@ Inv-loop records kind counts₀ n v₀ counts v = (v ≤ n) × (n ≡ size recor
 abbrev μ-loop : tie.MeasureT-loop
 μ-loop records kind counts₀ n v₀ counts v = n - v
 
+abbrev At : ((Inv : tie.InvT-loop) → (μ : tie.MeasureT-loop) → Type 0) → Type 0
+At stage = stage Inv-loop μ-loop
+
+-- ---- what holds in a turn of the loop
+abbrev start : At tie.At-loop → At tie.Start
+start c = c .before .before .before
+
+long : (c : At tie.At-loop) → length (c .loop .counts) ≡ 256
+long c = counts-long (start c .args .records .now) (start c .args .kind) (c .loop .v) _ (c .loop .inv .2)
+
+-- ---- the needs
 loop-holds : tie.Need-loop-holds Inv-loop μ-loop
 loop-holds c = (search needs, search needs, counts-start (c .before .before .args .records .now) (c .before .before .args .kind) _ (c .before .before .pre .1))
 
@@ -34,28 +45,16 @@ mul-counts : tie.Need-mul-counts Inv-loop μ-loop
 mul-counts c = search needs
 
 slice-read-counts : tie.Need-slice-read-counts Inv-loop μ-loop
-slice-read-counts c =
-    let start = c .before .before .before .before .before .before .before .before in
-    let records = start .args .records .now in
-    let kind = start .args .kind in
-    let loop = c .before .before .before .before .before .loop in
-    omega (arith, counts-long records kind (loop .v) _ (loop .inv .2), c .before .field2 .ok)
+slice-read-counts c = omega (arith, long (c .before .before .before .before .before), c .before .field2 .ok)
 
 add-counts : tie.Need-add-counts Inv-loop μ-loop
 add-counts c =
-    let start = c .before .before .before .before .before .before .before .before in
-    let records = start .args .records .now in
-    let kind = start .args .kind in
-    let loop = c .before .before .before .before .before .loop in
-    omega (arith, counts-low records kind (loop .v) _ (loop .inv .2) (c .before .field2 .result) (search needs))
+    let here = c .before .before .before .before .before in
+    let a = start here .args in
+    omega (arith, counts-low (a .records .now) (a .kind) (here .loop .v) _ (here .loop .inv .2) (c .before .field2 .result) (search needs))
 
 slice-write-counts : tie.Need-slice-write-counts Inv-loop μ-loop
-slice-write-counts c =
-    let start = c .before .before .before .before .before .before .before .before in
-    let records = start .args .records .now in
-    let kind = start .args .kind in
-    let loop = c .before .before .before .before .before .loop in
-    omega (arith, counts-long records kind (loop .v) _ (loop .inv .2), c .before .field2 .ok)
+slice-write-counts c = omega (arith, long (c .before .before .before .before .before), c .before .field2 .ok)
 
 add-v : tie.Need-add-v Inv-loop μ-loop
 add-v c = search needs
@@ -65,10 +64,10 @@ loop-less c = search needs
 
 loop-again : tie.Need-loop-again Inv-loop μ-loop
 loop-again c =
-    let start = c .before .before .before .before .before .before in
-    let records = start .args .records .now in
-    let kind = start .args .kind in
-    let loop = c .before .before .before .loop in (
+    let here = c .before .before .before in
+    let records = start here .args .records .now in
+    let kind = start here .args .kind in
+    let loop = here .loop in (
       search needs,
       search needs,
       ⊎-elim
@@ -80,17 +79,13 @@ loop-again c =
 
 same-length : tie.Need-same-length Inv-loop μ-loop
 same-length c =
-    let start = c .before .before .before .before in
-    let records = start .args .records .now in
-    let kind = start .args .kind in
-    counts-long records kind (c .before .loop .v) _ (c .before .loop .inv .2)
-    ∙ sym (ap (λ (xs : List ℕ). length xs) (start .pre .1) ∙ length-replicate {A = ℕ} 256 0)
+    let begun = start (c .before) in
+    long (c .before) ∙ sym (ap (λ (xs : List ℕ). length xs) (begun .pre .1) ∙ length-replicate {A = ℕ} 256 0)
 
 returns : tie.Need-returns Inv-loop μ-loop
 returns c =
-    let start = c .before .before .before .before in
-    let records = start .args .records .now in
-    let kind = start .args .kind in
+    let records = start (c .before) .args .records .now in
+    let kind = start (c .before) .args .kind in
     let e : c .before .loop .v ≡ size records = search needs in
     c .before .loop .inv .2 ∙ ap (λ (k : ℕ). countsTo records kind k) e
 
