@@ -10,11 +10,13 @@ use Rattle.frames.specs.Verdict.{Verdict, fine, refused, when}
 use Rattle.frames.specs.Answer.{success, refusal, reply, Lent, Lends, lent}
 use Rattle.frames.specs.declared.Answer.{Answer}
 use Rattle.frames.specs.declared.Answer.the-variants.{Done, Refused}
+use Rattle.frames.specs.Check.{textVerdict}
 use Rattle.frames.proofs.Chains.{next-refused, next-on}
+use Rattle.frames.proofs.Verdicts.{next-rest}
 use Rattle.frames.proofs.Lent.{Success, lent-fits, lent-told, lent-refused, front}
+use Rattle.charts.specs.Check.{chartVerdict}
 use Rattle.charts.specs.Entry.{readVerdict, readChart}
-use Rattle.charts.proofs.Accepted.{Accepted, accepted}
-use Rattle.walk.proofs.FactsHold.{facts}
+use Rattle.charts.proofs.Accepted.{Accepted, accepted, accepted-bytes}
 use Rattle.image.specs.Image.{imageText}
 use Rattle.translator.specs.Rows.{rows}
 use Rattle.translator.specs.Table.{table}
@@ -71,7 +73,16 @@ module _ (t held : List ℕ) (n : ℕ) (r : Read t held n) where
   read-long = ap (λ (x : List ℕ). length x) (r .chart) ∙ r .long
 
   pub read-ready : Ready (take (10 * n) held)
-  read-ready = subst Ready (sym (r .chart)) (record { facts = facts t (r .accepted); sound = Rattle.charts.proofs.Accepted.accepted t (r .accepted) .sound })
+  unfolding readVerdict
+  read-ready =
+      let a : Accepted (contents t) = accepted t (r .accepted) in
+      subst Ready (sym (r .chart)) (record {
+        whole = a .whole;
+        some = a .some;
+        few = a .few;
+        bytes = accepted-bytes t (r .accepted);
+        accepted = next-rest (textVerdict 5888 t) (λ _. chartVerdict (contents t)) (r .accepted);
+      })
 
   same : (out : List ℕ) → imageLent (take (10 * n) held) out ≡ translate t out
   unfolding translate translateVerdict

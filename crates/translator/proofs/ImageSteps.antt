@@ -267,4 +267,4 @@ module _ (c : Chart) (old : List ℕ) (total : ℕ) (counted : total ≡ min 102
 pub charted-local : (c : Chart) (labels : List ℕ) → Ready c
     → labels ≡ written (replicate 256 0) 0 (map (label c) (range 0 (size c))) → Charted c labels
 charted-local c labels ready e = let n : length (replicate {A = ℕ} 256 0) ≡ 256 = refl in
-    record { ready = ready; labelled = labelled c (replicate 256 0) labels (omega (arith, ready .facts .few)) e }
+    record { ready = ready; labelled = labelled c (replicate 256 0) labels (omega (arith, ready .few)) e }

@@ -22,7 +22,8 @@ use Rattle.charts.specs.Chart.{Chart, kind, scheme, next0, is, begin, end}
 use Rattle.walk.specs.Stops.{stops}
 use Rattle.walk.proofs.Facts.{Facts}
 use Rattle.translator.specs.Labels.{numbered, label}
-use Rattle.translator.specs.Ready.{Labelled}
+use Rattle.translator.specs.Ready.{Ready, Labelled}
+use Rattle.translator.proofs.ReadyLaws.{ready-facts}
 use Rattle.walk.proofs.Follow.{stops-begin}
 
 pub label-own : (c : Chart) (v : ℕ) → numbered c v ≡ true → label c v ≡ 2 + count (numbered c) 0 v
@@ -65,8 +66,8 @@ few-numbered c F =
         go true y q = ap not q
         go false y q = refl
 
-pub own-small : (c : Chart) → Facts c → (v own : ℕ) → v < size c → own ≡ count (numbered c) 0 v → numbered c v ≡ true → own + 2 < 256
-own-small c F v own l e t = omega (arith, count-below (numbered c) v (size c) l t, few-numbered c F, F .few)
+pub own-small : (c : Chart) → Ready c → (v own : ℕ) → v < size c → own ≡ count (numbered c) 0 v → numbered c v ≡ true → own + 2 < 256
+own-small c ready v own l e t = omega (arith, count-below (numbered c) v (size c) l t, few-numbered c (ready-facts ready), ready .few)
 
 -- ---- one node's label
 module _ (c : Chart) (v : ℕ) where

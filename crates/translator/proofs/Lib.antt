@@ -2,6 +2,7 @@ pub mod LabelLaws
 pub mod SoundRows
 pub mod SoundTable
 pub mod Translated
+pub mod ReadyLaws
 pub mod NodeSteps
 pub mod LabelSteps
 pub mod PathSteps

@@ -12,7 +12,8 @@ use Rattle.lists.proofs.Tests.{and-second, and-first}
 use Rattle.frames.specs.Frame.{size}
 use Rattle.charts.specs.Chart.{Chart, kind, scheme, next0, is, isOf, begin, nodeOf}
 use Rattle.walk.specs.Stops.{stops}
-use Rattle.walk.proofs.Facts.{Facts}
+use Rattle.translator.specs.Ready.{Ready}
+use Rattle.translator.proofs.ReadyLaws.{ready-facts}
 use Rattle.walk.proofs.Follow.{stops-condition}
 
 -- ---- the search for the Begin of scheme h
@@ -36,11 +37,11 @@ unfolding nodeOf
 search-start c h = record { within = omega arith; all = refl; left = lowest-start (isOf c 0 h) (size c) }
 
 -- ---- stops
-pub begin-asks : (c : Chart) → Facts c → (v k : ℕ) → v < size c → k ≡ kind c v → k ≡ 0
+pub begin-asks : (c : Chart) → Ready c → (v k : ℕ) → v < size c → k ≡ kind c v → k ≡ 0
     → (10 * v + 3 < length c) × (10 * next0 c v < length c)
-begin-asks c F v k l e z =
-    let t = F .arc0 v l (λ q. omega arith) in
-    (omega (arith, F .whole), omega (arith, F .whole, t .inside))
+begin-asks c ready v k l e z =
+    let t = ready-facts ready .arc0 v l (λ q. omega arith) in
+    (omega (arith, ready .whole), omega (arith, ready .whole, t .inside))
 
 module _ (c : Chart) (v next s : ℕ) (e : next ≡ next0 c v) (es : s ≡ scheme c v) where
   pub begin-second : (k : ℕ) → k ≡ kind c next → (s ≡ 1 → ⊥) → eqb k 3 ≡ (not (eqb (scheme c v) 1) && is c 3 (next0 c v))
@@ -64,5 +65,5 @@ module _ (c : Chart) (v k s first : ℕ) (ek : k ≡ kind c v) (three : k ≡ 3)
       and-first (eqb (scheme c v) 1) (eqb (next0 c (begin c 1)) v) (eqb s 1) (ne-eqb (scheme c v) 1 (λ q. o (es ∙ q)))
       (ap (λ (x : ℕ). eqb x 1) es) ∙ sym (stops-condition c v (sym ek ∙ three))
 
-pub first-asks : (c : Chart) → Facts c → (v : ℕ) → v ≡ begin c 1 → 10 * v + 3 < length c
-first-asks c F v e = omega (arith, F .whole, F .begins 1 (omega arith) (F .first) .0)
+pub first-asks : (c : Chart) → Ready c → (v : ℕ) → v ≡ begin c 1 → 10 * v + 3 < length c
+first-asks c ready v e = let F = ready-facts ready in omega (arith, ready .whole, F .begins 1 (omega arith) (F .first) .0)

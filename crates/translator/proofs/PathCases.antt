@@ -23,6 +23,7 @@ use Rattle.walk.proofs.Follow.{goes-on, stops-other}
 use Rattle.translator.specs.Labels.{numbered, label}
 use Rattle.translator.specs.Rows.{paths}
 use Rattle.translator.specs.Ready.{Ready, Entered, OfKind, OnPath}
+use Rattle.translator.proofs.ReadyLaws.{ready-sound, ready-facts}
 use Rattle.translator.proofs.LabelSteps.{label-own, own-label}
 use Rattle.translator.proofs.PathSteps.{pathRow, entered0, entered1, at-stop, at-new}
 use Rattle.translator.proofs.Settled.{Settled}
@@ -61,7 +62,7 @@ pub known-test : (c : Chart) (v : ℕ) (r b : Bool) → stops c v ≡ false → 
 known-test c v r b s e = e ∙ sym (ap (λ x. not x && b) s)
 
 pub small-number : {c : Chart} {v i : ℕ} → OfKind c 3 v → i ≡ argument c v → i < 16
-small-number {c} {v} node e = omega (arith, node .ready .facts .conditions v (node .inside) (node .kind))
+small-number {c} {v} node e = omega (arith, ready-facts (node .ready) .conditions v (node .inside) (node .kind))
 
 pub small-on-path : {c : Chart} {v i : ℕ} → Ready c → Entered c v → stops c v ≡ false → i ≡ argument c v → i < 16
 small-on-path {c} {v} ready t s e = small-number (record { ready = ready; inside = t .inside; kind = goes-on c v (t .noBegin) s }) e
@@ -137,8 +138,8 @@ module _ (c : Chart) (care values v u i : ℕ) (new : New c care values v u i) w
           let inside = new .settled .entered .inside in record {
             entered0 = subst (Entered c) (sym e0) (entered0 c (new .ready) u inside (λ q. omega (arith, condition)));
             entered1 = subst (Entered c) (sym e1) (entered1 c (new .ready) u inside (omega (arith, condition)));
-            falls0 = omega (arith, ap (rank c) e0, new .settled .lower, rank-falls0 c (new .ready .sound) u inside condition);
-            falls1 = omega (arith, ap (rank c) e1, new .settled .lower, rank-falls1 c (new .ready .sound) u inside condition);
+            falls0 = omega (arith, ap (rank c) e0, new .settled .lower, rank-falls0 c (ready-sound (new .ready)) u inside condition);
+            falls1 = omega (arith, ap (rank c) e1, new .settled .lower, rank-falls1 c (ready-sound (new .ready)) u inside condition);
             within0 = fork-within0;
             within1 = fork-within1;
             all = fork-paths;

@@ -19,6 +19,7 @@ use Rattle.image.specs.Image.{Row}
 use Rattle.translator.specs.Labels.{label}
 use Rattle.translator.specs.Rows.{paths}
 use Rattle.translator.specs.Ready.{Ready, Entered}
+use Rattle.translator.proofs.ReadyLaws.{ready-sound, ready-facts}
 
 abbrev pub pathRow : Chart → ℕ → ℕ → ℕ → ℕ → ℕ → Row
 pathRow c l f care values v = record { from = l; care = care; values = values; bit = f; next = label c v }
@@ -42,10 +43,10 @@ module _ (n : ℕ) (c : Chart) (l f care values v : ℕ) where
 module _ (c : Chart) (ready : Ready c) where
   -- the arcs of a condition
   pub entered0 : (v : ℕ) → v < size c → (kind c v ≡ 1 → ⊥) → Entered c (next0 c v)
-  entered0 v l k = let t = ready .facts .arc0 v l k in record { inside = t .inside; noBegin = t .entered }
+  entered0 v l k = let t = ready-facts ready .arc0 v l k in record { inside = t .inside; noBegin = t .entered }
 
   pub entered1 : (v : ℕ) → v < size c → 3 ≤ kind c v → Entered c (next1 c v)
-  entered1 v l k = let t = ready .facts .arc1 v l k in record { inside = t .inside; noBegin = t .entered }
+  entered1 v l k = let t = ready-facts ready .arc1 v l k in record { inside = t .inside; noBegin = t .entered }
 
   -- what holds of both arcs holds of the one taken
   taken-by : (P : ℕ → Type 0) (w v : ℕ) → P (next0 c v) → P (next1 c v) → P (taken c w v)
@@ -59,7 +60,7 @@ module _ (c : Chart) (ready : Ready c) where
   entered-taken w v l k = taken-by (Entered c) w v (entered0 v l (λ e. omega arith)) (entered1 v l (omega arith))
 
   pub falls-taken : (w v : ℕ) → v < size c → kind c v ≡ 3 → rank c (taken c w v) < rank c v
-  falls-taken w v l k = taken-by (λ u. rank c u < rank c v) w v (rank-falls0 c (ready .sound) v l k) (rank-falls1 c (ready .sound) v l k)
+  falls-taken w v l k = taken-by (λ u. rank c u < rank c v) w v (rank-falls0 c (ready-sound ready) v l k) (rank-falls1 c (ready-sound ready) v l k)
 
   module _ (l f : ℕ) where
     abbrev P : ℕ → ℕ → ℕ → ℕ → List Row
@@ -83,8 +84,8 @@ module _ (c : Chart) (ready : Ready c) where
             ∙ sym (step-known m c l f care values v s k)
         go false s (no k) ih =
             let three : kind c v ≡ 3 = goes-on c v (t .noBegin) s in
-            let r0 : rank c (next0 c v) < rank c v = rank-falls0 c (ready .sound) v (t .inside) three in
-            let r1 : rank c (next1 c v) < rank c v = rank-falls1 c (ready .sound) v (t .inside) three in
+            let r0 : rank c (next0 c v) < rank c v = rank-falls0 c (ready-sound ready) v (t .inside) three in
+            let r1 : rank c (next1 c v) < rank c v = rank-falls1 c (ready-sound ready) v (t .inside) three in
             step-new n c l f care values v s k
             ∙ ap₂ (λ (x y : List Row). x ++ y)
             (ih _ _ (next0 c v) (entered0 v (t .inside) (λ e. omega arith)) (omega arith) (omega arith))

@@ -26,6 +26,7 @@ use Rattle.translator.specs.Labels.{numbered, label, entry, labelOf}
 use Rattle.translator.specs.Rows.{paths, rowsOf}
 use Rattle.translator.specs.Ready.{Labelled, OfKind, Charted, OfScheme, AtNode}
 use Rattle.translator.specs.Parts.{rowOf, rowsText, sides, nodeRows, entryText, nodeLabelText, nodeRowsText, upTo, Put}
+use Rattle.translator.proofs.ReadyLaws.{ready-facts}
 use Rattle.translator.proofs.RowSteps.{rows-function, rows-condition, rows-other}
 use Rattle.translator.proofs.LabelSteps.{own-label, no-own-label}
 use Rattle.translator.proofs.Settled.{Settled}
@@ -156,7 +157,7 @@ numbered-stop c v n = ap (λ x. stops c v && not x) (ne-eqb (kind c v) 1 n) ∙ 
 
 module _ {c : Chart} {labels : List ℕ} {h v : ℕ} (s : OfScheme c labels h) (e : v ≡ begin c h) where
   known-facts : Facts c
-  known-facts = s .chart .ready .facts
+  known-facts = ready-facts (s .chart .ready)
 
   ok : Labelled c labels
   ok = s .chart .labelled
@@ -233,7 +234,7 @@ module _ (c : Chart) (v l : ℕ) where
       → m0 ≡ getD c (10 * v + 6) 0 → m1 ≡ getD c (10 * v + 7) 0 → m2 ≡ getD c (10 * v + 8) 0 → m3 ≡ getD c (10 * v + 9) 0
       → (17 ∷ l ∷ t ∷ g ∷ o ∷ r ∷ m0 ∷ m1 ∷ m2 ∷ m3 ∷ []) ≡ labelFrame l (labelOf c v)
   operation-bytes node t g o r m0 m1 m2 m3 et eg eo er e0 e1 e2 e3 =
-      let B : (j : ℕ) → getD c j 0 < 256 = node .ready .facts .bytes in
+      let B : (j : ℕ) → getD c j 0 < 256 = node .ready .bytes in
       let q : quad (mask c v) ≡ m0 ∷ m1 ∷ m2 ∷ m3 ∷ [] =
       quad-bytes (getD c (10 * v + 6) 0) (getD c (10 * v + 7) 0) (getD c (10 * v + 8) 0) (getD c (10 * v + 9) 0) (B _) (B _) (B _) (B _)
       ∙ ap₂ (λ (x : ℕ) (xs : List ℕ). x ∷ xs) (sym e0)

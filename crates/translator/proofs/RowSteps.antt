@@ -24,6 +24,7 @@ use Rattle.translator.specs.Labels.{numbered, label}
 use Rattle.translator.specs.Rows.{paths, rowsOf, rows}
 use Rattle.translator.specs.Ready.{Entered, AtNode, SidesAt}
 use Rattle.translator.specs.Parts.{sides, nodeRows}
+use Rattle.translator.proofs.ReadyLaws.{ready-facts}
 use Rattle.translator.proofs.LabelSteps.{own-label, no-own-label}
 use Rattle.translator.proofs.PathSteps.{entered0, entered1}
 
@@ -109,7 +110,7 @@ module _ {c : Chart} {labels : List ℕ} {v : ℕ} (node : AtNode c labels v) wh
 
   -- the kind after a condition's is a function's
   pub function-kind : {k : ℕ} → k ≡ kind c v → 3 ≤ k → (k ≡ 3 → ⊥) → k ≡ 4
-  function-kind e h n = omega (arith, node .chart .ready .facts .kinds v (node .inside))
+  function-kind e h n = omega (arith, ready-facts (node .chart .ready) .kinds v (node .inside))
 
 pub count-nothing : (c : Chart) (v most : ℕ) → nodeRows c v ≡ [] → 0 ≡ min most (length (nodeRows c v))
 count-nothing c v most e = omega (arith, ap (λ (rs : List Row). length rs) e)

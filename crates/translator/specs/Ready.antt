@@ -6,16 +6,19 @@ use lib.Bits.{bitAnd}
 use lib.ListN.{length, getD}
 use Rattle.lists.specs.Numbers.{count}
 use Rattle.frames.specs.Frame.{size}
+use Rattle.frames.specs.Verdict.{fine}
 use Rattle.charts.specs.Chart.{Chart, kind, next0, schemes, begin}
-use Rattle.charts.proofs.Accepted.{Sound}
-use Rattle.walk.proofs.Facts.{Facts}
+use Rattle.charts.specs.Check.{chartVerdict}
 use Rattle.translator.specs.Labels.{numbered, label}
 use Rattle.translator.specs.Rows.{rows}
 
--- an accepted chart
+-- an accepted chart: the whole records of 1 to 256 nodes, in bytes, and none of 4 to 9
 pub record Ready (c : Chart) : Type 0 where
-  pub facts : Facts c
-  pub sound : Sound c
+  pub whole : length c ≡ 10 * size c
+  pub some : 1 ≤ size c
+  pub few : size c ≤ 256
+  pub bytes : (k : ℕ) → getD c k 0 < 256
+  pub accepted : chartVerdict c ≡ fine
 
 -- a node where an arc may end
 pub record Entered (c : Chart) (v : ℕ) : Type 0 where
@@ -29,7 +32,7 @@ pub record Labelled (c : Chart) (labels : List ℕ) : Type 0 where
 
 -- a node, beside `first`, the node that the Begin of scheme 1 leads to
 pub record Beside (c : Chart) (first v : ℕ) : Type 0 where
-  pub facts : Facts c
+  pub ready : Ready c
   pub leads : first ≡ next0 c (begin c 1)
   pub inside : v < size c
 

@@ -10,13 +10,12 @@ ghost use Rattle.lists.specs.Numbers.{range, count};
 ghost use Rattle.lists.specs.Sequences.{written};
 ghost use Rattle.frames.specs.Frame.{size};
 ghost use Rattle.charts.specs.Chart.{begin, next0};
-ghost use Rattle.walk.proofs.Facts.{Facts};
 ghost use Rattle.translator.specs.Labels.{numbered, label};
-ghost use Rattle.translator.specs.Ready.{Beside};
+ghost use Rattle.translator.specs.Ready.{Ready, Beside};
 
 // The node that the Begin of scheme 1 leads to.
 pub fn first_node(records: &[u8]) -> u8
-    requires { ⌜ Facts (now records) ⌝ }
+    requires { ⌜ Ready (now records) ⌝ }
     ensures { λ r. ⌜ r ≡ next0 (now (records .entry)) (begin (now (records .entry)) 1) ⌝ }
 {
     let v = begin(records, 1);
@@ -40,7 +39,7 @@ fn label_of(records: &[u8], first: u8, own: usize, v: usize) -> u8
 
 // Writes the label of each node at its number, and returns how many nodes have one of their own.
 pub fn label_nodes(records: &[u8], labels: &mut [u8]) -> usize
-    requires { ⌜ Facts (now records) ⌝ }
+    requires { ⌜ Ready (now records) ⌝ }
     requires { ⌜ size (now records) ≤ length (now labels) ⌝ }
     ensures { λ r. ⌜ (r ≡ count (numbered (now (records .entry))) 0 (size (now (records .entry)))) × (now (labels .exit) ≡ written (now (labels .entry)) 0 (map (label (now (records .entry))) (range 0 (size (now (records .entry)))))) ⌝ }
 {

@@ -7,10 +7,9 @@ ghost use lib.Dec.{eqb};
 ghost use lib.ListN.{length};
 ghost use Rattle.frames.specs.Frame.{field};
 ghost use Rattle.charts.specs.Chart.{scheme, is, isOf, begin, next0};
-ghost use Rattle.walk.proofs.Facts.{Facts};
 ghost use Rattle.walk.specs.Stops.{stops};
 ghost use Rattle.translator.specs.Labels.{numbered};
-ghost use Rattle.translator.specs.Ready.{Beside};
+ghost use Rattle.translator.specs.Ready.{Ready, Beside};
 
 fn is_begin(records: &[u8], v: usize, scheme: u8) -> bool
     requires { ⌜ 10 * v + 1 < length (now records) ⌝ }
@@ -21,7 +20,7 @@ fn is_begin(records: &[u8], v: usize, scheme: u8) -> bool
 
 // The Begin of a scheme.
 pub fn begin(records: &[u8], scheme: u8) -> usize
-    requires { ⌜ Facts (now records) ⌝ }
+    requires { ⌜ Ready (now records) ⌝ }
     ensures { λ r. ⌜ r ≡ begin (now (records .entry)) scheme ⌝ }
 {
     let n = records.len() / 10;

@@ -23,7 +23,7 @@ loop-holds c = labelling-start _ _
 label-of-requires : tie.Need-label-of-requires Inv-loop μ-loop
 label-of-requires c κs =
     let asked = c .before .before .before .before .before .pre in
-    (record { facts = asked .0; leads = c .before .before .first-node .ensures; inside = search needs }, c .before .loop .inv .owned)
+    (record { ready = asked .0; leads = c .before .before .first-node .ensures; inside = search needs }, c .before .loop .inv .owned)
 
 slice-write-labels : tie.Need-slice-write-labels Inv-loop μ-loop
 slice-write-labels c = search needs

@@ -15,7 +15,7 @@ add-result c =
     let asked = c .before .before .before .pre in
     omega (
       arith,
-      own-small _ (asked .0 .facts) _ _ (asked .0 .inside) (asked .1) (sym (c .before .is-numbered .ensures) ∙ c .if1 .taken),
+      own-small _ (asked .0 .ready) _ _ (asked .0 .inside) (asked .1) (sym (c .before .is-numbered .ensures) ∙ c .if1 .taken),
     )
 
 cast-result : tie.Need-cast-result
@@ -23,7 +23,7 @@ cast-result c =
     let asked = c .before .before .before .pre in
     omega (
       arith,
-      own-small _ (asked .0 .facts) _ _ (asked .0 .inside) (asked .1) (sym (c .before .is-numbered .ensures) ∙ c .if1 .taken),
+      own-small _ (asked .0 .ready) _ _ (asked .0 .inside) (asked .1) (sym (c .before .is-numbered .ensures) ∙ c .if1 .taken),
     )
 
 returns : tie.Need-returns

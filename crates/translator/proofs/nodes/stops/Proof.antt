@@ -14,7 +14,7 @@ field-requires c κs = search needs
 begin-stops-requires : tie.Need-begin-stops-requires
 begin-stops-requires c κs =
     let asked = c .before .before .before .pre in
-    begin-asks _ (asked .facts) _ _ (asked .inside) (c .before .field .ensures) (c .match .keys1)
+    begin-asks _ (asked .ready) _ _ (asked .inside) (c .before .field .ensures) (c .match .keys1)
 
 field-requires-2 : tie.Need-field-requires-2
 field-requires-2 c κs = search needs

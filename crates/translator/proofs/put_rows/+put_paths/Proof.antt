@@ -186,7 +186,8 @@ module _ (t : ℕ) where
   same-length-2 : At lts.Need-same-length-2
   same-length-2 c =
       let second = c .before .before in
-      put-length (forking (second .before .before .before .before .before .before) .pre .1 .1) (both second)
+      let first = second .before .before .before .before in
+      put-length (forking (first .before .before) .pre .1 .1) (both second)
 
 pub +put-paths-spec : {M : Type 1} → statement M
 +put-paths-spec = close measure λ t. lts.spec (claims t)

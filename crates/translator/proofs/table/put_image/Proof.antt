@@ -1,6 +1,7 @@
 -- `translator::put_image`: header, entries, labels 0 and 1, the other labels, rows, each where the one before ends.
 use mathlib.Core.Path.{_≡_, _∙_}
 use lib.ListN.{length}
+use Rattle.translator.proofs.ReadyLaws.{ready-facts}
 use Rattle.translator.proofs.LabelSteps.{few-numbered}
 use Rattle.translator.proofs.ImageSteps.{labels-long, rows-long, image-done}
 use native.Mathlib.Omega.{arith}
@@ -36,8 +37,8 @@ add-put-header c = search needs
 cast-put-header : tie.Need-cast-put-header
 cast-put-header c =
     let asked = c .before .before .before .before .pre in
-    let facts = asked .chart .ready .facts in
-    omega (arith, few-numbered _ facts, facts .few, asked .sizes .owned)
+    let ready = asked .chart .ready in
+    omega (arith, few-numbered _ (ready-facts ready), ready .few, asked .sizes .owned)
 
 put-header-requires : tie.Need-put-header-requires
 put-header-requires c κs = search needs

@@ -1,5 +1,6 @@
 -- `translator::write_image`: 10 by the count, 16 by the size, else the whole image.
 use Prim.Native.Nat.{_+_, _≤_}
+use Rattle.translator.proofs.ReadyLaws.{ready-facts}
 use Rattle.translator.proofs.LabelSteps.{few-numbered}
 use Rattle.translator.proofs.ImageSteps.{image-many, image-short, image-fits, sizes, charted-local}
 use native.Mathlib.Omega.{arith}
@@ -20,8 +21,8 @@ few c = laid (c .before)
 -- the sum of the sizes is far below 2^63
 small : (c : tie.Else1) → few c .label-nodes .result + 2 ≤ 256
 small c =
-    let facts = start (few c) .pre .0 .facts in
-    omega (arith, few-numbered _ facts, facts .few, few c .label-nodes .ensures .0)
+    let ready = start (few c) .pre .0 in
+    omega (arith, few-numbered _ (ready-facts ready), ready .few, few c .label-nodes .ensures .0)
 
 -- ---- the needs
 slice-aggregate-label-nodes : tie.Need-slice-aggregate-label-nodes
