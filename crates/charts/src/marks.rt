@@ -4,8 +4,7 @@ ghost use mathlib.Core.Path.{_≡_};
 ghost use Prim.Native.Nat.{_+_, _*_, _≤_};
 ghost use lib.ListN.{length};
 ghost use Rattle.graph.specs.Reach.{reach};
-ghost use Rattle.graph.specs.Marking.{markAll};
-ghost use Rattle.graph.specs.Listed.{Listed, Longer};
+ghost use Rattle.graph.specs.Listed.{many, listing, enlistAll, Listed};
 ghost use Rattle.frames.specs.Frame.{size};
 ghost use Rattle.charts.specs.Marks.{arcsBy, kindMarks};
 
@@ -27,7 +26,7 @@ fn arc_count(records: &[u8], conditions: bool, v: usize) -> usize
     }
 }
 
-// The nodes that the arcs of node v lead to are marked, and listed where they were not; how many are listed then.
+// The nodes that the arcs of node v lead to are marked, and listed in their order where they were not; how many are listed then.
 pub fn follow(
     records: &[u8],
     conditions: bool,
@@ -37,9 +36,8 @@ pub fn follow(
     count: usize,
 ) -> usize
     requires { ⌜ (10 * v + 10 ≤ length (now records)) × (length (now marks) ≤ length (now list)) ⌝ }
-    requires { ⌜ Listed (now marks) (now list) count ⌝ }
-    ensures { λ r. ⌜ now (marks .exit) ≡ markAll (arcsBy (now (records .entry)) conditions v) (now (marks .entry)) ⌝ }
-    ensures { λ r. ⌜ Listed (now (marks .exit)) (now (list .exit)) r × Longer (now (list .entry)) (now (list .exit)) count r ⌝ }
+    requires { ⌜ count ≡ many (now marks) ⌝ }
+    ensures { λ r. ⌜ listing (now (marks .exit)) (now (list .exit)) r ≡ enlistAll (listing (now (marks .entry)) (now (list .entry)) count) (arcsBy (now (records .entry)) conditions v) ⌝ }
 {
     let arcs = arc_count(records, conditions, v);
     if arcs == 0 {

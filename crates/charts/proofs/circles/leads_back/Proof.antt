@@ -5,10 +5,9 @@ use mathlib.Core.List.{List}
 use native.Mathlib.Omega.{arith}
 use lib.ListN.{length, length-replicate}
 use Rattle.graph.specs.Reach.{reach}
-use Rattle.graph.specs.Marking.{markAll}
 use Rattle.graph.specs.Listed.{Listed}
-use Rattle.graph.proofs.Marking.{all-only}
 use Rattle.graph.proofs.Lists.{listed-none}
+use Rattle.graph.proofs.Enlisted.{enlisted-first}
 use Rattle.frames.specs.Frame.{size}
 use Rattle.charts.specs.Check.{arcs}
 use Rattle.charts.specs.Marks.{arcsBy}
@@ -22,7 +21,7 @@ follow-requires c κs =
     let records = start .args .records .now in
     let list = start .args .list .now in (
       (search needs, omega (arith, start .pre .0 .1, ap (λ (xs : List Bool). length xs) (start .pre .1), length-replicate (size records) false)),
-      subst (λ (xs : List Bool). Listed xs list 0) (sym (start .pre .1)) (listed-none (size records) list),
+      subst (λ (xs : List Bool). Listed xs list 0) (sym (start .pre .1)) (listed-none (size records) list) .counted,
     )
 
 join-requires : tie.Need-join-requires
@@ -34,7 +33,7 @@ join-requires c κs =
         follow .kept .1 .1 .1 .0 ∙ ap (λ (xs : List Bool). length xs) (start .pre .1) ∙ length-replicate (size records) false,
         omega (arith, start .pre .0 .1, follow .kept .1 .1 .1 .1 .0),
       ),
-      follow .ensures .1 .0,
+      enlisted-first (size records) _ _ _ _ (start .pre .1) (start .pre .0 .1) (follow .ensures) .1,
     )
 
 slice-read-result : tie.Need-slice-read-result
@@ -63,9 +62,7 @@ returns c =
     let v = start .args .v in (
       c .before .before .before .before .before .join .ensures
           ∙ ap (λ (xs : List Bool). reach (size records) (arcsBy records true) (size records) xs)
-          (c .before .before .before .before .before .before .before .before .before .before .before .before .follow .ensures .0
-          ∙ ap (λ (xs : List Bool). markAll (arcs records v) xs) (start .pre .1)
-          ∙ all-only (size records) (arcs records v)),
+          (enlisted-first (size records) (arcs records v) _ _ _ (start .pre .1) (start .pre .0 .1) (c .before .before .before .before .before .before .before .before .before .before .before .before .follow .ensures) .0),
       refl,
     )
 

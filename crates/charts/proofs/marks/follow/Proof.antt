@@ -1,5 +1,6 @@
 -- `charts::marks::follow` meets its contract: by how many arcs count.
-use Rattle.graph.proofs.Lists.{longer-same, longer-on}
+use Rattle.graph.specs.Listed.{Listing, listing}
+use Rattle.graph.proofs.Enlisted.{enlist-counted}
 use Rattle.charts.proofs.MarkCases.{marked-none, marked-one, marked-two}
 use borrow.Author.Needs.{needs}
 use Rattle.charts.proofs.marks.follow.Statement.{statement}
@@ -14,8 +15,8 @@ returns c =
     let records = start .args .records .now in
     let conditions = start .args .conditions in
     let v = start .args .v in
-    let marks = start .args .marks .now in
-    (marked-none records conditions v _ (c .before .arc-count .ensures) marks (c .if1 .taken), (start .pre .1, longer-same _ _))
+    let before : Listing = listing (start .args .marks .now) (start .args .list .now) (start .args .count) in
+    marked-none records conditions v _ (c .before .arc-count .ensures) before (c .if1 .taken)
 
 field-requires : tie.Need-field-requires
 field-requires c κs = search needs
@@ -35,16 +36,14 @@ returns-2 c =
     let records = start .args .records .now in
     let conditions = start .args .conditions in
     let v = start .args .v in
-    let marks = start .args .marks .now in (
-      marked-one records conditions v _ (c .before .before .before .before .before .before .before .before .before .before .arc-count .ensures) marks (c .before .before .before .before .before .before .before .before .before .if1 .left) _ _ (c .before .before .before .before .before .before .field .ensures) (c .before .before .before .before .before .enlist .ensures .0) (c .if2 .taken),
-      c .before .before .before .before .before .enlist .ensures .1,
-    )
+    let before : Listing = listing (start .args .marks .now) (start .args .list .now) (start .args .count) in
+    marked-one records conditions v _ (c .before .before .before .before .before .before .before .before .before .before .arc-count .ensures) before (c .before .before .before .before .before .before .before .before .before .if1 .left) _ _ (c .before .before .before .before .before .before .field .ensures) (c .before .before .before .before .before .enlist .ensures) (c .if2 .taken)
 
 field-requires-2 : tie.Need-field-requires-2
 field-requires-2 c κs = search needs
 
 enlist-requires-2 : tie.Need-enlist-requires-2
-enlist-requires-2 c κs = search needs
+enlist-requires-2 c κs = (search needs, enlist-counted _ _ _ (c .before .before .before .before .before .before .before .before .enlist .ensures) (c .before .before .before .before .before .before .before .before .before .before .before .before .before .before .before .before .before .pre .1))
 
 same-length-3 : tie.Need-same-length-3
 same-length-3 c = search needs
@@ -58,13 +57,11 @@ returns-3 c =
     let records = start .args .records .now in
     let conditions = start .args .conditions in
     let v = start .args .v in
-    let marks = start .args .marks .now in
+    let before : Listing = listing (start .args .marks .now) (start .args .list .now) (start .args .count) in
     let enlist = c .before .before .before .before .before .before .before .before .before .before .before .before .before .enlist in
-    let enlist2 = c .before .before .before .before .enlist2 in (
-      marked-two records conditions v _ (c .before .before .before .before .before .before .before .before .before .before .before .before .before .before .before .before .before .before .arc-count .ensures) marks (c .before .before .before .before .before .before .before .before .before .before .before .before .before .before .before .before .before .if1 .left) _ _ (c .before .before .before .before .before .before .before .before .before .before .before .before .before .before .field .ensures) (enlist .ensures .0)
-          (c .before .before .before .before .before .before .before .before .if2 .left) _ _ (c .before .before .before .before .before .field2 .ensures) (enlist2 .ensures .0),
-      (enlist2 .ensures .1 .0, longer-on _ _ _ _ _ _ (enlist .ensures .1 .1) (enlist2 .ensures .1 .1)),
-    )
+    let enlist2 = c .before .before .before .before .enlist2 in
+    marked-two records conditions v _ (c .before .before .before .before .before .before .before .before .before .before .before .before .before .before .before .before .before .before .arc-count .ensures) before (c .before .before .before .before .before .before .before .before .before .before .before .before .before .before .before .before .before .if1 .left) _ _ (c .before .before .before .before .before .before .before .before .before .before .before .before .before .before .field .ensures) (enlist .ensures)
+    (c .before .before .before .before .before .before .before .before .if2 .left) _ _ (c .before .before .before .before .before .field2 .ensures) (enlist2 .ensures)
 
 pub follow-spec : {M : Type 1} → statement M
 follow-spec =

@@ -5,6 +5,7 @@ use native.Mathlib.Omega.{arith}
 use lib.ListN.{length, getD}
 use Rattle.graph.specs.Listed.{Listed}
 use Rattle.graph.proofs.Marking.{Joining, joining-first, joining-done}
+use Rattle.graph.proofs.Enlisted.{enlisted-all}
 use Rattle.graph.proofs.Lists.{list-node, list-few, Followed, followed-none, followed-more, followed-closed, joining-more}
 use Rattle.frames.specs.Frame.{size}
 use Rattle.charts.specs.Marks.{arcsBy}
@@ -46,7 +47,7 @@ follow-requires c κs =
         omega (arith, list-node (loop .marks) (loop .list) (loop .end) (loop .inv .3) (loop .i) (search needs), loop .inv .2 .long),
         omega (arith, loop .inv .2 .long, loop .inv .1, c .before .before .before .before .before .before .before .before .pre .0 .1),
       ),
-      loop .inv .3,
+      loop .inv .3 .counted,
     )
 
 add-i : tie.Need-add-i Inv-loop μ-loop
@@ -66,14 +67,15 @@ loop-again c =
     let conditions = start .args .conditions in
     let marks = start .args .marks .now in
     let loop = c .before .before .before .before .before .before .before .before .before .loop in
-    let follow = c .before .before .before .before .follow in (
-      omega (arith, follow .ensures .1 .1 .more),
+    let follow = c .before .before .before .before .follow in
+    let on = enlisted-all _ _ _ (omega (arith, loop .inv .2 .long, loop .inv .1, start .pre .0 .1)) (loop .inv .3) (follow .ensures) in (
+      omega (arith, on .longer .more),
       follow .kept .1 .1 .1 .1 .0 ∙ loop .inv .1,
       joining-more (size records) (arcsBy records conditions) marks (loop .marks) _ (getD (loop .list) (loop .i) 0) (start .pre .0 .0)
-          (loop .inv .3 .are (loop .i) (search needs)) (follow .ensures .0) (loop .inv .2),
-      follow .ensures .1 .0,
+          (loop .inv .3 .are (loop .i) (search needs)) (on .marks) (loop .inv .2),
+      on .listed,
       followed-more (size records) (arcsBy records conditions) (loop .marks) _ (loop .list) _ (loop .i) (loop .end) _ (loop .inv .2 .long)
-          (search needs) (follow .ensures .1 .1) (follow .ensures .0) (loop .inv .4),
+          (search needs) (on .longer) (on .marks) (loop .inv .4),
     )
 
 same-length : tie.Need-same-length Inv-loop μ-loop
