@@ -5,8 +5,7 @@ use mathlib.Core.List.{List}
 use native.Mathlib.Omega.{arith}
 use lib.ListN.{length}
 use Rattle.graph.specs.Reach.{reach}
-use Rattle.graph.specs.Marking.{markAll}
-use Rattle.graph.proofs.Marking.{all-only}
+use Rattle.graph.proofs.Enlisted.{enlisted-first}
 use Rattle.frames.specs.Frame.{size}
 use Rattle.charts.specs.Check.{arcs}
 use Rattle.charts.specs.Marks.{arcsBy}
@@ -41,7 +40,7 @@ join-requires c κs =
     record {
       long = long first;
       room = omega (arith, start (first .before) .pre .1 .room, first .follow .kept .1 .1 .1 .1 .0);
-      listed = first .follow .ensures .listed;
+      listed = enlisted-first _ _ _ _ _ (start (first .before) .pre .1 .none) (start (first .before) .pre .1 .room) (first .follow .ensures) .1;
     }
 
 slice-read-result : tie.Need-slice-read-result
@@ -63,9 +62,7 @@ returns c =
     let v = begun .args .v in (
       joined c .join .ensures
           ∙ ap (λ (xs : List Bool). reach (size records) (arcsBy records true) (size records) xs)
-          (first .follow .ensures .spread
-          ∙ ap (λ (xs : List Bool). markAll (arcs records v) xs) (begun .pre .1 .none)
-          ∙ all-only (size records) (arcs records v)),
+          (enlisted-first (size records) (arcs records v) _ _ _ (begun .pre .1 .none) (begun .pre .1 .room) (first .follow .ensures) .0),
       refl,
     )
 

@@ -5,6 +5,7 @@ use mathlib.Core.Bool.{Bool, false, not}
 use mathlib.Core.List.{List}
 use Rattle.lists.specs.Numbers.{lowest}
 use Rattle.graph.specs.Reach.{marked, reach}
+use Rattle.graph.proofs.MarkedNodes.{listed-lowest}
 use Rattle.frames.specs.Frame.{size}
 use Rattle.charts.specs.Marks.{arcsBy}
 use borrow.Author.Needs.{needs}
@@ -32,7 +33,8 @@ list-marked-requires : tie.Need-list-marked-requires
 list-marked-requires c κs = search needs
 
 join-requires : tie.Need-join-requires
-join-requires c κs = search needs
+join-requires c κs =
+    record { long = search needs; room = search needs; listed = listed-lowest _ _ _ _ (c .before .before .before .before .list-marked .ensures) }
 
 lowest-unmarked-requires : tie.Need-lowest-unmarked-requires
 lowest-unmarked-requires c κs = search needs
