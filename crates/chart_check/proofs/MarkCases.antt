@@ -15,11 +15,10 @@ use Rattle.lists.specs.Pick.{pick}
 use Rattle.lists.specs.Numbers.{range, lowest}
 use Rattle.lists.proofs.Tests.{no-both}
 use Rattle.lists.proofs.Ranges.{length-map-range, map-range-snoc}
-use Rattle.graph.specs.Reach.{marked, reach, joinedFrom}
-use Rattle.graph.specs.Marking.{markAll}
-use Rattle.graph.specs.Listed.{Listed}
-use Rattle.graph.proofs.Marking.{all-only}
+use Rattle.graph.specs.Reach.{marked, only, reach, joinedFrom}
+use Rattle.graph.specs.Listed.{Listing, listing, enlist, enlistAll, Listed}
 use Rattle.graph.proofs.Lists.{listed-none}
+use Rattle.graph.proofs.Enlisted.{Enlisted, enlisted-all}
 use Rattle.frames.specs.Frame.{size}
 use Rattle.charts.specs.Chart.{Chart, kind, next0, next1, is}
 use Rattle.charts.specs.Check.{arcs, conditionArcs, onCircle}
@@ -75,39 +74,39 @@ shape c b v = go b refl (ℕ-discrete (kind c v) 1) (ℕ-discrete (kind c v) 3) 
     go false t (no p) (no q) (yes r) = inr (inr (by-all c b v (λ z. no-both b z t) ∙ arcs-function c v r))
     go false t (no p) (no q) (no r) = inr (inl (by-all c b v (λ z. no-both b z t) ∙ arcs-one c v p q r))
 
-module _ (c : Chart) (b : Bool) (v n : ℕ) (e : n ≡ length (arcsBy c b v)) (ms : List Bool) where
+module _ (c : Chart) (b : Bool) (v n : ℕ) (e : n ≡ length (arcsBy c b v)) (s : Listing) where
   as-long : (us : List ℕ) → arcsBy c b v ≡ us → n ≡ length us
   as-long us q = e ∙ ap (λ (xs : List ℕ). length xs) q
 
-  pub marked-none : n ≡ 0 → ms ≡ markAll (arcsBy c b v) ms
-  unfolding markAll
+  pub marked-none : n ≡ 0 → s ≡ enlistAll s (arcsBy c b v)
+  unfolding enlistAll
   marked-none z = go (shape c b v)
     where
-      go : Shape c v (arcsBy c b v) → ms ≡ markAll (arcsBy c b v) ms
-      go (inl q) = sym (ap (λ (us : List ℕ). markAll us ms) q)
+      go : Shape c v (arcsBy c b v) → s ≡ enlistAll s (arcsBy c b v)
+      go (inl q) = sym (ap (λ (us : List ℕ). enlistAll s us) q)
       go (inr (inl q)) = absurd (omega (arith, as-long (next0 c v ∷ []) q))
       go (inr (inr q)) = absurd (omega (arith, as-long (next0 c v ∷ next1 c v ∷ []) q))
 
-  module _ (some : n ≡ 0 → ⊥) (u : ℕ) (m : List Bool) (eu : u ≡ next0 c v) (em : m ≡ set ms u true) where
-    pub marked-one : n ≡ 1 → m ≡ markAll (arcsBy c b v) ms
-    unfolding markAll
+  module _ (some : n ≡ 0 → ⊥) (u : ℕ) (t : Listing) (eu : u ≡ next0 c v) (et : t ≡ enlist s u) where
+    pub marked-one : n ≡ 1 → t ≡ enlistAll s (arcsBy c b v)
+    unfolding enlistAll
     marked-one z = go (shape c b v)
       where
-        go : Shape c v (arcsBy c b v) → m ≡ markAll (arcsBy c b v) ms
+        go : Shape c v (arcsBy c b v) → t ≡ enlistAll s (arcsBy c b v)
         go (inl q) = absurd (some (as-long [] q))
-        go (inr (inl q)) = em ∙ ap (λ (u : ℕ). set ms u true) eu ∙ sym (ap (λ (us : List ℕ). markAll us ms) q)
+        go (inr (inl q)) = et ∙ ap (λ (u : ℕ). enlist s u) eu ∙ sym (ap (λ (us : List ℕ). enlistAll s us) q)
         go (inr (inr q)) = absurd (omega (arith, as-long (next0 c v ∷ next1 c v ∷ []) q))
 
-    pub marked-two : (n ≡ 1 → ⊥) → (w : ℕ) (o : List Bool) → w ≡ next1 c v → o ≡ set m w true → o ≡ markAll (arcsBy c b v) ms
-    unfolding markAll
+    pub marked-two : (n ≡ 1 → ⊥) → (w : ℕ) (o : Listing) → w ≡ next1 c v → o ≡ enlist t w → o ≡ enlistAll s (arcsBy c b v)
+    unfolding enlistAll
     marked-two z w o ew eo = go (shape c b v)
       where
-        go : Shape c v (arcsBy c b v) → o ≡ markAll (arcsBy c b v) ms
+        go : Shape c v (arcsBy c b v) → o ≡ enlistAll s (arcsBy c b v)
         go (inl q) = absurd (some (as-long [] q))
         go (inr (inl q)) = absurd (z (as-long (next0 c v ∷ []) q))
         go (inr (inr q)) =
-            eo ∙ ap (λ (x : List Bool). set x w true) (em ∙ ap (λ (u : ℕ). set ms u true) eu)
-            ∙ ap (λ (w : ℕ). set (set ms (next0 c v) true) w true) ew ∙ sym (ap (λ (us : List ℕ). markAll us ms) q)
+            eo ∙ ap (λ (x : Listing). enlist x w) (et ∙ ap (λ (u : ℕ). enlist s u) eu)
+            ∙ ap (λ (w : ℕ). enlist (enlist s (next0 c v)) w) ew ∙ sym (ap (λ (us : List ℕ). enlistAll s us) q)
 
 -- ---- the marks of a kind, written one after the other over old marks
 module _ (c : Chart) (k : ℕ) (old : List Bool) where
@@ -145,12 +144,9 @@ module _ (c : Chart) (v x : ℕ) (p : x ≡ kind c v) where
       ∙ sym (ap (λ b. b && marked (joinedFrom (size c) (conditionArcs c) (arcs c v)) v) (eq-eqb (kind c v) 3 (sym p ∙ q)))
 
 -- the marks of the next nodes of v, spread: those of the definition
-pub spread-back : (c : Chart) (v : ℕ) (blank first joined : List Bool) → blank ≡ replicate (size c) false → first ≡ markAll (arcs c v) blank
+pub spread-back : (c : Chart) (v : ℕ) (first joined : List Bool) → first ≡ only (size c) (arcs c v)
     → joined ≡ reach (size c) (conditionArcs c) (size c) first → joined ≡ joinedFrom (size c) (conditionArcs c) (arcs c v)
-spread-back c v blank first joined none marks spread =
-    spread
-    ∙ ap (λ (xs : List Bool). reach (size c) (conditionArcs c) (size c) xs)
-    (marks ∙ ap (λ (xs : List Bool). markAll (arcs c v) xs) none ∙ all-only (size c) (arcs c v))
+spread-back c v first joined marks spread = spread ∙ ap (λ (xs : List Bool). reach (size c) (conditionArcs c) (size c) xs) marks
 
 -- ---- the marks of all Begins, spread, and the lowest node without one
 pub spread-apart : (c : Chart) (begins joined : List Bool) (r : ℕ) → begins ≡ kindMarks c 0
@@ -182,3 +178,8 @@ module _ (c : Chart) (marks : List Bool) (list : List ℕ) (blank : Blank c mark
     room = blank .room;
     listed = subst (λ (xs : List Bool). Listed xs list 0) (sym (blank .none)) (listed-none (size c) list);
   }
+
+-- ---- nodes enlisted in what is lent
+pub lent-enlisted : (c : Chart) (marks : List Bool) (list : List ℕ) (k : ℕ) → Lent c marks list k → (us : List ℕ) (t : Listing)
+    → t ≡ enlistAll (listing marks list k) us → Enlisted (listing marks list k) us t
+lent-enlisted c marks list k lent us t e = enlisted-all us (listing marks list k) t (omega (arith, lent .long, lent .room)) (lent .listed) e

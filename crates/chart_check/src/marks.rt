@@ -4,10 +4,10 @@ ghost use mathlib.Core.Path.{_≡_};
 ghost use Prim.Native.Nat.{_+_, _*_, _≤_, _<_};
 ghost use lib.ListN.{length};
 ghost use Rattle.graph.specs.Reach.{reach};
+ghost use Rattle.graph.specs.Listed.{listing, enlistAll};
 ghost use Rattle.frames.specs.Frame.{size};
 ghost use Rattle.charts.specs.Marks.{arcsBy, kindMarks};
 ghost use Rattle.chart_check.specs.Asked.{Lent};
-ghost use Rattle.chart_check.specs.Spread.{Spread};
 
 // How many arcs of node v count.
 fn arc_count(records: &[u8], conditions: bool, v: usize) -> usize
@@ -27,7 +27,7 @@ fn arc_count(records: &[u8], conditions: bool, v: usize) -> usize
     }
 }
 
-// The nodes that the arcs of node v lead to are marked, and listed where they were not; how many are listed then.
+// The nodes that the arcs of node v lead to are marked, and listed in their order where they were not; how many are listed then.
 pub fn follow(
     records: &[u8],
     conditions: bool,
@@ -38,7 +38,7 @@ pub fn follow(
 ) -> usize
     requires { ⌜ v < size (now records) ⌝ }
     requires { ⌜ Lent (now records) (now marks) (now list) count ⌝ }
-    ensures { λ r. ⌜ Spread (arcsBy (now (records .entry)) conditions v) (now (marks .entry)) (now (marks .exit)) (now (list .entry)) (now (list .exit)) count r ⌝ }
+    ensures { λ r. ⌜ listing (now (marks .exit)) (now (list .exit)) r ≡ enlistAll (listing (now (marks .entry)) (now (list .entry)) count) (arcsBy (now (records .entry)) conditions v) ⌝ }
 {
     let arcs = arc_count(records, conditions, v);
     if arcs == 0 {

@@ -6,18 +6,20 @@ use mathlib.Core.List.{List}
 use Prim.Native.Nat.{ℕ, _+_, _≤_, _<_}
 use native.Mathlib.Decide.{ℕ-discrete}
 use native.Mathlib.Omega.{arith}
-use lib.ListN.{length, getD, set, replicate, length-set, length-replicate, getD-replicate}
-use lib.Seq.{getD-set-same, getD-set-other}
-use Rattle.lists.specs.Numbers.{count}
+use lib.ListN.{length, getD, replicate, length-replicate, getD-replicate}
 use Rattle.lists.proofs.Tests.{no-both}
-use Rattle.lists.proofs.Counts.{count-le, count-none, count-yes, count-pass}
+use Rattle.lists.proofs.Counts.{count-le, count-none}
 use Rattle.graph.specs.Reach.{member, marked}
-use Rattle.graph.specs.Marking.{many, markAll}
-use Rattle.graph.specs.Listed.{Among, Listed, Longer}
+use Rattle.graph.specs.Listed.{Among, Listed}
 use Rattle.graph.proofs.Closure.{marked-below, Closed, reach-closed}
-use Rattle.graph.proofs.Marking.{set-hit, set-grow, set-back, set-many, all-long, all-grow, all-hit, all-back, Joining}
+use Rattle.graph.proofs.Marking.{markAll, all-long, all-grow, all-hit, all-back, Joining}
 
 -- ---- a list that stays
+-- the list goes on: its first k stay, and j, not fewer, now count
+pub record Longer (list on : List ℕ) (k j : ℕ) : Type 0 where
+  pub more : k ≤ j
+  pub kept : (i : ℕ) → i < k → getD on i 0 ≡ getD list i 0
+
 pub longer-same : (list : List ℕ) (k : ℕ) → Longer list list k k
 longer-same list k = record { more = omega arith; kept = λ i l. refl }
 
@@ -27,24 +29,7 @@ longer-on a b d i j k x y =
     let q : j ≤ k = y .more in
     record { more = omega arith; kept = λ m l. y .kept m (omega arith) ∙ x .kept m l }
 
-among-more : (list : List ℕ) (k v : ℕ) (x : ℕ) → Among list k v → Among (set list k x) (k + 1) v
-among-more list k v x a =
-    let l : a .place < k = a .inside in
-    record { place = a .place; inside = omega arith; found = getD-set-other list k (a .place) x 0 (λ e. omega arith) ∙ a .found }
-
-among-last : (list : List ℕ) (k v : ℕ) → k < length list → Among (set list k v) (k + 1) v
-among-last list k v l = record { place = k; inside = omega arith; found = getD-set-same list k v 0 l }
-
--- the first k and one more
-last-or : (list : List ℕ) (k x : ℕ) (p : ℕ → Bool) → k < length list → p x ≡ true → ((i : ℕ) → i < k → p (getD list i 0) ≡ true)
-    → (i : ℕ) → i < k + 1 → p (getD (set list k x) i 0) ≡ true
-last-or list k x p l m h i b = go (ℕ-discrete i k)
-  where
-    go : Dec (i ≡ k) → p (getD (set list k x) i 0) ≡ true
-    go (yes e) = ap (λ (j : ℕ). p (getD (set list k x) j 0)) e ∙ ap p (getD-set-same list k x 0 l) ∙ m
-    go (no e) = ap p (getD-set-other list k i x 0 e) ∙ h i (omega arith)
-
--- ---- no mark, and one mark more
+-- ---- no mark
 pub listed-none : (n : ℕ) (list : List ℕ) → Listed (replicate n false) list 0
 listed-none n list =
     let long : length (replicate n false) ≡ n = length-replicate n false in
@@ -61,68 +46,6 @@ module _ (ms : List Bool) (list : List ℕ) (k : ℕ) (is : Listed ms list k) wh
 
   pub list-few : k ≤ length ms
   list-few = omega (arith, is .counted, count-le (marked ms) 0 (length ms))
-
-module _ (ms : List Bool) (list : List ℕ) (k : ℕ) (fits : length ms ≤ length list) (is : Listed ms list k) where
-  module _ (u : ℕ) (l : u < length ms) (m : marked ms u ≡ false) where
-    grown : many (set ms u true) ≡ k + 1
-    grown = set-many ms u l m ∙ ap (λ (j : ℕ). j + 1) (sym (is .counted))
-
-    pub list-room : k < length ms
-    list-room = omega (arith, grown, count-le (marked (set ms u true)) 0 (length (set ms u true)), length-set ms u true)
-
-    pub list-new : Listed (set ms u true) (set list k u) (k + 1)
-    list-new =
-        let r : k < length list = omega (arith, list-room) in
-        record {
-          counted = sym grown;
-          are = last-or list k u (marked (set ms u true)) r (set-hit ms u l) (λ i b. set-grow ms u (getD list i 0) (is .are i b));
-          all = λ v t. ⊎-elim
-              (λ (e : v ≡ u). subst (λ (x : ℕ). Among (set list k u) (k + 1) x) (sym e) (among-last list k u r))
-              (λ (t : marked ms v ≡ true). among-more list k v u (is .all v t))
-              (set-back ms u v t);
-        }
-
-    pub longer-new : Longer list (set list k u) k (k + 1)
-    longer-new = record { more = omega arith; kept = λ i b. getD-set-other list k i u 0 (λ e. omega arith) }
-
--- ---- the marked nodes below v, listed
-pub record Listing (ms : List Bool) (list : List ℕ) (k v : ℕ) : Type 0 where
-  pub counted : k ≡ count (marked ms) 0 v
-  pub are : (i : ℕ) → i < k → marked ms (getD list i 0) ≡ true
-  pub all : (u : ℕ) → u < v → marked ms u ≡ true → Among list k u
-
-pub listing-none : (ms : List Bool) (list : List ℕ) → Listing ms list 0 0
-unfolding count
-listing-none ms list = record { counted = refl; are = λ i l. absurd (omega arith); all = λ u l m. absurd (omega arith) }
-
-module _ (ms : List Bool) (list : List ℕ) (k v : ℕ) (is : Listing ms list k v) where
-  pub listing-few : k ≤ v
-  listing-few = omega (arith, is .counted, count-le (marked ms) 0 v)
-
-  pub listing-yes : k < length list → marked ms v ≡ true → Listing ms (set list k v) (k + 1) (v + 1)
-  listing-yes r m = record {
-    counted = ap (λ (j : ℕ). j + 1) (is .counted) ∙ sym (count-yes (marked ms) v m);
-    are = last-or list k v (marked ms) r m (is .are);
-    all = λ u l t. go u l t (ℕ-discrete u v);
-  }
-    where
-      go : (u : ℕ) → u < v + 1 → marked ms u ≡ true → Dec (u ≡ v) → Among (set list k v) (k + 1) u
-      go u l t (yes e) = subst (λ (x : ℕ). Among (set list k v) (k + 1) x) (sym e) (among-last list k v r)
-      go u l t (no e) = among-more list k u v (is .all u (omega arith) t)
-
-  pub listing-no : marked ms v ≡ false → Listing ms list k (v + 1)
-  listing-no m = record { counted = is .counted ∙ sym (count-pass (marked ms) v m); are = is .are; all = λ u l t. go u l t (ℕ-discrete u v) }
-    where
-      go : (u : ℕ) → u < v + 1 → marked ms u ≡ true → Dec (u ≡ v) → Among list k u
-      go u l t (yes e) = no-both (marked ms u) t (ap (marked ms) e ∙ m)
-      go u l t (no e) = is .all u (omega arith) t
-
-  pub listing-done : v ≡ length ms → Listed ms list k
-  listing-done e = record {
-    counted = is .counted ∙ ap (λ (j : ℕ). count (marked ms) 0 j) e;
-    are = is .are;
-    all = λ u t. is .all u (omega (arith, marked-below (length ms) ms u refl t)) t;
-  }
 
 -- ---- a list that is followed
 -- the arcs of the first i nodes lead to marked ones

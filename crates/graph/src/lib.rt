@@ -1,11 +1,12 @@
 // Marks on numbered nodes and how they spread over arcs.
 ghost use mathlib.Core.Path.{_≡_};
-ghost use mathlib.Core.Bool.{true, not};
+ghost use mathlib.Core.Bool.{not};
 ghost use Prim.Native.Nat.{_≤_};
-ghost use lib.ListN.{length, set};
+ghost use lib.ListN.{length};
 ghost use Rattle.lists.specs.Numbers.{lowest};
+ghost use Rattle.lists.specs.Sequences.{over};
 ghost use Rattle.graph.specs.Reach.{marked};
-ghost use Rattle.graph.specs.Listed.{Listed, Longer};
+ghost use Rattle.graph.specs.Listed.{many, listing, enlist, markedNodes};
 
 // Node u has a mark; a number that is no node has none.
 pub fn is_marked(marks: &[bool], u: usize) -> bool
@@ -17,12 +18,10 @@ pub fn is_marked(marks: &[bool], u: usize) -> bool
     marks[u]
 }
 
-// Node u is marked, if it is one, and listed, if it was not; how many are listed then.
+// Node u is marked, if it is one, and listed after the first `count`, if it had no mark; how many are listed then.
 pub fn enlist(marks: &mut [bool], list: &mut [u8], count: usize, u: u8) -> usize
-    requires { ⌜ length (now marks) ≤ length (now list) ⌝ }
-    requires { ⌜ Listed (now marks) (now list) count ⌝ }
-    ensures { λ r. ⌜ now (marks .exit) ≡ set (now (marks .entry)) u true ⌝ }
-    ensures { λ r. ⌜ Listed (now (marks .exit)) (now (list .exit)) r × Longer (now (list .entry)) (now (list .exit)) count r ⌝ }
+    requires { ⌜ (length (now marks) ≤ length (now list)) × (count ≡ many (now marks)) ⌝ }
+    ensures { λ r. ⌜ listing (now (marks .exit)) (now (list .exit)) r ≡ enlist (listing (now (marks .entry)) (now (list .entry)) count) u ⌝ }
 {
     let v = u as usize;
     if marks.len() <= v {
@@ -36,10 +35,10 @@ pub fn enlist(marks: &mut [bool], list: &mut [u8], count: usize, u: u8) -> usize
     count + 1
 }
 
-// The marked nodes are listed, the lowest first; how many they are.
+// The marked nodes are written to the front of the list, the lowest first, and the rest of it stays; how many they are.
 pub fn list_marked(marks: &[bool], list: &mut [u8]) -> usize
     requires { ⌜ (length (now marks) ≤ length (now list)) × (length (now marks) ≤ 256) ⌝ }
-    ensures { λ r. ⌜ Listed (now (marks .entry)) (now (list .exit)) r ⌝ }
+    ensures { λ r. ⌜ (now (list .exit) ≡ over (markedNodes (now (marks .entry))) (now (list .entry))) × (r ≡ many (now (marks .entry))) ⌝ }
 {
     let n = marks.len();
     let mut count: usize = 0;
@@ -58,12 +57,12 @@ pub fn list_marked(marks: &[bool], list: &mut [u8]) -> usize
 pub fn lowest_unmarked(marks: &[bool]) -> usize
     ensures { λ r. ⌜ r ≡ lowest (λ v. not (marked (now (marks .entry)) v)) 0 (length (now (marks .entry))) ⌝ }
 {
-    let mut v: usize = 0;
-    while v < marks.len() {
-        if !marks[v] {
-            return v;
+    let mut u: usize = 0;
+    while u < marks.len() {
+        if !marks[u] {
+            return u;
         }
-        v += 1;
+        u += 1;
     }
-    v
+    u
 }

@@ -9,10 +9,10 @@ use Rattle.graph.proofs.lowest_unmarked.Statement.{statement}
 use Rattle.graph.proofs.lowest_unmarked.Tie as tie
 
 abbrev Inv-loop : tie.InvT-loop
-Inv-loop marks v₀ v = Searching (λ u. not (marked marks u)) (length marks) v
+Inv-loop marks u₀ u = Searching (λ v. not (marked marks v)) (length marks) u
 
 abbrev μ-loop : tie.MeasureT-loop
-μ-loop marks v₀ v = length marks - v
+μ-loop marks u₀ u = length marks - u
 
 loop-holds : tie.Need-loop-holds Inv-loop μ-loop
 loop-holds c = searching-first _ _
@@ -23,8 +23,8 @@ shared-slice-read-if1 c = search needs
 returns : tie.Need-returns Inv-loop μ-loop
 returns c = searching-found _ _ _ (c .before .before .before .loop .inv) (search needs) (c .if1 .taken)
 
-add-v : tie.Need-add-v Inv-loop μ-loop
-add-v c = search needs
+add-u : tie.Need-add-u Inv-loop μ-loop
+add-u c = search needs
 
 loop-less : tie.Need-loop-less Inv-loop μ-loop
 loop-less c = search needs
@@ -44,7 +44,7 @@ lowest-unmarked-spec =
     loop-holds
     shared-slice-read-if1
     returns
-    add-v
+    add-u
     loop-less
     loop-again
     returns-2)

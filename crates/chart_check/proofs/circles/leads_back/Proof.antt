@@ -2,6 +2,7 @@
 use mathlib.Core.Path.{_≡_, refl, _∙_}
 use native.Mathlib.Omega.{arith}
 use lib.ListN.{length}
+use Rattle.graph.proofs.Enlisted.{enlisted-first}
 use Rattle.frames.specs.Frame.{size}
 use Rattle.chart_check.proofs.MarkCases.{blank-long, blank-lent, spread-back}
 use borrow.Author.Needs.{needs}
@@ -34,7 +35,7 @@ join-requires c κs =
     record {
       long = long first;
       room = omega (arith, start (first .before) .pre .1 .room, first .follow .kept .1 .1 .1 .1 .0);
-      listed = first .follow .ensures .listed;
+      listed = enlisted-first _ _ _ _ _ (start (first .before) .pre .1 .none) (start (first .before) .pre .1 .room) (first .follow .ensures) .1;
     }
 
 slice-read-result : tie.Need-slice-read-result
@@ -52,7 +53,8 @@ returns : tie.Need-returns
 returns c =
     let first = followed (listed (joined c)) in
     let begun = start (first .before) in
-    (spread-back (begun .args .records .now) (begun .args .v) _ _ _ (begun .pre .1 .none) (first .follow .ensures .spread) (joined c .join .ensures), refl)
+    let marks = enlisted-first _ _ _ _ _ (begun .pre .1 .none) (begun .pre .1 .room) (first .follow .ensures) .0 in
+    (spread-back (begun .args .records .now) (begun .args .v) _ _ marks (joined c .join .ensures), refl)
 
 pub leads-back-spec : {M : Type 1} → statement M
 leads-back-spec =

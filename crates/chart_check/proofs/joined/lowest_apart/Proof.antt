@@ -1,6 +1,7 @@
 -- `chart_check::joined::lowest_apart` meets its contract: the Begins are marked, the marks spread, the lowest node without one is found.
 use mathlib.Core.Path.{_∙_}
 use Rattle.chart_check.proofs.MarkCases.{spread-apart}
+use Rattle.graph.proofs.MarkedNodes.{listed-lowest}
 use borrow.Author.Needs.{needs}
 use Rattle.chart_check.proofs.joined.lowest_apart.Statement.{statement}
 use Rattle.chart_check.proofs.joined.lowest_apart.Tie as tie
@@ -26,7 +27,8 @@ list-marked-requires : tie.Need-list-marked-requires
 list-marked-requires c κs = search needs
 
 join-requires : tie.Need-join-requires
-join-requires c κs = search needs
+join-requires c κs =
+    record { long = search needs; room = search needs; listed = listed-lowest _ _ _ _ (c .before .before .before .before .list-marked .ensures) }
 
 lowest-unmarked-requires : tie.Need-lowest-unmarked-requires
 lowest-unmarked-requires c κs = search needs

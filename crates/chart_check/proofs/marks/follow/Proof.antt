@@ -1,5 +1,6 @@
 -- `chart_check::marks::follow` meets its contract: by how many arcs count.
-use Rattle.graph.proofs.Lists.{longer-same, longer-on}
+use Rattle.graph.specs.Listed.{Listing, listing}
+use Rattle.graph.proofs.Enlisted.{enlist-counted}
 use Rattle.chart_check.proofs.MarkCases.{marked-none, marked-one, marked-two}
 use borrow.Author.Needs.{needs}
 use Rattle.chart_check.proofs.marks.follow.Statement.{statement}
@@ -15,6 +16,10 @@ some c = c .before .before .before .before
 abbrev first : tie.After-slice-known4 → tie.After-enlist
 first c = c .before .before .before .before
 
+-- what is lent at first
+abbrev lent : tie.Start → Listing
+lent c = let a = c .args in listing (a .marks .now) (a .list .now) (a .count)
+
 abbrev another : tie.After-enlist2 → tie.Else2
 another c = c .before .before .before .before
 
@@ -26,11 +31,7 @@ returns : tie.Need-returns
 returns c =
     let counted = c .before in
     let a = start counted .args in
-    record {
-      spread = marked-none (a .records .now) (a .conditions) (a .v) _ (counted .arc-count .ensures) (a .marks .now) (c .if1 .taken);
-      listed = start counted .pre .1 .listed;
-      longer = longer-same _ _;
-    }
+    marked-none (a .records .now) (a .conditions) (a .v) _ (counted .arc-count .ensures) (lent (start counted)) (c .if1 .taken)
 
 field-requires : tie.Need-field-requires
 field-requires c κs = search needs
@@ -49,18 +50,16 @@ returns-2 c =
     let one = first (c .before) in
     let counted = some one .before in
     let a = start counted .args in
-    record {
-      spread = marked-one (a .records .now) (a .conditions) (a .v) _ (counted .arc-count .ensures) (a .marks .now) (some one .if1 .left)
-          _ _ (one .before .field .ensures) (one .enlist .ensures .0) (c .if2 .taken);
-      listed = one .enlist .ensures .1 .0;
-      longer = one .enlist .ensures .1 .1;
-    }
+    marked-one (a .records .now) (a .conditions) (a .v) _ (counted .arc-count .ensures) (lent (start counted)) (some one .if1 .left)
+    _ _ (one .before .field .ensures) (one .enlist .ensures) (c .if2 .taken)
 
 field-requires-2 : tie.Need-field-requires-2
 field-requires-2 c κs = search needs
 
 enlist-requires-2 : tie.Need-enlist-requires-2
-enlist-requires-2 c κs = search needs
+enlist-requires-2 c κs =
+    let one = first (c .before .before .before .before) in
+    (search needs, enlist-counted _ _ _ (one .enlist .ensures) (start (some one .before) .pre .1 .listed .counted))
 
 same-length-3 : tie.Need-same-length-3
 same-length-3 c = search needs
@@ -74,13 +73,9 @@ returns-3 c =
     let one = first (another two .before) in
     let counted = some one .before in
     let a = start counted .args in
-    record {
-      spread = marked-two (a .records .now) (a .conditions) (a .v) _ (counted .arc-count .ensures) (a .marks .now) (some one .if1 .left)
-          _ _ (one .before .field .ensures) (one .enlist .ensures .0) (another two .if2 .left)
-          _ _ (two .before .field2 .ensures) (two .enlist2 .ensures .0);
-      listed = two .enlist2 .ensures .1 .0;
-      longer = longer-on _ _ _ _ _ _ (one .enlist .ensures .1 .1) (two .enlist2 .ensures .1 .1);
-    }
+    marked-two (a .records .now) (a .conditions) (a .v) _ (counted .arc-count .ensures) (lent (start counted)) (some one .if1 .left)
+    _ _ (one .before .field .ensures) (one .enlist .ensures) (another two .if2 .left)
+    _ _ (two .before .field2 .ensures) (two .enlist2 .ensures)
 
 pub follow-spec : {M : Type 1} → statement M
 follow-spec =

@@ -11,6 +11,8 @@ use Rattle.graph.proofs.Lists.{list-node, list-few, Followed, followed-none, fo
 use Rattle.frames.specs.Frame.{size}
 use Rattle.charts.specs.Chart.{Chart}
 use Rattle.charts.specs.Marks.{arcsBy}
+use Rattle.chart_check.specs.Asked.{Lent}
+use Rattle.chart_check.proofs.MarkCases.{lent-enlisted}
 use borrow.Author.Needs.{needs}
 use Rattle.chart_check.proofs.marks.join.Statement.{statement}
 use Rattle.chart_check.proofs.marks.join.Tie as tie
@@ -45,6 +47,11 @@ read c = c .before .before .before
 few : (c : At tie.At-loop) → c .loop .end ≤ size (start c .args .records .now)
 few c = omega (arith, list-few (c .loop .marks) (c .loop .list) (c .loop .end) (c .loop .inv .listed), c .loop .inv .joining .long)
 
+lent : (c : At tie.At-loop) → Lent (start c .args .records .now) (c .loop .marks) (c .loop .list) (c .loop .end)
+lent c =
+    let inv = c .loop .inv in
+    record { long = inv .joining .long; room = omega (arith, inv .same, start c .pre .room); listed = inv .listed }
+
 -- ---- the needs
 loop-holds : tie.Need-loop-holds Inv-loop μ-loop
 loop-holds c =
@@ -72,11 +79,7 @@ follow-requires c κs =
     let here = turn (c .before .before) in
     let loop = here .loop in (
       omega (arith, list-node (loop .marks) (loop .list) (loop .end) (loop .inv .listed) (loop .i) (search needs), loop .inv .joining .long),
-      record {
-        long = loop .inv .joining .long;
-        room = omega (arith, loop .inv .same, start here .pre .room);
-        listed = loop .inv .listed;
-      },
+      lent here,
     )
 
 add-i : tie.Need-add-i Inv-loop μ-loop
@@ -93,15 +96,15 @@ loop-again c =
     let records = begun .args .records .now in
     let conditions = begun .args .conditions in
     let loop = here .loop in
-    let left = on .follow .ensures in
+    let left = lent-enlisted _ _ _ _ (lent here) _ _ (on .follow .ensures) in
     record {
       inside = omega (arith, left .longer .more);
       same = on .follow .kept .1 .1 .1 .1 .0 ∙ loop .inv .same;
       joining = joining-more (size records) (arcsBy records conditions) (begun .args .marks .now) (loop .marks) _ (getD (loop .list) (loop .i) 0) (begun .pre .long)
-          (loop .inv .listed .are (loop .i) (search needs)) (left .spread) (loop .inv .joining);
+          (loop .inv .listed .are (loop .i) (search needs)) (left .marks) (loop .inv .joining);
       listed = left .listed;
       followed = followed-more (size records) (arcsBy records conditions) (loop .marks) _ (loop .list) _ (loop .i) (loop .end) _ (loop .inv .joining .long)
-          (search needs) (left .longer) (left .spread) (loop .inv .followed);
+          (search needs) (left .longer) (left .marks) (loop .inv .followed);
     }
 
 same-length : tie.Need-same-length Inv-loop μ-loop
