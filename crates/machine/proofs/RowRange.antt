@@ -149,8 +149,14 @@ pub firsts-long : (b firsts : List ℕ) → firsts ≡ firstFrames b → length 
 unfolding firstFrames
 firsts-long b firsts is = ap (λ (xs : List ℕ). length xs) is ∙ length-tabulate (firstFrame b) 257
 
-module _ (b : List ℕ) (ok : tableVerdict b ≡ fine) (bytes : (k : ℕ) → getD b k 0 < 256) (firsts : List ℕ)
-    (is : firsts ≡ firstFrames b) (l : ℕ) (h : l < 256) where
+-- what the search is handed: an accepted table of bytes, the index of its rows, and a label
+pub record Lookup (b firsts : List ℕ) (l : ℕ) : Type 0 where
+  pub accepted : tableVerdict b ≡ fine
+  pub bytes : (k : ℕ) → getD b k 0 < 256
+  pub index : firsts ≡ firstFrames b
+  pub small : l < 256
+
+module _ {b firsts : List ℕ} {l : ℕ} (x : Lookup b firsts l) where
   abbrev first : ℕ
   first = getD firsts l 0
 
@@ -159,13 +165,13 @@ module _ (b : List ℕ) (ok : tableVerdict b ≡ fine) (bytes : (k : ℕ) → ge
 
   first-at : (m : ℕ) → m < 257 → getD firsts m 0 ≡ firstFrame b m
   unfolding firstFrames
-  first-at m g = ap (λ (xs : List ℕ). getD xs m 0) is ∙ getD-tabulate (firstFrame b) 257 m g
+  first-at m g = ap (λ (xs : List ℕ). getD xs m 0) (x .index) ∙ getD-tabulate (firstFrame b) 257 m g
 
   pub range-lies : (first ≤ end) × (end ≤ size b)
   range-lies =
-      let p : first ≡ firstFrame b l = first-at l (omega arith) in
-      let q : end ≡ firstFrame b (l + 1) = first-at (l + 1) (omega arith) in
-      (omega (arith, in-order b ok l), omega (arith, first-inside b ok (l + 1)))
+      let p : first ≡ firstFrame b l = first-at l (omega (arith, x .small)) in
+      let q : end ≡ firstFrame b (l + 1) = first-at (l + 1) (omega (arith, x .small)) in
+      (omega (arith, in-order b (x .accepted) l), omega (arith, first-inside b (x .accepted) (l + 1)))
 
   -- what the search says of all rows
   module _ (w bit f : ℕ) (e : f ≡ lowest (fitting b l w bit) first (end - first)) where
@@ -176,20 +182,20 @@ module _ (b : List ℕ) (ok : tableVerdict b ≡ fine) (bytes : (k : ℕ) → ge
     none-before g k m = go (split g first)
       where
         go : (g < first) ⊎ (first ≤ g) → p g ≡ false
-        go (inl c) = before-none b ok bytes l w bit g k (omega (arith, first-at l (omega arith)))
+        go (inl c) = before-none b (x .accepted) (x .bytes) l w bit g k (omega (arith, first-at l (omega (arith, x .small))))
         go (inr c) = lowest-before p first (end - first) g c (omega arith)
 
     pub next-found : (n : ℕ) → f < end → n ≡ field b f 7 → n ≡ nextOf (firstRow l w bit (decoded b .rows))
     next-found n k r =
-        r ∙ sym (ap nextOf (sym (ap (firstRow l w bit) (rows-are b ok)) ∙ first-is b l w bit (rowsFrom b) f (size b)
-        (omega (arith, first-at l (omega arith), lowest-above p first (end - first), lowest-above (reached b l) (rowsFrom b) (size b - rowsFrom b)))
+        r ∙ sym (ap nextOf (sym (ap (firstRow l w bit) (rows-are b (x .accepted))) ∙ first-is b l w bit (rowsFrom b) f (size b)
+        (omega (arith, first-at l (omega (arith, x .small)), lowest-above p first (end - first), lowest-above (reached b l) (rowsFrom b) (size b - rowsFrom b)))
         (omega (arith, range-lies .1)) none-before
         (ap p e ∙ lowest-hit p first (end - first) (omega (arith, range-lies .0)))))
 
     pub next-none : end ≤ f → 256 ≡ nextOf (firstRow l w bit (decoded b .rows))
     next-none k =
-        sym (ap nextOf (sym (ap (firstRow l w bit) (rows-are b ok)) ∙ none-is b l w bit (rowsFrom b) (size b) (λ g m n. go g m n (split g end))))
+        sym (ap nextOf (sym (ap (firstRow l w bit) (rows-are b (x .accepted))) ∙ none-is b l w bit (rowsFrom b) (size b) (λ g m n. go g m n (split g end))))
       where
         go : (g : ℕ) → rowsFrom b ≤ g → g < size b → (g < end) ⊎ (end ≤ g) → p g ≡ false
         go g m n (inl c) = none-before g m (omega arith)
-        go g m n (inr c) = behind-none b ok bytes l w bit g (omega (arith, first-at (l + 1) (omega arith))) n
+        go g m n (inr c) = behind-none b (x .accepted) (x .bytes) l w bit g (omega (arith, first-at (l + 1) (omega (arith, x .small)))) n

@@ -13,49 +13,61 @@ Inv-loop b firsts₀ end f₀ l₀ firsts f l = Indexed b firsts₀ firsts f l
 abbrev μ-loop : tie.MeasureT-loop
 μ-loop b firsts₀ end f₀ l₀ firsts f l = 257 - l
 
-rows-from-requires : tie.Need-rows-from-requires Inv-loop μ-loop
-rows-from-requires c κs = omega (arith, rows-inside (c .before .before .args .table .now) (c .before .before .pre .0))
+-- ---- the stages: the rows' first frame is known, a turn begins
+abbrev At : (tie.InvT-loop → tie.MeasureT-loop → Type 0) → Type 0
+At stage = stage Inv-loop μ-loop
 
-loop-holds : tie.Need-loop-holds Inv-loop μ-loop
-loop-holds c = index-start _ (c .before .before .before .pre .0) _ _ (c .rows-from .ensures)
+abbrev start : At tie.After-slice-known → At tie.Start
+start c = c .before .before
 
-skip-below-requires : tie.Need-skip-below-requires Inv-loop μ-loop
+abbrev begun : At tie.At-loop → At tie.Start
+begun c = start (c .before .before)
+
+-- ---- the needs
+rows-from-requires : At tie.Need-rows-from-requires
+rows-from-requires c κs = let first = start c in omega (arith, rows-inside (first .args .table .now) (first .pre .0))
+
+loop-holds : At tie.Need-loop-holds
+loop-holds c = index-start _ (start (c .before) .pre .0) _ _ (c .rows-from .ensures)
+
+skip-below-requires : At tie.Need-skip-below-requires
 skip-below-requires c κs = (c .before .loop .inv .inside, search needs)
 
-cast-firsts : tie.Need-cast-firsts Inv-loop μ-loop
+cast-firsts : At tie.Need-cast-firsts
 cast-firsts c =
-    let asked = c .before .before .before .before .before .before .pre in
-    let shared-slice-known = c .before .before .before .before .before .shared-slice-known in
+    let turn = c .before .before in
+    let known = turn .before .before .before .shared-slice-known in
     omega (
       arith,
-      frame-small _ (asked .0) _ _ _ _ (c .before .before .loop .inv) _ (c .skip-below .ensures)
-          (omega (arith, shared-slice-known .given 2)),
+      frame-small _ (begun turn .pre .0) _ _ _ _ (turn .loop .inv) _ (c .skip-below .ensures) (omega (arith, known .given 2)),
     )
 
-mul-firsts : tie.Need-mul-firsts Inv-loop μ-loop
+mul-firsts : At tie.Need-mul-firsts
 mul-firsts c = search needs
 
-slice-write-firsts : tie.Need-slice-write-firsts Inv-loop μ-loop
+slice-write-firsts : At tie.Need-slice-write-firsts
 slice-write-firsts c = search needs
 
-add-l : tie.Need-add-l Inv-loop μ-loop
+add-l : At tie.Need-add-l
 add-l c = search needs
 
-loop-less : tie.Need-loop-less Inv-loop μ-loop
+loop-less : At tie.Need-loop-less
 loop-less c = search needs
 
-loop-again : tie.Need-loop-again Inv-loop μ-loop
+loop-again : At tie.Need-loop-again
 loop-again c =
-    let asked = c .before .before .before .before .before .before .pre in
-    index-on _ (asked .0) _ _ _ _ (c .before .before .loop .inv) _ (c .skip-below .ensures) (asked .1) (search needs)
+    let turn = c .before .before in
+    let asked = begun turn .pre in
+    index-on _ (asked .0) _ _ _ _ (turn .loop .inv) _ (c .skip-below .ensures) (asked .1) (search needs)
 
-same-length : tie.Need-same-length Inv-loop μ-loop
+same-length : At tie.Need-same-length
 same-length c = c .before .loop .inv .values .size
 
-returns : tie.Need-returns Inv-loop μ-loop
+returns : At tie.Need-returns
 returns c =
-    let asked = c .before .before .before .before .before .pre in
-    index-all _ (asked .0) _ _ _ _ (c .before .loop .inv) (asked .1) (search needs)
+    let turn = c .before in
+    let asked = begun turn .pre in
+    index-all _ (asked .0) _ _ _ _ (turn .loop .inv) (asked .1) (search needs)
 
 pub index-rows-spec : {M : Type 1} → statement M
 index-rows-spec =

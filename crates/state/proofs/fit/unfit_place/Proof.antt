@@ -4,6 +4,10 @@ use borrow.Author.Needs.{needs}
 use Rattle.state.proofs.fit.unfit_place.Statement.{statement}
 use Rattle.state.proofs.fit.unfit_place.Tie as tie
 
+-- the stage at which the table's last label is read
+abbrev start : tie.After-byte → tie.Start
+start c = c .before .before .before
+
 element-copy-out-l : tie.Need-element-copy-out-l
 element-copy-out-l c = search needs
 
@@ -11,7 +15,9 @@ byte-requires : tie.Need-byte-requires
 byte-requires c κs = search needs
 
 returns : tie.Need-returns
-returns c = place-high _ (c .before .before .before .before .args .t2) (c .before .before .before .before .args .k) _ (c .before .byte .ensures) (c .if1 .taken)
+returns c =
+    let last = c .before in
+    place-high _ (start last .args .t2) (start last .args .k) _ (last .byte .ensures) (c .if1 .taken)
 
 add-next : tie.Need-add-next
 add-next c = search needs
@@ -27,19 +33,16 @@ may-carry-requires c κs = search needs
 
 returns-2 : tie.Need-returns-2
 returns-2 c =
-    let start = c .before .before .before .before .before .before .before in
-    let t2 = start .args .t2 in
-    let k = start .args .k in
-    let byte = c .before .before .before .before .byte in
-    place-kept _ t2 k _ (byte .ensures) (c .before .before .before .if1 .left) (c .before .before .if2 .taken) _
+    let inside = c .before .before .before in
+    let last = inside .before in
+    place-kept _ (start last .args .t2) (start last .args .k) _ (last .byte .ensures) (inside .if1 .left) (c .before .before .if2 .taken) _
     (c .may-carry .ensures)
 
 returns-3 : tie.Need-returns-3
 returns-3 c =
-    let start = c .before .before .before .before .before in
-    let t2 = start .args .t2 in
-    let k = start .args .k in
-    place-top _ t2 k _ (c .before .before .byte .ensures) (c .before .if1 .left) (c .if2 .left)
+    let inside = c .before in
+    let last = inside .before in
+    place-top _ (start last .args .t2) (start last .args .k) _ (last .byte .ensures) (inside .if1 .left) (c .if2 .left)
 
 pub unfit-place-spec : {M : Type 1} → statement M
 unfit-place-spec =
