@@ -56,7 +56,7 @@ fn search_circle(records: &[u8], unfinished: &[bool], list: &mut [u8]) -> usize
     v
 }
 
-// The same: at first all conditions are unfinished, then what can be is finished, in an accepted chart all. The list serves both as the path and for marks.
+// The same: at first all conditions are unfinished, then a search finishes what it can. The list serves both as the path and for marks.
 fn find_circle(records: &[u8], unfinished: &mut [bool], list: &mut [u8]) -> usize
     requires { ⌜ length (now unfinished) ≡ size (now records) ⌝ }
     requires { ⌜ Room (now records) (now list) ⌝ }
