@@ -15,20 +15,20 @@ tell-requires c κs = search needs
 
 returns : tie.Need-returns
 returns c =
-    let state-of = c .before .before .before .before .before .before .before .state-of in
-    let tick-image = c .before .before .before .before .before .before .tick-image in
-    tick-refused _ _ (advances-for _ _ _ (state-of .ensures) (tick-image .ensures))
-    (c .before .tell .ensures) _ _ (c .if1 .taken)
+    let told = c .before in
+    let made = told .before .before .before .before .before in
+    tick-refused _ _ (advances-for _ _ _ (made .before .state-of .ensures) (made .tick-image .ensures))
+    (told .tell .ensures) _ _ (c .if1 .taken)
 
 bytes-of-requires : tie.Need-bytes-of-requires
 bytes-of-requires c κs = search needs
 
 returns-2 : tie.Need-returns-2
 returns-2 c =
-    let state-of = c .before .before .before .before .before .before .before .before .state-of in
-    let tick-image = c .before .before .before .before .before .before .before .tick-image in
-    tick-done _ _ (advances-for _ _ _ (state-of .ensures) (tick-image .ensures))
-    (c .before .before .tell .ensures) _ _ _ (c .before .if1 .left) (c .bytes-of .ensures)
+    let told = c .before .before in
+    let made = told .before .before .before .before .before in
+    tick-done _ _ (advances-for _ _ _ (made .before .state-of .ensures) (made .tick-image .ensures))
+    (told .tell .ensures) _ _ _ (c .before .if1 .left) (c .bytes-of .ensures)
 
 pub fairleadow-tick-spec : {M : Type 1} → statement M
 fairleadow-tick-spec = tie.close (tie.spec state-of-requires tick-image-requires tell-requires returns bytes-of-requires returns-2)

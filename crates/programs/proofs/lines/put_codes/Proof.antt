@@ -39,9 +39,12 @@ loop-less c = search needs
 
 loop-again : tie.Need-loop-again Inv-loop μ-loop
 loop-again c =
-    codes-turn (c .before .before .before .before .before .before .before .before .before .before .before .args .codes .now) (c .before .before .before .before .before .before .before .before .before .before .before .args .out .now) _ _
-    (c .before .before .before .before .before .before .before .before .loop .inv) _ _ (search needs) (search needs) (c .before .before .put-bytes .kept .0)
-    (c .before .before .before .before .before .code-line .ensures) (c .before .before .put-bytes .ensures)
+    let put = c .before .before in
+    let line = put .before .before .before in
+    let turn = line .before .before .before in
+    let start = turn .before .before .before in
+    codes-turn (start .args .codes .now) (start .args .out .now) _ _ (turn .loop .inv) _ _ (search needs) (search needs)
+    (put .put-bytes .kept .0) (line .code-line .ensures) (put .put-bytes .ensures)
 
 same-length : tie.Need-same-length Inv-loop μ-loop
 same-length c = search needs

@@ -29,9 +29,11 @@ slice-aggregate-put-run c = search needs
 
 put-run-requires : tie.Need-put-run-requires
 put-run-requires c κs =
-    let count-up = c .before .before .before .before .before .before .before .before .before .before .count-up in
-    let fresh = c .before .before .before .before .before .before .before .before .before .fresh in
-    let run = c .before .before .before .before .run in
+    let ran = c .before .before .before .before in
+    let made = ran .before .before .before .before .before in
+    let count-up = made .before .count-up in
+    let fresh = made .fresh in
+    let run = ran .run in
     let state = fresh .ensures .state in
     let answered = run .ensures .answered in
     let codes = run .ensures .codes in
@@ -40,9 +42,11 @@ put-run-requires c κs =
 
 returns : tie.Need-returns
 returns c =
-    let count-up = c .before .before .before .before .before .before .before .before .before .before .before .count-up in
-    let fresh = c .before .before .before .before .before .before .before .before .before .before .fresh in
-    let run = c .before .before .before .before .before .run in
+    let ran = c .before .before .before .before .before in
+    let made = ran .before .before .before .before .before in
+    let count-up = made .before .count-up in
+    let fresh = made .fresh in
+    let run = ran .run in
     let state = fresh .ensures .state in
     let answered = run .ensures .answered in
     let codes = run .ensures .codes in
