@@ -7,6 +7,7 @@ use crate::put_labels::put_labels;
 use crate::put_rows::put_rows;
 use crate::rows::count_rows;
 use frames::Answer;
+use frames::refused;
 ghost use mathlib.Core.Path.{_≡_};
 ghost use Rattle.lists.specs.Sequences.{written};
 ghost use Rattle.frames.specs.Answer.{Lends};
@@ -39,19 +40,11 @@ pub fn write_image(records: &[u8], highest: u8, out: &mut [u8]) -> Answer
     let own = label_nodes(records, &mut labels);
     let total = count_rows(records, &labels, 1025);
     if total > 1024 {
-        return Answer::Refused {
-            number: 10,
-            index: 0,
-            count: 0,
-        };
+        return refused(10, 0);
     }
     let need = 23 * (3 + highest as usize + own + total);
     if out.len() < need {
-        return Answer::Refused {
-            number: 16,
-            index: 0,
-            count: 0,
-        };
+        return refused(16, 0);
     }
     put_image(records, &labels, highest, own, total, out);
     Answer::Done(need)

@@ -37,8 +37,11 @@ slice-aggregate-count-rows c = search needs
 count-rows-requires : tie.Need-count-rows-requires
 count-rows-requires c κs = let made = c .before .before in charted-local _ _ (start made .pre .0) (made .label-nodes .ensures .1)
 
+refused-requires : tie.Need-refused-requires
+refused-requires c κs = search needs
+
 returns : tie.Need-returns
-returns c = image-many _ _ _ (c .before .count-rows .ensures) (omega arith)
+returns c = rw (c .refused .ensures) (image-many _ _ _ (c .before .before .count-rows .ensures) (omega arith))
 
 add-need : tie.Need-add-need
 add-need c = search needs
@@ -52,11 +55,15 @@ add-need-3 c = omega (arith, small c, c .if1 .left)
 mul-need : tie.Need-mul-need
 mul-need c = omega (arith, small c, c .if1 .left)
 
+refused-requires-2 : tie.Need-refused-requires-2
+refused-requires-2 c κs = search needs
+
 returns-2 : tie.Need-returns-2
 returns-2 c =
-    let here = c .before in
-    image-short _ _ _ (here .before .count-rows .ensures) (here .if1 .left) _ _ (start (few here) .pre .1)
-    (few here .label-nodes .ensures .0) (omega arith)
+    let here = c .before .before in
+    rw (c .refused2 .ensures)
+    (image-short _ _ _ (here .before .count-rows .ensures) (here .if1 .left) _ _ (start (few here) .pre .1)
+    (few here .label-nodes .ensures .0) (omega arith))
 
 slice-aggregate-put-image : tie.Need-slice-aggregate-put-image
 slice-aggregate-put-image c = search needs
@@ -94,11 +101,13 @@ write-image-spec =
     label-nodes-requires
     slice-aggregate-count-rows
     count-rows-requires
+    refused-requires
     returns
     add-need
     add-need-2
     add-need-3
     mul-need
+    refused-requires-2
     returns-2
     slice-aggregate-put-image
     put-image-requires
