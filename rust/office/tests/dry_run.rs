@@ -124,7 +124,7 @@ fn a_changed_crate_is_proved_again() {
         .open(&library)
         .and_then(|file| file.set_modified(std::time::SystemTime::UNIX_EPOCH))
         .expect("a time");
-    fs::write(root.join("crates/charts/lib.rt"), "changed").expect("a folder that can be written");
+    fs::write(root.join("crates/charts/source"), "changed").expect("a folder that can be written");
     let ran = dry_run(&root, &["../a.chart"]);
     assert_eq!(ran.status, 0);
     assert!(ran.said.starts_with("proving and building the library"), "{}", ran.said);
