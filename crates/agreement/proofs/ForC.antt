@@ -8,7 +8,7 @@ use Rattle.translator.specs.Entry.{translate}
 use Rattle.state.specs.declared.State.{State}
 use Rattle.state.specs.State.{freshState}
 use Rattle.machine.specs.Run.{run}
-use Rattle.fairleadow.specs.Bytes.{stateOf}
+use Rattle.state.specs.Bytes.{stateOf}
 use Rattle.fairleadow.specs.Calls.{LendsC, runFor, RunsC}
 use Rattle.fairleadow.proofs.Kept.{run-held, fresh-held}
 use Rattle.agreement.specs.Agreement.{Asked, told, chain, Agreement}

@@ -10,8 +10,9 @@ use Rattle.state.specs.declared.Answered.{Answered}
 use Rattle.machine.specs.declared.TickReport.{TickReport}
 use Rattle.machine.specs.Run.{Run, Runs, run}
 use Rattle.machine.specs.Advance.{Advance, Advances, advance}
-use Rattle.fairleadow.specs.Bytes.{stateOf, bytesOf}
-use Rattle.fairleadow.specs.Calls.{Told, leaves, runFor, bytesAfter, RunsC, tickFor, ifTicked, AdvancesC}
+use Rattle.state.specs.Bytes.{stateOf, bytesOf}
+use Rattle.machine.specs.InPlace.{leaves, bytesAfter, ifTicked}
+use Rattle.fairleadow.specs.Calls.{Told, runFor, RunsC, tickFor, AdvancesC}
 
 pub told-as : {a b : Reply} {n i m : ℕ} → a ≡ b → Told a n i m → Told b n i m
 told-as {n = n} {i = i} {m = m} e t = subst (λ (x : Reply). Told x n i m) e t

@@ -15,8 +15,9 @@ use Rattle.image.specs.Decode.{decoded}
 use Rattle.state.specs.State.{fresh, noState, badSize, Made, freshState}
 use Rattle.machine.specs.Run.{Ran, runOn, runVerdict, ticks, run}
 use Rattle.machine.proofs.Normal.{Same, Late, ticks-same, ticks-late}
-use Rattle.fairleadow.specs.Bytes.{stateOf, bytesOf}
-use Rattle.fairleadow.specs.Calls.{leaves, runFor, bytesAfter}
+use Rattle.state.specs.Bytes.{stateOf, bytesOf}
+use Rattle.machine.specs.InPlace.{leaves, bytesAfter}
+use Rattle.fairleadow.specs.Calls.{runFor}
 use Rattle.fairleadow.proofs.ResultBytes.{state-back}
 
 held-places : (b : List ℕ) → length (stateOf b .places) ≡ 32

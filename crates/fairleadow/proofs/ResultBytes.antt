@@ -12,7 +12,7 @@ use Rattle.lists.specs.Numbers.{range}
 use Rattle.lists.proofs.Ranges.{map-count}
 use Rattle.state.specs.declared.State.{State}
 use Rattle.state.specs.State.{placeAt}
-use Rattle.fairleadow.specs.Bytes.{resultByte, stateOf, bytesOf}
+use Rattle.state.specs.Bytes.{resultByte, stateOf, bytesOf}
 
 -- a cast of a result is its byte
 pub byte-is : (b : Bool) → boolByte b ≡ pick b 1 0

@@ -6,8 +6,8 @@ ghost use lib.ListN.{length};
 ghost use Rattle.lists.specs.Numbers.{range};
 ghost use Rattle.lists.specs.Sequences.{written};
 ghost use Rattle.state.specs.State.{placeAt};
-ghost use Rattle.fairleadow.specs.Bytes.{placeIn, resultIn, resultByte, stateOf, bytesOf};
-ghost use Rattle.fairleadow.specs.Calls.{leaves};
+ghost use Rattle.state.specs.Bytes.{placeIn, resultIn, resultByte, stateOf, bytesOf};
+ghost use Rattle.machine.specs.InPlace.{leaves};
 ghost use Rattle.lists.specs.Pick.{pick};
 
 fn places_of(bytes: [u8; 50]) -> [u8; 32]

@@ -6,7 +6,7 @@ use lib.ListN.{length, getD}
 use lib.Bits.{bitAnd}
 use lib.Dec.{eqb}
 use Rattle.lists.specs.Pick.{pick}
-use Rattle.image.specs.Image.{Image, Label, Row}
+use Rattle.image.specs.Image.{Image, Label, Row, homeLabel, returnLabel}
 
 abbrev pub noLabel : Label
 noLabel = record { kind = 0; called = 0; owner = 0; result = 0; mask = 0 }
@@ -19,13 +19,6 @@ nthLabel i l = getD (i .labels) l noLabel
 
 abbrev pub nthRow : Image → ℕ → Row
 nthRow i k = getD (i .rows) k noRow
-
--- labels 0 and 1 of every image
-abbrev pub homeLabel : Label
-homeLabel = record { kind = 4; called = 0; owner = 1; result = 0; mask = 0 }
-
-abbrev pub returnLabel : Label
-returnLabel = record { kind = 3; called = 0; owner = 0; result = 0; mask = 0 }
 
 -- the label where scheme h ends
 abbrev pub endOf : ℕ → ℕ

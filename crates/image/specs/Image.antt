@@ -13,6 +13,13 @@ pub record Label : Type 0 where
   pub result : ℕ
   pub mask : ℕ
 
+-- labels 0 and 1 of every image
+abbrev pub homeLabel : Label
+homeLabel = record { kind = 4; called = 0; owner = 1; result = 0; mask = 0 }
+
+abbrev pub returnLabel : Label
+returnLabel = record { kind = 3; called = 0; owner = 0; result = 0; mask = 0 }
+
 -- bit: the function bit, 2 for none
 pub record Row : Type 0 where
   pub from : ℕ

@@ -10,9 +10,9 @@ use borrow.Author.Tests.{le-leb, lt-leb}
 use Rattle.lists.specs.Pick.{pick}
 use Rattle.bits.specs.Results.{Results, resultOf, withResult}
 use Rattle.frames.specs.Frame.{size, field}
-use Rattle.image.specs.Image.{Label}
+use Rattle.image.specs.Image.{Label, homeLabel, returnLabel}
 use Rattle.image.specs.Decode.{schemeCount, lastLabel, labelsFrom, entryIn, labelIn, decoded}
-use Rattle.image.proofs.Sound.{homeLabel, returnLabel, nthLabel, noRow, SoundLabel, Sound}
+use Rattle.image.proofs.Sound.{nthLabel, noRow, SoundLabel, Sound}
 use Rattle.image.proofs.Accepted.{entries-count, labels-count, entry-read, label-read, counted, accepted-sound}
 use Rattle.codes.specs.Codes.{codeOf}
 use Rattle.state.specs.declared.State.{State}

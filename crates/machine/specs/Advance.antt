@@ -6,7 +6,7 @@ use lib.ListN.{getD}
 use Rattle.frames.specs.Answer.{Reply, reply}
 use Rattle.state.specs.declared.State.{State}
 use Rattle.machine.specs.declared.TickReport.{TickReport}
-use Rattle.machine.specs.Run.{run}
+use Rattle.machine.specs.Run.{Run, run}
 
 -- mask and code of the tick, 0 where it is refused, and the state after it
 pub record Advance : Type 0 where
@@ -15,9 +15,12 @@ pub record Advance : Type 0 where
   pub code : ℕ
   pub state : State
 
+-- what a run of one word gives
+abbrev pub advanced : Run → Advance
+advanced r = record { reply = r .reply; mask = getD (r .masks) 0 0; code = getD (r .codes) 0 0; state = r .state }
+
 unfoldable pub advance : List ℕ → State → ℕ → Advance
-advance t s w = let r = run t s (w ∷ []) (0 ∷ []) (0 ∷ []) in
-    record { reply = r .reply; mask = getD (r .masks) 0 0; code = getD (r .codes) 0 0; state = r .state }
+advance t s w = advanced (run t s (w ∷ []) (0 ∷ []) (0 ∷ []))
 
 -- what a function that makes one tick promises: its report, and the state after it
 pub record Advances (x : Advance) (r : TickReport) (after : State) : Type 0 where

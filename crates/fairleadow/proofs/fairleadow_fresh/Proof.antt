@@ -1,7 +1,7 @@
 -- `fairleadow::fairleadow_fresh` meets its contract: what the two functions that it calls ensure, put together.
 use borrow.Author.Needs.{needs}
 use mathlib.Core.Path.{ap, _∙_}
-use Rattle.fairleadow.specs.Bytes.{bytesOf}
+use Rattle.state.specs.Bytes.{bytesOf}
 use Rattle.fairleadow.proofs.CallLaws.{told-as}
 use Rattle.fairleadow.proofs.fairleadow_fresh.Statement.{statement}
 use Rattle.fairleadow.proofs.fairleadow_fresh.Tie as tie

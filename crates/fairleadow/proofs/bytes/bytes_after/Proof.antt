@@ -5,8 +5,8 @@ use Prim.Native.Nat.{ℕ}
 use native.Mathlib.Omega.{arith}
 use borrow.Author.Tests.{le-leb, lt-leb}
 use Rattle.lists.specs.Pick.{pick}
-use Rattle.fairleadow.specs.Bytes.{bytesOf}
-use Rattle.fairleadow.specs.Calls.{leaves}
+use Rattle.state.specs.Bytes.{bytesOf}
+use Rattle.machine.specs.InPlace.{leaves}
 use Rattle.fairleadow.proofs.bytes.bytes_after.Statement.{statement}
 use Rattle.fairleadow.proofs.bytes.bytes_after.Tie as tie
 

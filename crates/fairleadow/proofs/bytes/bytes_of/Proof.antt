@@ -1,7 +1,7 @@
 -- `fairleadow::bytes::bytes_of` meets its contract: the writes one after the other leave the fifty bytes.
 use borrow.Author.Needs.{needs}
 use Rattle.lists.specs.Sequences.{written}
-use Rattle.fairleadow.specs.Bytes.{bytesOf}
+use Rattle.state.specs.Bytes.{bytesOf}
 use Rattle.fairleadow.proofs.bytes.bytes_of.Statement.{statement}
 use Rattle.fairleadow.proofs.bytes.bytes_of.Tie as tie
 

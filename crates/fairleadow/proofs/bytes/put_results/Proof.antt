@@ -4,7 +4,7 @@ use borrow.Author.Needs.{needs}
 use mathlib.Core.Bool.{false}
 use lib.ListN.{getD}
 use Rattle.lists.proofs.Fills.{Values, values-none, values-turn, values-all}
-use Rattle.fairleadow.specs.Bytes.{resultByte}
+use Rattle.state.specs.Bytes.{resultByte}
 use Rattle.fairleadow.proofs.ResultBytes.{byte-is}
 use Rattle.fairleadow.proofs.bytes.put_results.Statement.{statement}
 use Rattle.fairleadow.proofs.bytes.put_results.Tie as tie

@@ -4,7 +4,7 @@ use borrow.Author.Needs.{needs}
 use mathlib.Core.Bool.{false}
 use mathlib.Core.Path.{refl}
 use Rattle.lists.proofs.Arrays.{Filled, filled-none, filled-turn, filled-all}
-use Rattle.fairleadow.specs.Bytes.{resultIn}
+use Rattle.state.specs.Bytes.{resultIn}
 use Rattle.fairleadow.proofs.bytes.results_of.Statement.{statement}
 use Rattle.fairleadow.proofs.bytes.results_of.Tie as tie
 

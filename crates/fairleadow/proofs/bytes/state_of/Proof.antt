@@ -1,6 +1,6 @@
 -- `fairleadow::bytes::state_of` meets its contract: its two arrays are those of the bytes.
 use borrow.Author.Needs.{needs}
-use Rattle.fairleadow.specs.Bytes.{stateOf}
+use Rattle.state.specs.Bytes.{stateOf}
 use Rattle.fairleadow.proofs.bytes.state_of.Statement.{statement}
 use Rattle.fairleadow.proofs.bytes.state_of.Tie as tie
 

@@ -1,0 +1,30 @@
+-- An image prepared for ticks: its table, and in the frame of each label where the rows of that label begin.
+use Prim.Native.Nat.{ℕ, zero, suc, _+_, _*_, _-_, _/_, _%_}
+use mathlib.Core.Bool.{Bool}
+use mathlib.Core.List.{List}
+use lib.Dec.{leb}
+use lib.ListN.{set}
+use Rattle.lists.specs.Numbers.{lowest}
+use Rattle.frames.specs.Frame.{size, field, contents}
+use Rattle.frames.specs.Answer.{Lent, lent}
+use Rattle.image.specs.Decode.{lastLabel, labelsFrom, rowsFrom}
+use Rattle.image.specs.Check.{imageVerdict}
+
+-- the row in frame f leaves label l or one above it; the first such frame, or the end of the table
+abbrev pub reached : List ℕ → ℕ → ℕ → Bool
+reached b l f = leb l (field b f 1)
+
+abbrev pub firstFrame : List ℕ → ℕ → ℕ
+firstFrame b l = lowest (reached b l) (rowsFrom b) (size b - rowsFrom b)
+
+-- bytes 0 and 1 of a label's frame say only where it stands; in the first n labels they hold the first frame of its rows instead, high byte first
+unfoldable pub notedTo : List ℕ → ℕ → List ℕ
+notedTo b zero = b
+notedTo b (suc l) = let at = 10 * (labelsFrom b + l) in set (set (notedTo b l) at (firstFrame b l / 256)) (at + 1) (firstFrame b l % 256)
+
+abbrev pub noted : List ℕ → List ℕ
+noted b = notedTo b (lastLabel b + 1)
+
+-- the whole entry: what the image check tries, then 16; counts bytes
+unfoldable pub prepare : List ℕ → List ℕ → Lent
+prepare t old = lent (imageVerdict t) 1 (λ _. noted (contents t)) old

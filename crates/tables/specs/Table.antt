@@ -1,0 +1,52 @@
+-- The image that any bytes hold when they are taken for a prepared table; refusal 11 of such bytes.
+use Prim.Native.Nat.{ℕ, zero, suc, _+_, _*_, _-_, min}
+use mathlib.Core.Bool.{Bool, _||_}
+use mathlib.Core.List.{List, map}
+use lib.Dec.{ltb}
+use Rattle.lists.specs.Pick.{pick}
+use Rattle.lists.specs.Numbers.{range}
+use Rattle.lists.specs.Sequences.{concatMap}
+use Rattle.frames.specs.Frame.{size, field, pairAt}
+use Rattle.image.specs.Image.{Image, Label, Row, homeLabel, returnLabel}
+use Rattle.image.specs.Decode.{schemeCount, lastLabel, rowCount, labelsFrom, rowsFrom, entryIn, labelIn}
+use Rattle.image.specs.Check.{badCounts}
+
+-- how many frames the header counts; bytes behind them are no part of the table
+abbrev pub tableEnd : List ℕ → ℕ
+tableEnd b = rowsFrom b + rowCount b
+
+-- 11: counts outside their values, or fewer frames than they say
+abbrev pub badTable : List ℕ → Bool
+badTable b = badCounts b || ltb (size b) (tableEnd b)
+
+-- labels 0 and 1 are the same in every image; of any other label a kind above 2 counts as 0, and a called scheme above H as none
+abbrev pub labelOn : List ℕ → ℕ → Label
+labelOn b zero = homeLabel
+labelOn b (suc zero) = returnLabel
+labelOn b (suc (suc l)) = let x = labelIn b (suc (suc l)) in record {
+  kind = pick (ltb 2 (x .kind)) 0 (x .kind);
+  called = pick (ltb (schemeCount b) (x .called)) 0 (x .called);
+  owner = x .owner;
+  result = x .result;
+  mask = x .mask;
+}
+
+-- the rows of label l stand from the frame noted in its own frame up to the one noted in the next label's, and within the table
+abbrev pub firstOn : List ℕ → ℕ → ℕ
+firstOn b l = pairAt b (labelsFrom b + l) 0
+
+abbrev pub endOn : List ℕ → ℕ → ℕ
+endOn b l = pick (ltb l (lastLabel b)) (min (firstOn b (l + 1)) (tableEnd b)) (tableEnd b)
+
+abbrev pub rowOn : List ℕ → ℕ → ℕ → Row
+rowOn b l f = record { from = l; care = pairAt b f 2; values = pairAt b f 4; bit = field b f 6; next = field b f 7 }
+
+abbrev pub rowsOn : List ℕ → ℕ → List Row
+rowsOn b l = let f = firstOn b l in map (rowOn b l) (range f (endOn b l - f))
+
+unfoldable pub tableImage : List ℕ → Image
+tableImage b = record {
+  entries = map (entryIn b) (range 1 (schemeCount b));
+  labels = map (labelOn b) (range 0 (lastLabel b + 1));
+  rows = concatMap (rowsOn b) (range 2 (lastLabel b - 1));
+}
