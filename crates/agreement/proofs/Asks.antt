@@ -1,4 +1,5 @@
--- No entry point asks anything of its caller: what the checker has a caller show before a call is nothing, whatever the arguments.
+-- No entry point asks anything of its caller: what the checker has a caller show before a call is nothing, whatever the arguments. (The tick
+-- behind a reference has no such module; its source has no `requires`.)
 use contract.Lifetimes.{Lfts}
 use borrow.Fn.World.{ArgsD}
 use Rattle.chart_text.proofs.read_chart as read-chart
@@ -9,12 +10,18 @@ use Rattle.translator.proofs.translate as translate
 use Rattle.translator.proofs.translate.Reads as translate-reads
 use Rattle.image.proofs.check_image as check-image
 use Rattle.image.proofs.check_image.Reads as check-image-reads
+use Rattle.tables.proofs.prepare as prepare
+use Rattle.tables.proofs.prepare.Reads as prepare-reads
 use Rattle.state.proofs.State.fresh as fresh
 use Rattle.state.proofs.State.fresh.Reads as fresh-reads
 use Rattle.machine.proofs.run as run
 use Rattle.machine.proofs.run.Reads as run-reads
 use Rattle.machine.proofs.tick_image as tick-image
 use Rattle.machine.proofs.tick_image.Reads as tick-image-reads
+use Rattle.machine.proofs.live_run as live-run
+use Rattle.machine.proofs.live_run.Reads as live-run-reads
+use Rattle.machine.proofs.live_tick as live-tick
+use Rattle.machine.proofs.live_tick.Reads as live-tick-reads
 use Rattle.fairleadow.proofs.fairleadow_read_chart as c-read-chart
 use Rattle.fairleadow.proofs.fairleadow_read_chart.Reads as c-read-chart-reads
 use Rattle.fairleadow.proofs.fairleadow_write_chart as c-write-chart
@@ -31,6 +38,12 @@ use Rattle.fairleadow.proofs.fairleadow_tick as c-tick
 use Rattle.fairleadow.proofs.fairleadow_tick.Reads as c-tick-reads
 use Rattle.fairleadow.proofs.fairleadow_meaning as c-meaning
 use Rattle.fairleadow.proofs.fairleadow_meaning.Reads as c-meaning-reads
+use Rattle.fairleadow.proofs.fairleadow_prepare as c-prepare
+use Rattle.fairleadow.proofs.fairleadow_prepare.Reads as c-prepare-reads
+use Rattle.fairleadow.proofs.fairleadow_live_run as c-live-run
+use Rattle.fairleadow.proofs.fairleadow_live_run.Reads as c-live-run-reads
+use Rattle.fairleadow.proofs.fairleadow_live_tick as c-live-tick
+use Rattle.fairleadow.proofs.fairleadow_live_tick.Reads as c-live-tick-reads
 
 pub read-chart-asks-nothing : (κs : Lfts 2) (a : ArgsD read-chart.signature κs) → read-chart-reads.Asked κs a
 read-chart-asks-nothing κs a = tt
@@ -44,6 +57,9 @@ translate-asks-nothing κs a = tt
 pub check-image-asks-nothing : (κs : Lfts 1) (a : ArgsD check-image.signature κs) → check-image-reads.Asked κs a
 check-image-asks-nothing κs a = tt
 
+pub prepare-asks-nothing : (κs : Lfts 2) (a : ArgsD prepare.signature κs) → prepare-reads.Asked κs a
+prepare-asks-nothing κs a = tt
+
 pub fresh-asks-nothing : (κs : Lfts 0) (a : ArgsD fresh.signature κs) → fresh-reads.Asked κs a
 fresh-asks-nothing κs a = tt
 
@@ -52,6 +68,12 @@ run-asks-nothing κs a = tt
 
 pub tick-image-asks-nothing : (κs : Lfts 1) (a : ArgsD tick-image.signature κs) → tick-image-reads.Asked κs a
 tick-image-asks-nothing κs a = tt
+
+pub live-run-asks-nothing : (κs : Lfts 4) (a : ArgsD live-run.signature κs) → live-run-reads.Asked κs a
+live-run-asks-nothing κs a = tt
+
+pub live-tick-asks-nothing : (κs : Lfts 1) (a : ArgsD live-tick.signature κs) → live-tick-reads.Asked κs a
+live-tick-asks-nothing κs a = tt
 
 -- ---- the functions for C
 pub c-read-chart-asks-nothing : (κs : Lfts 4) (a : ArgsD c-read-chart.signature κs) → c-read-chart-reads.Asked κs a
@@ -77,3 +99,12 @@ c-tick-asks-nothing κs a = tt
 
 pub c-meaning-asks-nothing : (κs : Lfts 1) (a : ArgsD c-meaning.signature κs) → c-meaning-reads.Asked κs a
 c-meaning-asks-nothing κs a = tt
+
+pub c-prepare-asks-nothing : (κs : Lfts 4) (a : ArgsD c-prepare.signature κs) → c-prepare-reads.Asked κs a
+c-prepare-asks-nothing κs a = tt
+
+pub c-live-run-asks-nothing : (κs : Lfts 7) (a : ArgsD c-live-run.signature κs) → c-live-run-reads.Asked κs a
+c-live-run-asks-nothing κs a = tt
+
+pub c-live-tick-asks-nothing : (κs : Lfts 6) (a : ArgsD c-live-tick.signature κs) → c-live-tick-reads.Asked κs a
+c-live-tick-asks-nothing κs a = tt

@@ -7,25 +7,50 @@ use Rattle.frames.specs.Answer.{Lends}
 use Rattle.translator.specs.Entry.{translate}
 use Rattle.translator.proofs.translate as translator-translate
 use Rattle.translator.proofs.translate.Reads as translator-translate-reads
+use Rattle.tables.specs.Prepare.{prepare}
+use Rattle.tables.proofs.prepare as tables-prepare
+use Rattle.tables.proofs.prepare.Reads as tables-prepare-reads
 use Rattle.state.specs.State.{freshState, Makes}
 use Rattle.machine.specs.Run.{run, Runs}
+use Rattle.machine.specs.Advance.{advance, Advances}
+use Rattle.machine.specs.Live.{liveRun, liveTick}
 use Rattle.state.proofs.State.fresh as state-fresh
 use Rattle.state.proofs.State.fresh.Reads as state-fresh-reads
 use Rattle.machine.proofs.run as machine-run
 use Rattle.machine.proofs.run.Reads as machine-run-reads
-use Rattle.fairleadow.specs.Calls.{LendsC, MakesC, runFor, RunsC}
+use Rattle.machine.proofs.tick_image as machine-tick
+use Rattle.machine.proofs.tick_image.Reads as machine-tick-reads
+use Rattle.machine.proofs.live_run as machine-live-run
+use Rattle.machine.proofs.live_run.Reads as machine-live-run-reads
+use Rattle.machine.proofs.live_tick as machine-live-tick
+use Rattle.machine.proofs.live_tick.Reads as machine-live-tick-reads
+use Rattle.state.specs.Bytes.{stateOf}
+use Rattle.fairleadow.specs.Calls.{LendsC, MakesC, runFor, RunsC, tickFor, AdvancesC}
 use Rattle.fairleadow.proofs.fairleadow_translate as c-translate
 use Rattle.fairleadow.proofs.fairleadow_translate.Reads as c-translate-reads
 use Rattle.fairleadow.proofs.fairleadow_fresh as c-fresh
 use Rattle.fairleadow.proofs.fairleadow_fresh.Reads as c-fresh-reads
 use Rattle.fairleadow.proofs.fairleadow_run as c-run
 use Rattle.fairleadow.proofs.fairleadow_run.Reads as c-run-reads
+use Rattle.fairleadow.proofs.fairleadow_tick as c-tick
+use Rattle.fairleadow.proofs.fairleadow_tick.Reads as c-tick-reads
+use Rattle.fairleadow.proofs.fairleadow_prepare as c-prepare
+use Rattle.fairleadow.proofs.fairleadow_prepare.Reads as c-prepare-reads
+use Rattle.fairleadow.proofs.fairleadow_live_run as c-live-run
+use Rattle.fairleadow.proofs.fairleadow_live_run.Reads as c-live-run-reads
+use Rattle.fairleadow.proofs.fairleadow_live_tick as c-live-tick
+use Rattle.fairleadow.proofs.fairleadow_live_tick.Reads as c-live-tick-reads
 
--- ---- translator::translate, state::State::fresh, machine::run
+-- ---- translator::translate, tables::prepare, state::State::fresh, and of machine run, tick_image, live_run and live_tick
 pub translate-lends : (κs : Lfts 2) (a : ArgsD translator-translate.signature κs) (r : ResD translator-translate.signature κs)
     (s : AtExit translator-translate.ended κs)
     → translator-translate-reads.Learnt κs a r s → Lends (translate (a .0 .now) (a .1 .0 .now)) r (s .1 .0 .now)
 translate-lends κs a r s e = e
+
+pub prepare-lends : (κs : Lfts 2) (a : ArgsD tables-prepare.signature κs) (r : ResD tables-prepare.signature κs)
+    (s : AtExit tables-prepare.ended κs)
+    → tables-prepare-reads.Learnt κs a r s → Lends (prepare (a .0 .now) (a .1 .0 .now)) r (s .1 .0 .now)
+prepare-lends κs a r s e = e
 
 pub fresh-makes : (κs : Lfts 0) (a : ArgsD state-fresh.signature κs) (r : ResD state-fresh.signature κs) (s : AtExit state-fresh.ended κs)
     → state-fresh-reads.Learnt κs a r s → Makes (freshState (a .0)) r
@@ -36,7 +61,22 @@ pub run-runs : (κs : Lfts 4) (a : ArgsD machine-run.signature κs) (r : ResD ma
     → Runs (run (a .0 .now) (a .1 .0) (a .1 .1 .0 .now) (a .1 .1 .1 .0 .now) (a .1 .1 .1 .1 .0 .now)) r (s .1 .1 .1 .0 .now) (s .1 .1 .1 .1 .0 .now)
 run-runs κs a r s e = e
 
--- ---- fairleadow_translate, fairleadow_fresh, fairleadow_run
+pub tick-advances : (κs : Lfts 1) (a : ArgsD machine-tick.signature κs) (r : ResD machine-tick.signature κs) (s : AtExit machine-tick.ended κs)
+    → machine-tick-reads.Learnt κs a r s → Advances (advance (a .0 .now) (a .1 .0) (a .1 .1 .0)) (r .report) (r .state)
+tick-advances κs a r s e = e
+
+pub live-run-runs : (κs : Lfts 4) (a : ArgsD machine-live-run.signature κs) (r : ResD machine-live-run.signature κs)
+    (s : AtExit machine-live-run.ended κs)
+    → machine-live-run-reads.Learnt κs a r s
+    → Runs (liveRun (a .0 .now) (a .1 .0) (a .1 .1 .0 .now) (a .1 .1 .1 .0 .now) (a .1 .1 .1 .1 .0 .now)) r (s .1 .1 .1 .0 .now) (s .1 .1 .1 .1 .0 .now)
+live-run-runs κs a r s e = e
+
+pub live-tick-advances : (κs : Lfts 1) (a : ArgsD machine-live-tick.signature κs) (r : ResD machine-live-tick.signature κs)
+    (s : AtExit machine-live-tick.ended κs)
+    → machine-live-tick-reads.Learnt κs a r s → Advances (liveTick (a .0 .now) (a .1 .0) (a .1 .1 .0)) (r .report) (r .state)
+live-tick-advances κs a r s e = e
+
+-- ---- for C: translate, fresh, run and tick, then prepare, live_run and live_tick
 pub translate-lends-c : (κs : Lfts 4) (a : ArgsD c-translate.signature κs) (r : ResD c-translate.signature κs) (s : AtExit c-translate.ended κs)
     → c-translate-reads.Learnt κs a r s
     → LendsC (translate (a .0 .now) (a .1 .0 .now)) r (s .1 .1 .0 .now) (s .1 .1 .1 .0 .now) (s .1 .0 .now)
@@ -51,3 +91,26 @@ pub run-runs-c : (κs : Lfts 7) (a : ArgsD c-run.signature κs) (r : ResD c-run.
     → RunsC (runFor (a .0 .now) (a .1 .0 .now) (a .1 .1 .0 .now) (a .1 .1 .1 .0 .now) (a .1 .1 .1 .1 .0 .now)) (a .1 .0 .now)
     r (s .1 .1 .1 .1 .1 .0 .now) (s .1 .1 .1 .1 .1 .1 .0 .now) (s .1 .0 .now) (s .1 .1 .1 .0 .now) (s .1 .1 .1 .1 .0 .now)
 run-runs-c κs a r s e = e
+
+pub tick-advances-c : (κs : Lfts 6) (a : ArgsD c-tick.signature κs) (r : ResD c-tick.signature κs) (s : AtExit c-tick.ended κs)
+    → c-tick-reads.Learnt κs a r s
+    → AdvancesC (tickFor (a .0 .now) (a .1 .0 .now) (a .1 .1 .0)) (a .1 .0 .now) (a .1 .1 .1 .0 .now) (a .1 .1 .1 .1 .0 .now)
+    r (s .1 .1 .1 .1 .1 .0 .now) (s .1 .1 .1 .1 .1 .1 .0 .now) (s .1 .0 .now) (s .1 .1 .1 .0 .now) (s .1 .1 .1 .1 .0 .now)
+tick-advances-c κs a r s e = e
+
+pub prepare-lends-c : (κs : Lfts 4) (a : ArgsD c-prepare.signature κs) (r : ResD c-prepare.signature κs) (s : AtExit c-prepare.ended κs)
+    → c-prepare-reads.Learnt κs a r s
+    → LendsC (prepare (a .0 .now) (a .1 .0 .now)) r (s .1 .1 .0 .now) (s .1 .1 .1 .0 .now) (s .1 .0 .now)
+prepare-lends-c κs a r s e = e
+
+pub live-run-runs-c : (κs : Lfts 7) (a : ArgsD c-live-run.signature κs) (r : ResD c-live-run.signature κs) (s : AtExit c-live-run.ended κs)
+    → c-live-run-reads.Learnt κs a r s
+    → RunsC (liveRun (a .0 .now) (stateOf (a .1 .0 .now)) (a .1 .1 .0 .now) (a .1 .1 .1 .0 .now) (a .1 .1 .1 .1 .0 .now)) (a .1 .0 .now)
+    r (s .1 .1 .1 .1 .1 .0 .now) (s .1 .1 .1 .1 .1 .1 .0 .now) (s .1 .0 .now) (s .1 .1 .1 .0 .now) (s .1 .1 .1 .1 .0 .now)
+live-run-runs-c κs a r s e = e
+
+pub live-tick-advances-c : (κs : Lfts 6) (a : ArgsD c-live-tick.signature κs) (r : ResD c-live-tick.signature κs) (s : AtExit c-live-tick.ended κs)
+    → c-live-tick-reads.Learnt κs a r s
+    → AdvancesC (liveTick (a .0 .now) (stateOf (a .1 .0 .now)) (a .1 .1 .0)) (a .1 .0 .now) (a .1 .1 .1 .0 .now) (a .1 .1 .1 .1 .0 .now)
+    r (s .1 .1 .1 .1 .1 .0 .now) (s .1 .1 .1 .1 .1 .1 .0 .now) (s .1 .0 .now) (s .1 .1 .1 .0 .now) (s .1 .1 .1 .1 .0 .now)
+live-tick-advances-c κs a r s e = e

@@ -3,26 +3,22 @@ use Prim.Native.Nat.{ℕ}
 use mathlib.Core.Path.{_≡_, refl, sym, _∙_, ap}
 use mathlib.Core.List.{List, [], _∷_}
 use lib.ListN.{take}
-use Rattle.frames.specs.Answer.{reply}
 use Rattle.state.specs.declared.State.{State}
-use Rattle.state.specs.declared.Answered.{Answered}
 use Rattle.state.specs.State.{freshState}
-use Rattle.machine.specs.Run.{run, Runs}
-use Rattle.agreement.specs.Agreement.{Asked, Told, told, chain, Agreement}
-use Rattle.agreement.specs.Calls.{RunCalls, none, more, Delivered}
+use Rattle.machine.specs.Run.{run}
+use Rattle.agreement.specs.Agreement.{Asked, Told, chain, Agreement}
+use Rattle.agreement.specs.Calls.{Calls, none, more, Delivered}
 use Rattle.agreement.proofs.Demand.{theorem}
+use Rattle.agreement.proofs.OneCall.{Like, call-like}
 
--- what one call hands back is what the definition gives
-one-told : (image : List ℕ) (s : State) (a : Asked) (ran : Answered) (masks codes : List ℕ) → Runs (run image s (a .words) (a .masks) (a .codes)) ran masks codes
-    → _≡_ {A = Told} (record { reply = reply (ran .answer); masks = masks; codes = codes }) (told (run image s (a .words) (a .masks) (a .codes)))
-one-told image s a ran masks codes c = let e = c .answered in let f = c .masks in let g = c .codes in cc
-
-calls-chain : (image : List ℕ) (s : State) (asked : List Asked) (tolds : List Told) → RunCalls image s asked tolds → tolds ≡ chain run image s asked
+calls-chain : (image : List ℕ) (s : State) (asked : List Asked) (tolds : List Told) → Calls image s asked tolds
+    → tolds ≡ chain run image s asked
 unfolding chain
 calls-chain image s [] [] none = refl
-calls-chain image s (a ∷ rest) (t ∷ tolds) (more ran masks codes c cs) =
-    let e = one-told image s a ran masks codes c in
-    let f = calls-chain image (ran .state) rest tolds cs ∙ ap (λ (z : State). chain run image z rest) (c .state) in
+calls-chain image s (a ∷ rest) (t ∷ tolds) (more {after = after} c cs) =
+    let like : Like image s a t after = call-like image s c in
+    let e = like .told-is in
+    let f = calls-chain image after rest tolds cs ∙ ap (λ (z : State). chain run image z rest) (like .state-is) in
     cc
 
 pub delivered : Delivered

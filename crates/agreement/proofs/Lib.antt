@@ -10,8 +10,11 @@ pub mod Joins
 pub mod Chain
 pub mod TableFactsHold
 pub mod Demand
+pub mod OneCall
 pub mod Delivered
 pub mod Numbers
+pub mod OneCallC
 pub mod ForC
+pub mod RunsAlone
 pub mod Contracts
 pub mod Asks

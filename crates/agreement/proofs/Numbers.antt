@@ -1,4 +1,4 @@
--- No refusal of the translator has the number 0, so that a caller from C can tell success by it.
+-- No refusal of the translator or of prepare has the number 0, so that a caller from C can tell success by it.
 use Prim.Native.Nat.{ℕ, _/_, _≤_}
 use mathlib.Core.Path.{_≡_, refl}
 use mathlib.Core.Bool.{Bool, true, false}
@@ -7,65 +7,54 @@ use native.Mathlib.Omega.{arith}
 use lib.Dec.{ltb}
 use lib.ListN.{length}
 use Rattle.lists.specs.Pick.{pick}
-use Rattle.lists.specs.Numbers.{any, lowest}
+use Rattle.lists.specs.Numbers.{any}
 use Rattle.lists.specs.Sequences.{over}
-use Rattle.frames.specs.Frame.{contents, size, frameCount}
-use Rattle.frames.specs.Verdict.{Verdict, fine, refused, next, when, atLowest}
-use Rattle.frames.specs.Check.{badLength, badForm, badSum, textVerdict}
+use Rattle.frames.specs.Frame.{contents, size}
+use Rattle.frames.specs.Verdict.{Verdict, fine, refused, when, atLowest}
+use Rattle.frames.specs.Check.{textVerdict}
 use Rattle.frames.specs.Answer.{success, refusal, number, count, Lent, lent}
+use Rattle.frames.proofs.Refuses.{Refuses, next-refuses, when-refuses, lowest-refuses, text-refuses}
 use Rattle.charts.specs.Chart.{Chart, schemes}
 use Rattle.charts.specs.Check.{badField, badScheme, badArc, badCall, onCircle, cutOff, chartVerdict}
 use Rattle.charts.specs.Entry.{readVerdict}
 use Rattle.image.specs.Image.{imageText}
+use Rattle.image.specs.Check.{imageVerdict}
+use Rattle.image.proofs.Refuses.{Early, early-image}
+use Rattle.tables.specs.Prepare.{noted, prepare}
 use Rattle.translator.specs.Rows.{rows}
 use Rattle.translator.specs.Table.{table}
 use Rattle.translator.specs.Entry.{translateVerdict, translate}
 
--- a refusal by it has a number of 1 or above
-abbrev Numbered : Verdict → Type 0
-Numbered fine = Unit {0}
-Numbered (refused k i) = 1 ≤ k
+-- 1 or above
+abbrev pub Positive : ℕ → Type 0
+Positive k = 1 ≤ k
 
-next-numbered : (v : Verdict) (rest : Unit {0} → Verdict) → Numbered v → Numbered (rest tt) → Numbered (next v rest)
-next-numbered fine rest p q = q
-next-numbered (refused k i) rest p q = p
-
-when-numbered : (k : ℕ) (b : Bool) → 1 ≤ k → Numbered (when k b)
-when-numbered k true h = h
-when-numbered k false h = tt
-
-lowest-numbered : (k : ℕ) (p : ℕ → Bool) (n : ℕ) → 1 ≤ k → Numbered (atLowest k p n)
-lowest-numbered k p n h = go (ltb (lowest p 0 n) n)
-  where
-    go : (b : Bool) → Numbered (pick b (refused k (lowest p 0 n)) fine)
-    go true = h
-    go false = tt
-
-text-numbered : (most : ℕ) (t : List ℕ) → Numbered (textVerdict most t)
-unfolding textVerdict
-text-numbered most t =
-    next-numbered (when 1 (badLength 23 most (length t))) _ (when-numbered 1 (badLength 23 most (length t)) (omega arith))
-    (next-numbered (atLowest 2 (badForm t) (frameCount t)) _ (lowest-numbered 2 (badForm t) (frameCount t) (omega arith))
-    (lowest-numbered 3 (badSum t) (frameCount t) (omega arith)))
-
-chart-numbered : (c : Chart) → Numbered (chartVerdict c)
+chart-positive : (c : Chart) → Refuses Positive (chartVerdict c)
 unfolding chartVerdict
-chart-numbered c =
-    next-numbered (atLowest 4 (badField c) (size c)) _ (lowest-numbered 4 (badField c) (size c) (omega arith))
-    (next-numbered (when 5 (any (badScheme c) 1 (schemes c))) _ (when-numbered 5 (any (badScheme c) 1 (schemes c)) (omega arith))
-    (next-numbered (atLowest 6 (badArc c) (size c)) _ (lowest-numbered 6 (badArc c) (size c) (omega arith))
-    (next-numbered (atLowest 7 (badCall c) (size c)) _ (lowest-numbered 7 (badCall c) (size c) (omega arith))
-    (next-numbered (atLowest 8 (onCircle c) (size c)) _ (lowest-numbered 8 (onCircle c) (size c) (omega arith))
-    (lowest-numbered 9 (cutOff c) (size c) (omega arith))))))
+chart-positive c =
+    next-refuses Positive (atLowest 4 (badField c) (size c)) _ (lowest-refuses Positive 4 (badField c) (size c) (omega arith))
+    (next-refuses Positive (when 5 (any (badScheme c) 1 (schemes c))) _ (when-refuses Positive 5 (any (badScheme c) 1 (schemes c)) (omega arith))
+    (next-refuses Positive (atLowest 6 (badArc c) (size c)) _ (lowest-refuses Positive 6 (badArc c) (size c) (omega arith))
+    (next-refuses Positive (atLowest 7 (badCall c) (size c)) _ (lowest-refuses Positive 7 (badCall c) (size c) (omega arith))
+    (next-refuses Positive (atLowest 8 (onCircle c) (size c)) _ (lowest-refuses Positive 8 (onCircle c) (size c) (omega arith))
+    (lowest-refuses Positive 9 (cutOff c) (size c) (omega arith))))))
 
-translate-numbered : (t : List ℕ) → Numbered (translateVerdict t)
+translate-positive : (t : List ℕ) → Refuses Positive (translateVerdict t)
 unfolding translateVerdict readVerdict
-translate-numbered t =
-    next-numbered (readVerdict t) _ (next-numbered (textVerdict 5888 t) _ (text-numbered 5888 t) (chart-numbered (contents t)))
-    (when-numbered 10 (ltb 1024 (length (rows (contents t)))) (omega arith))
+translate-positive t =
+    next-refuses Positive (readVerdict t) _
+    (next-refuses Positive (textVerdict 5888 t) _ (text-refuses Positive (omega arith) (omega arith) (omega arith) 5888 t) (chart-positive (contents t)))
+    (when-refuses Positive 10 (ltb 1024 (length (rows (contents t)))) (omega arith))
+
+pub image-positive : (t : List ℕ) → Refuses Positive (imageVerdict t)
+image-positive t = go (imageVerdict t) (early-image t)
+  where
+    go : (v : Verdict) → Refuses Early v → Refuses Positive v
+    go fine p = tt
+    go (refused k i) p = p .0
 
 -- 16 is the one refusal besides
-lent-success : (v : Verdict) (unit : ℕ) (new : Unit {0} → List ℕ) (old : List ℕ) → Numbered v
+lent-success : (v : Verdict) (unit : ℕ) (new : Unit {0} → List ℕ) (old : List ℕ) → Refuses Positive v
     → let x = lent v unit new old in number (x .reply) ≡ 0 → x .reply ≡ success (count (x .reply))
 lent-success (refused k i) unit new old p e = absurd (omega arith)
 lent-success fine unit new old p e = go (ltb (length old) (length (new tt))) e
@@ -79,4 +68,8 @@ lent-success fine unit new old p e = go (ltb (length old) (length (new tt))) e
 
 pub translate-success : (t old : List ℕ) → let x = translate t old in number (x .reply) ≡ 0 → x .reply ≡ success (count (x .reply))
 unfolding translate
-translate-success t old = lent-success (translateVerdict t) 1 (λ _. imageText (table (contents t))) old (translate-numbered t)
+translate-success t old = lent-success (translateVerdict t) 1 (λ _. imageText (table (contents t))) old (translate-positive t)
+
+pub prepare-success : (t old : List ℕ) → let x = prepare t old in number (x .reply) ≡ 0 → x .reply ≡ success (count (x .reply))
+unfolding prepare
+prepare-success t old = lent-success (imageVerdict t) 1 (λ _. noted (contents t)) old (image-positive t)

@@ -11,7 +11,7 @@ use Rattle.translator.specs.Labels.{numbered, label, entry, homeLabel, returnLa
 use Rattle.translator.specs.Rows.{rows}
 use Rattle.translator.specs.Table.{table}
 use Rattle.state.specs.State.{labelAt, entryAt}
-use Rattle.machine.specs.Tick.{found, firstRow}
+use Rattle.rows.specs.Rows.{found, firstRow}
 
 pub record TableFacts (c : Chart) : Type 0 where
   -- labels: 0 and 1 as they always are, from 2 on one for each numbered stop

@@ -18,7 +18,7 @@ use Rattle.translator.specs.Labels.{entry}
 use Rattle.translator.proofs.LabelLaws.{label-low, label-inside, label-holds, labels-apart, label-home, label-return, labels-two, labels-few, entry-holds}
 use Rattle.translator.proofs.Matching.{matching, targets}
 use Rattle.translator.proofs.RowLaws.{row-plain, row-begin, row-condition, row-function}
-use Rattle.machine.specs.Tick.{Found, found, missing, firstRow}
+use Rattle.rows.specs.Rows.{Found, found, missing, firstRow}
 use Rattle.agreement.proofs.TableFacts.{TableFacts}
 
 -- the machine takes the first of the rows that match

@@ -8,7 +8,8 @@ use Rattle.frames.specs.Verdict.{fine}
 use Rattle.frames.specs.Answer.{refusal, Lent}
 use Rattle.translator.specs.Entry.{translate}
 use Rattle.state.specs.State.{fresh}
-use Rattle.machine.specs.Tick.{firstRow, tick}
+use Rattle.machine.specs.Tick.{tick}
+use Rattle.rows.specs.Rows.{firstRow}
 use Rattle.machine.specs.Run.{Run, ticks, runOn}
 use Rattle.bench.specs.Bench.{BenchSheet, imageP, words, chartHome, chartSmall, chartCircle, chartFunction, freshRun, imageOf}
 use Rattle.bench.proofs.Computing.{framing, translating}

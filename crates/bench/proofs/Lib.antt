@@ -8,3 +8,4 @@ pub mod Instances
 pub mod Variants
 pub mod Slips
 pub mod Idlers
+pub mod Live

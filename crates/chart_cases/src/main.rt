@@ -97,6 +97,18 @@ fn record_case(records: [u8; 70], edits: &[u8]) {
     read(&text);
 }
 
+// The same under each edit by itself.
+fn record_each(records: [u8; 70], edits: &[u8]) {
+    let n = edits.len() / 2;
+    let mut i: usize = 0;
+    while i < n {
+        let from = 2 * i;
+        let to = from + 2;
+        record_case(records, &edits[from..to]);
+        i += 1;
+    }
+}
+
 // 1: nothing, one too few, one frame too many. A frame too few leaves an arc to no node.
 fn lengths(text: &[u8], records: &[u8]) {
     read_front(text, 0);
@@ -123,12 +135,16 @@ fn rooms(text: &[u8], records: &[u8]) {
     write_into(records, &mut full);
 }
 
-// 2 and 3: a digit in lower case, a line feed gone, a wrong sum; two faults at once.
+// 2 and 3: a digit in lower case, a line feed gone, a wrong sum.
 fn texts(text: [u8; 161]) {
     text_case(text, &[159, 102]);
     text_case(text, &[160, 32]);
     text_case(text, &[0, 71]);
     text_case(text, &[159, 52]);
+}
+
+// Two faults of 2 and 3 at once.
+fn two_faults(text: [u8; 161]) {
     text_case(text, &[24, 51, 160, 32]);
     text_case(text, &[47, 97, 116, 97]);
     text_case(text, &[24, 51, 159, 52]);
@@ -138,29 +154,39 @@ fn texts(text: [u8; 161]) {
 
 // 4 and 5.
 fn fields(records: [u8; 70]) {
-    record_case(records, &[60, 5]);
-    record_case(records, &[1, 0]);
-    record_case(records, &[61, 17]);
-    record_case(records, &[2, 1]);
-    record_case(records, &[59, 1]);
-    record_case(records, &[42, 16]);
-    record_case(records, &[49, 1]);
-    record_case(records, &[64, 1]);
-    record_case(records, &[65, 3]);
+    record_each(
+        records,
+        &[
+            60,
+            5,
+            1,
+            0,
+            61,
+            17,
+            2,
+            1,
+            59,
+            1,
+            42,
+            16,
+            49,
+            1,
+            64,
+            1,
+            65,
+            3,
+        ],
+    );
     record_case(records, &[29, 1, 59, 1]);
-    record_case(records, &[20, 0]);
-    record_case(records, &[51, 3]);
+    record_each(records, &[20, 0, 51, 3]);
     record_case(records, &[20, 0, 63, 7]);
 }
 
 // 6 and 7.
 fn arcs(records: [u8; 70]) {
-    record_case(records, &[63, 7]);
-    record_case(records, &[63, 2]);
-    record_case(records, &[13, 0]);
+    record_each(records, &[63, 7, 63, 2, 13, 0]);
     record_case(records, &[13, 0, 63, 7]);
-    record_case(records, &[12, 1]);
-    record_case(records, &[62, 3]);
+    record_each(records, &[12, 1, 62, 3]);
     record_case(records, &[60, 4, 62, 0, 64, 5, 69, 0]);
     record_case(records, &[12, 1, 63, 7]);
 }
@@ -187,6 +213,7 @@ fn main() {
     lengths(&text, &records);
     rooms(&text, &records);
     texts(text);
+    two_faults(text);
     fields(records);
     arcs(records);
     paths(records);

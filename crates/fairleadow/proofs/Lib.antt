@@ -1,4 +1,2 @@
 pub mod CallLaws
-pub mod ResultBytes
 pub mod CodeCalls
-pub mod Kept

@@ -2,18 +2,22 @@
 use Prim.Native.Nat.{ℕ}
 use mathlib.Core.Path.{_≡_}
 use mathlib.Core.List.{List}
-use Rattle.frames.specs.Answer.{Reply, number, index, count, Lent}
+use lib.Dec.{eqb}
+use Rattle.lists.specs.Pick.{pick}
+use Rattle.frames.specs.Answer.{Reply, number, index, count, reply, Lent}
 use Rattle.state.specs.State.{Made}
 use Rattle.machine.specs.Run.{Run, run}
+use Rattle.machine.specs.declared.TickReport.{TickReport}
 use Rattle.machine.specs.Advance.{Advance, advance}
+use Rattle.machine.specs.Live.{liveRun, liveTick}
 use Rattle.machine.specs.InPlace.{bytesAfter, ifTicked}
 use Rattle.state.specs.Bytes.{stateOf, bytesOf}
 
 -- the number returned, and the index and the count written, are those of the reply
-pub record Told (reply : Reply) (returned at made : ℕ) : Type 0 where
-  pub number-is : returned ≡ number reply
-  pub index-is : at ≡ index reply
-  pub count-is : made ≡ count reply
+pub record Told (x : Reply) (returned at made : ℕ) : Type 0 where
+  pub number-is : returned ≡ number x
+  pub index-is : at ≡ index x
+  pub count-is : made ≡ count x
 
 -- a call with one lent buffer
 pub record LendsC (x : Lent) (returned at made : ℕ) (after : List ℕ) : Type 0 where
@@ -29,6 +33,10 @@ pub record MakesC (x : Made) (returned at made : ℕ) (after : List ℕ) : Type 
 abbrev pub runFor : List ℕ → List ℕ → List ℕ → List ℕ → List ℕ → Run
 runFor image state words masks codes = run image (stateOf state) words masks codes
 
+-- the same on a prepared table
+abbrev pub liveRunFor : List ℕ → List ℕ → List ℕ → List ℕ → List ℕ → Run
+liveRunFor table state words masks codes = liveRun table (stateOf state) words masks codes
+
 -- a call that runs, with the bytes before it and what bytes, masks and codes are after it
 pub record RunsC (x : Run) (before : List ℕ) (returned at made : ℕ) (after ms ks : List ℕ) : Type 0 where
   pub told : Told (x .reply) returned at made
@@ -39,6 +47,16 @@ pub record RunsC (x : Run) (before : List ℕ) (returned at made : ℕ) (after m
 -- one tick of the state that the bytes hold
 abbrev pub tickFor : List ℕ → List ℕ → ℕ → Advance
 tickFor image state word = advance image (stateOf state) word
+
+-- the same on a prepared table
+abbrev pub liveTickFor : List ℕ → List ℕ → ℕ → Advance
+liveTickFor table state word = liveTick table (stateOf state) word
+
+-- what is written of a tick's report, over the mask and the code before it
+pub record Ticked (r : TickReport) (m₀ k₀ returned at made m k : ℕ) : Type 0 where
+  pub told : Told (reply (r .answer)) returned at made
+  pub mask : m ≡ pick (eqb returned 0) (r .mask) m₀
+  pub code : k ≡ pick (eqb returned 0) (r .code) k₀
 
 -- a call that makes one tick, with bytes, mask and code before it and after it
 pub record AdvancesC (x : Advance) (before : List ℕ) (m₀ k₀ : ℕ) (returned at made : ℕ) (after : List ℕ) (m k : ℕ) : Type 0 where

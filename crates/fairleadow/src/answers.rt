@@ -1,7 +1,8 @@
-// An answer as the three numbers that C gets.
+// An answer as the three numbers that C gets, and a tick's report as these with its mask and its code.
 use frames::Answer;
+use machine::TickReport;
 ghost use Rattle.frames.specs.Answer.{reply};
-ghost use Rattle.fairleadow.specs.Calls.{Told};
+ghost use Rattle.fairleadow.specs.Calls.{Told, Ticked};
 
 // Returns the number, and writes the index and the count.
 pub fn tell(answer: Answer, at: &mut usize, made: &mut usize) -> u8
@@ -23,4 +24,24 @@ pub fn tell(answer: Answer, at: &mut usize, made: &mut usize) -> u8
             number
         }
     }
+}
+
+// A refused tick leaves mask and code as they were.
+pub fn tell_tick(
+    report: TickReport,
+    mask: &mut u32,
+    code: &mut u8,
+    at: &mut usize,
+    made: &mut usize,
+) -> u8
+    ensures { λ r. ⌜ Ticked report (now (mask .entry)) (now (code .entry)) r (now (at .exit)) (now (made .exit)) (now (mask .exit)) (now (code .exit)) ⌝ }
+{
+    let answer = report.answer;
+    let number = tell(answer, at, made);
+    if number != 0 {
+        return number;
+    }
+    *mask = report.mask;
+    *code = report.code;
+    number
 }

@@ -1,22 +1,24 @@
 // The entry points for C, as the header has them: a slice is a pointer and a length, a reference is a pointer, and a state is fifty bytes.
 // `at` and `made` are the header's index and count.
 mod answers;
-mod bytes;
 
 use answers::tell;
-use bytes::bytes_after;
-use bytes::bytes_of;
-use bytes::state_of;
+use answers::tell_tick;
 use codes::Meaning;
 use codes::meaning_of;
 use machine::State;
-use machine::tick_image;
+use machine::live_run_bytes;
+use machine::live_tick_bytes;
+use machine::run_bytes;
+use machine::tick_bytes;
+use state::bytes_of;
 ghost use Rattle.frames.specs.Answer.{judged};
 ghost use Rattle.charts.specs.Entry.{readChart, writeChart};
 ghost use Rattle.image.specs.Check.{imageVerdict};
 ghost use Rattle.translator.specs.Entry.{translate};
 ghost use Rattle.state.specs.State.{freshState};
-ghost use Rattle.fairleadow.specs.Calls.{Told, LendsC, MakesC, runFor, RunsC, tickFor, AdvancesC};
+ghost use Rattle.tables.specs.Prepare.{prepare};
+ghost use Rattle.fairleadow.specs.Calls.{Told, LendsC, MakesC, runFor, liveRunFor, RunsC, tickFor, liveTickFor, AdvancesC};
 ghost use Rattle.fairleadow.specs.Meant.{Meant};
 
 #[no_mangle]
@@ -95,14 +97,8 @@ pub extern "C" fn fairleadow_run(
 ) -> u8
     ensures { λ r. ⌜ RunsC (runFor (now (image .entry)) (now (state .entry)) (now (words .entry)) (now (masks .entry)) (now (codes .entry))) (now (state .entry)) r (now (at .exit)) (now (made .exit)) (now (state .exit)) (now (masks .exit)) (now (codes .exit)) ⌝ }
 {
-    let old = *state;
-    let done = machine::run(image, state_of(old), words, masks, codes);
-    let answer = done.answer;
-    let after = done.state;
-    let number = tell(answer, at, made);
-    let bytes = bytes_after(number, old, after);
-    *state = bytes;
-    number
+    let answer = run_bytes(image, state, words, masks, codes);
+    tell(answer, at, made)
 }
 
 // One tick; a refused one writes no mask, no code and no state.
@@ -118,20 +114,54 @@ pub extern "C" fn fairleadow_tick(
 ) -> u8
     ensures { λ r. ⌜ AdvancesC (tickFor (now (image .entry)) (now (state .entry)) word) (now (state .entry)) (now (mask .entry)) (now (code .entry)) r (now (at .exit)) (now (made .exit)) (now (state .exit)) (now (mask .exit)) (now (code .exit)) ⌝ }
 {
-    let old = *state;
-    let done = tick_image(image, state_of(old), word);
-    let report = done.report;
-    let after = done.state;
-    let answer = report.answer;
-    let number = tell(answer, at, made);
-    if number != 0 {
-        return number;
-    }
-    *mask = report.mask;
-    *code = report.code;
-    let bytes = bytes_of(after);
-    *state = bytes;
-    number
+    let report = tick_bytes(image, state, word);
+    tell_tick(report, mask, code, at, made)
+}
+
+#[no_mangle]
+pub extern "C" fn fairleadow_prepare(
+    image: &[u8],
+    table: &mut [u8],
+    at: &mut usize,
+    made: &mut usize,
+) -> u8
+    ensures { λ r. ⌜ LendsC (prepare (now (image .entry)) (now (table .entry))) r (now (at .exit)) (now (made .exit)) (now (table .exit)) ⌝ }
+{
+    let answer = tables::prepare(image, table);
+    tell(answer, at, made)
+}
+
+#[no_mangle]
+pub extern "C" fn fairleadow_live_run(
+    table: &[u8],
+    state: &mut [u8; 50],
+    words: &[u16],
+    masks: &mut [u32],
+    codes: &mut [u8],
+    at: &mut usize,
+    made: &mut usize,
+) -> u8
+    ensures { λ r. ⌜ RunsC (liveRunFor (now (table .entry)) (now (state .entry)) (now (words .entry)) (now (masks .entry)) (now (codes .entry))) (now (state .entry)) r (now (at .exit)) (now (made .exit)) (now (state .exit)) (now (masks .exit)) (now (codes .exit)) ⌝ }
+{
+    let answer = live_run_bytes(table, state, words, masks, codes);
+    tell(answer, at, made)
+}
+
+// One tick on a prepared table; a refused one writes no mask, no code and no state.
+#[no_mangle]
+pub extern "C" fn fairleadow_live_tick(
+    table: &[u8],
+    state: &mut [u8; 50],
+    word: u16,
+    mask: &mut u32,
+    code: &mut u8,
+    at: &mut usize,
+    made: &mut usize,
+) -> u8
+    ensures { λ r. ⌜ AdvancesC (liveTickFor (now (table .entry)) (now (state .entry)) word) (now (state .entry)) (now (mask .entry)) (now (code .entry)) r (now (at .exit)) (now (made .exit)) (now (state .exit)) (now (mask .exit)) (now (code .exit)) ⌝ }
+{
+    let report = live_tick_bytes(table, state, word);
+    tell_tick(report, mask, code, at, made)
 }
 
 // What a code stands for: returns the tick kind, 255 for a code that no tick has, and writes the scheme called, 0 for none.

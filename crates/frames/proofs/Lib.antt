@@ -9,3 +9,4 @@ pub mod Lent
 pub mod FrameLoops
 pub mod ReadLoops
 pub mod TextLoops
+pub mod Refuses

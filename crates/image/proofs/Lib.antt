@@ -7,3 +7,4 @@ pub mod FieldCases
 pub mod TableCases
 pub mod ReadCases
 pub mod Accepted
+pub mod Refuses

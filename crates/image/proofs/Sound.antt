@@ -7,9 +7,7 @@ use lib.Bits.{bitAnd}
 use lib.Dec.{eqb}
 use Rattle.lists.specs.Pick.{pick}
 use Rattle.image.specs.Image.{Image, Label, Row, homeLabel, returnLabel}
-
-abbrev pub noLabel : Label
-noLabel = record { kind = 0; called = 0; owner = 0; result = 0; mask = 0 }
+pub use Rattle.image.specs.Image.{noLabel}
 
 abbrev pub noRow : Row
 noRow = record { from = 0; care = 0; values = 0; bit = 0; next = 0 }

@@ -13,6 +13,10 @@ pub record Label : Type 0 where
   pub result : ℕ
   pub mask : ℕ
 
+-- what an image has where it has no label
+abbrev pub noLabel : Label
+noLabel = record { kind = 0; called = 0; owner = 0; result = 0; mask = 0 }
+
 -- labels 0 and 1 of every image
 abbrev pub homeLabel : Label
 homeLabel = record { kind = 4; called = 0; owner = 1; result = 0; mask = 0 }

@@ -21,10 +21,11 @@ use Rattle.image.proofs.Sound.{noRow, nthRow, endOf, Reaches, Sound}
 use Rattle.image.proofs.Accepted.{image-sound}
 use Rattle.state.specs.declared.State.{State}
 use Rattle.state.specs.State.{fresh, labelAt, entryAt, placeAt, isCall, unfit}
-use Rattle.machine.specs.Tick.{matches, Found, found, missing, firstRow, rowOf, Ticked, ticked, stopped, moved, pushed, tickBy, tick}
+use Rattle.machine.specs.Tick.{rowOf, Ticked, ticked, stopped, moved, pushed, tickBy, tick}
+use Rattle.rows.specs.Rows.{matches, Found, found, missing, firstRow}
 use Rattle.machine.specs.Run.{then, ticks}
 use Rattle.state.proofs.Fitness.{Carries, Fits, fits, unfits}
-use Rattle.machine.proofs.RowCases.{row-here, row-later}
+use Rattle.rows.proofs.FirstRows.{row-here, row-later}
 
 -- a row that is found is one of the label's
 found-row : (i : Image) (h l w b u : ℕ) (rs : List Row)

@@ -12,7 +12,8 @@ use Rattle.frames.specs.Verdict.{Verdict, fine, refused}
 use Rattle.image.specs.Image.{Image, Label}
 use Rattle.state.specs.declared.State.{State}
 use Rattle.state.specs.State.{labelAt, entryAt, placeAt}
-use Rattle.machine.specs.Tick.{Found, found, missing, rowOf, Ticked, ticked, stopped, moved, pushed, tickBy, tick}
+use Rattle.machine.specs.Tick.{rowOf, Ticked, ticked, stopped, moved, pushed, tickBy, tick}
+use Rattle.rows.specs.Rows.{Found, found, missing}
 use Rattle.machine.specs.Run.{then, ticks}
 
 length-result : (r h : ℕ) (b : Results) → length (withResult r h b) ≡ length b

@@ -1,8 +1,8 @@
 -- One tick as a controller calls it: what its refusals and its success leave, read off the definition by a run.
 use Prim.Native.Nat.{ℕ}
-use mathlib.Core.Path.{_≡_, refl}
+use mathlib.Core.Path.{_≡_, refl, sym, ap, _∙_}
 use mathlib.Core.Bool.{Bool, true, false}
-use mathlib.Core.List.{List}
+use mathlib.Core.List.{List, [], _∷_}
 use Rattle.frames.specs.Frame.{contents}
 use Rattle.frames.specs.Verdict.{Verdict, fine, refused, next, when}
 use Rattle.frames.specs.Answer.{success, refusal}
@@ -11,8 +11,8 @@ use Rattle.image.specs.Check.{imageVerdict}
 use Rattle.state.specs.declared.State.{State}
 use Rattle.state.specs.State.{unfit}
 use Rattle.machine.specs.Tick.{Ticked, ticked, stopped, tick}
-use Rattle.machine.specs.Run.{run, runVerdict, ticks}
-use Rattle.machine.specs.Advance.{Advance, advance}
+use Rattle.machine.specs.Run.{Run, run, runVerdict, ticks}
+use Rattle.machine.specs.Advance.{Advance, advanced, advance}
 
 -- what a run tries but 16: one word has room in one place
 abbrev pub tried : List ℕ → State → Verdict
@@ -24,14 +24,42 @@ advanceBy s (refused k i) d = record { reply = refusal k i 0; mask = 0; code = 0
 advanceBy s fine (stopped n) = record { reply = refusal n 0 0; mask = 0; code = 0; state = s }
 advanceBy s fine (ticked m k s′) = record { reply = success 1; mask = m; code = k; state = s′ }
 
-pub advance-by : (t : List ℕ) (s : State) (w : ℕ) → advance t s w ≡ advanceBy s (tried t s) (tick (decoded (contents t)) s w)
-unfolding advance run runVerdict ticks
-advance-by t s w = go (imageVerdict t) refl (unfit (decoded (contents t)) s) refl (tick (decoded (contents t)) s w) refl
+-- the whole run of one word, with what the one place of each buffer held before it
+abbrev pub oneWord : State → ℕ → ℕ → Verdict → Ticked → Run
+oneWord s m₀ k₀ (refused n i) d = record { reply = refusal n i 0; state = s; masks = m₀ ∷ []; codes = k₀ ∷ [] }
+oneWord s m₀ k₀ fine (stopped n) = record { reply = refusal n 0 0; state = s; masks = m₀ ∷ []; codes = k₀ ∷ [] }
+oneWord s m₀ k₀ fine (ticked m k s′) = record { reply = success 1; state = s′; masks = m ∷ []; codes = k ∷ [] }
+
+pub run-one : (t : List ℕ) (s : State) (w m₀ k₀ : ℕ)
+    → run t s (w ∷ []) (m₀ ∷ []) (k₀ ∷ []) ≡ oneWord s m₀ k₀ (tried t s) (tick (decoded (contents t)) s w)
+unfolding run runVerdict ticks
+run-one t s w m₀ k₀ = go (imageVerdict t) refl (unfit (decoded (contents t)) s) refl (tick (decoded (contents t)) s w) refl
   where
     go : (v : Verdict) → imageVerdict t ≡ v → (b : Bool) → unfit (decoded (contents t)) s ≡ b → (d : Ticked)
         → tick (decoded (contents t)) s w ≡ d
-        → advance t s w ≡ advanceBy s (tried t s) (tick (decoded (contents t)) s w)
+        → run t s (w ∷ []) (m₀ ∷ []) (k₀ ∷ []) ≡ oneWord s m₀ k₀ (tried t s) (tick (decoded (contents t)) s w)
     go (refused k i) e b f d g = simp e
     go fine e true f d g = simp (e, f)
     go fine e false f (stopped n) g = simp (e, f, g)
     go fine e false f (ticked m k s′) g = simp (e, f, g)
+
+pub advance-by : (t : List ℕ) (s : State) (w : ℕ) → advance t s w ≡ advanceBy s (tried t s) (tick (decoded (contents t)) s w)
+unfolding advance
+advance-by t s w = ap advanced (run-one t s w 0 0) ∙ go (tried t s) (tick (decoded (contents t)) s w)
+  where
+    go : (v : Verdict) (d : Ticked) → advanced (oneWord s 0 0 v d) ≡ advanceBy s v d
+    go (refused k i) d = refl
+    go fine (stopped n) = refl
+    go fine (ticked m k s′) = refl
+
+-- a run of one word over 0 and 0 hands back what the tick does
+abbrev pub ranOne : Advance → Run
+ranOne x = record { reply = x .reply; state = x .state; masks = x .mask ∷ []; codes = x .code ∷ [] }
+
+pub run-advance : (t : List ℕ) (s : State) (w : ℕ) → run t s (w ∷ []) (0 ∷ []) (0 ∷ []) ≡ ranOne (advance t s w)
+run-advance t s w = run-one t s w 0 0 ∙ go (tried t s) (tick (decoded (contents t)) s w) ∙ sym (ap ranOne (advance-by t s w))
+  where
+    go : (v : Verdict) (d : Ticked) → oneWord s 0 0 v d ≡ ranOne (advanceBy s v d)
+    go (refused k i) d = refl
+    go fine (stopped n) = refl
+    go fine (ticked m k s′) = refl

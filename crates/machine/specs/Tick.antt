@@ -1,29 +1,17 @@
 -- One tick of the machine over an image; refusals 17 and 18.
 use Prim.Native.Nat.{ℕ, zero, suc, _+_, _-_}
-use mathlib.Core.Bool.{Bool, true, false, _&&_, _||_}
-use mathlib.Core.List.{List, [], _∷_}
-use lib.Dec.{leb, eqb}
+use mathlib.Core.Bool.{Bool, true, false}
+use mathlib.Core.List.{List}
+use lib.Dec.{leb}
 use lib.ListN.{set}
 use Rattle.lists.specs.Pick.{pick}
-use Rattle.bits.specs.Word.{agrees}
 use Rattle.bits.specs.Results.{Results, resultOf, withResult}
-use Rattle.image.specs.Image.{Image, Label, Row}
+use Rattle.image.specs.Image.{Image, Label}
+use Rattle.rows.specs.Rows.{Found, found, missing, firstRow}
 use Rattle.state.specs.declared.State.{State}
 use Rattle.state.specs.State.{labelAt, entryAt, placeAt}
 
--- a row matches a word and the bit of the scheme that its label calls
-abbrev pub matches : ℕ → ℕ → Row → Bool
-matches w b r = agrees w (r .care) (r .values) && (eqb (r .bit) 2 || eqb (r .bit) b)
-
-pub data Found : Type 0 where
-  found : ℕ → Found
-  missing : Found
-
--- where the first matching row of label l leads
-unfoldable pub firstRow : ℕ → ℕ → ℕ → List Row → Found
-firstRow l w b [] = missing
-firstRow l w b (r ∷ rs) = elim (eqb (r .from) l && matches w b r) [ true ↦ found (r .next) | false ↦ firstRow l w b rs ]
-
+-- where the row leads that label l takes, with these result bits
 abbrev pub rowOf : Image → Results → ℕ → ℕ → Found
 rowOf i b l w = firstRow l w (pick (resultOf (labelAt i l .called) b) 1 0) (i .rows)
 

@@ -1,30 +1,34 @@
-// The stack machine: one tick, and a run of ticks over an image.
+// The stack machine: ticks on a prepared table, runs of ticks, and both over an image.
 use frames::Answer;
 
-mod advance;
-mod parts;
-mod rows;
+mod by_value;
+mod in_place;
 mod runs;
+mod ticks;
 
-pub use advance::tick;
-pub use advance::tick_image;
-pub use runs::run;
+pub use by_value::live_run;
+pub use by_value::live_tick;
+pub use by_value::run;
+pub use by_value::tick;
+pub use by_value::tick_image;
+pub use in_place::live_run_bytes;
+pub use in_place::live_tick_bytes;
+pub use in_place::run_bytes;
+pub use in_place::tick_bytes;
 pub use state::Answered;
 pub use state::State;
 
-// What a tick on the lent parts of a state answers: 0, or the number that stops it, and then nothing is changed.
+// What a tick answers: 0, or the number that stops it, and then nothing is changed.
 pub struct Stepped {
     pub number: u8,
     pub mask: u32,
     pub code: u8,
-    pub depth: u8,
 }
 
-// What the ticks over the words of a run answer: 0, or the number that stopped one, the finished ticks and the depth after them.
+// What the ticks over the words of a run answer: 0, or the number that stopped one, and the finished ticks.
 pub struct Ended {
     pub number: u8,
     pub count: usize,
-    pub depth: u8,
 }
 
 // What one tick answers: with a refusal, mask and code are 0.

@@ -48,6 +48,18 @@ fn check(table: [u8; 120], edits: &[u8]) {
     report(0, image::check_image(&text));
 }
 
+// The table is checked under each edit by itself.
+fn check_each(table: [u8; 120], edits: &[u8]) {
+    let n = edits.len() / 2;
+    let mut i: usize = 0;
+    while i < n {
+        let from = 2 * i;
+        let to = from + 2;
+        check(table, &edits[from..to]);
+        i += 1;
+    }
+}
+
 fn check_front(text: &[u8], n: usize) {
     if n <= text.len() {
         report(0, image::check_image(&text[..n]));
@@ -121,67 +133,32 @@ fn texts(p: [u8; 120]) {
 // 11.
 fn headers(p: [u8; 120]) {
     check(p, &[]);
-    check(p, &[0, 14]);
-    check(p, &[1, 0]);
-    check(p, &[1, 17]);
-    check(p, &[2, 0]);
+    check_each(p, &[0, 14, 1, 0, 1, 17, 2, 0]);
     check(p, &[3, 4, 4, 1]);
-    check(p, &[4, 5]);
-    check(p, &[5, 1]);
+    check_each(p, &[4, 5, 5, 1]);
     check(p, &[9, 1, 10, 17]);
 }
 
 // 12.
 fn positions(p: [u8; 120]) {
-    check(p, &[10, 17]);
-    check(p, &[11, 2]);
-    check(p, &[30, 16]);
-    check(p, &[71, 3]);
-    check(p, &[80, 17]);
-    check(p, &[111, 2]);
+    check_each(p, &[10, 17, 11, 2, 30, 16, 71, 3, 80, 17, 111, 2]);
     check(p, &[71, 9, 11, 9]);
     check(p, &[13, 1, 111, 2]);
 }
 
 // 13: entries and labels.
 fn labels(p: [u8; 120]) {
-    check(p, &[13, 1]);
-    check(p, &[12, 1]);
-    check(p, &[12, 9]);
-    check(p, &[22, 2]);
-    check(p, &[12, 0]);
-    check(p, &[22, 1]);
-    check(p, &[32, 3]);
-    check(p, &[34, 2]);
-    check(p, &[35, 1]);
-    check(p, &[39, 1]);
-    check(p, &[42, 4]);
-    check(p, &[44, 1]);
-    check(p, &[52, 3]);
-    check(p, &[52, 0]);
-    check(p, &[53, 1]);
-    check(p, &[53, 3]);
-    check(p, &[63, 2]);
-    check(p, &[74, 0]);
-    check(p, &[74, 3]);
-    check(p, &[75, 3]);
-    check(p, &[76, 255]);
+    check_each(p, &[13, 1, 12, 1, 12, 9, 22, 2, 12, 0, 22, 1]);
+    check_each(p, &[32, 3, 34, 2, 35, 1, 39, 1, 42, 4, 44, 1]);
+    check_each(p, &[52, 3, 52, 0, 53, 1, 53, 3, 63, 2]);
+    check_each(p, &[74, 0, 74, 3, 75, 3, 76, 255]);
 }
 
 // 13: rows.
 fn rows(p: [u8; 120]) {
-    check(p, &[81, 1]);
-    check(p, &[111, 5]);
-    check(p, &[84, 1]);
-    check(p, &[86, 3]);
-    check(p, &[86, 1]);
+    check_each(p, &[81, 1, 111, 5, 84, 1, 86, 3, 86, 1]);
     check(p, &[52, 2, 86, 1]);
-    check(p, &[87, 3]);
-    check(p, &[87, 9]);
-    check(p, &[87, 1]);
-    check(p, &[97, 0]);
-    check(p, &[88, 1]);
-    check(p, &[119, 1]);
+    check_each(p, &[87, 3, 87, 9, 87, 1, 97, 0, 88, 1, 119, 1]);
     check(p, &[119, 1, 13, 1]);
 }
 
@@ -201,25 +178,44 @@ fn state_case(text: [u8; 276], size: u8, depth: u8, edits: &[u8]) {
     );
 }
 
-// 15.
-fn states(p: [u8; 120]) {
-    let text = text_of(p, &[]);
+// 15: sizes and depths.
+fn depths(text: [u8; 276]) {
     state_case(text, 3, 1, &[]);
     state_case(text, 0, 1, &[]);
     state_case(text, 33, 1, &[]);
     state_case(text, 3, 0, &[]);
     state_case(text, 3, 4, &[0, 2, 1, 4, 2, 4, 3, 3]);
+}
+
+// 15: the first place.
+fn firsts(text: [u8; 276]) {
     state_case(text, 3, 1, &[0, 5]);
     state_case(text, 3, 1, &[0, 3]);
     state_case(text, 3, 1, &[0, 1]);
     state_case(text, 3, 2, &[1, 1]);
+}
+
+// 15: the second place.
+fn seconds(text: [u8; 276]) {
     state_case(text, 3, 2, &[0, 2, 1, 2]);
     state_case(text, 3, 2, &[0, 2, 1, 3]);
     state_case(text, 3, 2, &[0, 2, 1, 1]);
     state_case(text, 3, 2, &[0, 2, 1, 9]);
+}
+
+// 15: places past the depth.
+fn past_depth(text: [u8; 276]) {
     state_case(text, 3, 1, &[0, 2, 1, 3]);
     state_case(text, 3, 1, &[0, 2, 31, 1]);
     state_case(text, 32, 32, &[0, 2]);
+}
+
+fn states(p: [u8; 120]) {
+    let text = text_of(p, &[]);
+    depths(text);
+    firsts(text);
+    seconds(text);
+    past_depth(text);
 }
 
 fn fresh(size: usize) -> State {

@@ -1,77 +1,88 @@
 -- What each way out of the functions on fitness answers.
-use Prim.Native.Nat.{ℕ, _+_, _-_, _≤_, _<_}
+use Prim.Native.Nat.{ℕ, zero, suc, _+_, _-_, _≤_, _<_}
 use mathlib.Core.Bool.{Bool, true, false, _||_, not}
-use mathlib.Core.Path.{_≡_, sym, _∙_, ap}
+use mathlib.Core.Path.{_≡_, refl, sym, _∙_, ap, ap₂}
 use mathlib.Core.List.{List}
 use native.Mathlib.Omega.{arith}
-use lib.ListN.{length, List·getD-eq-default}
+use lib.ListN.{length}
 use lib.Dec.{ltb, eqb}
 use borrow.Author.Tests.{eq-eqb, ne-eqb, lt-ltb, le-ltb, le-leb, lt-leb, ltb-false}
 use Rattle.lists.specs.Numbers.{any}
-use Rattle.lists.proofs.Tests.{or-l, or-r}
-use Rattle.frames.specs.Frame.{field}
-use Rattle.image.specs.Image.{Label}
-use Rattle.image.specs.Decode.{lastLabel, labelsFrom, decoded}
-use Rattle.image.proofs.Accepted.{labels-count, label-read}
+use Rattle.lists.proofs.Tests.{or-l, or-r, or-none}
+use Rattle.image.specs.Image.{Image, Label}
+use Rattle.image.specs.Decode.{lastLabel}
+use Rattle.tables.specs.Table.{tableImage, labelOf}
+use Rattle.tables.specs.Labels.{asLabel}
+use Rattle.tables.specs.declared.Label as declared
+use Rattle.tables.proofs.TableReads.{labels-count, label-at}
 use Rattle.state.specs.declared.State.{State}
-use Rattle.state.specs.State.{badSize, noLabel, labelAt, placeAt, isCall, mayCarry, unfitPlace, badDepth, unfit}
+use Rattle.state.specs.State.{badSize, labelAt, placeAt, isCall, mayCarry, unfitPlace, badDepth, unfit}
 use Rattle.state.proofs.Sizes.{size-most}
 
--- place k is not 0
+-- place k is not 0; l stands for what was read there
 abbrev pub filledAt : State → ℕ → Bool
 filledAt s k = not (eqb (placeAt s k) 0)
 
-pub filled-here : (s : State) (k : ℕ) → (placeAt s k ≡ 0 → ⊥) → filledAt s k ≡ true
-filled-here s k n = ap not (ne-eqb (placeAt s k) 0 n)
+module _ (s : State) (k l : ℕ) (place : l ≡ placeAt s k) where
+  pub filled-here : (l ≡ 0 → ⊥) → filledAt s k ≡ true
+  filled-here n = ap not (ne-eqb (placeAt s k) 0 (λ e. n (place ∙ e)))
 
-pub filled-none : (s : State) (k : ℕ) → placeAt s k ≡ 0 → filledAt s k ≡ false
-filled-none s k e = ap not (eq-eqb (placeAt s k) 0 e)
+  pub filled-none : l ≡ 0 → filledAt s k ≡ false
+  filled-none e = ap not (eq-eqb (placeAt s k) 0 (sym place ∙ e))
 
--- ---- a label of the table; m stands for the highest
-module _ (b : List ℕ) (l m : ℕ) (last : m ≡ lastLabel b) where
-  pub owner-none : m < l → 0 ≡ labelAt (decoded b) l .owner
-  owner-none h = sym (ap (λ (x : Label). x .owner) (List·getD-eq-default (decoded b .labels) noLabel (omega (arith, labels-count b))))
+-- ---- kinds 1 and 2 are calls
+kind-call : (k : ℕ) → 1 ≤ k → k < 3 → (eqb k 1 || eqb k 2) ≡ true
+kind-call zero h l = absurd (omega arith)
+kind-call (suc zero) h l = refl
+kind-call (suc (suc zero)) h l = refl
+kind-call (suc (suc (suc k))) h l = absurd (omega arith)
 
-  pub owner-some : (r : ℕ) → l ≤ m → r ≡ field b (labelsFrom b + l) 4 → r ≡ labelAt (decoded b) l .owner
-  owner-some r h e = e ∙ sym (ap (λ (x : Label). x .owner) (label-read b l (omega arith)))
+kind-none : (k : ℕ) → (1 ≤ k → k < 3 → ⊥) → (eqb k 1 || eqb k 2) ≡ false
+kind-none zero n = refl
+kind-none (suc zero) n = absurd (n (omega arith) (omega arith))
+kind-none (suc (suc zero)) n = absurd (n (omega arith) (omega arith))
+kind-none (suc (suc (suc k))) n =
+    or-none (eqb (suc (suc (suc k))) 1) (eqb (suc (suc (suc k))) 2)
+    (ne-eqb (suc (suc (suc k))) 1 (λ e. omega arith)) (ne-eqb (suc (suc (suc k))) 2 (λ e. omega arith))
 
-module _ (b : List ℕ) (l : ℕ) (low : l ≤ lastLabel b) where
-  kind-is : (r : ℕ) → r ≡ field b (labelsFrom b + l) 2 → labelAt (decoded b) l .kind ≡ r
-  kind-is r e = ap (λ (x : Label). x .kind) (label-read b l low) ∙ sym e
+-- ---- label l of a table, read as x, and what may stand above it
+module _ (b : List ℕ) (l above : ℕ) (x : declared.Label) (read : asLabel x ≡ labelOf b l) where
+  label-is : labelAt (tableImage b) l ≡ asLabel x
+  label-is = label-at b l ∙ sym read
 
-  pub call-first : (r : ℕ) → r ≡ field b (labelsFrom b + l) 2 → r ≡ 1 → true ≡ isCall (labelAt (decoded b) l)
-  call-first r e h = rw (kind-is r e, eq-eqb r 1 h)
+  call-is : (t : Bool) → (eqb (x .kind) 1 || eqb (x .kind) 2) ≡ t → isCall (labelAt (tableImage b) l) ≡ t
+  call-is t e = ap isCall label-is ∙ e
 
-  pub call-second : (r : ℕ) → r ≡ field b (labelsFrom b + l) 2 → (r ≡ 1 → ⊥) → eqb r 2 ≡ isCall (labelAt (decoded b) l)
-  call-second r e h = rw (kind-is r e, ne-eqb r 1 h)
+  pub carry-return : 1 ≤ x .kind → x .kind < 3 → above ≡ 1 → true ≡ mayCarry (tableImage b) l above
+  carry-return h k e = rw (call-is true (kind-call (x .kind) h k), eq-eqb above 1 e)
 
-  -- ---- a label above it; t tells whether l is a call
-  module _ (above : ℕ) (t : Bool) (call : t ≡ isCall (labelAt (decoded b) l)) where
-    pub carry-return : t ≡ true → above ≡ 1 → true ≡ mayCarry (decoded b) l above
-    carry-return h e = rw (sym call ∙ h, eq-eqb above 1 e)
+  pub carry-owned : 1 ≤ x .kind → x .kind < 3 → (above ≡ 1 → ⊥) → (y : declared.Label) → asLabel y ≡ labelOf b above
+      → eqb (y .owner) (x .called) ≡ mayCarry (tableImage b) l above
+  carry-owned h k n y e =
+      let owner : labelAt (tableImage b) above .owner ≡ y .owner = ap (λ (z : Label). z .owner) (label-at b above ∙ sym e) in
+      let called : labelAt (tableImage b) l .called ≡ x .called = ap (λ (z : Label). z .called) label-is in
+      rw (call-is true (kind-call (x .kind) h k), ne-eqb above 1 n, owner, called)
 
-    pub carry-owned : t ≡ true → (above ≡ 1 → ⊥) → (r h : ℕ) → r ≡ labelAt (decoded b) above .owner → h ≡ field b (labelsFrom b + l) 3
-        → eqb r h ≡ mayCarry (decoded b) l above
-    carry-owned c n r h e q =
-        let p : labelAt (decoded b) l .called ≡ h = ap (λ (x : Label). x .called) (label-read b l low) ∙ sym q in
-        rw (sym call ∙ c, ne-eqb above 1 n, sym e, p)
+  pub carry-none : (1 ≤ x .kind → x .kind < 3 → ⊥) → false ≡ mayCarry (tableImage b) l above
+  carry-none n = rw (call-is false (kind-none (x .kind) n))
 
-    pub carry-none : t ≡ false → false ≡ mayCarry (decoded b) l above
-    carry-none h = rw (sym call ∙ h)
+-- ---- one place, in which l was read; m stands for the highest label
+module _ (b : List ℕ) (s : State) (k m l : ℕ) (last : m ≡ lastLabel b) (place : l ≡ placeAt s k) where
+  pub place-high : m < l → true ≡ unfitPlace (tableImage b) s k
+  place-high h = rw (le-leb (length (tableImage b .labels)) (placeAt s k) (omega (arith, labels-count b)))
 
--- ---- one place
-module _ (b : List ℕ) (s : State) (k m : ℕ) (last : m ≡ lastLabel b) where
-  pub place-high : m < placeAt s k → true ≡ unfitPlace (decoded b) s k
-  place-high h = rw (le-leb (length (decoded b .labels)) (placeAt s k) (omega (arith, labels-count b)))
+  module _ (low : l ≤ m) (depth : ℕ) (deep : depth ≡ s .depth) where
+    pub place-kept : k + 1 < depth → (above : ℕ) → above ≡ placeAt s (k + 1) → (t : Bool) → t ≡ mayCarry (tableImage b) l above
+        → not t ≡ unfitPlace (tableImage b) s k
+    place-kept d above e t q =
+        let carried : t ≡ mayCarry (tableImage b) (placeAt s k) (placeAt s (k + 1)) = q ∙ ap₂ (mayCarry (tableImage b)) place e in
+        rw (lt-leb (length (tableImage b .labels)) (placeAt s k) (omega (arith, labels-count b)), lt-ltb (k + 1) (s .depth) (omega arith), carried)
 
-  pub place-kept : placeAt s k ≤ m → k + 1 < s .depth → (t : Bool) → t ≡ mayCarry (decoded b) (placeAt s k) (placeAt s (k + 1))
-      → not t ≡ unfitPlace (decoded b) s k
-  place-kept h d t e = rw (lt-leb (length (decoded b .labels)) (placeAt s k) (omega (arith, labels-count b)), lt-ltb (k + 1) (s .depth) d, e)
+    pub place-top : depth ≤ k + 1 → false ≡ unfitPlace (tableImage b) s k
+    place-top d =
+        rw (lt-leb (length (tableImage b .labels)) (placeAt s k) (omega (arith, labels-count b)), le-ltb (k + 1) (s .depth) (omega arith))
 
-  pub place-top : placeAt s k ≤ m → s .depth ≤ k + 1 → false ≡ unfitPlace (decoded b) s k
-  place-top h d = rw (lt-leb (length (decoded b .labels)) (placeAt s k) (omega (arith, labels-count b)), le-ltb (k + 1) (s .depth) d)
-
--- ---- the whole state
+-- ---- the depth; n and d stand for size and depth as they were read
 pub depth-most : (s : State) → badDepth s ≡ false → s .depth ≤ 32
 depth-most s e =
     let p : (badSize (s .size) || eqb (s .depth) 0) ≡ false = or-l (badSize (s .size) || eqb (s .depth) 0) (ltb (s .size) (s .depth)) e in
@@ -81,21 +92,39 @@ depth-most s e =
       ltb-false (s .size) (s .depth) (or-r (badSize (s .size) || eqb (s .depth) 0) (ltb (s .size) (s .depth)) e),
     )
 
-module _ (b : List ℕ) (s : State) where
-  pub unfit-depth : badDepth s ≡ true → true ≡ unfit (decoded b) s
+module _ (s : State) (n d : ℕ) (size : n ≡ s .size) (depth : d ≡ s .depth) (t : Bool) (refused : t ≡ badSize n) where
+  sized : badSize (s .size) ≡ t
+  sized = ap badSize (sym size) ∙ sym refused
+
+  pub depth-size : t ≡ true → true ≡ badDepth s
+  depth-size e = rw (sized ∙ e)
+
+  pub depth-zero : t ≡ false → d ≡ 0 → true ≡ badDepth s
+  depth-zero e z = rw (sized ∙ e, eq-eqb (s .depth) 0 (sym depth ∙ z))
+
+  pub depth-above : t ≡ false → (d ≡ 0 → ⊥) → ltb n d ≡ badDepth s
+  depth-above e z = rw (sized ∙ e, ne-eqb (s .depth) 0 (λ q. z (depth ∙ q)), size, depth)
+
+-- ---- the whole state
+module _ (i : Image) (s : State) where
+  pub unfit-depth : badDepth s ≡ true → true ≡ unfit i s
   unfolding unfit
   unfit-depth e = rw e
 
-  pub unfit-places : badDepth s ≡ false → any (unfitPlace (decoded b) s) 0 (s .depth) ≡ true → true ≡ unfit (decoded b) s
+  pub unfit-places : badDepth s ≡ false → any (unfitPlace i s) 0 (s .depth) ≡ true → true ≡ unfit i s
   unfolding unfit
   unfit-places d e = rw (d, e)
 
-  module _ (depth : badDepth s ≡ false) (places : any (unfitPlace (decoded b) s) 0 (s .depth) ≡ false) (r : ℕ)
-      (owner : r ≡ labelAt (decoded b) (placeAt s 0) .owner) where
-    pub unfit-bottom : (r ≡ 1 → ⊥) → true ≡ unfit (decoded b) s
-    unfolding unfit
-    unfit-bottom n = rw (depth, places, sym owner, ne-eqb r 1 n)
+-- the bottom label l, read as x
+module _ (b : List ℕ) (s : State) (depth : badDepth s ≡ false) (places : any (unfitPlace (tableImage b) s) 0 (s .depth) ≡ false)
+    (l : ℕ) (place : l ≡ placeAt s 0) (x : declared.Label) (read : asLabel x ≡ labelOf b l) where
+  owner-is : labelAt (tableImage b) (placeAt s 0) .owner ≡ x .owner
+  owner-is = ap (λ (j : ℕ). labelAt (tableImage b) j .owner) (sym place) ∙ ap (λ (z : Label). z .owner) (label-at b l ∙ sym read)
 
-    pub unfit-above : r ≡ 1 → any (filledAt s) (s .depth) (32 - s .depth) ≡ unfit (decoded b) s
-    unfolding unfit
-    unfit-above e = rw (depth, places, sym owner, eq-eqb r 1 e)
+  pub unfit-bottom : (x .owner ≡ 1 → ⊥) → true ≡ unfit (tableImage b) s
+  unfolding unfit
+  unfit-bottom n = rw (depth, places, owner-is, ne-eqb (x .owner) 1 n)
+
+  pub unfit-above : x .owner ≡ 1 → any (filledAt s) (s .depth) (32 - s .depth) ≡ unfit (tableImage b) s
+  unfolding unfit
+  unfit-above e = rw (depth, places, owner-is, eq-eqb (x .owner) 1 e)

@@ -1,3 +1,6 @@
 pub mod Sizes
+pub mod ResultBytes
+pub mod ByteParts
+pub mod TidyTurns
 pub mod Fitness
 pub mod FitCases

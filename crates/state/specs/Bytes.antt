@@ -3,9 +3,10 @@ use Prim.Native.Nat.{ℕ, _+_}
 use mathlib.Core.Bool.{Bool, false, not}
 use mathlib.Core.List.{List, _∷_, _++_, map}
 use lib.Dec.{eqb}
-use lib.ListN.{getD}
+use lib.ListN.{getD, set}
 use Rattle.lists.specs.Pick.{pick}
 use Rattle.lists.specs.Numbers.{range}
+use Rattle.bits.specs.Results.{withResult}
 use Rattle.state.specs.declared.State.{State}
 use Rattle.state.specs.State.{placeAt}
 
@@ -25,3 +26,13 @@ resultByte s k = pick (getD (s .bits) k false) 1 0
 
 unfoldable pub bytesOf : State → List ℕ
 bytesOf s = s .size ∷ s .depth ∷ (map (placeAt s) (range 0 32) ++ map (resultByte s) (range 0 16))
+
+-- ---- a state with one part changed
+abbrev pub withDepth : State → ℕ → State
+withDepth s d = record { size = s .size; depth = d; places = s .places; bits = s .bits }
+
+abbrev pub withPlace : State → ℕ → ℕ → State
+withPlace s k l = record { size = s .size; depth = s .depth; places = set (s .places) k l; bits = s .bits }
+
+abbrev pub afterResult : State → ℕ → ℕ → State
+afterResult s r h = record { size = s .size; depth = s .depth; places = s .places; bits = withResult r h (s .bits) }

@@ -1,5 +1,5 @@
 -- The state: a fresh one (refusal 14), and whether one fits an image (refusal 15).
-use Prim.Native.Nat.{ℕ, _+_, _-_, _≤_, _<_}
+use Prim.Native.Nat.{ℕ, _+_, _-_}
 use mathlib.Core.Bool.{Bool, _&&_, _||_, not}
 use mathlib.Core.Path.{_≡_}
 use mathlib.Core.List.{List}
@@ -9,9 +9,7 @@ use Rattle.lists.specs.Pick.{pick}
 use Rattle.lists.specs.Numbers.{any}
 use Rattle.bits.specs.Results.{noResults}
 use Rattle.frames.specs.Answer.{Reply, success, refusal, reply}
-use Rattle.frames.specs.Frame.{size}
-use Rattle.image.specs.Image.{Image, Label}
-use Rattle.image.specs.Decode.{rowsFrom}
+use Rattle.image.specs.Image.{Image, Label, noLabel}
 use Rattle.state.specs.declared.State.{State}
 use Rattle.state.specs.declared.Answered.{Answered}
 
@@ -42,9 +40,6 @@ unfoldable pub freshState : ℕ → Made
 freshState n = pick (badSize n) (record { reply = refusal 14 0 0; state = noState }) (record { reply = success 0; state = fresh n })
 
 -- ---- what an image has, by number
-abbrev pub noLabel : Label
-noLabel = record { kind = 0; called = 0; owner = 0; result = 0; mask = 0 }
-
 abbrev pub labelAt : Image → ℕ → Label
 labelAt i l = getD (i .labels) l noLabel
 
@@ -75,9 +70,3 @@ unfoldable pub unfit : Image → State → Bool
 unfit i s =
     badDepth s || any (unfitPlace i s) 0 (s .depth) || not (eqb (labelAt i (placeAt s 0) .owner) 1)
     || any (λ k. not (eqb (placeAt s k) 0)) (s .depth) (32 - s .depth)
-
--- what the test of place k asks: a table with the frames of all its labels, and a place up to the depth
-pub record Filled (b : List ℕ) (s : State) (k : ℕ) : Type 0 where
-  pub labels : rowsFrom b ≤ size b
-  pub within : k < s .depth
-  pub most : s .depth ≤ 32

@@ -1,10 +1,23 @@
-// The state of the stack machine: a fresh one, and whether one fits an image.
+// The state of the stack machine: a fresh one, its fifty bytes, and whether one fits an image.
 use frames::Answer;
 
+mod bytes;
 mod fit;
 mod fresh;
+mod parts;
 
+pub use bytes::bytes_of;
+pub use bytes::state_of;
 pub use fit::is_unfit;
+pub use parts::depth_of;
+pub use parts::place_of;
+pub use parts::put_depth;
+pub use parts::put_place;
+pub use parts::put_result;
+pub use parts::result_of;
+pub use parts::result_place;
+pub use parts::size_of;
+pub use parts::tidy_results;
 
 // Places (the paper's word for the entries of the stack) hold labels, the bottom first, up to the depth, and 0 above it;
 // scheme h's result bit stands at h - 1.
@@ -29,7 +42,4 @@ impl State {
     pub const ROWS: usize = 1024;
 
     pub const SCHEMES: usize = 16;
-
-    // The bytes of the largest table: ten a frame, with the header's.
-    pub const TABLE: usize = 10 * (1 + State::SCHEMES + State::LABELS + State::ROWS);
 }

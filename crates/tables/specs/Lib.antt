@@ -1,2 +1,3 @@
 pub mod Prepare
 pub mod Table
+pub mod Labels

@@ -1,12 +1,17 @@
 -- An image prepared for ticks: its table, and in the frame of each label where the rows of that label begin.
 use Prim.Native.Nat.{ℕ, zero, suc, _+_, _*_, _-_, _/_, _%_}
 use mathlib.Core.Bool.{Bool}
+use mathlib.Core.Path.{_≡_}
 use mathlib.Core.List.{List}
 use lib.Dec.{leb}
 use lib.ListN.{set}
 use Rattle.lists.specs.Numbers.{lowest}
+use Rattle.lists.specs.Sequences.{over}
 use Rattle.frames.specs.Frame.{size, field, contents}
-use Rattle.frames.specs.Answer.{Lent, lent}
+use Rattle.frames.specs.Verdict.{fine, refused}
+use Rattle.frames.specs.Read.{readInto}
+use Rattle.frames.specs.Answer.{Lent, lent, reply, judged}
+use Rattle.frames.specs.declared.Answer.{Answer}
 use Rattle.image.specs.Decode.{lastLabel, labelsFrom, rowsFrom}
 use Rattle.image.specs.Check.{imageVerdict}
 
@@ -28,3 +33,11 @@ noted b = notedTo b (lastLabel b + 1)
 -- the whole entry: what the image check tries, then 16; counts bytes
 unfoldable pub prepare : List ℕ → List ℕ → Lent
 prepare t old = lent (imageVerdict t) 1 (λ _. noted (contents t)) old
+
+-- what a buffer with room for any table holds after it: the table in front where the text is accepted, and else what was read
+unfoldable pub preparedInto : List ℕ → List ℕ → List ℕ
+preparedInto t old = elim (imageVerdict t) [ fine ↦ over (noted (contents t)) old | refused k i ↦ readInto 29831 t old ]
+
+pub record Prepares (t old : List ℕ) (answer : Answer) (after : List ℕ) : Type 0 where
+  pub answered : reply answer ≡ judged (imageVerdict t) 0
+  pub written : after ≡ preparedInto t old

@@ -1,13 +1,15 @@
 -- The image that any bytes hold when they are taken for a prepared table; refusal 11 of such bytes.
 use Prim.Native.Nat.{ℕ, zero, suc, _+_, _*_, _-_, min}
-use mathlib.Core.Bool.{Bool, _||_}
+use mathlib.Core.Bool.{Bool, false, _||_}
+use mathlib.Core.Path.{_≡_}
 use mathlib.Core.List.{List, map}
-use lib.Dec.{ltb}
+use lib.Dec.{ltb, eqb}
+use lib.ListN.{length, take}
 use Rattle.lists.specs.Pick.{pick}
 use Rattle.lists.specs.Numbers.{range}
 use Rattle.lists.specs.Sequences.{concatMap}
 use Rattle.frames.specs.Frame.{size, field, pairAt}
-use Rattle.image.specs.Image.{Image, Label, Row, homeLabel, returnLabel}
+use Rattle.image.specs.Image.{Image, Label, Row, noLabel, homeLabel, returnLabel}
 use Rattle.image.specs.Decode.{schemeCount, lastLabel, rowCount, labelsFrom, rowsFrom, entryIn, labelIn}
 use Rattle.image.specs.Check.{badCounts}
 
@@ -31,6 +33,10 @@ labelOn b (suc (suc l)) = let x = labelIn b (suc (suc l)) in record {
   mask = x .mask;
 }
 
+-- label l of the image; one above M holds nothing
+abbrev pub labelOf : List ℕ → ℕ → Label
+labelOf b l = pick (ltb (lastLabel b) l) noLabel (labelOn b l)
+
 -- the rows of label l stand from the frame noted in its own frame up to the one noted in the next label's, and within the table
 abbrev pub firstOn : List ℕ → ℕ → ℕ
 firstOn b l = pairAt b (labelsFrom b + l) 0
@@ -38,8 +44,15 @@ firstOn b l = pairAt b (labelsFrom b + l) 0
 abbrev pub endOn : List ℕ → ℕ → ℕ
 endOn b l = pick (ltb l (lastLabel b)) (min (firstOn b (l + 1)) (tableEnd b)) (tableEnd b)
 
+-- the function bit counts only in the rows of a label that calls a function
 abbrev pub rowOn : List ℕ → ℕ → ℕ → Row
-rowOn b l f = record { from = l; care = pairAt b f 2; values = pairAt b f 4; bit = field b f 6; next = field b f 7 }
+rowOn b l f = record {
+  from = l;
+  care = pairAt b f 2;
+  values = pairAt b f 4;
+  bit = pick (eqb (labelOf b l .kind) 2) (field b f 6) 2;
+  next = field b f 7;
+}
 
 abbrev pub rowsOn : List ℕ → ℕ → List Row
 rowsOn b l = let f = firstOn b l in map (rowOn b l) (range f (endOn b l - f))
@@ -50,3 +63,16 @@ tableImage b = record {
   labels = map (labelOn b) (range 0 (lastLabel b + 1));
   rows = concatMap (rowsOn b) (range 2 (lastLabel b - 1));
 }
+
+-- ---- what the functions on a table ask and read
+-- the table without what stands behind it
+abbrev pub front : List ℕ → List ℕ
+front b = take (10 * tableEnd b) b
+
+pub record Whole (b : List ℕ) : Type 0 where
+  pub counts : badCounts b ≡ false
+  pub alone : length b ≡ 10 * tableEnd b
+
+-- the entry of scheme h, which counts as 1 where it is 0
+abbrev pub entryOf : List ℕ → ℕ → ℕ
+entryOf b h = entryIn b (suc (h - 1))

@@ -1,1 +1,28 @@
-// Tables prepared for ticks: an image checked and decoded once, with the place of each label's rows noted in it.
+// Tables prepared for ticks: an image checked and decoded once, with the place of each label's rows noted in it, and what such a table holds.
+mod entry;
+mod header;
+mod labels;
+mod noting;
+
+pub use entry::prepare;
+pub use entry::prepare_table;
+pub use header::bad_table;
+pub use header::table_length;
+pub use labels::entry_of;
+pub use labels::kind_read;
+pub use labels::label_of;
+pub use labels::label_read;
+pub use labels::last_label;
+pub use labels::mask_read;
+
+// A label as the machine reads it.
+pub struct Label {
+    pub kind: u8,
+    pub called: u8,
+    pub owner: u8,
+    pub result: u8,
+    pub mask: u32,
+}
+
+// The bytes of the largest table: ten a frame, of the header, 16 entries, 256 labels and 1,024 rows.
+pub const LARGEST: usize = 12970;

@@ -18,10 +18,10 @@ use Rattle.charts.specs.Check.{chartVerdict}
 use Rattle.charts.specs.Entry.{readVerdict, readChart}
 use Rattle.charts.proofs.Accepted.{Accepted, accepted, accepted-bytes}
 use Rattle.image.specs.Image.{imageText}
-use Rattle.translator.specs.Rows.{rows}
+use Rattle.chart_rows.specs.Rows.{rows}
 use Rattle.translator.specs.Table.{table}
 use Rattle.translator.specs.Entry.{translateVerdict, translate}
-use Rattle.translator.specs.Ready.{Ready}
+use Rattle.chart_labels.specs.Ready.{Ready}
 use Rattle.translator.specs.Parts.{imageLent}
 
 -- a refusal with room for all of it is the verdict's, and counts 0

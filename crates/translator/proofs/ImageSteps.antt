@@ -26,15 +26,19 @@ use Rattle.frames.proofs.Chains.{when-holds, when-fails}
 use Rattle.frames.proofs.Lent.{lent-refused, lent-short, lent-done}
 use Rattle.charts.specs.Chart.{Chart, schemes}
 use Rattle.image.specs.Image.{Row, entryFrame, labelFrame, rowFrame, imageFrames, imageText}
-use Rattle.translator.specs.Labels.{numbered, label, entry, homeLabel, returnLabel, labelOf, numberedNodes}
-use Rattle.translator.specs.Rows.{rows}
+use Rattle.chart_labels.specs.Labels.{numbered, label, entry, homeLabel, returnLabel, labelOf, numberedNodes}
+use Rattle.chart_rows.specs.Rows.{rows}
 use Rattle.translator.specs.Table.{table}
-use Rattle.translator.specs.Parts.{rowsText, nodeRows, headerText, entryText, fixedText, nodeLabelText, nodeRowsText, upTo, imageLent}
-use Rattle.translator.specs.Ready.{Ready, Charted, Sizes}
+use Rattle.row_text.specs.Parts.{rowsText, nodeRowsText}
+use Rattle.translator.specs.Parts.{imageLent}
+use Rattle.chart_rows.specs.Parts.{nodeRows}
+use Rattle.label_text.specs.Parts.{headerText, entryText, fixedText, nodeLabelText, upTo}
+use Rattle.chart_labels.specs.Ready.{Ready, Charted}
+use Rattle.translator.specs.Ready.{Sizes}
 use Rattle.translator.proofs.LabelLaws.{length-labels, length-entries}
-use Rattle.translator.proofs.LabelSteps.{label-own, labelled}
-use Rattle.translator.proofs.RowSteps.{below-all}
-use Rattle.translator.proofs.PutSteps.{rows-append}
+use Rattle.chart_labels.proofs.LabelSteps.{label-own, labelled}
+use Rattle.chart_rows.proofs.RowSteps.{below-all}
+use Rattle.row_text.proofs.RowPuts.{rows-append}
 
 from-cons : {A B : Type 0} (f : ℕ → A → B) (i : ℕ) (x : A) (xs : List A) → mapFrom f i (x ∷ xs) ≡ f i x ∷ mapFrom f (suc i) xs
 unfolding mapFrom

@@ -17,8 +17,8 @@ use Rattle.charts.specs.Chart.{Chart, kind, scheme, is, schemes, begin, end}
 use Rattle.walk.specs.Stops.{stops}
 use Rattle.walk.proofs.Facts.{Facts}
 use Rattle.image.proofs.Sound.{noLabel, nthLabel}
-use Rattle.translator.specs.Labels.{numbered, numberedNodes, label, entry, homeLabel, returnLabel, labelOf}
-use Rattle.translator.specs.Rows.{rows}
+use Rattle.chart_labels.specs.Labels.{numbered, numberedNodes, label, entry, homeLabel, returnLabel, labelOf}
+use Rattle.chart_rows.specs.Rows.{rows}
 use Rattle.translator.specs.Table.{table}
 
 module _ (c : Chart) where

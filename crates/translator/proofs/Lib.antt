@@ -2,14 +2,6 @@ pub mod LabelLaws
 pub mod SoundRows
 pub mod SoundTable
 pub mod Translated
-pub mod ReadyLaws
-pub mod NodeSteps
-pub mod LabelSteps
-pub mod PathSteps
-pub mod Settled
-pub mod PathCases
-pub mod RowSteps
-pub mod PutSteps
 pub mod ImageSteps
 pub mod Matching
 pub mod RowLaws

@@ -24,8 +24,8 @@ use Rattle.charts.proofs.Rank.{rank, rank-some}
 use Rattle.walk.specs.Stops.{stops, follow}
 use Rattle.walk.proofs.Follow.{goes-on, follow-stays, follow-goes, takes-0, takes-1, condition-arc0, condition-arc1, taken-end, taken-falls}
 use Rattle.image.specs.Image.{Row}
-use Rattle.translator.specs.Labels.{label}
-use Rattle.translator.specs.Rows.{paths}
+use Rattle.chart_labels.specs.Labels.{label}
+use Rattle.chart_rows.specs.Rows.{paths}
 
 -- a row of label l that matches word w and bit b
 abbrev pub matching : ℕ → ℕ → ℕ → Row → Bool

@@ -26,8 +26,8 @@ use Rattle.walk.specs.Stops.{stops, byArc, byWord}
 use Rattle.walk.proofs.Follow.{stops-other, stops-condition, stops-begin, follow-condition, takes-0, takes-1}
 use Rattle.image.specs.Image.{Row}
 use Rattle.image.proofs.Sound.{noRow}
-use Rattle.translator.specs.Labels.{numbered, label}
-use Rattle.translator.specs.Rows.{paths, rowsOf, rows}
+use Rattle.chart_labels.specs.Labels.{numbered, label}
+use Rattle.chart_rows.specs.Rows.{paths, rowsOf, rows}
 use Rattle.translator.proofs.LabelLaws.{labels-apart}
 use Rattle.translator.proofs.Matching.{matching, targets, targets-concat, in-first, in-second, paths-none, paths-miss, paths-hit}
 

@@ -25,8 +25,8 @@ use Rattle.walk.proofs.Facts.{Facts, Target}
 use Rattle.walk.proofs.Follow.{goes-on}
 use Rattle.image.specs.Image.{Label, Row}
 use Rattle.image.proofs.Sound.{noRow, nthLabel, endOf, Reaches, SoundRow}
-use Rattle.translator.specs.Labels.{numbered, numberedNodes, label, labelOf}
-use Rattle.translator.specs.Rows.{paths, rowsOf, rows}
+use Rattle.chart_labels.specs.Labels.{numbered, numberedNodes, label, labelOf}
+use Rattle.chart_rows.specs.Rows.{paths, rowsOf, rows}
 use Rattle.translator.specs.Table.{table}
 use Rattle.translator.proofs.LabelLaws.{label-is, label-low, label-inside, label-holds, labels-two}
 

@@ -21,8 +21,8 @@ use Rattle.image.specs.Check.{imageVerdict}
 use Rattle.image.proofs.Sound.{noLabel, noRow, nthLabel, Reaches, SoundLabel, SoundRow, Sound}
 use Rattle.image.proofs.Decoded.{image-decoded}
 use Rattle.image.proofs.Passes.{image-fine}
-use Rattle.translator.specs.Labels.{numbered, numberedNodes, labelOf}
-use Rattle.translator.specs.Rows.{rows}
+use Rattle.chart_labels.specs.Labels.{numbered, numberedNodes, labelOf}
+use Rattle.chart_rows.specs.Rows.{rows}
 use Rattle.translator.specs.Table.{table}
 use Rattle.translator.proofs.LabelLaws.{label-home, label-return, labels-two, labels-few, length-entries, entry-holds, rows-are}
 use Rattle.translator.proofs.SoundRows.{label-reaches, numbered-nodes, rows-sound, rows-rising}

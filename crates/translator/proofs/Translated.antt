@@ -15,7 +15,7 @@ use Rattle.frames.proofs.Verdicts.{next-first, next-rest, when-fine}
 use Rattle.frames.proofs.Lent.{Success, lent-told, front}
 use Rattle.charts.specs.Entry.{readVerdict}
 use Rattle.image.specs.Image.{imageText}
-use Rattle.translator.specs.Rows.{rows}
+use Rattle.chart_rows.specs.Rows.{rows}
 use Rattle.translator.specs.Table.{table}
 use Rattle.translator.specs.Entry.{translateVerdict, translate}
 

@@ -8,7 +8,7 @@ use Rattle.frames.specs.Verdict.{Verdict, next, when}
 use Rattle.frames.specs.Answer.{Lent, lent}
 use Rattle.charts.specs.Entry.{readVerdict}
 use Rattle.image.specs.Image.{imageText}
-use Rattle.translator.specs.Rows.{rows}
+use Rattle.chart_rows.specs.Rows.{rows}
 use Rattle.translator.specs.Table.{table}
 
 -- 1 to 10, and 16

@@ -3,8 +3,8 @@ use mathlib.Core.List.{_∷_, map}
 use Rattle.lists.specs.Numbers.{range}
 use Rattle.charts.specs.Chart.{Chart, schemes}
 use Rattle.image.specs.Image.{Image}
-use Rattle.translator.specs.Labels.{entry, homeLabel, returnLabel, labelOf, numberedNodes}
-use Rattle.translator.specs.Rows.{rows}
+use Rattle.chart_labels.specs.Labels.{entry, homeLabel, returnLabel, labelOf, numberedNodes}
+use Rattle.chart_rows.specs.Rows.{rows}
 
 unfoldable pub table : Chart → Image
 table c = record {

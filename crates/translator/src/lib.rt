@@ -1,11 +1,5 @@
-// The table of a chart: labels, entries and rows in the order of the marking method.
+// The translator: the whole image of a chart, behind the refusals; its proofs have the laws of the table.
 mod entry;
-mod labels;
-mod nodes;
-mod paths;
-mod put_labels;
-mod put_rows;
-mod rows;
 mod table;
 
 pub use entry::translate;

@@ -1,20 +1,21 @@
 // The image of an accepted chart: 10 and 16 are settled before anything is written.
-use crate::labels::label_nodes;
-use crate::put_labels::put_entries;
-use crate::put_labels::put_fixed;
-use crate::put_labels::put_header;
-use crate::put_labels::put_labels;
-use crate::put_rows::put_rows;
-use crate::rows::count_rows;
+use chart_labels::label_nodes;
+use chart_rows::count_rows;
 use frames::Answer;
 use frames::refused;
+use label_text::put_entries;
+use label_text::put_fixed;
+use label_text::put_header;
+use label_text::put_labels;
+use row_text::put_rows;
 ghost use mathlib.Core.Path.{_≡_};
 ghost use Rattle.lists.specs.Sequences.{written};
 ghost use Rattle.frames.specs.Answer.{Lends};
 ghost use Rattle.charts.specs.Chart.{schemes};
 ghost use Rattle.image.specs.Image.{imageText};
 ghost use Rattle.translator.specs.Table.{table};
-ghost use Rattle.translator.specs.Ready.{Ready, ImageRoom};
+ghost use Rattle.chart_labels.specs.Ready.{Ready};
+ghost use Rattle.translator.specs.Ready.{ImageRoom};
 ghost use Rattle.translator.specs.Parts.{imageLent};
 
 // `own` nodes have a label of their own, and there are `total` rows.

@@ -1,46 +1,32 @@
--- `machine::runs::run_table` meets its contract: 15 and 16 in turn, then the ticks.
-use native.Mathlib.Omega.{arith}
-use mathlib.Core.Bool.{false}
-use mathlib.Core.Path.{_≡_, sym, _∙_}
-use lib.ListN.{length}
-use Rattle.image.specs.Decode.{decoded}
-use Rattle.state.specs.State.{unfit}
-use Rattle.machine.proofs.RowCases.{rows-inside}
-use Rattle.machine.proofs.RunCases.{room-enough, unfit-runs, room-short}
+-- `machine::runs::run_table` meets its contract: 15 and 16 in turn, then what the ticks leave.
 use borrow.Author.Needs.{needs}
+use mathlib.Core.Path.{refl, sym, _∙_}
+use Rattle.machine.proofs.RunCases.{room-enough, unfit-answer, short-answer, ran-answer, done-replied, stopped-replied, fits-stands}
 use Rattle.machine.proofs.runs.run_table.Statement.{statement}
 use Rattle.machine.proofs.runs.run_table.Tie as tie
 
--- ---- the stages: the table is known, the state is tested, then the room
-abbrev known : tie.After-is-unfit → tie.After-shared-slice-known
-known c = c .before .before .before .before
-
+-- ---- the stages: fitness is tried, then the room, then the ticks are made
 abbrev start : tie.After-is-unfit → tie.Start
-start c = known c .before
+start c = c .before .before .before .before .before .before
 
-abbrev tested : tie.After-no-room → tie.After-is-unfit
-tested c = c .before .before .before .before
+abbrev fit : tie.After-no-room → tie.After-is-unfit
+fit c = c .before .before .before .before
 
-whole : (c : tie.Start) → length (c .args .state .places) ≡ 32
-whole c = search needs
+abbrev room : tie.After-tick-all → tie.After-no-room
+room c = c .before .before .before .before .before
 
-all-bits : (c : tie.Start) → length (c .args .state .bits) ≡ 16
-all-bits c = search needs
-
-fits : (c : tie.After-no-room) → let a = start (tested c) .args in unfit (decoded (a .table .now)) (a .state) ≡ false
-fits c = sym (tested c .is-unfit .ensures) ∙ c .before .before .before .if1 .left
+abbrev ticked : tie.After-tidy-results → tie.After-tick-all
+ticked c = c .before .before .before .before .before .before
 
 -- ---- the needs
 is-unfit-requires : tie.Need-is-unfit-requires
-is-unfit-requires c κs = let first = c .before .before .before .before in rows-inside (first .args .table .now) (first .pre)
+is-unfit-requires c κs = c .before .before .before .before .before .pre
 
 refused-requires : tie.Need-refused-requires
 refused-requires c κs = search needs
 
 returns : tie.Need-returns
-returns c =
-    let state = c .before .before in
-    unfit-runs _ _ _ _ _ (sym (state .is-unfit .ensures) ∙ c .before .if1 .taken) _ (c .refused .ensures)
+returns c = unfit-answer _ _ _ _ _ _ (c .before .before .is-unfit .ensures) (c .before .if1 .taken) _ (c .refused .ensures)
 
 no-room-requires : tie.Need-no-room-requires
 no-room-requires c κs = search needs
@@ -56,23 +42,22 @@ same-length-2 c = search needs
 
 returns-2 : tie.Need-returns-2
 returns-2 c =
-    let room = c .before .before in
-    room-short _ _ _ _ _ (fits room) (sym (room .no-room .ensures) ∙ c .before .if2 .taken) _ (c .refused2 .ensures)
+    let r = c .before .before in
+    let f = fit r in
+    short-answer _ _ _ _ _ _ (f .is-unfit .ensures) (r .before .before .before .if1 .left) _ (r .no-room .ensures) (c .before .if2 .taken) _
+    (c .refused2 .ensures)
 
-run-ticks-requires : tie.Need-run-ticks-requires
-run-ticks-requires c κs =
-    let room = c .before .before .before in
-    let first = start (tested room) in
-    let enough = sym (room .no-room .ensures) ∙ c .before .before .if2 .left in (
-      record {
-        bytes = λ k. omega (arith, known (tested room) .shared-slice-known .given k);
-        accepted = first .pre;
-        fits = fits room;
-        places = whole first;
-        bits = all-bits first;
-      },
-      room-enough _ _ _ enough,
-    )
+tick-all-requires : tie.Need-tick-all-requires
+tick-all-requires c κs =
+    let r = c .before .before .before .before in
+    let f = fit r in
+    record {
+      stands = fits-stands _ _ (start f .pre) (sym (f .is-unfit .ensures) ∙ r .before .before .before .if1 .left);
+      room = room-enough _ _ _ (sym (r .no-room .ensures) ∙ c .before .before .before .if2 .left);
+    }
+
+tidy-results-requires : tie.Need-tidy-results-requires
+tidy-results-requires c κs = search needs
 
 same-length-3 : tie.Need-same-length-3
 same-length-3 c = search needs
@@ -81,7 +66,30 @@ same-length-4 : tie.Need-same-length-4
 same-length-4 c = search needs
 
 returns-3 : tie.Need-returns-3
-returns-3 c = search needs
+returns-3 c =
+    let tidy = c .before in
+    let done = ticked tidy in
+    let r = room done in
+    let f = fit r in
+    ran-answer _ _ _ _ _ _ (f .is-unfit .ensures) (r .before .before .before .if1 .left) _ (r .no-room .ensures)
+    (done .before .before .before .before .if2 .left) (done .tick-all .result) _ _ _ _ (done .tick-all .ensures) (tidy .tidy-results .ensures) _
+    (done-replied _ _ (c .if3 .taken))
+
+same-length-5 : tie.Need-same-length-5
+same-length-5 c = search needs
+
+same-length-6 : tie.Need-same-length-6
+same-length-6 c = search needs
+
+returns-4 : tie.Need-returns-4
+returns-4 c =
+    let tidy = c .before in
+    let done = ticked tidy in
+    let r = room done in
+    let f = fit r in
+    ran-answer _ _ _ _ _ _ (f .is-unfit .ensures) (r .before .before .before .if1 .left) _ (r .no-room .ensures)
+    (done .before .before .before .before .if2 .left) (done .tick-all .result) _ _ _ _ (done .tick-all .ensures) (tidy .tidy-results .ensures) _
+    (stopped-replied _ _ (c .if3 .left))
 
 pub run-table-spec : {M : Type 1} → statement M
 run-table-spec =
@@ -95,7 +103,11 @@ run-table-spec =
     same-length
     same-length-2
     returns-2
-    run-ticks-requires
+    tick-all-requires
+    tidy-results-requires
     same-length-3
     same-length-4
-    returns-3)
+    returns-3
+    same-length-5
+    same-length-6
+    returns-4)

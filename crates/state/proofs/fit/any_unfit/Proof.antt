@@ -1,20 +1,27 @@
 -- `state::fit::any_unfit` meets its contract: the loop keeps what is left to look at.
 use mathlib.Core.Path.{_≡_, sym, _∙_}
 use Prim.Native.Nat.{_-_, _≤_}
-use borrow.Author.Needs.{needs}
 use native.Mathlib.Nat.{sub-zero}
 use Rattle.lists.specs.Numbers.{any}
 use Rattle.lists.proofs.Searches.{any-here, any-on, any-over}
-use Rattle.image.specs.Decode.{decoded}
+use Rattle.tables.specs.Table.{tableImage}
 use Rattle.state.specs.State.{unfitPlace}
+use Rattle.state.specs.Bytes.{stateOf}
+use borrow.Author.Needs.{needs}
 use Rattle.state.proofs.fit.any_unfit.Statement.{statement}
 use Rattle.state.proofs.fit.any_unfit.Tie as tie
 
 abbrev Inv-loop : tie.InvT-loop
-Inv-loop table s depth k₀ k = (k ≤ s .depth) × (any (unfitPlace (decoded table) s) k (s .depth - k) ≡ any (unfitPlace (decoded table) s) 0 (s .depth))
+Inv-loop table bytes depth k₀ k =
+    let p = unfitPlace (tableImage table) (stateOf bytes) in
+    let n = stateOf bytes .depth in
+    (k ≤ n) × (any p k (n - k) ≡ any p 0 n)
 
 abbrev μ-loop : tie.MeasureT-loop
-μ-loop table s depth k₀ k = s .depth - k
+μ-loop table bytes depth k₀ k = stateOf bytes .depth - k
+
+depth-of-requires : tie.Need-depth-of-requires Inv-loop μ-loop
+depth-of-requires c κs = search needs
 
 cast-depth : tie.Need-cast-depth Inv-loop μ-loop
 cast-depth c = search needs
@@ -37,8 +44,7 @@ loop-less c = search needs
 loop-again : tie.Need-loop-again Inv-loop μ-loop
 loop-again c = (
   search needs,
-  sym (any-on _ _ _ (search needs) (sym (c .before .unfit-place .ensures) ∙ c .if1 .left))
-      ∙ c .before .before .before .loop .inv .1,
+  sym (any-on _ _ _ (search needs) (sym (c .before .unfit-place .ensures) ∙ c .if1 .left)) ∙ c .before .before .before .loop .inv .1,
 )
 
 returns-2 : tie.Need-returns-2 Inv-loop μ-loop
@@ -50,6 +56,7 @@ any-unfit-spec =
     (tie.spec
     Inv-loop
     μ-loop
+    depth-of-requires
     cast-depth
     loop-holds
     unfit-place-requires

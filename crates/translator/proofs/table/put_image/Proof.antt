@@ -1,8 +1,8 @@
 -- `translator::put_image`: header, entries, labels 0 and 1, the other labels, rows, each where the one before ends.
 use mathlib.Core.Path.{_≡_, _∙_}
 use lib.ListN.{length}
-use Rattle.translator.proofs.ReadyLaws.{ready-facts}
-use Rattle.translator.proofs.LabelSteps.{few-numbered}
+use Rattle.chart_labels.proofs.ReadyLaws.{ready-facts}
+use Rattle.chart_labels.proofs.LabelSteps.{few-numbered}
 use Rattle.translator.proofs.ImageSteps.{labels-long, rows-long, image-done}
 use native.Mathlib.Omega.{arith}
 use borrow.Author.Needs.{needs}

@@ -1,7 +1,7 @@
 -- `translator::write_image`: 10 by the count, 16 by the size, else the whole image.
 use Prim.Native.Nat.{_+_, _≤_}
-use Rattle.translator.proofs.ReadyLaws.{ready-facts}
-use Rattle.translator.proofs.LabelSteps.{few-numbered}
+use Rattle.chart_labels.proofs.ReadyLaws.{ready-facts}
+use Rattle.chart_labels.proofs.LabelSteps.{few-numbered}
 use Rattle.translator.proofs.ImageSteps.{image-many, image-short, image-fits, sizes, charted-local}
 use native.Mathlib.Omega.{arith}
 use borrow.Author.Needs.{needs}

@@ -1,0 +1,123 @@
+-- One call from C of any kind that meets its contract hands back what a run on the image's text does, and leaves bytes that hold its state.
+use Prim.Native.Nat.{ℕ}
+use mathlib.Core.Path.{_≡_, refl, sym, _∙_, ap, ap₂, subst}
+use mathlib.Core.List.{List, [], _∷_}
+use native.Mathlib.Omega.{arith}
+use lib.Dec.{eqb}
+use lib.ListN.{take}
+use borrow.Author.Tests.{ne-eqb}
+use Rattle.lists.proofs.Tests.{no-pick}
+use Rattle.frames.specs.Frame.{contents}
+use Rattle.frames.specs.Verdict.{Verdict, fine, refused, when}
+use Rattle.frames.specs.Answer.{refusal, success}
+use Rattle.frames.proofs.Refuses.{Refuses, next-refuses, when-refuses}
+use Rattle.image.specs.Decode.{decoded}
+use Rattle.image.specs.Check.{imageVerdict}
+use Rattle.tables.specs.Prepare.{prepare}
+use Rattle.state.specs.declared.State.{State}
+use Rattle.state.specs.State.{unfit}
+use Rattle.state.specs.Bytes.{stateOf, bytesOf}
+use Rattle.machine.specs.Tick as machine
+use Rattle.machine.specs.Run.{Run, runVerdict, run}
+use Rattle.machine.specs.Advance.{Advance, advance}
+use Rattle.machine.specs.InPlace.{bytesAfter, ifTicked}
+use Rattle.machine.proofs.Normal.{Normal, tick-normal}
+use Rattle.machine.proofs.Held.{run-held, tick-held}
+use Rattle.machine.proofs.OneTick as one
+use Rattle.machine.proofs.Live.{Prepared, live-run-is, live-tick-is}
+use Rattle.fairleadow.specs.Calls.{LendsC, runFor, RunsC, tickFor, AdvancesC}
+use Rattle.agreement.specs.Agreement.{Asked, told}
+use Rattle.agreement.specs.Calls.{oneWord}
+use Rattle.agreement.specs.ForC.{ToldC, toldC, toldTickC, TableOfC, prepared, CallC, ran, ranLive, ticked, tickedLive}
+use Rattle.agreement.proofs.Numbers.{Positive, image-positive, prepare-success}
+use Rattle.agreement.proofs.OneCall.{prepared-holds, runAsked}
+
+-- ---- a run of one word where the places for its mask and its code held m₀ and k₀: a refused tick leaves them
+abbrev ranOver : ℕ → ℕ → Advance → Run
+ranOver m₀ k₀ x =
+    record { reply = x .reply; state = x .state; masks = ifTicked x (x .mask) m₀ ∷ []; codes = ifTicked x (x .code) k₀ ∷ [] }
+
+module _ (s : State) (m₀ k₀ : ℕ) where
+  none-made : (n i : ℕ) → (n ≡ 0 → ⊥) → _≡_ {A = Run} (record { reply = refusal n i 0; state = s; masks = m₀ ∷ []; codes = k₀ ∷ [] })
+      (ranOver m₀ k₀ (record { reply = refusal n i 0; mask = 0; code = 0; state = s }))
+  none-made n i h =
+      ap₂ (λ (m k : ℕ). record { reply = refusal n i 0; state = s; masks = m ∷ []; codes = k ∷ [] })
+      (sym (no-pick (eqb n 0) 0 m₀ (ne-eqb n 0 h))) (sym (no-pick (eqb n 0) 0 k₀ (ne-eqb n 0 h)))
+
+  over-by : (v : Verdict) (d : machine.Ticked) → Refuses Positive v → Normal s d → one.oneWord s m₀ k₀ v d ≡ ranOver m₀ k₀ (one.advanceBy s v d)
+  over-by (refused n i) d v-high d-high = none-made n i (λ e. omega arith)
+  over-by fine (machine.stopped n) v-high d-high = none-made n 0 (λ e. omega arith)
+  over-by fine (machine.ticked m k s′) v-high d-high = refl
+
+  run-over : (t : List ℕ) (w : ℕ) → run t s (w ∷ []) (m₀ ∷ []) (k₀ ∷ []) ≡ ranOver m₀ k₀ (advance t s w)
+  run-over t w =
+      let i = decoded (contents t) in
+      one.run-one t s w m₀ k₀
+      ∙ over-by (one.tried t s) (machine.tick i s w)
+      (next-refuses Positive (imageVerdict t) _ (image-positive t) (when-refuses Positive 15 (unfit i s) (omega arith))) (tick-normal i s w)
+      ∙ sym (ap (ranOver m₀ k₀) (one.advance-by t s w))
+
+-- ---- one call
+pub record LikeC (image bytes : List ℕ) (a : Asked) (t : ToldC) (after : List ℕ) : Type 0 where
+  pub told-is : t ≡ toldC (told (runAsked image (stateOf bytes) a))
+  pub state-is : stateOf after ≡ runAsked image (stateOf bytes) a .state
+
+module _ (image bytes : List ℕ) where
+  -- after a run and after a tick the bytes hold the state that it hands back
+  ran-holds : (a : Asked) → stateOf (bytesAfter bytes (runAsked image (stateOf bytes) a)) ≡ runAsked image (stateOf bytes) a .state
+  unfolding run
+  ran-holds a = let ws : List ℕ = a .words in let ms : List ℕ = a .masks in let ks : List ℕ = a .codes in
+      run-held bytes (decoded (contents image)) ws ms ks (runVerdict image (stateOf bytes) ws ms ks)
+
+  ticked-holds : (w : ℕ) → let x = tickFor image bytes w in stateOf (ifTicked x (bytesOf (x .state)) bytes) ≡ x .state
+  unfolding advance run
+  ticked-holds w = tick-held bytes (decoded (contents image)) w (runVerdict image (stateOf bytes) (w ∷ []) (0 ∷ []) (0 ∷ []))
+
+  run-like : (a : Asked) {x : Run} {t : ToldC} {after : List ℕ} → x ≡ runAsked image (stateOf bytes) a
+      → RunsC x bytes (t .number) (t .index) (t .count) after (t .masks) (t .codes) → LikeC image bytes a t after
+  run-like a {x} {t} {after} e d =
+      let c : RunsC (runAsked image (stateOf bytes) a) bytes (t .number) (t .index) (t .count) after (t .masks) (t .codes) =
+      subst (λ (y : Run). RunsC y bytes (t .number) (t .index) (t .count) after (t .masks) (t .codes)) e d in
+      record {
+        told-is = λ j. record {
+          number = c .told .number-is j;
+          index = c .told .index-is j;
+          count = c .told .count-is j;
+          masks = c .masks j;
+          codes = c .codes j;
+        };
+        state-is = ap stateOf (c .bytes) ∙ ran-holds a;
+      }
+
+  tick-like : (w : ℕ) {x : Advance} {m₀ k₀ returned at made m k : ℕ} {after : List ℕ} → x ≡ tickFor image bytes w
+      → AdvancesC x bytes m₀ k₀ returned at made after m k
+      → LikeC image bytes (oneWord w m₀ k₀) (toldTickC returned at made m k) after
+  tick-like w {x} {m₀} {k₀} {returned} {at} {made} {m} {k} {after} e d =
+      let c : AdvancesC (tickFor image bytes w) bytes m₀ k₀ returned at made after m k =
+      subst (λ (y : Advance). AdvancesC y bytes m₀ k₀ returned at made after m k) e d in
+      let one-run : Run = ranOver m₀ k₀ (tickFor image bytes w) in
+      let same : run image (stateOf bytes) (w ∷ []) (m₀ ∷ []) (k₀ ∷ []) ≡ one-run = run-over (stateOf bytes) m₀ k₀ image w in
+      let made-is : toldTickC returned at made m k ≡ toldC (told one-run) =
+      λ j. record {
+        number = c .told .number-is j;
+        index = c .told .index-is j;
+        count = c .told .count-is j;
+        masks = c .mask j ∷ [];
+        codes = c .code j ∷ [];
+      } in
+      record {
+        told-is = made-is ∙ sym (ap (λ (y : Run). toldC (told y)) same);
+        state-is = ap stateOf (c .bytes) ∙ ticked-holds w ∙ sym (ap (λ (y : Run). y .state) same);
+      }
+
+  -- a call of fairleadow_prepare that returned 0 succeeded with the count that it wrote
+  table-prepared : {table : List ℕ} → TableOfC image table → Prepared image table
+  table-prepared (prepared before after at n c k h) =
+      subst (λ (b : List ℕ). Prepared image (take k b)) (sym (c .written))
+      (prepared-holds image before n (prepare-success image before (sym (c .told .number-is)) ∙ ap success (sym (c .told .count-is))) k h)
+
+  pub call-like : {a : Asked} {t : ToldC} {after : List ℕ} → CallC image bytes a t after → LikeC image bytes a t after
+  call-like (ran {a = a} c) = run-like a refl c
+  call-like (ranLive {a = a} t c) = run-like a (live-run-is (table-prepared t) (stateOf bytes) (a .words) (a .masks) (a .codes)) c
+  call-like (ticked {w = w} c) = tick-like w refl c
+  call-like (tickedLive {w = w} t c) = tick-like w (live-tick-is (table-prepared t) (stateOf bytes) w) c

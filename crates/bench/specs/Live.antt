@@ -1,0 +1,59 @@
+-- Cases of prepared tables and of live ticks: on the table of chart P, and on that table damaged.
+use Prim.Native.Nat.{ℕ, _+_, _*_}
+use mathlib.Core.Path.{_≡_}
+use mathlib.Core.List.{List, [], _∷_, _++_}
+use lib.ListN.{replicate, set, take}
+use Rattle.frames.specs.Frame.{contents}
+use Rattle.frames.specs.Answer.{success, refusal}
+use Rattle.image.specs.Decode.{decoded}
+use Rattle.tables.specs.Prepare.{prepare}
+use Rattle.tables.specs.Table.{tableImage}
+use Rattle.state.specs.declared.State.{State}
+use Rattle.machine.specs.Advance.{Advance}
+use Rattle.machine.specs.Live.{liveTick}
+use Rattle.bench.specs.Bench.{imageP}
+use Rattle.bench.specs.Cases.{stateOf, changedImage}
+
+-- the table of chart P: header, entries, labels with the first frames of their rows, rows
+unfoldable pub tableP : List ℕ
+tableP =
+    15 ∷ 2 ∷ 4 ∷ 0 ∷ 4 ∷ 0 ∷ 0 ∷ 0 ∷ 0 ∷ 0
+    ∷ 16 ∷ 1 ∷ 2 ∷ 0 ∷ 0 ∷ 0 ∷ 0 ∷ 0 ∷ 0 ∷ 0
+    ∷ 16 ∷ 2 ∷ 3 ∷ 0 ∷ 0 ∷ 0 ∷ 0 ∷ 0 ∷ 0 ∷ 0
+    ∷ 0 ∷ 8 ∷ 4 ∷ 0 ∷ 1 ∷ 0 ∷ 0 ∷ 0 ∷ 0 ∷ 0
+    ∷ 0 ∷ 8 ∷ 3 ∷ 0 ∷ 0 ∷ 0 ∷ 0 ∷ 0 ∷ 0 ∷ 0
+    ∷ 0 ∷ 8 ∷ 1 ∷ 2 ∷ 1 ∷ 0 ∷ 0 ∷ 0 ∷ 0 ∷ 1
+    ∷ 0 ∷ 9 ∷ 0 ∷ 0 ∷ 2 ∷ 0 ∷ 0 ∷ 0 ∷ 0 ∷ 0
+    ∷ 0 ∷ 11 ∷ 1 ∷ 2 ∷ 2 ∷ 0 ∷ 0 ∷ 0 ∷ 0 ∷ 2
+    ∷ 18 ∷ 2 ∷ 0 ∷ 0 ∷ 0 ∷ 0 ∷ 2 ∷ 0 ∷ 0 ∷ 0
+    ∷ 18 ∷ 3 ∷ 0 ∷ 1 ∷ 0 ∷ 0 ∷ 2 ∷ 1 ∷ 0 ∷ 0
+    ∷ 18 ∷ 3 ∷ 0 ∷ 1 ∷ 0 ∷ 1 ∷ 2 ∷ 4 ∷ 0 ∷ 0
+    ∷ 18 ∷ 4 ∷ 0 ∷ 0 ∷ 0 ∷ 0 ∷ 2 ∷ 1 ∷ 0 ∷ 0 ∷ []
+
+-- byte k of frame f changed to x
+abbrev pub damaged : ℕ → ℕ → ℕ → List ℕ
+damaged f k x = set tableP (10 * f + k) x
+
+abbrev pub ticking : List ℕ → State → ℕ → Advance
+ticking b s w = liveTick b s w
+
+pub record LiveCases : Type 0 where
+  pub prepared : prepare imageP (replicate 124 9) ≡ record { reply = success 120; buffer = tableP ++ replicate 4 9 }
+  pub kept : prepare imageP (replicate 119 9) ≡ record { reply = refusal 16 0 0; buffer = replicate 119 9 }
+  pub unchecked : prepare (changedImage 0 2 0) (replicate 124 9) ≡ record { reply = refusal 11 0 0; buffer = replicate 124 9 }
+  pub holds : tableImage tableP ≡ decoded (contents imageP)
+  -- a state that does not fit, a plain tick, and a call at a full stack
+  pub unfit : ticking tableP (stateOf 2 (3 ∷ 3 ∷ [])) 1 .reply ≡ refusal 15 0 0
+  pub plain : ticking tableP (stateOf 2 (2 ∷ 3 ∷ [])) 1 .state ≡ stateOf 2 (2 ∷ 4 ∷ [])
+  pub full : ticking tableP (stateOf 3 (2 ∷ 4 ∷ 4 ∷ [])) 1 .reply ≡ refusal 17 0 0
+  -- a table that is cut off, or counts no scheme
+  pub cut : ticking (take 119 tableP) (stateOf 1 (2 ∷ [])) 0 .reply ≡ refusal 11 0 0
+  pub counts : ticking (damaged 0 1 0) (stateOf 1 (2 ∷ [])) 0 .reply ≡ refusal 11 0 0
+  -- rows of label 3 that are noted to begin behind the table
+  pub behind : ticking (damaged 6 0 255) (stateOf 2 (2 ∷ 3 ∷ [])) 0 .reply ≡ refusal 18 0 0
+  -- a scheme called that the table does not have: entry 1 is taken, and the code names none
+  pub called : ticking (damaged 5 3 200) (stateOf 1 (2 ∷ [])) 0 .code ≡ 16
+  -- a function bit in a plain label's row does not count
+  pub bit : ticking (damaged 10 6 1) (stateOf 2 (2 ∷ 3 ∷ [])) 1 .state ≡ stateOf 2 (2 ∷ 4 ∷ [])
+  -- a row that leads to no label of the table
+  pub leading : ticking (damaged 10 7 200) (stateOf 2 (2 ∷ 3 ∷ [])) 1 .reply ≡ success 1

@@ -1,0 +1,3 @@
+pub mod ReadyLaws
+pub mod NodeSteps
+pub mod LabelSteps

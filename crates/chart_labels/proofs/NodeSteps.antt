@@ -1,0 +1,69 @@
+-- The steps of the functions on nodes, at plain values.
+use mathlib.Core.Path.{_≡_, refl, sym, _∙_, ap}
+use mathlib.Core.Bool.{true, false, _&&_, not}
+use Prim.Native.Nat.{ℕ, _*_, _-_, _+_, _≤_, _<_}
+use native.Mathlib.Omega.{arith}
+use lib.Dec.{eqb}
+use lib.ListN.{length}
+use borrow.Author.Tests.{eq-eqb, ne-eqb}
+use Rattle.lists.specs.Numbers.{lowest}
+use Rattle.lists.proofs.Searches.{lowest-here, lowest-on, lowest-over, lowest-start}
+use Rattle.lists.proofs.Tests.{and-second, and-first}
+use Rattle.frames.specs.Frame.{size}
+use Rattle.charts.specs.Chart.{Chart, kind, scheme, next0, is, isOf, begin, nodeOf}
+use Rattle.walk.specs.Stops.{stops}
+use Rattle.chart_labels.specs.Ready.{Ready}
+use Rattle.chart_labels.proofs.ReadyLaws.{ready-facts}
+use Rattle.walk.proofs.Follow.{stops-condition}
+
+-- ---- the search for the Begin of scheme h
+pub record Search (c : Chart) (h n v : ℕ) : Type 0 where
+  pub within : v ≤ n
+  pub all : n ≡ size c
+  pub left : lowest (isOf c 0 h) v (n - v) ≡ begin c h
+
+module _ (c : Chart) (h n v : ℕ) (s : Search c h n v) where
+  pub search-hit : v < n → isOf c 0 h v ≡ true → v ≡ begin c h
+  search-hit l t = sym (lowest-here (isOf c 0 h) n v l t) ∙ s .left
+
+  pub search-on : v < n → isOf c 0 h v ≡ false → Search c h n (v + 1)
+  search-on l t = record { within = omega arith; all = s .all; left = sym (lowest-on (isOf c 0 h) n v l t) ∙ s .left }
+
+  pub search-over : n ≤ v → v ≡ begin c h
+  search-over l = sym (lowest-over (isOf c 0 h) n v l) ∙ s .left
+
+pub search-start : (c : Chart) (h : ℕ) → Search c h (size c) 0
+unfolding nodeOf
+search-start c h = record { within = omega arith; all = refl; left = lowest-start (isOf c 0 h) (size c) }
+
+-- ---- stops
+pub begin-asks : (c : Chart) → Ready c → (v k : ℕ) → v < size c → k ≡ kind c v → k ≡ 0
+    → (10 * v + 3 < length c) × (10 * next0 c v < length c)
+begin-asks c ready v k l e z =
+    let t = ready-facts ready .arc0 v l (λ q. omega arith) in
+    (omega (arith, ready .whole), omega (arith, ready .whole, t .inside))
+
+module _ (c : Chart) (v next s : ℕ) (e : next ≡ next0 c v) (es : s ≡ scheme c v) where
+  pub begin-second : (k : ℕ) → k ≡ kind c next → (s ≡ 1 → ⊥) → eqb k 3 ≡ (not (eqb (scheme c v) 1) && is c 3 (next0 c v))
+  begin-second k ek n =
+      and-second (not (eqb (scheme c v) 1)) (is c 3 (next0 c v)) (eqb k 3) (ap not (ne-eqb (scheme c v) 1 (λ q. n (es ∙ q))))
+      (ap (λ (x : ℕ). eqb x 3) (ek ∙ ap (kind c) e))
+
+  pub begin-first : s ≡ 1 → not (eqb s 1) ≡ (not (eqb (scheme c v) 1) && is c 3 (next0 c v))
+  begin-first n =
+      and-first (not (eqb (scheme c v) 1)) (is c 3 (next0 c v)) (not (eqb s 1)) (ap not (eq-eqb (scheme c v) 1 (sym es ∙ n)))
+      (ap (λ (x : ℕ). not (eqb x 1)) es)
+
+module _ (c : Chart) (v k s first : ℕ) (ek : k ≡ kind c v) (three : k ≡ 3) (es : s ≡ scheme c v) (f : first ≡ next0 c (begin c 1)) where
+  pub condition-second : s ≡ 1 → eqb first v ≡ stops c v
+  condition-second o =
+      and-second (eqb (scheme c v) 1) (eqb (next0 c (begin c 1)) v) (eqb first v) (eq-eqb (scheme c v) 1 (sym es ∙ o))
+      (ap (λ (x : ℕ). eqb x v) f) ∙ sym (stops-condition c v (sym ek ∙ three))
+
+  pub condition-first : (s ≡ 1 → ⊥) → eqb s 1 ≡ stops c v
+  condition-first o =
+      and-first (eqb (scheme c v) 1) (eqb (next0 c (begin c 1)) v) (eqb s 1) (ne-eqb (scheme c v) 1 (λ q. o (es ∙ q)))
+      (ap (λ (x : ℕ). eqb x 1) es) ∙ sym (stops-condition c v (sym ek ∙ three))
+
+pub first-asks : (c : Chart) → Ready c → (v : ℕ) → v ≡ begin c 1 → 10 * v + 3 < length c
+first-asks c ready v e = let F = ready-facts ready in omega (arith, ready .whole, F .begins 1 (omega arith) (F .first) .0)

@@ -1,0 +1,4 @@
+pub mod PathSteps
+pub mod Settled
+pub mod PathCases
+pub mod RowSteps

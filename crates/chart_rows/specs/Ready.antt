@@ -1,0 +1,30 @@
+-- What the functions on paths ask of their arguments: nodes that a path may come to, and its care mask and values there.
+use Prim.Native.Nat.{ℕ, _≤_, _<_}
+use mathlib.Core.Path.{_≡_}
+use mathlib.Core.List.{List}
+use lib.Bits.{bitAnd}
+use Rattle.frames.specs.Frame.{size}
+use Rattle.charts.specs.Chart.{Chart, kind}
+use Rattle.chart_labels.specs.Ready.{Charted}
+
+-- a node where an arc may end
+pub record Entered (c : Chart) (v : ℕ) : Type 0 where
+  pub inside : v < size c
+  pub noBegin : kind c v ≡ 0 → ⊥
+
+-- a node that a path comes to
+pub record OnPath (c : Chart) (labels : List ℕ) (v : ℕ) : Type 0 where
+  pub chart : Charted c labels
+  pub entered : Entered c v
+
+-- a path with its care mask and values at a node, and both arcs of a node
+pub record PathAt (c : Chart) (labels : List ℕ) (care values v : ℕ) : Type 0 where
+  pub chart : Charted c labels
+  pub entered : Entered c v
+  pub within : bitAnd values care ≡ values
+
+pub record SidesAt (c : Chart) (labels : List ℕ) (care values v : ℕ) : Type 0 where
+  pub chart : Charted c labels
+  pub inside : v < size c
+  pub two : 3 ≤ kind c v
+  pub within : bitAnd values care ≡ values

@@ -1,0 +1,73 @@
+-- What the fifty bytes hold after a run or a tick in place is the state that it hands back.
+use Prim.Native.Nat.{ℕ}
+use mathlib.Core.Path.{_≡_, refl, sym, ap, _∙_}
+use mathlib.Core.Bool.{Bool, true, false}
+use mathlib.Core.List.{List, [], _∷_}
+use lib.Dec.{eqb}
+use lib.ListN.{length}
+use Rattle.lists.specs.Pick.{pick}
+use Rattle.lists.proofs.Tests.{no-pick}
+use Rattle.frames.specs.Verdict.{Verdict, fine, refused}
+use Rattle.frames.specs.Answer.{number, replied}
+use Rattle.image.specs.Image.{Image}
+use Rattle.state.specs.declared.State.{State}
+use Rattle.state.specs.Bytes.{stateOf, bytesOf}
+use Rattle.state.proofs.ResultBytes.{state-back, held-places, held-bits}
+use Rattle.machine.specs.Tick.{Ticked, ticked, stopped, tick}
+use Rattle.machine.specs.Run.{Ran, Run, then, ticks, runOn}
+use Rattle.machine.specs.Advance.{Advance, advanced}
+use Rattle.machine.specs.InPlace.{leaves, bytesAfter, ifTicked}
+use Rattle.machine.proofs.Normal.{Same, Normal, Late, ticks-same, ticks-late, tick-normal}
+use Rattle.machine.proofs.RunCases.{late-writes}
+
+module _ (b : List ℕ) where
+  abbrev s : State
+  s = stateOf b
+
+  -- the bytes as they were, or those of the state that they hold
+  left : (t : Bool) → stateOf (pick t b (bytesOf s)) ≡ s
+  left true = refl
+  left false = state-back s (held-places b) (held-bits b)
+
+  -- a state with as many places and bits
+  back : (t : State) → Same s t → stateOf (bytesOf t) ≡ t
+  back t same = state-back t (same .places ∙ held-places b) (same .bits ∙ held-bits b)
+
+  module _ (i : Image) (ws ms ks : List ℕ) where
+    abbrev ran : Ran
+    ran = ticks i s ws
+
+    ran-held : (v : Verdict) → Late v → (n : ℕ) → stateOf (pick (leaves (number (replied v n))) b (bytesOf (ran .state))) ≡ ran .state
+    ran-held fine l n = back (ran .state) (ticks-same i ws s)
+    ran-held (refused k j) l n =
+        ap stateOf (no-pick (leaves k) b (bytesOf (ran .state)) (late-writes k l)) ∙ back (ran .state) (ticks-same i ws s)
+
+    pub run-held : (v : Verdict) → stateOf (bytesAfter b (runOn v (λ _. ran) s ms ks)) ≡ runOn v (λ _. ran) s ms ks .state
+    unfolding bytesAfter
+    run-held (refused k j) = left (leaves k)
+    run-held fine = ran-held (ran .verdict) (ticks-late i ws s) (length (ran .codes))
+
+  -- a run of one word that is stopped hands back the state it was given
+  module _ (i : Image) (w : ℕ) where
+    abbrev one : Verdict → Advance
+    one v = advanced (runOn v (λ _. ticks i s (w ∷ [])) s (0 ∷ []) (0 ∷ []))
+
+    pub tick-held : (v : Verdict) → stateOf (ifTicked (one v) (bytesOf (one v .state)) b) ≡ one v .state
+    unfolding ticks
+    tick-held (refused k j) = go (eqb k 0)
+      where
+        go : (t : Bool) → stateOf (pick t (bytesOf s) b) ≡ s
+        go true = state-back s (held-places b) (held-bits b)
+        go false = refl
+    tick-held fine = go (tick i s w) (tick-normal i s w)
+      where
+        abbrev-run : Ticked → Advance
+        abbrev-run x = advanced (runOn fine (λ _. then s (λ t. ticks i t []) x) s (0 ∷ []) (0 ∷ []))
+
+        go : (x : Ticked) → Normal s x → stateOf (ifTicked (abbrev-run x) (bytesOf (abbrev-run x .state)) b) ≡ abbrev-run x .state
+        go (ticked m k t) n = back t n
+        go (stopped k) n = stay (eqb k 0)
+          where
+            stay : (t : Bool) → stateOf (pick t (bytesOf s) b) ≡ s
+            stay true = state-back s (held-places b) (held-bits b)
+            stay false = refl

@@ -1,0 +1,33 @@
+-- `machine::by_value::live_tick` meets its contract: the tick in place on the bytes of the state, read back.
+use borrow.Author.Needs.{needs}
+use mathlib.Core.Path.{_≡_}
+use lib.ListN.{length}
+use Rattle.machine.proofs.EntryCases.{live-tick-value}
+use Rattle.machine.proofs.by_value.live_tick.Statement.{statement}
+use Rattle.machine.proofs.by_value.live_tick.Tie as tie
+
+whole : (c : tie.Start) → length (c .args .state .places) ≡ 32
+whole c = search needs
+
+all-bits : (c : tie.Start) → length (c .args .state .bits) ≡ 16
+all-bits c = search needs
+
+bytes-of-requires : tie.Need-bytes-of-requires
+bytes-of-requires c κs = search needs
+
+live-tick-bytes-requires : tie.Need-live-tick-bytes-requires
+live-tick-bytes-requires c κs = search needs
+
+state-of-requires : tie.Need-state-of-requires
+state-of-requires c κs = search needs
+
+returns : tie.Need-returns
+returns c =
+    let done = c .before in
+    let made = done .before .before in
+    let start = made .before .before in
+    live-tick-value _ (whole start) (all-bits start) _ (made .bytes-of .ensures) _ _ _ _ _ (c .state-of .ensures) (done .live-tick-bytes .ensures)
+
+pub live-tick-spec : {M : Type 1} → statement M
+live-tick-spec =
+    tie.close (tie.spec bytes-of-requires live-tick-bytes-requires state-of-requires returns)

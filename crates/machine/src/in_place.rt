@@ -1,0 +1,84 @@
+// Runs and ticks on the fifty bytes of a state that the caller keeps: on an image, and live on a prepared table.
+use super::TickReport;
+use crate::runs::run_table;
+use crate::runs::tick_table;
+use frames::Answer;
+use frames::refused;
+use tables::LARGEST;
+use tables::bad_table;
+use tables::prepare_table;
+use tables::table_length;
+ghost use Rattle.state.specs.Bytes.{stateOf};
+ghost use Rattle.machine.specs.Run.{run};
+ghost use Rattle.machine.specs.Advance.{advance};
+ghost use Rattle.machine.specs.Live.{liveRun, liveTick};
+ghost use Rattle.machine.specs.InPlace.{RunsOn, AdvancesOn};
+
+// What the image check tries, 15 and 16 before the first tick, 17 and 18 tick by tick.
+pub fn run_bytes(
+    image: &[u8],
+    bytes: &mut [u8; 50],
+    words: &[u16],
+    masks: &mut [u32],
+    codes: &mut [u8],
+) -> Answer
+    ensures { λ r. ⌜ RunsOn (run (now (image .entry)) (stateOf (now (bytes .entry))) (now (words .entry)) (now (masks .entry)) (now (codes .entry))) (now (bytes .entry)) r (now (bytes .exit)) (now (masks .exit)) (now (codes .exit)) ⌝ }
+{
+    let mut table = [0u8; LARGEST];
+    let answer = prepare_table(image, &mut table);
+    let Answer::Done(_) = answer else {
+        return answer;
+    };
+    let n = 10 * (image.len() / 23);
+    run_table(&table[..n], bytes, words, masks, codes)
+}
+
+// One tick: what a run tries but 16.
+pub fn tick_bytes(image: &[u8], bytes: &mut [u8; 50], word: u16) -> TickReport
+    ensures { λ r. ⌜ AdvancesOn (advance (now (image .entry)) (stateOf (now (bytes .entry))) word) (now (bytes .entry)) r (now (bytes .exit)) ⌝ }
+{
+    let mut table = [0u8; LARGEST];
+    let answer = prepare_table(image, &mut table);
+    let Answer::Done(_) = answer else {
+        return TickReport {
+            answer,
+            mask: 0,
+            code: 0,
+        };
+    };
+    let n = 10 * (image.len() / 23);
+    tick_table(&table[..n], bytes, word)
+}
+
+// A run on a prepared table: 11, then as any run.
+pub fn live_run_bytes(
+    table: &[u8],
+    bytes: &mut [u8; 50],
+    words: &[u16],
+    masks: &mut [u32],
+    codes: &mut [u8],
+) -> Answer
+    ensures { λ r. ⌜ RunsOn (liveRun (now (table .entry)) (stateOf (now (bytes .entry))) (now (words .entry)) (now (masks .entry)) (now (codes .entry))) (now (bytes .entry)) r (now (bytes .exit)) (now (masks .exit)) (now (codes .exit)) ⌝ }
+{
+    if bad_table(table) {
+        return refused(11, 0);
+    }
+    let n = table_length(table);
+    run_table(&table[..n], bytes, words, masks, codes)
+}
+
+// One tick on a prepared table.
+pub fn live_tick_bytes(table: &[u8], bytes: &mut [u8; 50], word: u16) -> TickReport
+    ensures { λ r. ⌜ AdvancesOn (liveTick (now (table .entry)) (stateOf (now (bytes .entry))) word) (now (bytes .entry)) r (now (bytes .exit)) ⌝ }
+{
+    if bad_table(table) {
+        let answer = refused(11, 0);
+        return TickReport {
+            answer,
+            mask: 0,
+            code: 0,
+        };
+    }
+    let n = table_length(table);
+    tick_table(&table[..n], bytes, word)
+}

@@ -1,0 +1,4 @@
+pub mod Swaps
+pub mod FirstRows
+pub mod TableRows
+pub mod SearchCases

@@ -1,0 +1,94 @@
+-- The frames at which the rows of each label of an accepted table begin: they follow one another, and between two of them stand rows of one label.
+use Prim.Native.Nat.{ℕ, zero, suc, _+_, _-_, _≤_, _<_}
+use mathlib.Core.Path.{_≡_, sym, _∙_, ap}
+use mathlib.Core.Logic.{_⊎_, inl, inr}
+use mathlib.Core.List.{List}
+use native.Mathlib.Nat.{add-zero}
+use native.Mathlib.Omega.{arith}
+use lib.ListN.{getD}
+use borrow.Author.Tests.{leb-true, leb-false, le-leb, lt-leb}
+use Rattle.lists.specs.Numbers.{lowest}
+use Rattle.lists.proofs.Searches.{lowest-hit, lowest-above, lowest-before, lowest-inside, lowest-from, lowest-none, lowest-here, lowest-over}
+use Rattle.lists.proofs.Tests.{split}
+use Rattle.frames.specs.Frame.{size, field}
+use Rattle.frames.specs.Verdict.{fine}
+use Rattle.image.specs.Image.{Row}
+use Rattle.image.specs.Decode.{lastLabel, rowsFrom, decoded}
+use Rattle.image.specs.Check.{tableVerdict}
+use Rattle.image.proofs.Sound.{nthRow, SoundRow}
+use Rattle.image.proofs.Accepted.{rows-count, labels-count, row-read, counted, accepted-sound}
+use Rattle.tables.specs.Prepare.{reached, firstFrame}
+use Rattle.tables.proofs.Noted.{rows-inside}
+use Rattle.tables.proofs.NotingCases.{below-more}
+
+module _ (b : List ℕ) (ok : tableVerdict b ≡ fine) where
+  pub first-low : (l : ℕ) → rowsFrom b ≤ firstFrame b l
+  first-low l = lowest-above (reached b l) (rowsFrom b) (size b - rowsFrom b)
+
+  pub first-inside : (l : ℕ) → firstFrame b l ≤ size b
+  first-inside l = lowest-inside (reached b l) (rowsFrom b) (size b) (rows-inside b ok)
+
+  pub first-rises : (l : ℕ) → firstFrame b l ≤ firstFrame b (l + 1)
+  first-rises l =
+      let on : lowest (reached b (l + 1)) (firstFrame b l) (size b - firstFrame b l) ≡ firstFrame b (l + 1) =
+      lowest-from (reached b l) (rowsFrom b) (size b) (rows-inside b ok) (reached b (l + 1)) (below-more b l (l + 1) (omega arith)) in
+      omega (arith, lowest-above (reached b (l + 1)) (firstFrame b l) (size b - firstFrame b l))
+
+  module _ (bytes : (k : ℕ) → getD b k 0 < 256) where
+    -- the row in frame f, as row k of the image
+    from-read : (f : ℕ) → rowsFrom b ≤ f → f < size b → nthRow (decoded b) (f - rowsFrom b) .from ≡ field b f 1
+    from-read f h g =
+        ap (λ (r : Row). r .from) (row-read b (f - rowsFrom b) (omega (arith, counted b ok .all)))
+        ∙ ap (λ (i : ℕ). field b i 1) (let z : rowsFrom b + (f - rowsFrom b) ≡ f = omega arith in z)
+
+    -- 13: a row leaves a label of 2 to M
+    from-sound : (f : ℕ) → rowsFrom b ≤ f → f < size b → (2 ≤ field b f 1) × (field b f 1 ≤ lastLabel b)
+    from-sound f h g =
+        let s : SoundRow (decoded b) (nthRow (decoded b) (f - rowsFrom b)) =
+        accepted-sound b ok bytes .each (f - rowsFrom b) (omega (arith, counted b ok .all, rows-count b)) in
+        (omega (arith, from-read f h g, s .low), omega (arith, from-read f h g, s .high, labels-count b))
+
+    -- 12: from-labels never fall
+    rises : (f : ℕ) → rowsFrom b ≤ f → suc f < size b → field b f 1 ≤ field b (suc f) 1
+    rises f h g =
+        let z : nthRow (decoded b) (suc f - rowsFrom b) .from ≡ nthRow (decoded b) (suc (f - rowsFrom b)) .from =
+        ap (λ (k : ℕ). nthRow (decoded b) k .from) (omega arith) in
+        omega (
+          arith,
+          from-read f h (omega arith),
+          from-read (suc f) (omega arith) g,
+          accepted-sound b ok bytes .rising (f - rowsFrom b) (omega (arith, counted b ok .all, rows-count b)),
+        )
+
+    rises-on : (f n : ℕ) → rowsFrom b ≤ f → f + n < size b → field b f 1 ≤ field b (f + n) 1
+    rises-on f zero h g = let e : field b f 1 ≡ field b (f + 0) 1 = ap (λ (i : ℕ). field b i 1) (sym (add-zero f)) in omega arith
+    rises-on f (suc n) h g =
+        let e : field b (suc (f + n)) 1 ≡ field b (f + suc n) 1 = ap (λ (i : ℕ). field b i 1) (omega arith) in
+        omega (arith, rises-on f n h (omega arith), rises (f + n) (omega arith) (omega arith))
+
+    -- frames from the first of label l up to that of the next label hold rows of label l
+    pub first-own : (l f : ℕ) → firstFrame b l ≤ f → f < firstFrame b (l + 1) → field b f 1 ≡ l
+    first-own l f h g =
+        let first : ℕ = firstFrame b l in
+        let hit : l ≤ field b first 1 =
+        leb-true l (field b first 1) (lowest-hit (reached b l) (rowsFrom b) (size b - rowsFrom b) (omega (arith, first-inside (l + 1), rows-inside b ok))) in
+        let up : field b first 1 ≤ field b (first + (f - first)) 1 = rises-on first (f - first) (first-low l) (omega (arith, first-inside (l + 1))) in
+        let e : field b (first + (f - first)) 1 ≡ field b f 1 = ap (λ (i : ℕ). field b i 1) (omega arith) in
+        let less : field b f 1 < l + 1 =
+        leb-false (l + 1) (field b f 1) (lowest-before (reached b (l + 1)) (rowsFrom b) (size b - rowsFrom b) f (omega (arith, first-low l)) g) in
+        omega arith
+
+    -- no row leaves a label below 2, and none one above M
+    pub first-two : firstFrame b 2 ≡ rowsFrom b
+    first-two = go (split (rowsFrom b) (size b))
+      where
+        go : (rowsFrom b < size b) ⊎ (size b ≤ rowsFrom b) → firstFrame b 2 ≡ rowsFrom b
+        go (inl h) =
+            lowest-here (reached b 2) (size b) (rowsFrom b) h (le-leb 2 (field b (rowsFrom b) 1) (from-sound (rowsFrom b) (omega arith) h .0))
+        go (inr h) = lowest-over (reached b 2) (size b) (rowsFrom b) h
+
+    pub first-last : firstFrame b (lastLabel b + 1) ≡ size b
+    first-last =
+        lowest-none (reached b (lastLabel b + 1)) (rowsFrom b) (size b - rowsFrom b)
+        (λ k h. lt-leb (lastLabel b + 1) (field b (rowsFrom b + k) 1) (omega (arith, from-sound (rowsFrom b + k) (omega arith) (omega arith) .1)))
+        ∙ (let z : rowsFrom b + (size b - rowsFrom b) ≡ size b = omega (arith, rows-inside b ok) in z)

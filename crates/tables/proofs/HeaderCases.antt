@@ -1,0 +1,24 @@
+-- The cases of refusal 11 of a table, as the code meets them.
+use Prim.Native.Nat.{ℕ, _<_}
+use mathlib.Core.Bool.{Bool, true, false, _||_}
+use mathlib.Core.Path.{_≡_, sym, _∙_, ap}
+use mathlib.Core.List.{List}
+use native.Mathlib.Omega.{arith}
+use lib.Dec.{ltb}
+use lib.ListN.{length}
+use borrow.Author.Tests.{lt-ltb}
+use Rattle.lists.proofs.Tests.{or-true-l, or-true-r}
+use Rattle.frames.specs.Frame.{size}
+use Rattle.image.specs.Check.{badCounts}
+use Rattle.tables.specs.Table.{tableEnd, badTable}
+
+module _ (b : List ℕ) where
+  -- not even a header
+  pub header-short : length b < 10 → true ≡ badTable b
+  header-short h = sym (or-true-r (badCounts b) (ltb (size b) (tableEnd b)) (lt-ltb (size b) (tableEnd b) (omega arith)))
+
+  pub header-counts : badCounts b ≡ true → true ≡ badTable b
+  header-counts e = sym (or-true-l (badCounts b) (ltb (size b) (tableEnd b)) e)
+
+  pub header-frames : badCounts b ≡ false → (n : ℕ) → n ≡ tableEnd b → ltb (size b) n ≡ badTable b
+  header-frames e n q = ap (λ (m : ℕ). ltb (size b) m) q ∙ sym (ap (λ (t : Bool). t || ltb (size b) (tableEnd b)) e)

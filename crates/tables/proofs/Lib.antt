@@ -1,0 +1,10 @@
+pub mod HeaderCases
+pub mod LabelCases
+pub mod Noted
+pub mod NotingCases
+pub mod PrepareCases
+pub mod RangeLaws
+pub mod TableReads
+pub mod Front
+pub mod FirstFrames
+pub mod PreparedImage

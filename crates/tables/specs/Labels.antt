@@ -1,0 +1,16 @@
+-- What the functions that read a label ask, and how a label is handed back.
+use Prim.Native.Nat.{ℕ, _≤_}
+use mathlib.Core.List.{List}
+use Rattle.image.specs.Image.{Label}
+use Rattle.image.specs.Decode.{lastLabel}
+use Rattle.tables.specs.Table.{Whole}
+use Rattle.tables.specs.declared.Label as declared
+
+-- a label that has a frame with fields of its own
+pub record Numbered (b : List ℕ) (l : ℕ) : Type 0 where
+  pub whole : Whole b
+  pub low : 2 ≤ l
+  pub high : l ≤ lastLabel b
+
+abbrev pub asLabel : declared.Label → Label
+asLabel r = record { kind = r .kind; called = r .called; owner = r .owner; result = r .result; mask = r .mask }
