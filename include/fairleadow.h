@@ -2,12 +2,15 @@
  *
  * Every function answers for everything that it is handed. All but fairleadow_meaning return 0, or the number of a refusal, and write
  *   *index   the frame (a line or a record) that the refusal names, from 0; only 2, 3, 4, 6 to 9, 12 and 13 name one, else it is 0
- *   *count   records, characters or ticks written; with refusals 1 to 16 it is 0, with 17 and 18 the ticks finished before
+ *   *count   records, characters, bytes of a table or ticks written; with refusals 1 to 16 it is 0, with 17 and 18 the ticks
+ *            finished before
  * With refusals 1 to 16 no buffer and no state is changed; only 14 writes a state, of zeros. With success, and with 17 and 18,
  * nothing past the count is changed.
  * A buffer is a pointer and how many elements it has. No pointer is null, and nothing that a call writes may overlap anything
- * else that the call is given. Nothing is allocated and nothing is kept between calls. The archive is code for x86-64; it calls
- * memcpy and memset and nothing else. There a translation takes 7,360 bytes of stack, a run or a tick 14,700.
+ * else that the call is given. Nothing is allocated and nothing is kept between calls. The archive of `rt staticlib` is code for
+ * x86-64 and calls memcpy and memset and nothing else; there a translation takes 7,360 bytes of stack, a run, a tick or a
+ * preparation 13,710, a live run 420, a live tick 340. controller/README.md tells of archives for ARM. This file is for both, and
+ * for C and C++: lengths are of type size_t, and fairleadow_calls.h, which lies beside it, makes of them what the archive takes.
  *
  * The refusals, tried in this order (docs/REFUSALS.md tells what to look for):
  *    1  the length of the text or of the records           10  more than 1,024 rows
@@ -30,18 +33,21 @@
 extern "C" {
 #endif
 
-/* The longest texts, in characters, and the longest list of node records, in bytes. */
+/* The longest texts, in characters, and the longest list of node records and the largest table, in bytes. */
 #define FAIRLEADOW_CHART_TEXT 5888
 #define FAIRLEADOW_IMAGE_TEXT 29831
 #define FAIRLEADOW_RECORDS 2560
+#define FAIRLEADOW_TABLE 12970
 
 /* The machine's state. Only fairleadow_fresh makes one; the controller keeps it and hands it to each run or tick. */
 typedef struct {
     uint8_t size;        /* places that the stack may use, 1 to 32 */
     uint8_t depth;       /* places in use */
     uint8_t places[32];  /* labels, the bottom first; 0 above the depth */
-    uint8_t results[16]; /* result bits 0 or 1, scheme h's at h - 1; a byte other than 0 is read as 1 */
+    uint8_t results[16]; /* result bits 0 or 1, scheme h's at h - 1; another byte is read as 1, and written as 1 by a run or a tick */
 } fairleadow_state;
+
+#include "fairleadow_calls.h"
 
 /* Chart lines to node records of ten bytes each: 0 the kind (0 Begin, 1 End, 2 operation, 3 condition, 4 function), 1 the scheme,
  * 2 the scheme called or the condition's number, 3 the next node, or that on a 0, 4 the next node on a 1, 5 the result that an
@@ -70,9 +76,27 @@ uint8_t fairleadow_run(const uint8_t *image, size_t image_len, fairleadow_state 
                        uint32_t *masks, size_t masks_len, uint8_t *codes, size_t codes_len, size_t *index, size_t *count);
 
 /* One tick. Tries what a run tries but 16; counts 1. A refused tick counts 0 and leaves the state, *mask and *code as they were.
- * The image is checked anew at each tick, which takes most of its time; where several words are at hand, a run checks it once. */
+ * The image is checked anew at each tick, which takes most of its time; where several words are at hand, a run checks it once,
+ * and a controller prepares its image and makes live ticks. */
 uint8_t fairleadow_tick(const uint8_t *image, size_t image_len, fairleadow_state *state, uint16_t word,
                         uint32_t *mask, uint8_t *code, size_t *index, size_t *count);
+
+/* An image's lines to a table, ten bytes a line, for live runs and live ticks: the image is checked here and not again, and its
+ * lines are not needed afterwards. Tries what the image check tries, then 16; counts bytes. */
+uint8_t fairleadow_prepare(const uint8_t *image, size_t image_len, uint8_t *table, size_t table_len, size_t *index, size_t *count);
+
+/* A run on a table. On one that fairleadow_prepare wrote it answers what fairleadow_run answers on the image; the buffer may be
+ * longer than the table. Any other bytes are taken for a table too, so that damage does no more than other ticks (their codes may
+ * be such as fairleadow_meaning does not know) or one of the refusals below; 11 is given where the counts of their header are out of
+ * bounds, or ask for more bytes than there are.
+ * Tries 11, then 15 to 18; counts ticks. With 17 and 18 the state is that after the ticks counted. */
+uint8_t fairleadow_live_run(const uint8_t *table, size_t table_len, fairleadow_state *state, const uint16_t *words, size_t words_len,
+                            uint32_t *masks, size_t masks_len, uint8_t *codes, size_t codes_len, size_t *index, size_t *count);
+
+/* One tick on a table, likewise. Tries 11, 15, 17 and 18; counts 1. A refused tick counts 0 and leaves the state, *mask and *code
+ * as they were. */
+uint8_t fairleadow_live_tick(const uint8_t *table, size_t table_len, fairleadow_state *state, uint16_t word,
+                             uint32_t *mask, uint8_t *code, size_t *index, size_t *count);
 
 /* What a tick's code stands for. Returns the tick kind as an image has it (0 plain, 1 operation call, 2 function call, 3 return,
  * 4 home), or 255 for a code that no tick has, and writes the scheme called, 2 to 16, or 0 where none is. Refuses nothing. */

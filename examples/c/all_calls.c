@@ -1,6 +1,6 @@
 /* Makes every call of the header on the chart on standard input: reads it and writes it back, translates it, checks the image, runs
- * eight words from a fresh state of three places, makes the same ticks one by one, and tells what each code stands for. Prints what
- * came of each. */
+ * eight words from a fresh state of three places, makes the same ticks one by one, both on the image and on the table prepared from
+ * it, and tells what each code stands for. Prints what came of each. */
 #include <stdio.h>
 #include <string.h>
 
@@ -13,6 +13,7 @@ static uint8_t chart[FAIRLEADOW_CHART_TEXT + 1];
 static uint8_t text[FAIRLEADOW_CHART_TEXT];
 static uint8_t records[FAIRLEADOW_RECORDS];
 static uint8_t image[FAIRLEADOW_IMAGE_TEXT];
+static uint8_t table[FAIRLEADOW_TABLE];
 static const uint16_t words[WORDS] = {0, 0, 1, 0, 0, 0, 0, 0};
 
 static int refused(uint8_t number, size_t index) {
@@ -44,29 +45,55 @@ static void tell_codes(const uint8_t *codes, size_t count) {
     }
 }
 
-static int run_and_tick(size_t length) {
-    fairleadow_state all, each;
-    uint32_t masks[WORDS], mask;
-    uint8_t codes[WORDS], code, number;
-    size_t index, count, one, same = 0;
-    if ((number = fairleadow_fresh(3, &all, &index, &count)))
+/* What the ticks of all words write, and the state after them. */
+typedef struct {
+    fairleadow_state state;
+    uint32_t masks[WORDS];
+    uint8_t codes[WORDS];
+} outcome;
+
+static const char *compared(const outcome *a, const outcome *b) {
+    int same = !memcmp(&a->state, &b->state, sizeof a->state) && !memcmp(a->masks, b->masks, sizeof a->masks) &&
+               !memcmp(a->codes, b->codes, sizeof a->codes);
+    return same ? "the same" : "another outcome";
+}
+
+static int run_and_tick(size_t length, outcome *all) {
+    outcome each;
+    size_t index, count, one;
+    uint8_t number;
+    if ((number = fairleadow_fresh(3, &all->state, &index, &count)))
         return refused(number, index);
-    each = all;
-    if ((number = fairleadow_run(image, length, &all, words, WORDS, masks, WORDS, codes, WORDS, &index, &count)))
+    each.state = all->state;
+    if ((number = fairleadow_run(image, length, &all->state, words, WORDS, all->masks, WORDS, all->codes, WORDS, &index, &count)))
         return refused(number, index);
-    for (size_t i = 0; i < count; i++) {
-        if ((number = fairleadow_tick(image, length, &each, words[i], &mask, &code, &index, &one)))
+    for (size_t i = 0; i < WORDS; i++)
+        if ((number = fairleadow_tick(image, length, &each.state, words[i], &each.masks[i], &each.codes[i], &index, &one)))
             return refused(number, index);
-        same += mask == masks[i] && code == codes[i];
-    }
-    printf("ticks of the run: %zu, made one by one the same: %zu\n", count, same);
-    printf("state after them: %s\n", memcmp(&all, &each, sizeof all) ? "another" : "the same");
-    tell_codes(codes, count);
+    printf("ticks of the run: %zu\nmade one by one: %s\n", count, compared(all, &each));
+    return 0;
+}
+
+static int live_run_and_tick(size_t length, const outcome *on_image) {
+    outcome all, each;
+    size_t index, count, one;
+    uint8_t number;
+    if ((number = fairleadow_fresh(3, &all.state, &index, &count)))
+        return refused(number, index);
+    each.state = all.state;
+    if ((number = fairleadow_live_run(table, length, &all.state, words, WORDS, all.masks, WORDS, all.codes, WORDS, &index, &count)))
+        return refused(number, index);
+    for (size_t i = 0; i < WORDS; i++)
+        if ((number = fairleadow_live_tick(table, length, &each.state, words[i], &each.masks[i], &each.codes[i], &index, &one)))
+            return refused(number, index);
+    printf("ticks of the live run: %zu\nmade on the image: %s\n", count, compared(&all, on_image));
+    printf("made one by one: %s\n", compared(&all, &each));
     return 0;
 }
 
 int main(void) {
-    size_t index, count, none;
+    outcome all;
+    size_t index, count, prepared, none;
     uint8_t number;
     size_t length = fread(chart, 1, sizeof chart, stdin);
     if (read_and_write(length))
@@ -77,5 +104,11 @@ int main(void) {
     if ((number = fairleadow_check_image(image, count, &index, &none)))
         return refused(number, index);
     printf("image accepted\n");
-    return run_and_tick(count);
+    if ((number = fairleadow_prepare(image, count, table, sizeof table, &index, &prepared)))
+        return refused(number, index);
+    printf("bytes of the table: %zu\n", prepared);
+    if (run_and_tick(count, &all) || live_run_and_tick(prepared, &all))
+        return 1;
+    tell_codes(all.codes, WORDS);
+    return 0;
 }

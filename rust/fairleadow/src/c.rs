@@ -70,5 +70,36 @@ extern "C" {
         index: *mut usize,
         count: *mut usize,
     ) -> u8;
+    pub fn fairleadow_prepare(
+        image: *const u8,
+        image_len: usize,
+        table: *mut u8,
+        table_len: usize,
+        index: *mut usize,
+        count: *mut usize,
+    ) -> u8;
+    pub fn fairleadow_live_run(
+        table: *const u8,
+        table_len: usize,
+        state: *mut State,
+        words: *const u16,
+        words_len: usize,
+        masks: *mut u32,
+        masks_len: usize,
+        codes: *mut u8,
+        codes_len: usize,
+        index: *mut usize,
+        count: *mut usize,
+    ) -> u8;
+    pub fn fairleadow_live_tick(
+        table: *const u8,
+        table_len: usize,
+        state: *mut State,
+        word: u16,
+        mask: *mut u32,
+        code: *mut u8,
+        index: *mut usize,
+        count: *mut usize,
+    ) -> u8;
     pub fn fairleadow_meaning(code: u8, called: *mut u8) -> u8;
 }

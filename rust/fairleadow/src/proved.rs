@@ -23,19 +23,19 @@ use crate::c;
 /// # Ok::<(), fairleadow::Refusal>(())
 /// ```
 ///
-/// The controller keeps one state, and each tick advances it:
+/// The controller prepares its image once and keeps one state, and each live tick advances that:
 ///
 /// ```
-/// use fairleadow::{Library, Proved, IMAGE_TEXT, PLACES};
+/// use fairleadow::{Library, Proved, IMAGE_TEXT, PLACES, TABLE};
 ///
 /// let mut image = [0; IMAGE_TEXT];
 /// let length = Proved.translate(b"00010001000000000000FE\n01010000000000000000FE\n", &mut image).ok()?;
-/// let image = &image[..length];
-/// Proved.check_image(image).ok()?;
+/// let mut table = [0; TABLE];
+/// let length = Proved.prepare(&image[..length], &mut table).ok()?;
 ///
 /// let (answer, mut state) = Proved.fresh(PLACES);
 /// answer.ok()?;
-/// let ticked = Proved.tick(image, &mut state, 0);
+/// let ticked = Proved.live_tick(&table[..length], &mut state, 0);
 /// assert_eq!(ticked.answer.ok()?, 1);
 /// assert_eq!((ticked.code, state.depth, state.results[0]), (0x04, 1, false));
 /// # Ok::<(), fairleadow::Refusal>(())
@@ -139,6 +139,58 @@ impl Library for Proved {
             c::fairleadow_tick(
                 image.as_ptr(),
                 image.len(),
+                &mut kept,
+                word,
+                &mut mask,
+                &mut code,
+                index,
+                count,
+            )
+        });
+        *state = from_c(&kept);
+        Ticked { answer, mask, code }
+    }
+
+    fn prepare(&self, image: &[u8], table: &mut [u8]) -> Answer {
+        answered(|index, count| unsafe {
+            c::fairleadow_prepare(image.as_ptr(), image.len(), table.as_mut_ptr(), table.len(), index, count)
+        })
+    }
+
+    fn live_run(
+        &self,
+        table: &[u8],
+        state: &State,
+        words: &[u16],
+        masks: &mut [u32],
+        codes: &mut [u8],
+    ) -> (Answer, State) {
+        let mut kept = to_c(state);
+        let answer = answered(|index, count| unsafe {
+            c::fairleadow_live_run(
+                table.as_ptr(),
+                table.len(),
+                &mut kept,
+                words.as_ptr(),
+                words.len(),
+                masks.as_mut_ptr(),
+                masks.len(),
+                codes.as_mut_ptr(),
+                codes.len(),
+                index,
+                count,
+            )
+        });
+        (answer, from_c(&kept))
+    }
+
+    fn live_tick(&self, table: &[u8], state: &mut State, word: u16) -> Ticked {
+        let mut kept = to_c(state);
+        let (mut mask, mut code) = (0, 0);
+        let answer = answered(|index, count| unsafe {
+            c::fairleadow_live_tick(
+                table.as_ptr(),
+                table.len(),
                 &mut kept,
                 word,
                 &mut mask,

@@ -1,10 +1,11 @@
 //! The deepest stack use of the C functions, measured on a stack of its own that is filled with one byte first. The
-//! lathe has 64 kilobytes: each call has to leave room for the chart's text and the image's.
+//! lathe has 64 kilobytes: each call has to leave room for the chart's text and the image's, a preparation for the image's
+//! text and the table, a live call for the table.
 
 use std::arch::asm;
 use std::ffi::c_void;
 
-use fairleadow::c;
+use fairleadow::{c, TABLE};
 use reference::entry::translated;
 use reference::frames::{text_of, Frame, CHART_TEXT, IMAGE_TEXT};
 use reference::generate::{charts, Random};
@@ -57,8 +58,31 @@ extern "C" fn translate(job: &mut Translation) {
     };
 }
 
-struct Ticks {
+struct Preparation {
     image: Vec<u8>,
+    table: Vec<u8>,
+    number: u8,
+    count: usize,
+}
+
+extern "C" fn prepare(job: &mut Preparation) {
+    let mut index = 0;
+    let (image, table) = (&job.image, &mut job.table);
+    job.number = unsafe {
+        c::fairleadow_prepare(
+            image.as_ptr(),
+            image.len(),
+            table.as_mut_ptr(),
+            table.len(),
+            &mut index,
+            &mut job.count,
+        )
+    };
+}
+
+/// Runs and ticks on an image's text or on a table.
+struct Ticks {
+    ground: Vec<u8>,
     state: c::State,
     words: Vec<u16>,
     masks: Vec<u32>,
@@ -66,41 +90,55 @@ struct Ticks {
     number: u8,
 }
 
-extern "C" fn run(job: &mut Ticks) {
-    let (mut index, mut count) = (0, 0);
-    job.number = unsafe {
-        c::fairleadow_run(
-            job.image.as_ptr(),
-            job.image.len(),
-            &mut job.state,
-            job.words.as_ptr(),
-            job.words.len(),
-            job.masks.as_mut_ptr(),
-            job.masks.len(),
-            job.codes.as_mut_ptr(),
-            job.codes.len(),
-            &mut index,
-            &mut count,
-        )
+/// A job that hands all of its words to a run.
+macro_rules! run_job {
+    ($name:ident, $function:path) => {
+        extern "C" fn $name(job: &mut Ticks) {
+            let (mut index, mut count) = (0, 0);
+            job.number = unsafe {
+                $function(
+                    job.ground.as_ptr(),
+                    job.ground.len(),
+                    &mut job.state,
+                    job.words.as_ptr(),
+                    job.words.len(),
+                    job.masks.as_mut_ptr(),
+                    job.masks.len(),
+                    job.codes.as_mut_ptr(),
+                    job.codes.len(),
+                    &mut index,
+                    &mut count,
+                )
+            };
+        }
     };
 }
 
-extern "C" fn tick(job: &mut Ticks) {
-    let (mut index, mut count) = (0, 0);
-    let image = &job.image;
-    job.number = unsafe {
-        c::fairleadow_tick(
-            image.as_ptr(),
-            image.len(),
-            &mut job.state,
-            job.words[0],
-            &mut job.masks[0],
-            &mut job.codes[0],
-            &mut index,
-            &mut count,
-        )
+/// A job that hands its first word to a tick.
+macro_rules! tick_job {
+    ($name:ident, $function:path) => {
+        extern "C" fn $name(job: &mut Ticks) {
+            let (mut index, mut count) = (0, 0);
+            job.number = unsafe {
+                $function(
+                    job.ground.as_ptr(),
+                    job.ground.len(),
+                    &mut job.state,
+                    job.words[0],
+                    &mut job.masks[0],
+                    &mut job.codes[0],
+                    &mut index,
+                    &mut count,
+                )
+            };
+        }
     };
 }
+
+run_job!(run, c::fairleadow_run);
+run_job!(live_run, c::fairleadow_live_run);
+tick_job!(tick, c::fairleadow_tick);
+tick_job!(live_tick, c::fairleadow_live_tick);
 
 /// Large charts, those with the longest paths, slow ones, most of which are refused, and random ones.
 fn worst_charts() -> Vec<Vec<Frame>> {
@@ -118,12 +156,12 @@ fn worst_charts() -> Vec<Vec<Frame>> {
     all
 }
 
-fn ticks(image: Vec<u8>) -> Ticks {
+fn ticks(ground: Vec<u8>) -> Ticks {
     let (mut index, mut count) = (0, 0);
     let mut state = c::State::NONE;
     unsafe { c::fairleadow_fresh(32, &mut state, &mut index, &mut count) };
     let words = (0..500u16).map(|k| k.wrapping_mul(40_503)).collect();
-    Ticks { image, state, words, masks: vec![0; 500], codes: vec![0; 500], number: 0 }
+    Ticks { ground, state, words, masks: vec![0; 500], codes: vec![0; 500], number: 0 }
 }
 
 /// Writes to 10,000 bytes of its stack.
@@ -151,23 +189,63 @@ fn a_translation_fits_beside_both_texts() {
     assert!(CHART_TEXT + IMAGE_TEXT + deepest < MEMORY, "translate takes {deepest} bytes of stack");
 }
 
-#[test]
-fn a_run_and_a_tick_fit_beside_both_texts() {
-    let mut images: Vec<Vec<u8>> =
-        worst_charts().iter().filter_map(|records| translated(&text_of(records)).ok()).collect();
-    images.push(text_of(&samples::largest_image()));
-    let (mut deepest_run, mut deepest_tick) = (0, 0);
-    for image in images {
-        let mut job = ticks(image);
-        deepest_run = deepest_run.max(depth(&mut job, run));
+/// The images of all charts that translate, and the largest.
+fn worst_images() -> Vec<Vec<u8>> {
+    let charts = worst_charts();
+    let translated = charts.iter().filter_map(|records| translated(&text_of(records)).ok());
+    translated.chain([text_of(&samples::largest_image())]).collect()
+}
+
+/// The deepest of a run and of a tick over these grounds, each from a fresh state.
+fn deepest(
+    grounds: &[Vec<u8>],
+    run: extern "C" fn(&mut Ticks),
+    tick: extern "C" fn(&mut Ticks),
+) -> [usize; 2] {
+    let mut deepest = [0; 2];
+    for ground in grounds {
+        let mut job = ticks(ground.clone());
+        deepest[0] = deepest[0].max(depth(&mut job, run));
         assert!(matches!(job.number, 0 | 17));
-        let mut job = ticks(job.image);
-        deepest_tick = deepest_tick.max(depth(&mut job, tick));
+        // the state is deep in calls now where there are any
+        deepest[1] = deepest[1].max(depth(&mut job, tick));
+        assert!(matches!(job.number, 0 | 17));
+        let mut job = ticks(job.ground);
+        deepest[1] = deepest[1].max(depth(&mut job, tick));
         assert_eq!(job.number, 0);
     }
-    println!("run: {deepest_run} bytes of stack, tick: {deepest_tick}");
-    assert!(
-        CHART_TEXT + IMAGE_TEXT + deepest_run.max(deepest_tick) < MEMORY,
-        "run takes {deepest_run}, tick {deepest_tick}"
-    );
+    deepest
+}
+
+#[test]
+fn a_run_and_a_tick_fit_beside_both_texts() {
+    let [run, tick] = deepest(&worst_images(), run, tick);
+    println!("run: {run} bytes of stack, tick: {tick}");
+    assert!(CHART_TEXT + IMAGE_TEXT + run.max(tick) < MEMORY, "run takes {run}, tick {tick}");
+}
+
+#[test]
+fn a_preparation_fits_beside_the_image_and_its_table() {
+    let mut deepest = 0;
+    for image in worst_images() {
+        let mut job = Preparation { image, table: vec![0; TABLE], number: 0, count: 0 };
+        deepest = deepest.max(depth(&mut job, prepare));
+        assert_eq!(job.number, 0);
+    }
+    println!("prepare: {deepest} bytes of stack");
+    assert!(IMAGE_TEXT + TABLE + deepest < MEMORY, "prepare takes {deepest} bytes of stack");
+}
+
+#[test]
+fn a_live_run_and_a_live_tick_fit_beside_a_table() {
+    let table = |image: Vec<u8>| {
+        let mut job = Preparation { image, table: vec![0; TABLE], number: 0, count: 0 };
+        prepare(&mut job);
+        job.table.truncate(job.count);
+        job.table
+    };
+    let tables: Vec<Vec<u8>> = worst_images().into_iter().map(table).collect();
+    let [run, tick] = deepest(&tables, live_run, live_tick);
+    println!("live run: {run} bytes of stack, live tick: {tick}");
+    assert!(TABLE + run.max(tick) < MEMORY, "a live run takes {run}, a live tick {tick}");
 }

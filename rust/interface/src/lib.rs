@@ -41,7 +41,8 @@ pub enum Meaning {
     Unknown,
 }
 
-/// The entry points of paper 01. Counts are records, characters and ticks; an accepted image and a fresh state count 0.
+/// The entry points of paper 01, and those for a controller that keeps an image prepared. Counts are records, characters,
+/// bytes of a table and ticks; an accepted image and a fresh state count 0.
 pub trait Library {
     /// Chart lines to node records of ten bytes each. Tries 1 to 9 and 16; counts records.
     fn read_chart(&self, text: &[u8], out: &mut [u8]) -> Answer;
@@ -73,6 +74,29 @@ pub trait Library {
     fn tick(&self, image: &[u8], state: &mut State, word: u16) -> Ticked {
         let (mut masks, mut codes) = ([0], [0]);
         let (answer, after) = self.run(image, state, &[word], &mut masks, &mut codes);
+        *state = after;
+        Ticked { answer, mask: masks[0], code: codes[0] }
+    }
+
+    /// An image's lines to the table that live runs and live ticks take. Tries what the image check tries, then 16;
+    /// counts bytes.
+    fn prepare(&self, image: &[u8], table: &mut [u8]) -> Answer;
+
+    /// A run on a table; on one that was prepared from an image it is the run on that image. The table may be followed by
+    /// anything, and any bytes are answered for. Tries 11, then 15 to 18; counts ticks.
+    fn live_run(
+        &self,
+        table: &[u8],
+        state: &State,
+        words: &[u16],
+        masks: &mut [u32],
+        codes: &mut [u8],
+    ) -> (Answer, State);
+
+    /// One tick on a table: what a live run of one word does. A refused tick emits nothing: mask and code 0.
+    fn live_tick(&self, table: &[u8], state: &mut State, word: u16) -> Ticked {
+        let (mut masks, mut codes) = ([0], [0]);
+        let (answer, after) = self.live_run(table, state, &[word], &mut masks, &mut codes);
         *state = after;
         Ticked { answer, mask: masks[0], code: codes[0] }
     }

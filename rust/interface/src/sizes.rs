@@ -20,8 +20,14 @@ pub const OPERATIONS: usize = 32;
 pub const LABELS: usize = 256;
 /// The most rows of an image.
 pub const ROWS: usize = 1_024;
-/// The longest image text, in characters: a header, the entries, the labels and the rows.
-pub const IMAGE_TEXT: usize = (1 + SCHEMES + LABELS + ROWS) * LINE;
+/// The most frames of an image: a header, the entries, the labels and the rows.
+pub const FRAMES: usize = 1 + SCHEMES + LABELS + ROWS;
+/// The longest image text, in characters.
+pub const IMAGE_TEXT: usize = FRAMES * LINE;
+/// The bytes of a frame in a prepared table.
+pub const FRAME: usize = 10;
+/// The largest prepared table, in bytes.
+pub const TABLE: usize = FRAMES * FRAME;
 /// The most places of a stack.
 pub const PLACES: usize = 32;
 
@@ -31,6 +37,6 @@ mod tests {
 
     #[test]
     fn the_sizes_are_those_of_the_header() {
-        assert_eq!((CHART_TEXT, IMAGE_TEXT, RECORDS), (5_888, 29_831, 2_560));
+        assert_eq!((CHART_TEXT, IMAGE_TEXT, RECORDS, TABLE), (5_888, 29_831, 2_560, 12_970));
     }
 }

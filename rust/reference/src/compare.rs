@@ -1,18 +1,20 @@
 //! Compares a library with the reference on random inputs. Case k of seed s is case 0 of seed s + k, so that one case
 //! can be made again by its own seed; seeds that lie closer than the number of cases share cases.
 
+mod alike;
+mod live;
+mod ticks;
+
 use std::collections::BTreeMap;
 use std::fmt;
 
 use crate::answer::Answer;
-use crate::check::chart_of;
 use crate::entry;
-use crate::expectation::{expected, Outcome, Run};
 use crate::frames::{text_of, Frame, CHARACTERS, RECORDS};
-use crate::generate::{charts, damage, images, runs, states, Random};
+use crate::generate::{charts, damage, images, runs, Random};
 use crate::library::{Library, Reference};
 use crate::show;
-use crate::state::State;
+pub use alike::live_alike;
 
 /// The first input on which the library and the reference differ.
 #[derive(Debug)]
@@ -86,7 +88,7 @@ type Call<'a> = fn(&(dyn Library + 'a), &[u8], &mut [u8]) -> Answer;
 
 impl<'a> Case<'a> {
     fn one(&mut self) -> Compared {
-        match self.random.below(8) {
+        match self.random.below(15) {
             0 => self.read_chart(),
             1 => self.write_chart(),
             2 => self.translate(),
@@ -94,7 +96,12 @@ impl<'a> Case<'a> {
             4 => self.fresh(),
             5 => self.run(),
             6 => self.tick(),
-            _ => self.runs(),
+            7 => self.runs("runs", false),
+            8 => self.prepare(),
+            9 | 10 => self.live_run(),
+            11 | 12 => self.live_tick(),
+            13 => self.runs("live_runs", true),
+            _ => self.mixture(),
         }
     }
 
@@ -203,89 +210,4 @@ impl<'a> Case<'a> {
         let got = self.library.fresh(size);
         self.hold("fresh", wanted.0, &wanted, &got, || format!("size {size}"))
     }
-
-    /// An image text, mostly accepted, and a state for it.
-    fn image_and_state(&mut self) -> (Vec<u8>, State) {
-        let image = images::accepted(&mut self.random);
-        let state = states::state(&mut self.random, &image);
-        let frames = image.frames();
-        let text = match self.random.below(10) {
-            0 => text_of(&damage::image(&mut self.random, &frames)),
-            1 => damage::text(&mut self.random, &text_of(&frames)),
-            _ => text_of(&frames),
-        };
-        (text, state)
-    }
-
-    fn run(&mut self) -> Compared {
-        let (image, state) = self.image_and_state();
-        let words = self.random.pick(&[0, 1, 5, 30, 100]);
-        let run = runs::run(&mut self.random, words);
-        let (mut masks, mut codes) = (run.masks.clone(), run.codes.clone());
-        let (answer, after) = entry::run(&image, &state, &run.words, &mut masks, &mut codes);
-        let (mut got_masks, mut got_codes) = (widened(&run.masks, 0xA5A5_A5A5), widened(&run.codes, 0xA5));
-        let (lent_masks, lent_codes) =
-            (&mut got_masks[MARGIN..][..masks.len()], &mut got_codes[MARGIN..][..codes.len()]);
-        let (got, got_after) = self.library.run(&image, &state, &run.words, lent_masks, lent_codes);
-        let wanted = (answer, after, widened(&masks, 0xA5A5_A5A5), widened(&codes, 0xA5));
-        let given = (got, got_after, got_masks, got_codes);
-        self.hold("run", answer, &wanted, &given, || {
-            format!("image of {}state: {}\n{}", show::text(&image), show::state(&state), show_run(&run))
-        })
-    }
-
-    /// A state lent to some ticks, one after the other, as long as none is refused.
-    fn tick(&mut self) -> Compared {
-        let (image, start) = self.image_and_state();
-        let words = runs::words(&mut self.random, 6);
-        let (mut state, mut given) = (start, start);
-        for word in words {
-            let before = state;
-            let wanted = Reference.tick(&image, &mut state, word);
-            let got = self.library.tick(&image, &mut given, word);
-            self.hold("tick", wanted.answer, &(wanted, state), &(got, given), || {
-                format!("image of {}state: {}\nword {word:04X}", show::text(&image), show::state(&before))
-            })?;
-            if wanted.answer.number() != 0 {
-                break;
-            }
-        }
-        Ok(())
-    }
-
-    /// Demand 3: a list of runs against the walk over the joined words.
-    fn runs(&mut self) -> Compared {
-        let (records, image) = images::translated(&mut self.random);
-        let chart = chart_of(&records).expect("generated charts are valid");
-        let text = text_of(&records);
-        let size = if self.random.once_in(2) { self.random.within(1, 4) } else { self.random.within(1, 32) };
-        let list = runs::list(&mut self.random);
-        let mut image_text = vec![0; text_of(&image.frames()).len()];
-        let translation = self.library.translate(&text, &mut image_text);
-        let translated = Answer::Done(image_text.len());
-        self.hold("translate", translated, &translated, &translation, || show::text(&text))?;
-        let outcomes = expected(&chart, size, &list);
-        let (_, mut state) = self.library.fresh(size);
-        for (k, run) in list.iter().enumerate() {
-            let (mut masks, mut codes) = (run.masks.clone(), run.codes.clone());
-            let (answer, after) = self.library.run(&image_text, &state, &run.words, &mut masks, &mut codes);
-            state = after;
-            let outcome = Outcome { answer, masks, codes };
-            self.hold("runs", outcomes[k].answer, &outcomes[k], &outcome, || {
-                let shown: Vec<String> = list.iter().map(show_run).collect();
-                format!("chart of {}size {size}, run {k} of\n{}", show::text(&text), shown.join("\n"))
-            })?;
-        }
-        Ok(())
-    }
-}
-
-/// A buffer with margins on both sides.
-fn widened<T: Copy>(buffer: &[T], filler: T) -> Vec<T> {
-    [&[filler; MARGIN], buffer, &[filler; MARGIN]].concat()
-}
-
-fn show_run(run: &Run) -> String {
-    let (masks, codes) = (run.masks.len(), run.codes.len());
-    format!("{}; room for {masks} masks, {codes} codes", show::words(&run.words))
 }

@@ -5,7 +5,9 @@ use crate::chart::Chart;
 use crate::check::chart_of;
 use crate::frames::{frames_of, text_of, Frame, CHART_TEXT, IMAGE_TEXT, RECORDS};
 use crate::image::{self, Image};
-use crate::machine;
+use crate::live::Held;
+use crate::machine::{self, Advanced};
+use crate::prepare::table_of;
 use crate::state::{fresh_state, State};
 use crate::translator;
 
@@ -92,6 +94,11 @@ fn image_for(text: &[u8], state: &State) -> Result<Image, Refusal> {
     Ok(image)
 }
 
+/// Refuses with 16 where a buffer has less room than there are words.
+fn roomy(words: &[u16], masks: &[u32], codes: &[u8]) -> Result<(), Refusal> {
+    refuse_if(16, masks.len() < words.len() || codes.len() < words.len())
+}
+
 /// What the image check tries, then 15 to 18; counts ticks.
 pub fn run(
     image: &[u8],
@@ -100,19 +107,19 @@ pub fn run(
     masks: &mut [u32],
     codes: &mut [u8],
 ) -> (Answer, State) {
-    let roomy = masks.len() >= words.len() && codes.len() >= words.len();
     let ready = image_for(image, state).and_then(|image| {
-        refuse_if(16, !roomy)?;
+        roomy(words, masks, codes)?;
         Ok(image)
     });
     match ready {
-        Ok(image) => run_ticks(&image, *state, words, masks, codes),
+        Ok(image) => run_ticks(|s, word| machine::tick(&image, s, word), *state, words, masks, codes),
         Err(refusal) => (refusal.into(), *state),
     }
 }
 
+/// Ticks until the words end, or 17 or 18.
 fn run_ticks(
-    image: &Image,
+    tick: impl Fn(&State, u16) -> Result<Advanced, u8>,
     start: State,
     words: &[u16],
     masks: &mut [u32],
@@ -120,7 +127,7 @@ fn run_ticks(
 ) -> (Answer, State) {
     let mut state = start;
     for (count, word) in words.iter().enumerate() {
-        match machine::tick(image, &state, *word) {
+        match tick(&state, *word) {
             Ok(advanced) => {
                 masks[count] = advanced.mask;
                 codes[count] = advanced.code;
@@ -130,4 +137,32 @@ fn run_ticks(
         }
     }
     (Answer::Done(words.len()), state)
+}
+
+/// Refusals 1 to 3, 11 to 13 and 16; counts bytes.
+pub fn prepare(image: &[u8], out: &mut [u8]) -> Answer {
+    answered(image_from_text(image).and_then(|image| {
+        let table = table_of(&image).concat();
+        put(&table, out)?;
+        Ok(table.len())
+    }))
+}
+
+/// Refusal 11, then 15 to 18; counts ticks.
+pub fn live_run(
+    table: &[u8],
+    state: &State,
+    words: &[u16],
+    masks: &mut [u32],
+    codes: &mut [u8],
+) -> (Answer, State) {
+    let ready = Held::of(table).and_then(|held| {
+        refuse_if(15, !held.fits(state))?;
+        roomy(words, masks, codes)?;
+        Ok(held)
+    });
+    match ready {
+        Ok(held) => run_ticks(|s, word| held.tick(s, word), *state, words, masks, codes),
+        Err(refusal) => (refusal.into(), *state),
+    }
 }

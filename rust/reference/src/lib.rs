@@ -1,4 +1,4 @@
-//! A plain implementation of paper 01, for tests only. It was written from the paper, not from the
+//! A plain implementation of paper 01 and of live ticks, for tests only. It was written from the rules, not from the
 //! proved library, so that the two can be compared. It prefers the obvious way over the fast one.
 
 pub mod answer;
@@ -13,7 +13,9 @@ pub mod frames;
 pub mod generate;
 pub mod image;
 pub mod library;
+pub mod live;
 pub mod machine;
+pub mod prepare;
 pub mod programs;
 pub mod samples;
 pub mod show;

@@ -11,7 +11,7 @@ use reference::translator;
 use reference::Reference;
 
 /// Which refusals each call may give; 0 is success.
-const TRIED: [(&str, &[u8]); 8] = [
+const TRIED: [(&str, &[u8]); 13] = [
     ("read_chart", &[0, 1, 2, 3, 4, 5, 6, 7, 8, 9, 16]),
     ("write_chart", &[0, 1, 4, 5, 6, 7, 8, 9, 16]),
     ("translate", &[0, 1, 2, 3, 4, 5, 6, 7, 8, 9, 10, 16]),
@@ -20,6 +20,11 @@ const TRIED: [(&str, &[u8]); 8] = [
     ("run", &[0, 1, 2, 3, 11, 12, 13, 15, 16, 17, 18]),
     ("tick", &[0, 1, 2, 3, 11, 12, 13, 15, 17, 18]),
     ("runs", &[0, 16, 17]),
+    ("prepare", &[0, 1, 2, 3, 11, 12, 13, 16]),
+    ("live_run", &[0, 11, 15, 16, 17, 18]),
+    ("live_tick", &[0, 11, 15, 17, 18]),
+    ("live_runs", &[0, 16, 17]),
+    ("mixture", &[0, 11, 15, 16, 17, 18]),
 ];
 
 #[test]

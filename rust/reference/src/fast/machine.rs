@@ -1,7 +1,7 @@
 //! The machine over an accepted image, taken apart once: each label with the range of its rows.
 
 use super::image::Parts;
-use crate::answer::Answer;
+use crate::answer::{Answer, Refusal};
 use crate::frames::Frame;
 use crate::image::{FUNCTION_CALL, HOME, OPERATION_CALL, PLAIN, ROWS};
 use crate::state::State;
@@ -25,15 +25,57 @@ struct Row {
     next: u8,
 }
 
+/// Result bits: packed for a run, which reads and writes many, or as a state has them for one tick.
+trait Bits {
+    /// A scheme's bit; only for scheme 0, which nothing calls, it may be any.
+    fn bit(&self, scheme: u8) -> u8;
+    fn write(&mut self, scheme: u8, bit: bool);
+}
+
+impl Bits for u32 {
+    fn bit(&self, scheme: u8) -> u8 {
+        (self >> scheme & 1) as u8
+    }
+
+    fn write(&mut self, scheme: u8, bit: bool) {
+        *self = *self & !(1 << scheme) | u32::from(bit) << scheme;
+    }
+}
+
+impl Bits for [bool; 16] {
+    fn bit(&self, scheme: u8) -> u8 {
+        u8::from(self[usize::from(scheme.wrapping_sub(1) & 15)])
+    }
+
+    fn write(&mut self, scheme: u8, bit: bool) {
+        self[usize::from(scheme.wrapping_sub(1) & 15)] = bit;
+    }
+}
+
+/// A fitting state taken apart.
+struct Stack<B> {
+    places: [u8; 32],
+    depth: usize,
+    size: usize,
+    bits: B,
+}
+
+impl<B: Bits> Stack<B> {
+    fn of(state: &State, bits: B) -> Stack<B> {
+        let (depth, size) = (usize::from(state.depth), usize::from(state.size));
+        Stack { places: state.places, depth, size, bits }
+    }
+
+    fn state(&self, results: [bool; 16]) -> State {
+        State { size: self.size as u8, depth: self.depth as u8, places: self.places, results }
+    }
+}
+
 pub struct Machine {
     entries: [u8; 17],
     labels: [Label; 256],
     rows: [Row; ROWS],
     count: usize,
-    places: [u8; 32],
-    depth: usize,
-    size: usize,
-    bits: u32,
 }
 
 impl Machine {
@@ -43,10 +85,6 @@ impl Machine {
             labels: [Label::default(); 256],
             rows: [Row::default(); ROWS],
             count: parts.labels,
-            places: [0; 32],
-            depth: 0,
-            size: 0,
-            bits: 0,
         };
         let (entries, rest) = frames[1..].split_at(parts.schemes);
         let (labels, rows) = rest.split_at(parts.labels);
@@ -71,13 +109,14 @@ impl Machine {
     }
 
     /// Refusal 15 is for states that do not fit.
-    pub fn fits(&self, state: &State) -> bool {
+    fn fits(&self, state: &State) -> bool {
         let depth = usize::from(state.depth);
         if !(1..=32).contains(&state.size) || depth == 0 || state.depth > state.size {
             return false;
         }
+        let (filled, above) = state.places.split_at(depth);
         let mut scheme = 1;
-        for (k, place) in state.places[..depth].iter().enumerate() {
+        for (k, place) in filled.iter().enumerate() {
             if usize::from(*place) >= self.count {
                 return false;
             }
@@ -89,29 +128,30 @@ impl Machine {
             }
             scheme = label.called;
         }
-        state.places[depth..].iter().all(|p| *p == 0)
+        above == &[0; 32][depth..]
     }
 
-    /// Takes a fitting state apart.
-    pub fn load(&mut self, state: &State) {
-        self.places = state.places;
-        self.depth = usize::from(state.depth);
-        self.size = usize::from(state.size);
-        self.bits = 0;
-        for (k, bit) in state.results.iter().enumerate() {
-            self.bits |= u32::from(*bit) << (k + 1);
+    /// Refusals 15 to 18.
+    pub fn run(&self, state: &State, words: &[u16], masks: &mut [u32], codes: &mut [u8]) -> (Answer, State) {
+        let refused = |number| (Refusal { number, index: 0 }.into(), *state);
+        if !self.fits(state) {
+            return refused(15);
         }
-    }
-
-    pub fn store(&self, size: u8) -> State {
-        let results = std::array::from_fn(|k| self.bits >> (k + 1) & 1 == 1);
-        State { size, depth: self.depth as u8, places: self.places, results }
+        let count = words.len();
+        let (Some(masks), Some(codes)) = (masks.get_mut(..count), codes.get_mut(..count)) else {
+            return refused(16);
+        };
+        let packed = state.results.iter().rev().fold(0, |bits, bit| bits << 1 | u32::from(*bit)) << 1;
+        let mut stack = Stack::of(state, packed);
+        let answer = self.ticks(&mut stack, words, masks, codes);
+        let results = std::array::from_fn(|k| stack.bits >> (k + 1) & 1 == 1);
+        (answer, stack.state(results))
     }
 
     /// Ticks until the words end, or 17 or 18. The buffers are as long as the words.
-    pub fn run(&mut self, words: &[u16], masks: &mut [u32], codes: &mut [u8]) -> Answer {
+    fn ticks(&self, stack: &mut Stack<u32>, words: &[u16], masks: &mut [u32], codes: &mut [u8]) -> Answer {
         for (count, ((word, mask), code)) in words.iter().zip(masks).zip(codes).enumerate() {
-            match self.tick(*word) {
+            match self.tick(stack, *word) {
                 Ok(tick) => (*mask, *code) = tick,
                 Err(number) => return Answer::Refused { number, index: 0, count },
             }
@@ -119,8 +159,20 @@ impl Machine {
         Answer::Done(words.len())
     }
 
-    fn next(&self, label: &Label, word: u16) -> Result<u8, u8> {
-        let bit = (self.bits >> label.called & 1) as u8;
+    /// Refusals 15, 17 and 18, or the mask and the code of one tick of a lent state.
+    pub fn live_tick(&self, state: &mut State, word: u16) -> Result<(u32, u8), u8> {
+        if !self.fits(state) {
+            return Err(15);
+        }
+        let mut stack = Stack::of(state, state.results);
+        let ticked = self.tick(&mut stack, word)?;
+        *state = stack.state(stack.bits);
+        Ok(ticked)
+    }
+
+    #[inline(always)]
+    fn next<B: Bits>(&self, label: &Label, bits: &B, word: u16) -> Result<u8, u8> {
+        let bit = bits.bit(label.called);
         for row in &self.rows[usize::from(label.first)..usize::from(label.end)] {
             if word & row.care == row.values && (row.function_bit == 2 || row.function_bit == bit) {
                 return Ok(row.next);
@@ -129,38 +181,38 @@ impl Machine {
         Err(18)
     }
 
-    fn tick(&mut self, word: u16) -> Result<(u32, u8), u8> {
-        let top = self.depth - 1;
-        let label = self.labels[usize::from(self.places[top])];
+    // in a run the stack then stays in registers
+    #[inline(always)]
+    fn tick<B: Bits>(&self, stack: &mut Stack<B>, word: u16) -> Result<(u32, u8), u8> {
+        let top = stack.depth - 1;
+        let label = self.labels[usize::from(stack.places[top])];
         let code = match label.kind {
             PLAIN => {
-                self.places[top] = self.next(&label, word)?;
+                stack.places[top] = self.next(&label, &stack.bits, word)?;
                 0x00
             }
             OPERATION_CALL | FUNCTION_CALL => {
-                if self.depth == self.size {
+                if stack.depth == stack.size {
                     return Err(17);
                 }
-                self.places[top + 1] = self.entries[usize::from(label.called)];
-                self.depth += 1;
+                stack.places[top + 1] = self.entries[usize::from(label.called)];
+                stack.depth += 1;
                 label.called + if label.kind == OPERATION_CALL { 0x10 } else { 0x40 }
             }
             HOME => {
-                self.places[top] = self.entries[1];
+                stack.places[top] = self.entries[1];
                 0x04
             }
             _ => {
-                let beneath = self.labels[usize::from(self.places[top - 1])];
-                self.places[top - 1] = self.next(&beneath, word)?;
-                self.places[top] = 0;
-                self.depth = top;
+                let beneath = self.labels[usize::from(stack.places[top - 1])];
+                stack.places[top - 1] = self.next(&beneath, &stack.bits, word)?;
+                stack.places[top] = 0;
+                stack.depth = top;
                 0x03
             }
         };
-        match label.result {
-            0 => {}
-            1 => self.bits &= !(1 << label.owner),
-            _ => self.bits |= 1 << label.owner,
+        if label.result != 0 {
+            stack.bits.write(label.owner, label.result == 2);
         }
         Ok((label.mask, code))
     }

@@ -4,13 +4,16 @@
 mod chart;
 mod frames;
 mod image;
+mod kept;
+mod live;
 mod machine;
 mod table;
 
 use crate::answer::{answered, Answer, Refusal};
 use crate::frames::{Frame, CHARACTERS, CHART_TEXT, IMAGE_TEXT};
-use crate::library::{Library, Meaning};
+use crate::library::{Library, Meaning, Ticked};
 use crate::state::State;
+pub use kept::Kept;
 
 const NODES: usize = 256;
 const IMAGE_FRAMES: usize = IMAGE_TEXT / CHARACTERS;
@@ -67,6 +70,24 @@ fn accepted<'a>(
     Ok((frames, image::check(frames)?))
 }
 
+fn put_table(text: &[u8], out: &mut [u8]) -> Result<usize, Refusal> {
+    let mut frames = [[0; 10]; IMAGE_FRAMES];
+    let (frames, parts) = accepted(text, &mut frames)?;
+    let Some(table) = out.as_chunks_mut::<10>().0.get_mut(..frames.len()) else {
+        return refuse(16, 0);
+    };
+    live::prepare(frames, &parts, table);
+    Ok(10 * frames.len())
+}
+
+/// What a tick hands back for its mask and code, or for its refusal.
+fn ticked_of(ticked: Result<(u32, u8), u8>) -> Ticked {
+    match ticked {
+        Ok((mask, code)) => Ticked { answer: Answer::Done(1), mask, code },
+        Err(number) => Ticked { answer: Refusal { number, index: 0 }.into(), mask: 0, code: 0 },
+    }
+}
+
 /// The fast functions.
 pub struct Fast;
 
@@ -105,18 +126,44 @@ impl Library for Fast {
             Ok(accepted) => accepted,
             Err(refusal) => return (refusal.into(), *state),
         };
+        machine::Machine::new(frames, &parts).run(state, words, masks, codes)
+    }
+
+    fn prepare(&self, image: &[u8], table: &mut [u8]) -> Answer {
+        answered(put_table(image, table))
+    }
+
+    fn live_run(
+        &self,
+        table: &[u8],
+        state: &State,
+        words: &[u16],
+        masks: &mut [u32],
+        codes: &mut [u8],
+    ) -> (Answer, State) {
         let refused = |number| (Refusal { number, index: 0 }.into(), *state);
-        let mut machine = machine::Machine::new(frames, &parts);
-        if !machine.fits(state) {
+        let Some(table) = live::Table::of(table) else {
+            return refused(11);
+        };
+        if !table.fits(state) {
             return refused(15);
         }
         let count = words.len();
         let (Some(masks), Some(codes)) = (masks.get_mut(..count), codes.get_mut(..count)) else {
             return refused(16);
         };
-        machine.load(state);
-        let answer = machine.run(words, masks, codes);
-        (answer, machine.store(state.size))
+        let mut after = *state;
+        let answer = table.run(&mut after, words, masks, codes);
+        (answer, after)
+    }
+
+    fn live_tick(&self, table: &[u8], state: &mut State, word: u16) -> Ticked {
+        let ticked = match live::Table::of(table) {
+            None => Err(11),
+            Some(table) if !table.fits(state) => Err(15),
+            Some(table) => table.tick(state, word),
+        };
+        ticked_of(ticked)
     }
 
     fn meaning(&self, code: u8) -> Meaning {

@@ -111,6 +111,17 @@ fn invented(random: &mut Random) -> Image {
         1 => 1,
         _ => random.within(1, 40),
     };
+    with_labels(random, schemes, last)
+}
+
+/// An accepted image of so few labels that a fault in one is soon met.
+pub fn small(random: &mut Random) -> Image {
+    let (schemes, last) = (random.within(1, 3), random.within(2, 6));
+    with_labels(random, schemes, last)
+}
+
+/// An accepted image of so many schemes, with labels up to the last.
+fn with_labels(random: &mut Random, schemes: usize, last: usize) -> Image {
     let mut labels = vec![Label::ZERO, Label::ONE];
     for _ in 2..=last {
         labels.push(label(random, schemes));

@@ -1,4 +1,4 @@
-//! Random inputs from a seed: charts, images, states, words, buffers, lists of runs, and damage to each.
+//! Random inputs from a seed: charts, images, tables, states, words, buffers, lists of runs, and damage to each.
 
 pub mod charts;
 pub mod damage;
@@ -7,5 +7,6 @@ pub mod ladders;
 pub mod random;
 pub mod runs;
 pub mod states;
+pub mod tables;
 
 pub use random::Random;

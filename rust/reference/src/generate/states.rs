@@ -2,30 +2,30 @@
 
 use super::images::owned;
 use super::Random;
-use crate::image::Image;
+use crate::image::Label;
 use crate::state::State;
 
-/// A state for this image, fitting or not.
-pub fn state(random: &mut Random, image: &Image) -> State {
-    let mut state = fitting(random, image);
+/// A state for an image with these labels, fitting or not.
+pub fn state(random: &mut Random, labels: &[Label]) -> State {
+    let mut state = fitting(random, labels);
     if random.once_in(3) {
         for _ in 0..random.within(1, 2) {
-            spoil(random, image, &mut state);
+            spoil(random, labels, &mut state);
         }
     }
     state
 }
 
 /// A stack that a fitting state may hold, each label above a call belonging to the scheme called.
-pub fn fitting(random: &mut Random, image: &Image) -> State {
+pub fn fitting(random: &mut Random, labels: &[Label]) -> State {
     let mut state = State { size: random.within(1, 32) as u8, depth: 1, ..State::NONE };
     state.results = std::array::from_fn(|_| random.once_in(2));
     let deep = random.once_in(4);
     let mut scheme = 1;
     loop {
-        let label = wanted(random, image, scheme, if deep { 40 } else { 4 });
+        let label = wanted(random, labels, scheme, if deep { 40 } else { 4 });
         state.places[usize::from(state.depth) - 1] = label;
-        let label = image.labels[usize::from(label)];
+        let label = labels[usize::from(label)];
         if !label.calls() || state.depth == state.size || !deep && random.once_in(8) {
             return state;
         }
@@ -35,18 +35,18 @@ pub fn fitting(random: &mut Random, image: &Image) -> State {
 }
 
 /// A label of the scheme, a call rather than another if one is met in less than so many tries.
-fn wanted(random: &mut Random, image: &Image, scheme: u8, tries: usize) -> u8 {
+fn wanted(random: &mut Random, labels: &[Label], scheme: u8, tries: usize) -> u8 {
     for _ in 0..random.below(tries) {
-        let label = owned(random, &image.labels, scheme);
-        if image.labels[usize::from(label)].calls() {
+        let label = owned(random, labels, scheme);
+        if labels[usize::from(label)].calls() {
             return label;
         }
     }
-    owned(random, &image.labels, scheme)
+    owned(random, labels, scheme)
 }
 
-fn spoil(random: &mut Random, image: &Image, state: &mut State) {
-    let last = (image.labels.len() - 1) as u8;
+fn spoil(random: &mut Random, labels: &[Label], state: &mut State) {
+    let last = (labels.len() - 1) as u8;
     let depth = state.depth;
     let at = random.below(usize::from(depth).clamp(1, 32));
     match random.below(8) {

@@ -1,0 +1,131 @@
+/* Makes the library's calls for a program on the other side of a pipe (rust/board). A message is a head and then the buffers of one
+ * call; the call is made on them, and head and buffers go back, so that the other side sees all that was changed. */
+#include "fairleadow.h"
+#include "host.h"
+#include "stack.h"
+
+/* All buffers of a call lie here one after the other: masks, words, codes, output, input. */
+#define BUFFERS 47104
+
+enum {
+    READ_CHART,
+    WRITE_CHART,
+    TRANSLATE,
+    CHECK_IMAGE,
+    FRESH,
+    RUN,
+    TICK,
+    PREPARE,
+    LIVE_RUN,
+    LIVE_TICK,
+    MEANING,
+    KNOWN,
+};
+
+/* As it stands in a message: numbers with the low byte first, 100 bytes. */
+typedef struct {
+    uint32_t call;
+    uint32_t masks, words, codes, output, input; /* how many of each */
+    uint32_t value;                              /* a stack's size, or a code */
+    uint32_t number, index, count;               /* the answer */
+    uint32_t stack;                              /* the bytes of stack that the call took */
+    uint32_t code;                               /* the bytes of the library's code */
+    fairleadow_state state;
+} message;
+
+static message head;
+static union {
+    uint8_t bytes[BUFFERS];
+    uint32_t aligned;
+} buffers;
+
+extern const uint8_t library_start[], library_end[];
+
+/* Writes to 4,000 bytes of stack, so that the measure can be tried. */
+__attribute__((noinline)) static uint8_t take_known_stack(void) {
+    volatile uint8_t held[4000];
+    for (uint32_t i = 0; i < sizeof held; i++)
+        held[i] = 0;
+    return held[head.value];
+}
+
+/* One call, on the buffers as they lie. A function of its own: its frame is that of a caller, and counted. */
+__attribute__((noinline)) static void make_call(void) {
+    uint32_t *masks = (uint32_t *)buffers.bytes;
+    uint16_t *words = (uint16_t *)(masks + head.masks);
+    uint8_t *codes = (uint8_t *)(words + head.words);
+    uint8_t *output = codes + head.codes;
+    uint8_t *input = output + head.output;
+    size_t index = 0, count = 0;
+    uint8_t number = 255;
+    switch (head.call) {
+    case READ_CHART:
+        number = fairleadow_read_chart(input, head.input, output, head.output, &index, &count);
+        break;
+    case WRITE_CHART:
+        number = fairleadow_write_chart(input, head.input, output, head.output, &index, &count);
+        break;
+    case TRANSLATE:
+        number = fairleadow_translate(input, head.input, output, head.output, &index, &count);
+        break;
+    case CHECK_IMAGE:
+        number = fairleadow_check_image(input, head.input, &index, &count);
+        break;
+    case FRESH:
+        number = fairleadow_fresh(head.value, &head.state, &index, &count);
+        break;
+    case RUN:
+        number = fairleadow_run(input, head.input, &head.state, words, head.words, masks, head.masks, codes, head.codes,
+                                &index, &count);
+        break;
+    case TICK:
+        number = fairleadow_tick(input, head.input, &head.state, words[0], masks, codes, &index, &count);
+        break;
+    case PREPARE:
+        number = fairleadow_prepare(input, head.input, output, head.output, &index, &count);
+        break;
+    case LIVE_RUN:
+        number = fairleadow_live_run(input, head.input, &head.state, words, head.words, masks, head.masks, codes, head.codes,
+                                     &index, &count);
+        break;
+    case LIVE_TICK:
+        number = fairleadow_live_tick(input, head.input, &head.state, words[0], masks, codes, &index, &count);
+        break;
+    case MEANING:
+        number = fairleadow_meaning((uint8_t)head.value, codes);
+        break;
+    case KNOWN:
+        number = take_known_stack();
+        break;
+    }
+    head.number = number;
+    head.index = index;
+    head.count = count;
+}
+
+__attribute__((noinline)) static void measure_call(void) {
+    uint32_t *from = stack_here();
+    stack_paint();
+    make_call();
+    head.stack = stack_used(from);
+}
+
+void fault(void) {
+    host_end(0);
+}
+
+int main(void) {
+    _Static_assert(sizeof head == 100, "the head is as rust/board has it");
+    host_open();
+    for (;;) {
+        host_read(&head, sizeof head);
+        uint32_t length = 4 * head.masks + 2 * head.words + head.codes + head.output + head.input;
+        if (length > BUFFERS)
+            return 1;
+        host_read(buffers.bytes, length);
+        measure_call();
+        head.code = (uint32_t)(library_end - library_start);
+        host_write(&head, sizeof head);
+        host_write(buffers.bytes, length);
+    }
+}

@@ -1,0 +1,32 @@
+/* Each function of the header has the type that it is declared with, in C and in C++, whatever the processor. Only compiled. */
+#include "fairleadow.h"
+
+typedef uint8_t (*writes)(const uint8_t *, size_t, uint8_t *, size_t, size_t *, size_t *);
+typedef uint8_t (*checks)(const uint8_t *, size_t, size_t *, size_t *);
+typedef uint8_t (*makes)(size_t, fairleadow_state *, size_t *, size_t *);
+typedef uint8_t (*runs)(const uint8_t *, size_t, fairleadow_state *, const uint16_t *, size_t, uint32_t *, size_t, uint8_t *, size_t,
+                        size_t *, size_t *);
+typedef uint8_t (*ticks)(const uint8_t *, size_t, fairleadow_state *, uint16_t, uint32_t *, uint8_t *, size_t *, size_t *);
+typedef uint8_t (*means)(uint8_t, uint8_t *);
+
+struct every_function {
+    writes read_chart, write_chart, translate, prepare;
+    checks check_image;
+    makes fresh;
+    runs run, live_run;
+    ticks tick, live_tick;
+    means meaning;
+};
+
+struct every_function every_function(void);
+
+struct every_function every_function(void) {
+    struct every_function all = {
+        fairleadow_read_chart,  fairleadow_write_chart, fairleadow_translate, fairleadow_prepare,
+        fairleadow_check_image, fairleadow_fresh,       fairleadow_run,       fairleadow_live_run,
+        fairleadow_tick,        fairleadow_live_tick,   fairleadow_meaning,
+    };
+    return all;
+}
+
+typedef char a_state_has_fifty_bytes[sizeof(fairleadow_state) == 50 ? 1 : -1];

@@ -1,0 +1,128 @@
+/* How the functions of fairleadow.h reach the archive; to be included by that file alone. Whatever the processor, the archive takes
+ * lengths and writes index and count as 64 bits, and of what it returns only the low eight bits have a meaning. The functions below
+ * have the types of fairleadow.h, and from there on its names stand for them. */
+#ifndef FAIRLEADOW_CALLS_H
+#define FAIRLEADOW_CALLS_H
+
+/* The functions of the archive. */
+uint32_t fairleadow_read_chart(const uint8_t *text, uint64_t text_len, uint8_t *records, uint64_t records_len,
+                               uint64_t *index, uint64_t *count);
+uint32_t fairleadow_write_chart(const uint8_t *records, uint64_t records_len, uint8_t *text, uint64_t text_len,
+                                uint64_t *index, uint64_t *count);
+uint32_t fairleadow_translate(const uint8_t *chart, uint64_t chart_len, uint8_t *image, uint64_t image_len,
+                              uint64_t *index, uint64_t *count);
+uint32_t fairleadow_check_image(const uint8_t *image, uint64_t image_len, uint64_t *index, uint64_t *count);
+uint32_t fairleadow_fresh(uint64_t size, fairleadow_state *state, uint64_t *index, uint64_t *count);
+uint32_t fairleadow_run(const uint8_t *image, uint64_t image_len, fairleadow_state *state, const uint16_t *words, uint64_t words_len,
+                        uint32_t *masks, uint64_t masks_len, uint8_t *codes, uint64_t codes_len, uint64_t *index, uint64_t *count);
+uint32_t fairleadow_tick(const uint8_t *image, uint64_t image_len, fairleadow_state *state, uint16_t word,
+                         uint32_t *mask, uint8_t *code, uint64_t *index, uint64_t *count);
+uint32_t fairleadow_prepare(const uint8_t *image, uint64_t image_len, uint8_t *table, uint64_t table_len,
+                            uint64_t *index, uint64_t *count);
+uint32_t fairleadow_live_run(const uint8_t *table, uint64_t table_len, fairleadow_state *state, const uint16_t *words,
+                             uint64_t words_len, uint32_t *masks, uint64_t masks_len, uint8_t *codes, uint64_t codes_len,
+                             uint64_t *index, uint64_t *count);
+uint32_t fairleadow_live_tick(const uint8_t *table, uint64_t table_len, fairleadow_state *state, uint16_t word,
+                              uint32_t *mask, uint8_t *code, uint64_t *index, uint64_t *count);
+uint32_t fairleadow_meaning(uint8_t code, uint8_t *called);
+
+typedef struct {
+    uint64_t index, count;
+} fairleadow_told;
+
+/* Hands on what the archive told. An index and a count fit a size_t: they are no larger than the lengths that were given. */
+static inline uint8_t fairleadow_tell(uint32_t number, const fairleadow_told *told, size_t *index, size_t *count) {
+    *index = (size_t)told->index;
+    *count = (size_t)told->count;
+    return (uint8_t)(number & 0xFF);
+}
+
+static inline uint8_t fairleadow_c_read_chart(const uint8_t *text, size_t text_len, uint8_t *records, size_t records_len,
+                                              size_t *index, size_t *count) {
+    fairleadow_told told;
+    uint32_t number = fairleadow_read_chart(text, text_len, records, records_len, &told.index, &told.count);
+    return fairleadow_tell(number, &told, index, count);
+}
+
+static inline uint8_t fairleadow_c_write_chart(const uint8_t *records, size_t records_len, uint8_t *text, size_t text_len,
+                                               size_t *index, size_t *count) {
+    fairleadow_told told;
+    uint32_t number = fairleadow_write_chart(records, records_len, text, text_len, &told.index, &told.count);
+    return fairleadow_tell(number, &told, index, count);
+}
+
+static inline uint8_t fairleadow_c_translate(const uint8_t *chart, size_t chart_len, uint8_t *image, size_t image_len,
+                                             size_t *index, size_t *count) {
+    fairleadow_told told;
+    uint32_t number = fairleadow_translate(chart, chart_len, image, image_len, &told.index, &told.count);
+    return fairleadow_tell(number, &told, index, count);
+}
+
+static inline uint8_t fairleadow_c_check_image(const uint8_t *image, size_t image_len, size_t *index, size_t *count) {
+    fairleadow_told told;
+    uint32_t number = fairleadow_check_image(image, image_len, &told.index, &told.count);
+    return fairleadow_tell(number, &told, index, count);
+}
+
+static inline uint8_t fairleadow_c_fresh(size_t size, fairleadow_state *state, size_t *index, size_t *count) {
+    fairleadow_told told;
+    uint32_t number = fairleadow_fresh(size, state, &told.index, &told.count);
+    return fairleadow_tell(number, &told, index, count);
+}
+
+static inline uint8_t fairleadow_c_run(const uint8_t *image, size_t image_len, fairleadow_state *state, const uint16_t *words,
+                                       size_t words_len, uint32_t *masks, size_t masks_len, uint8_t *codes, size_t codes_len,
+                                       size_t *index, size_t *count) {
+    fairleadow_told told;
+    uint32_t number = fairleadow_run(image, image_len, state, words, words_len, masks, masks_len, codes, codes_len,
+                                     &told.index, &told.count);
+    return fairleadow_tell(number, &told, index, count);
+}
+
+static inline uint8_t fairleadow_c_tick(const uint8_t *image, size_t image_len, fairleadow_state *state, uint16_t word,
+                                        uint32_t *mask, uint8_t *code, size_t *index, size_t *count) {
+    fairleadow_told told;
+    uint32_t number = fairleadow_tick(image, image_len, state, word, mask, code, &told.index, &told.count);
+    return fairleadow_tell(number, &told, index, count);
+}
+
+static inline uint8_t fairleadow_c_prepare(const uint8_t *image, size_t image_len, uint8_t *table, size_t table_len,
+                                           size_t *index, size_t *count) {
+    fairleadow_told told;
+    uint32_t number = fairleadow_prepare(image, image_len, table, table_len, &told.index, &told.count);
+    return fairleadow_tell(number, &told, index, count);
+}
+
+static inline uint8_t fairleadow_c_live_run(const uint8_t *table, size_t table_len, fairleadow_state *state, const uint16_t *words,
+                                            size_t words_len, uint32_t *masks, size_t masks_len, uint8_t *codes, size_t codes_len,
+                                            size_t *index, size_t *count) {
+    fairleadow_told told;
+    uint32_t number = fairleadow_live_run(table, table_len, state, words, words_len, masks, masks_len, codes, codes_len,
+                                          &told.index, &told.count);
+    return fairleadow_tell(number, &told, index, count);
+}
+
+static inline uint8_t fairleadow_c_live_tick(const uint8_t *table, size_t table_len, fairleadow_state *state, uint16_t word,
+                                             uint32_t *mask, uint8_t *code, size_t *index, size_t *count) {
+    fairleadow_told told;
+    uint32_t number = fairleadow_live_tick(table, table_len, state, word, mask, code, &told.index, &told.count);
+    return fairleadow_tell(number, &told, index, count);
+}
+
+static inline uint8_t fairleadow_c_meaning(uint8_t code, uint8_t *called) {
+    return (uint8_t)(fairleadow_meaning(code, called) & 0xFF);
+}
+
+#define fairleadow_read_chart fairleadow_c_read_chart
+#define fairleadow_write_chart fairleadow_c_write_chart
+#define fairleadow_translate fairleadow_c_translate
+#define fairleadow_check_image fairleadow_c_check_image
+#define fairleadow_fresh fairleadow_c_fresh
+#define fairleadow_run fairleadow_c_run
+#define fairleadow_tick fairleadow_c_tick
+#define fairleadow_prepare fairleadow_c_prepare
+#define fairleadow_live_run fairleadow_c_live_run
+#define fairleadow_live_tick fairleadow_c_live_tick
+#define fairleadow_meaning fairleadow_c_meaning
+
+#endif

@@ -1,0 +1,216 @@
+//! The library on an emulated board, as the other libraries are called: each call goes over a pipe to the program of
+//! controller/board, which an emulator runs.
+
+mod message;
+
+use std::cell::RefCell;
+use std::collections::BTreeMap;
+use std::io::{Read, Write};
+use std::process::{Child, ChildStdin, ChildStdout, Command, Stdio};
+
+use interface::{Answer, Library, Meaning, State, Ticked};
+pub use message::Call;
+use message::{Message, Told, HEAD};
+
+/// The bytes that the board has for the buffers of a call.
+pub const BUFFERS: usize = 47_104;
+
+/// What was noted of the calls that were made.
+#[derive(Clone, Debug, Default)]
+pub struct Notes {
+    pub calls: usize,
+    /// The deepest stack of each call, in bytes.
+    pub deepest: BTreeMap<Call, usize>,
+    /// The bytes of the library's code.
+    pub code: usize,
+    /// Calls whose buffers the board has no room for, which were not made there.
+    pub too_large: usize,
+}
+
+/// A board; `instead` answers the calls that it has no room for.
+pub struct Board<'a> {
+    wires: RefCell<Wires>,
+    notes: RefCell<Notes>,
+    instead: &'a dyn Library,
+}
+
+struct Wires {
+    emulator: Child,
+    to: Option<ChildStdin>,
+    from: ChildStdout,
+}
+
+impl Wires {
+    fn exchange(&mut self, message: &mut Message) -> std::io::Result<Told> {
+        let (mut head, mut buffers) = ([0; HEAD], vec![0; message.length()]);
+        self.to.as_mut().expect("it is open until the end").write_all(&message.bytes())?;
+        self.from.read_exact(&mut head)?;
+        self.from.read_exact(&mut buffers)?;
+        Ok(message.take(&head, &buffers))
+    }
+}
+
+impl Drop for Wires {
+    /// The board ends when its input does.
+    fn drop(&mut self) {
+        self.to.take();
+        let ended = self.emulator.wait();
+        assert!(std::thread::panicking() || ended.is_ok_and(|status| status.success()), "the board failed");
+    }
+}
+
+impl<'a> Board<'a> {
+    /// Starts the board with a processor, as controller/emulate names it, and more words for the emulator.
+    pub fn start(processor: &str, words: &[&str], instead: &'a dyn Library) -> std::io::Result<Board<'a>> {
+        let emulate = concat!(env!("CARGO_MANIFEST_DIR"), "/../../controller/emulate");
+        let mut command = Command::new(emulate);
+        command.args([processor, "board"]).args(words).stdin(Stdio::piped()).stdout(Stdio::piped());
+        let mut emulator = command.spawn()?;
+        let to = emulator.stdin.take();
+        let from = emulator.stdout.take().expect("it is piped");
+        let wires = RefCell::new(Wires { emulator, to, from });
+        Ok(Board { wires, notes: RefCell::default(), instead })
+    }
+
+    pub fn notes(&self) -> Notes {
+        self.notes.borrow().clone()
+    }
+
+    /// The stack that is measured for a function of the board's own which writes to 4,000 bytes.
+    pub fn known_stack(&self) -> usize {
+        self.made(&mut Message::new(Call::Known, &[])).expect("it has no buffers").stack
+    }
+
+    /// Makes the call, if the board has room for it.
+    fn made(&self, message: &mut Message) -> Option<Told> {
+        let mut notes = self.notes.borrow_mut();
+        if message.length() > BUFFERS {
+            notes.too_large += 1;
+            return None;
+        }
+        let told = match self.wires.borrow_mut().exchange(message) {
+            Ok(told) => told,
+            Err(error) => panic!("the board is silent at {:?}: {error}", message.call),
+        };
+        notes.calls += 1;
+        notes.code = told.code;
+        let deepest = notes.deepest.entry(message.call).or_insert(0);
+        *deepest = told.stack.max(*deepest);
+        Some(told)
+    }
+
+    /// A call that reads one list of bytes and writes another.
+    fn written(&self, call: Call, input: &[u8], out: &mut [u8]) -> Option<Answer> {
+        let mut message = Message::new(call, input);
+        message.output = out.to_vec();
+        let told = self.made(&mut message)?;
+        out.copy_from_slice(&message.output);
+        Some(told.answer())
+    }
+
+    fn ran(
+        &self,
+        call: Call,
+        input: &[u8],
+        state: &State,
+        words: &[u16],
+        masks: &mut [u32],
+        codes: &mut [u8],
+    ) -> Option<(Answer, State)> {
+        let mut message = Message::new(call, input);
+        (message.state, message.words) = (*state, words.to_vec());
+        (message.masks, message.codes) = (masks.to_vec(), codes.to_vec());
+        let told = self.made(&mut message)?;
+        masks.copy_from_slice(&message.masks);
+        codes.copy_from_slice(&message.codes);
+        Some((told.answer(), message.state))
+    }
+
+    fn ticked(&self, call: Call, input: &[u8], state: &mut State, word: u16) -> Option<Ticked> {
+        let (mut masks, mut codes) = ([0], [0]);
+        let (answer, after) = self.ran(call, input, state, &[word], &mut masks, &mut codes)?;
+        *state = after;
+        Some(Ticked { answer, mask: masks[0], code: codes[0] })
+    }
+}
+
+impl Library for Board<'_> {
+    fn read_chart(&self, text: &[u8], out: &mut [u8]) -> Answer {
+        self.written(Call::ReadChart, text, out).unwrap_or_else(|| self.instead.read_chart(text, out))
+    }
+
+    fn write_chart(&self, records: &[u8], out: &mut [u8]) -> Answer {
+        self.written(Call::WriteChart, records, out).unwrap_or_else(|| self.instead.write_chart(records, out))
+    }
+
+    fn translate(&self, text: &[u8], out: &mut [u8]) -> Answer {
+        self.written(Call::Translate, text, out).unwrap_or_else(|| self.instead.translate(text, out))
+    }
+
+    fn check_image(&self, text: &[u8]) -> Answer {
+        let told = self.made(&mut Message::new(Call::CheckImage, text));
+        told.map_or_else(|| self.instead.check_image(text), |told| told.answer())
+    }
+
+    /// The board's numbers have 32 bits: a larger size is handed over as the largest of them, which is refused too.
+    fn fresh(&self, size: usize) -> (Answer, State) {
+        let mut message = Message::new(Call::Fresh, &[]);
+        message.value = u32::try_from(size).unwrap_or(u32::MAX);
+        message.state = State { size: 0xFF, depth: 0xFF, places: [0xFF; 32], results: [true; 16] };
+        let told = self.made(&mut message).expect("it has no buffers");
+        (told.answer(), message.state)
+    }
+
+    fn run(
+        &self,
+        image: &[u8],
+        state: &State,
+        words: &[u16],
+        masks: &mut [u32],
+        codes: &mut [u8],
+    ) -> (Answer, State) {
+        self.ran(Call::Run, image, state, words, masks, codes)
+            .unwrap_or_else(|| self.instead.run(image, state, words, masks, codes))
+    }
+
+    fn tick(&self, image: &[u8], state: &mut State, word: u16) -> Ticked {
+        self.ticked(Call::Tick, image, state, word).unwrap_or_else(|| self.instead.tick(image, state, word))
+    }
+
+    fn prepare(&self, image: &[u8], table: &mut [u8]) -> Answer {
+        self.written(Call::Prepare, image, table).unwrap_or_else(|| self.instead.prepare(image, table))
+    }
+
+    fn live_run(
+        &self,
+        table: &[u8],
+        state: &State,
+        words: &[u16],
+        masks: &mut [u32],
+        codes: &mut [u8],
+    ) -> (Answer, State) {
+        self.ran(Call::LiveRun, table, state, words, masks, codes)
+            .unwrap_or_else(|| self.instead.live_run(table, state, words, masks, codes))
+    }
+
+    fn live_tick(&self, table: &[u8], state: &mut State, word: u16) -> Ticked {
+        self.ticked(Call::LiveTick, table, state, word)
+            .unwrap_or_else(|| self.instead.live_tick(table, state, word))
+    }
+
+    fn meaning(&self, code: u8) -> Meaning {
+        let mut message = Message::new(Call::Meaning, &[]);
+        message.value = u32::from(code);
+        message.codes = vec![0xFF];
+        let told = self.made(&mut message).expect("one byte has room");
+        match (told.number, message.codes[0]) {
+            (0, 0) => Meaning::Plain,
+            (1, scheme) => Meaning::OperationCall(scheme),
+            (2, scheme) => Meaning::FunctionCall(scheme),
+            (3, 0) => Meaning::Return,
+            (4, 0) => Meaning::Home,
+            (255, 0) => Meaning::Unknown,
+            other => panic!("code {code:02X} stands for {other:?}"),
+        }
+    }
+}

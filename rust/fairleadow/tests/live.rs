@@ -1,0 +1,96 @@
+//! Live runs and ticks of the proved library: on prepared tables they are runs and ticks, and each byte of chart P's table
+//! at each of its values is answered for as the reference does.
+
+use fairleadow::{Library, Proved};
+use reference::compare::live_alike;
+use reference::entry::translated;
+use reference::frames::text_of;
+use reference::{fresh_state, samples, Reference, State};
+
+/// The words that each table is run with: those of the bench sheet and a few more.
+const WORDS: [u16; 14] = [0, 0, 1, 0, 0, 0, 0, 0, 0xFFFF, 1, 0x8000, 1, 1, 2];
+
+#[test]
+fn live_runs_and_ticks_are_runs_and_ticks() {
+    let summary = live_alike(&Proved, 2_000, 20);
+    println!("answers on prepared tables:\n{summary}");
+    for number in [0, 15, 16, 17, 18] {
+        assert!(summary.count("live_run", number) > 0, "{summary}");
+        assert!(number == 16 || summary.count("live_tick", number) > 0, "{summary}");
+    }
+}
+
+fn table_p() -> Vec<u8> {
+    let image = translated(&text_of(&samples::chart_p())).expect("a valid chart");
+    let mut table = vec![0; image.len() / 23 * 10];
+    assert_eq!(Proved.prepare(&image, &mut table).ok(), Ok(table.len()));
+    table
+}
+
+/// Fresh, deep in calls before a plain tick, before a return, and full.
+fn starts() -> Vec<State> {
+    let deep = |places: &[u8], size: u8| {
+        let mut state = State { size, depth: places.len() as u8, ..State::NONE };
+        state.places[..places.len()].copy_from_slice(places);
+        state.results = std::array::from_fn(|k| k % 3 == 1);
+        state
+    };
+    let mut full = vec![4; 31];
+    full.insert(0, 2);
+    let mut returning = full.clone();
+    returning[31] = 1;
+    vec![
+        fresh_state(3).expect("a good size"),
+        deep(&[2], 1),
+        deep(&[2, 4, 3], 4),
+        deep(&[2, 4, 4, 1], 32),
+        deep(&full, 32),
+        deep(&returning, 32),
+    ]
+}
+
+fn hold_run(table: &[u8], state: &State) {
+    let made = |library: &dyn Library| {
+        let (mut masks, mut codes) = ([7; WORDS.len()], [7; WORDS.len()]);
+        (library.live_run(table, state, &WORDS, &mut masks, &mut codes), masks, codes)
+    };
+    assert_eq!(made(&Proved), made(&Reference), "{table:?} from {state:?}");
+}
+
+fn hold_ticks(table: &[u8], state: &State) {
+    for word in [0, 1, 0xFFFF] {
+        let made = |library: &dyn Library| {
+            let mut after = *state;
+            (library.live_tick(table, &mut after, word), after)
+        };
+        assert_eq!(made(&Proved), made(&Reference), "{table:?} from {state:?} by {word:04X}");
+    }
+}
+
+#[test]
+fn every_byte_of_the_table_of_chart_p_at_every_value() {
+    let whole = table_p();
+    let starts = starts();
+    for at in 0..whole.len() {
+        let mut table = whole.clone();
+        for byte in 0..=255 {
+            table[at] = byte;
+            for state in &starts {
+                hold_run(&table, state);
+                hold_ticks(&table, state);
+            }
+        }
+    }
+}
+
+#[test]
+fn every_length_of_the_table_of_chart_p() {
+    let mut bytes = table_p();
+    bytes.extend([0x12, 2, 0, 0, 0, 0, 2, 3, 0, 0].repeat(3));
+    for length in 0..=bytes.len() {
+        for state in &starts() {
+            hold_run(&bytes[..length], state);
+            hold_ticks(&bytes[..length], state);
+        }
+    }
+}

@@ -1,0 +1,75 @@
+//! On a table that was prepared from an image a live run is a run, and a live tick a tick.
+
+use super::Summary;
+use crate::expectation::{Outcome, Run};
+use crate::frames::text_of;
+use crate::generate::{images, runs, states, Random};
+use crate::image::Label;
+use crate::library::Library;
+use crate::state::State;
+
+/// An image that the library accepts, its table, and its labels.
+struct Prepared {
+    image: Vec<u8>,
+    table: Vec<u8>,
+    labels: Vec<Label>,
+}
+
+/// Holds the two against each other on so many images and, for each, so many states, fitting or not. Tells how often each
+/// answer came; a difference panics.
+pub fn live_alike(library: &dyn Library, images: u64, states: usize) -> Summary {
+    let mut summary = Summary::default();
+    for seed in 0..images {
+        let random = &mut Random::new(seed);
+        let prepared = prepared(library, random);
+        for _ in 0..states {
+            let state = states::state(random, &prepared.labels);
+            let words = random.pick(&[1, 5, 30]);
+            let run = runs::run(random, words);
+            let numbers = [
+                ("live_run", same_run(library, &prepared, &state, &run, seed)),
+                ("live_tick", same_tick(library, &prepared, &state, run.words[0], seed)),
+            ];
+            for answered in numbers {
+                *summary.answers.entry(answered).or_insert(0) += 1;
+            }
+        }
+    }
+    summary
+}
+
+fn prepared(library: &dyn Library, random: &mut Random) -> Prepared {
+    loop {
+        let image = images::accepted(random);
+        let text = text_of(&image.frames());
+        let mut table = vec![0; image.frames().len() * 10];
+        if library.prepare(&text, &mut table).number() == 0 {
+            return Prepared { image: text, table, labels: image.labels };
+        }
+    }
+}
+
+/// Makes both runs and hands back the number answered.
+fn same_run(library: &dyn Library, prepared: &Prepared, state: &State, run: &Run, seed: u64) -> u8 {
+    let made = |live: bool| {
+        let (mut masks, mut codes) = (run.masks.clone(), run.codes.clone());
+        let (answer, after) = if live {
+            library.live_run(&prepared.table, state, &run.words, &mut masks, &mut codes)
+        } else {
+            library.run(&prepared.image, state, &run.words, &mut masks, &mut codes)
+        };
+        (Outcome { answer, masks, codes }, after)
+    };
+    let (wanted, given) = (made(false), made(true));
+    assert_eq!(wanted, given, "seed {seed}, {state:?}");
+    given.0.answer.number()
+}
+
+/// Makes both ticks and hands back the number answered.
+fn same_tick(library: &dyn Library, prepared: &Prepared, state: &State, word: u16, seed: u64) -> u8 {
+    let (mut after, mut after_live) = (*state, *state);
+    let ticked = library.tick(&prepared.image, &mut after, word);
+    let live = library.live_tick(&prepared.table, &mut after_live, word);
+    assert_eq!((ticked, after), (live, after_live), "seed {seed}, {state:?}");
+    live.answer.number()
+}

@@ -1,0 +1,57 @@
+//! Cases of tables: prepared, run and ticked, alone and in turn with runs and ticks on the image's text.
+
+use super::ticks::Ground;
+use super::{Case, Compared};
+use crate::frames::{text_of, CHARACTERS};
+use crate::generate::{images, runs, states, tables};
+use crate::library::Library;
+use crate::prepare::table_of;
+use crate::show;
+
+impl<'a> Case<'a> {
+    pub(super) fn prepare(&mut self) -> Compared {
+        let text = if self.random.once_in(20) {
+            let length = CHARACTERS * self.random.within(1, 9) + self.random.pick(&[0, 0, 1]);
+            runs::bytes(&mut self.random, length)
+        } else {
+            images::text(&mut self.random)
+        };
+        let needed = text.len() / CHARACTERS * 10;
+        self.written("prepare", <dyn Library>::prepare, &text, needed, show::text)
+    }
+
+    pub(super) fn live_run(&mut self) -> Compared {
+        let (table, state) = tables::table_and_state(&mut self.random);
+        let run = self.any_run();
+        let ground = Ground { bytes: &table, shown: show::bytes };
+        self.ran("live_run", <dyn Library>::live_run, ground, &state, &run)?;
+        Ok(())
+    }
+
+    pub(super) fn live_tick(&mut self) -> Compared {
+        let (table, state) = tables::table_and_state(&mut self.random);
+        let ground = Ground { bytes: &table, shown: show::bytes };
+        self.some_ticks("live_tick", <dyn Library>::live_tick, ground, &state)
+    }
+
+    /// One state through runs and ticks on the text and on the table, in any order, refused ones too.
+    pub(super) fn mixture(&mut self) -> Compared {
+        let image = images::accepted(&mut self.random);
+        let mut state = states::state(&mut self.random, &image.labels);
+        let (text, table) = (text_of(&image.frames()), table_of(&image).concat());
+        let on_text = Ground { bytes: &text, shown: show::text };
+        let on_table = Ground { bytes: &table, shown: show::bytes };
+        for _ in 0..self.random.within(1, 8) {
+            let words = self.random.within(0, 6);
+            let run = runs::run(&mut self.random, words);
+            let word = self.random.number() as u16;
+            state = match self.random.below(4) {
+                0 => self.ran("mixture", <dyn Library>::run, on_text, &state, &run)?,
+                1 => self.ran("mixture", <dyn Library>::live_run, on_table, &state, &run)?,
+                2 => self.ticked("mixture", <dyn Library>::tick, on_text, &state, word)?.1,
+                _ => self.ticked("mixture", <dyn Library>::live_tick, on_table, &state, word)?.1,
+            };
+        }
+        Ok(())
+    }
+}

@@ -1,0 +1,177 @@
+//! Cases of runs and ticks on an image's text, and what every kind of run and tick is compared by.
+
+use super::{Call, Case, Compared, Difference, MARGIN};
+use crate::answer::Answer;
+use crate::check::chart_of;
+use crate::expectation::{expected, Outcome, Run};
+use crate::frames::{text_of, CHARACTERS};
+use crate::generate::{damage, images, runs, states};
+use crate::library::{Library, Reference, Ticked};
+use crate::show;
+use crate::state::State;
+
+/// A run or a live run, by what it runs on.
+type RunCall<'a> = fn(&(dyn Library + 'a), &[u8], &State, &[u16], &mut [u32], &mut [u8]) -> (Answer, State);
+
+/// A tick or a live tick, by what it ticks on.
+type TickCall<'a> = fn(&(dyn Library + 'a), &[u8], &mut State, u16) -> Ticked;
+
+/// What a run or a tick is made on, an image's text or a table, and how that is shown.
+#[derive(Clone, Copy)]
+pub(super) struct Ground<'b> {
+    pub bytes: &'b [u8],
+    pub shown: fn(&[u8]) -> String,
+}
+
+impl<'a> Case<'a> {
+    /// An image text, mostly accepted, and a state for it.
+    fn image_and_state(&mut self) -> (Vec<u8>, State) {
+        let image = images::accepted(&mut self.random);
+        let state = states::state(&mut self.random, &image.labels);
+        let frames = image.frames();
+        let text = match self.random.below(10) {
+            0 => text_of(&damage::image(&mut self.random, &frames)),
+            1 => damage::text(&mut self.random, &text_of(&frames)),
+            _ => text_of(&frames),
+        };
+        (text, state)
+    }
+
+    /// Compares a run of any kind, and hands back the state after it.
+    pub(super) fn ran(
+        &mut self,
+        name: &'static str,
+        call: RunCall<'a>,
+        ground: Ground,
+        state: &State,
+        run: &Run,
+    ) -> Result<State, Box<Difference>> {
+        let (mut masks, mut codes) = (widened(&run.masks, 0xA5A5_A5A5), widened(&run.codes, 0xA5));
+        let (mut got_masks, mut got_codes) = (masks.clone(), codes.clone());
+        let made = |library: &(dyn Library + 'a), masks: &mut [u32], codes: &mut [u8]| {
+            let masks = &mut masks[MARGIN..][..run.masks.len()];
+            let codes = &mut codes[MARGIN..][..run.codes.len()];
+            call(library, ground.bytes, state, &run.words, masks, codes)
+        };
+        let (answer, after) = made(&Reference, &mut masks, &mut codes);
+        let (got, got_after) = made(self.library, &mut got_masks, &mut got_codes);
+        let wanted = (answer, after, masks, codes);
+        let given = (got, got_after, got_masks, got_codes);
+        self.hold(name, answer, &wanted, &given, || {
+            let on = (ground.shown)(ground.bytes);
+            format!("{on}state: {}\n{}", show::state(state), show_run(run))
+        })?;
+        Ok(after)
+    }
+
+    /// Compares a tick of any kind, and hands back its answer and the state after it.
+    pub(super) fn ticked(
+        &mut self,
+        name: &'static str,
+        call: TickCall<'a>,
+        ground: Ground,
+        start: &State,
+        word: u16,
+    ) -> Result<(Answer, State), Box<Difference>> {
+        let (mut state, mut given) = (*start, *start);
+        let wanted = call(&Reference, ground.bytes, &mut state, word);
+        let got = call(self.library, ground.bytes, &mut given, word);
+        self.hold(name, wanted.answer, &(wanted, state), &(got, given), || {
+            let on = (ground.shown)(ground.bytes);
+            format!("{on}state: {}\nword {word:04X}", show::state(start))
+        })?;
+        Ok((wanted.answer, state))
+    }
+
+    /// One state through some ticks, one after the other, as long as none is refused.
+    pub(super) fn some_ticks(
+        &mut self,
+        name: &'static str,
+        call: TickCall<'a>,
+        ground: Ground,
+        start: &State,
+    ) -> Compared {
+        let mut state = *start;
+        for word in runs::words(&mut self.random, 6) {
+            let (answer, after) = self.ticked(name, call, ground, &state, word)?;
+            if answer.number() != 0 {
+                break;
+            }
+            state = after;
+        }
+        Ok(())
+    }
+
+    /// A run of any length.
+    pub(super) fn any_run(&mut self) -> Run {
+        let words = self.random.pick(&[0, 1, 5, 30, 100]);
+        runs::run(&mut self.random, words)
+    }
+
+    pub(super) fn run(&mut self) -> Compared {
+        let (image, state) = self.image_and_state();
+        let run = self.any_run();
+        let ground = Ground { bytes: &image, shown: show::text };
+        self.ran("run", <dyn Library>::run, ground, &state, &run)?;
+        Ok(())
+    }
+
+    pub(super) fn tick(&mut self) -> Compared {
+        let (image, state) = self.image_and_state();
+        let ground = Ground { bytes: &image, shown: show::text };
+        self.some_ticks("tick", <dyn Library>::tick, ground, &state)
+    }
+
+    /// Demand 3: a list of runs against the walk over the joined words. Where `live`, some of them are made on the table.
+    pub(super) fn runs(&mut self, name: &'static str, live: bool) -> Compared {
+        let (records, image) = images::translated(&mut self.random);
+        let chart = chart_of(&records).expect("generated charts are valid");
+        let text = text_of(&records);
+        let size = if self.random.once_in(2) { self.random.within(1, 4) } else { self.random.within(1, 32) };
+        let list = runs::list(&mut self.random);
+        let image_text =
+            self.made("translate", <dyn Library>::translate, &text, image.frames().len() * CHARACTERS)?;
+        let table = self.made("prepare", <dyn Library>::prepare, &image_text, image.frames().len() * 10)?;
+        let outcomes = expected(&chart, size, &list);
+        let (_, mut state) = self.library.fresh(size);
+        for (k, run) in list.iter().enumerate() {
+            let (mut masks, mut codes) = (run.masks.clone(), run.codes.clone());
+            let (answer, after) = if live && !self.random.once_in(3) {
+                self.library.live_run(&table, &state, &run.words, &mut masks, &mut codes)
+            } else {
+                self.library.run(&image_text, &state, &run.words, &mut masks, &mut codes)
+            };
+            state = after;
+            let outcome = Outcome { answer, masks, codes };
+            self.hold(name, outcomes[k].answer, &outcomes[k], &outcome, || {
+                let shown: Vec<String> = list.iter().map(show_run).collect();
+                format!("chart of {}size {size}, run {k} of\n{}", show::text(&text), shown.join("\n"))
+            })?;
+        }
+        Ok(())
+    }
+
+    /// What the library writes into a buffer that is just long enough.
+    fn made(
+        &mut self,
+        name: &'static str,
+        call: Call<'a>,
+        input: &[u8],
+        length: usize,
+    ) -> Result<Vec<u8>, Box<Difference>> {
+        let mut made = vec![0; length];
+        let (wanted, got) = (Answer::Done(length), call(self.library, input, &mut made));
+        self.hold(name, wanted, &wanted, &got, || show::text(input))?;
+        Ok(made)
+    }
+}
+
+/// A buffer with margins on both sides.
+fn widened<T: Copy>(buffer: &[T], filler: T) -> Vec<T> {
+    [&[filler; MARGIN], buffer, &[filler; MARGIN]].concat()
+}
+
+fn show_run(run: &Run) -> String {
+    let (masks, codes) = (run.masks.len(), run.codes.len());
+    format!("{}; room for {masks} masks, {codes} codes", show::words(&run.words))
+}

@@ -1,0 +1,179 @@
+//! Tables prepared, and live ticks on them as they stand: nothing is copied or taken apart.
+
+use super::image::Parts;
+use crate::answer::Answer;
+use crate::frames::Frame;
+use crate::image::{FUNCTION_CALL, HOME, OPERATION_CALL, PLAIN, RETURN, ROWS};
+use crate::state::State;
+
+/// Writes the table of an accepted image; there is room for it.
+pub fn prepare(frames: &[Frame], parts: &Parts, table: &mut [Frame]) {
+    table.copy_from_slice(frames);
+    let first_label = 1 + parts.schemes;
+    let first_row = first_label + parts.labels;
+    let mut label = 0;
+    for (at, row) in frames.iter().enumerate().skip(first_row) {
+        while label <= usize::from(row[1]) {
+            note(&mut table[first_label + label], at);
+            label += 1;
+        }
+    }
+    for frame in &mut table[first_label + label..first_row] {
+        note(frame, frames.len());
+    }
+}
+
+fn note(frame: &mut Frame, at: usize) {
+    let [high, low] = (at as u16).to_be_bytes();
+    (frame[0], frame[1]) = (high, low);
+}
+
+fn noted(frame: &Frame) -> usize {
+    usize::from(u16::from_be_bytes([frame[0], frame[1]]))
+}
+
+/// A table that refusal 11 lets pass.
+pub struct Table<'a> {
+    frames: &'a [Frame],
+    schemes: u8,
+    last: u8,
+}
+
+#[derive(Clone, Copy)]
+struct Label {
+    kind: u8,
+    called: u8,
+    owner: u8,
+    result: u8,
+    mask: u32,
+}
+
+impl<'a> Table<'a> {
+    pub fn of(bytes: &'a [u8]) -> Option<Table<'a>> {
+        let (frames, _) = bytes.as_chunks::<10>();
+        let header = frames.first()?;
+        let [_, schemes, last, high, low, ..] = *header;
+        let rows = usize::from(u16::from_be_bytes([high, low]));
+        if schemes == 0 || schemes > 16 || last == 0 || rows > ROWS {
+            return None;
+        }
+        let end = 2 + usize::from(schemes) + usize::from(last) + rows;
+        Some(Table { frames: frames.get(..end)?, schemes, last })
+    }
+
+    fn frame(&self, label: u8) -> &Frame {
+        &self.frames[1 + usize::from(self.schemes) + usize::from(label)]
+    }
+
+    fn label(&self, number: u8) -> Label {
+        let mut label = Label { kind: PLAIN, called: 0, owner: 0, result: 0, mask: 0 };
+        match number {
+            0 => (label.kind, label.owner) = (HOME, 1),
+            1 => label.kind = RETURN,
+            _ if number <= self.last => {
+                let f = self.frame(number);
+                label.kind = if f[2] > FUNCTION_CALL { PLAIN } else { f[2] };
+                label.called = if f[3] > self.schemes { 0 } else { f[3] };
+                (label.owner, label.result) = (f[4], f[5]);
+                label.mask = u32::from_be_bytes([f[6], f[7], f[8], f[9]]);
+            }
+            _ => {}
+        }
+        label
+    }
+
+    fn entry(&self, scheme: u8) -> u8 {
+        self.frames[usize::from(scheme).max(1)][2]
+    }
+
+    pub fn fits(&self, state: &State) -> bool {
+        let depth = usize::from(state.depth);
+        if !(1..=32).contains(&state.size) || depth == 0 || state.depth > state.size {
+            return false;
+        }
+        let (filled, above) = state.places.split_at(depth);
+        let (mut scheme, mut kept) = (1, true);
+        for (k, place) in filled.iter().enumerate() {
+            let label = self.label(*place);
+            let belongs = label.owner == scheme || (k > 0 && *place == 1);
+            if *place > self.last || !belongs || !kept {
+                return false;
+            }
+            (scheme, kept) = (label.called, matches!(label.kind, OPERATION_CALL | FUNCTION_CALL));
+        }
+        above == &[0; 32][depth..]
+    }
+
+    /// The rows of a label.
+    fn rows(&self, label: u8) -> &[Frame] {
+        if label < 2 || label > self.last {
+            return &[];
+        }
+        let end = if label == self.last { self.frames.len() } else { noted(self.frame(label + 1)) };
+        self.frames.get(noted(self.frame(label))..end.min(self.frames.len())).unwrap_or(&[])
+    }
+
+    /// With no bit the function bits do not count.
+    fn next(&self, number: u8, bit: Option<bool>, word: u16) -> Result<u8, u8> {
+        let matches = |row: &&Frame| {
+            let care = u16::from_be_bytes([row[2], row[3]]);
+            let values = u16::from_be_bytes([row[4], row[5]]);
+            word & care == values && bit.is_none_or(|bit| row[6] == 2 || row[6] == u8::from(bit))
+        };
+        self.rows(number).iter().find(matches).map(|row| row[7]).ok_or(18)
+    }
+
+    /// The bit that decides rows of a function call's label.
+    fn bit(results: &[bool; 16], label: &Label) -> Option<bool> {
+        (label.kind == FUNCTION_CALL).then(|| results[usize::from(label.called).max(1) - 1])
+    }
+
+    /// One tick of a lent state: the mask and the code, or 17 or 18 and the state as it was.
+    pub fn tick(&self, state: &mut State, word: u16) -> Result<(u32, u8), u8> {
+        let top = usize::from(state.depth) - 1;
+        let label = self.label(state.places[top]);
+        let owner = usize::from(label.owner).max(1) - 1;
+        let written = (label.result != 0 && owner < 16).then_some((owner, label.result == 2));
+        let code = match label.kind {
+            PLAIN => {
+                state.places[top] = self.next(state.places[top], None, word)?;
+                0x00
+            }
+            OPERATION_CALL | FUNCTION_CALL => {
+                if state.depth == state.size {
+                    return Err(17);
+                }
+                state.places[top + 1] = self.entry(label.called);
+                state.depth += 1;
+                label.called + if label.kind == OPERATION_CALL { 0x10 } else { 0x40 }
+            }
+            HOME => {
+                state.places[top] = self.entry(1);
+                0x04
+            }
+            _ => {
+                let below = top.checked_sub(1).ok_or(18)?;
+                let bit = Self::bit(&state.results, &self.label(state.places[below]));
+                state.places[below] = self.next(state.places[below], bit, word)?;
+                state.places[top] = 0;
+                state.depth -= 1;
+                0x03
+            }
+        };
+        if let Some((place, bit)) = written {
+            state.results[place] = bit;
+        }
+        Ok((label.mask, code))
+    }
+
+    /// Ticks until the words end, or 17 or 18. The buffers are as long as the words.
+    pub fn run(&self, state: &mut State, words: &[u16], masks: &mut [u32], codes: &mut [u8]) -> Answer {
+        for (count, ((word, mask), code)) in words.iter().zip(masks).zip(codes).enumerate() {
+            match self.tick(state, *word) {
+                Ok(tick) => (*mask, *code) = tick,
+                Err(number) => return Answer::Refused { number, index: 0, count },
+            }
+        }
+        Answer::Done(words.len())
+    }
+}

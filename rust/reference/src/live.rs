@@ -1,0 +1,180 @@
+//! Ticks on a table. Any bytes with a header in order hold an image, though perhaps none that the image check lets pass;
+//! so nothing is taken for granted here that the check would have seen to.
+
+use crate::answer::{refuse_if, Refusal};
+use crate::frames::Frame;
+use crate::image::{Label, Row, FUNCTION_CALL, HOME, OPERATION_CALL, PLAIN, RETURN, ROWS};
+use crate::machine::Advanced;
+use crate::state::State;
+
+/// The image that a table holds; `rows[l]` are the rows of label l.
+#[derive(Clone, Debug)]
+pub struct Held {
+    pub entries: Vec<u8>,
+    pub labels: Vec<Label>,
+    pub rows: Vec<Vec<Row>>,
+}
+
+/// What is found of a label that there is not.
+const NOTHING: Label = Label { kind: PLAIN, called: 0, owner: 0, result: 0, mask: 0 };
+
+/// How many schemes and rows a table's header tells, and its highest label.
+struct Counts {
+    schemes: usize,
+    last: usize,
+    rows: usize,
+}
+
+impl Counts {
+    fn of(header: &Frame) -> Counts {
+        Counts {
+            schemes: usize::from(header[1]),
+            last: usize::from(header[2]),
+            rows: usize::from(u16::from_be_bytes([header[3], header[4]])),
+        }
+    }
+
+    fn stand(&self) -> bool {
+        (1..=16).contains(&self.schemes) && self.last > 0 && self.rows <= ROWS
+    }
+
+    /// How many frames the table has.
+    fn end(&self) -> usize {
+        1 + self.schemes + (self.last + 1) + self.rows
+    }
+}
+
+impl Held {
+    /// The image that these bytes hold, or refusal 11.
+    pub fn of(bytes: &[u8]) -> Result<Held, Refusal> {
+        let (frames, _) = bytes.as_chunks::<10>();
+        refuse_if(11, frames.is_empty())?;
+        let counts = Counts::of(&frames[0]);
+        refuse_if(11, !counts.stand() || frames.len() < counts.end())?;
+        let table = &frames[..counts.end()];
+        let labels = &table[1 + counts.schemes..][..counts.last + 1];
+        Ok(Held {
+            entries: table[1..=counts.schemes].iter().map(|frame| frame[2]).collect(),
+            labels: (0..labels.len()).map(|l| label_of(l, &labels[l], counts.schemes)).collect(),
+            rows: (0..labels.len()).map(|l| rows_of(l, labels, table)).collect(),
+        })
+    }
+
+    fn label(&self, number: u8) -> Label {
+        self.labels.get(usize::from(number)).copied().unwrap_or(NOTHING)
+    }
+
+    /// Scheme 0 counts as scheme 1.
+    fn entry(&self, scheme: u8) -> u8 {
+        self.entries[usize::from(scheme).max(1) - 1]
+    }
+
+    /// Whether a state fits the image (15).
+    pub fn fits(&self, state: &State) -> bool {
+        let (size, depth) = (usize::from(state.size), usize::from(state.depth));
+        (1..=32).contains(&size)
+            && (1..=size).contains(&depth)
+            && state.places[depth..].iter().all(|place| *place == 0)
+            && (0..depth).all(|at| usize::from(state.places[at]) < self.labels.len())
+            && self.label(state.places[0]).owner == 1
+            && (1..depth).all(|at| self.stands_on(state.places[at], state.places[at - 1]))
+    }
+
+    /// Whether a label may stand above another: the other calls, and this one is 1 or of the scheme called.
+    fn stands_on(&self, above: u8, kept: u8) -> bool {
+        let kept = self.label(kept);
+        matches!(kept.kind, OPERATION_CALL | FUNCTION_CALL)
+            && (above == 1 || self.label(above).owner == kept.called)
+    }
+
+    /// The next label by the first row of a label that matches, or refusal 18. Function bits count only in rows of a
+    /// function call's label.
+    fn next(&self, label: u8, results: &[bool; 16], word: u16) -> Result<u8, u8> {
+        let here = self.label(label);
+        let bit = u8::from(results[usize::from(here.called).max(1) - 1]);
+        let decides =
+            |row: &Row| here.kind != FUNCTION_CALL || row.function_bit == 2 || row.function_bit == bit;
+        let rows = self.rows.get(usize::from(label)).map_or(&[][..], Vec::as_slice);
+        let matches = |row: &&Row| word & row.care == row.values && decides(row);
+        rows.iter().find(matches).map(|row| row.next).ok_or(18)
+    }
+
+    /// One tick of a state with a depth of 1 to its size, or 17 or 18.
+    pub fn tick(&self, state: &State, word: u16) -> Result<Advanced, u8> {
+        let top = usize::from(state.depth) - 1;
+        let here = self.label(state.places[top]);
+        let mut after = State { results: results_after(&here, &state.results), ..*state };
+        match here.kind {
+            HOME => after.places[top] = self.entry(1),
+            OPERATION_CALL | FUNCTION_CALL if state.depth == state.size => return Err(17),
+            OPERATION_CALL | FUNCTION_CALL => {
+                after.places[top + 1] = self.entry(here.called);
+                after.depth += 1;
+            }
+            RETURN if top == 0 => return Err(18),
+            RETURN => {
+                after.places[top - 1] = self.next(state.places[top - 1], &after.results, word)?;
+                after.places[top] = 0;
+                after.depth -= 1;
+            }
+            _ => after.places[top] = self.next(state.places[top], &after.results, word)?,
+        }
+        Ok(Advanced { mask: here.mask, code: code_of(&here), state: after })
+    }
+}
+
+/// Labels 0 and 1 are what they are, whatever their frames hold.
+fn label_of(number: usize, frame: &Frame, schemes: usize) -> Label {
+    match number {
+        0 => Label::ZERO,
+        1 => Label::ONE,
+        _ => Label {
+            kind: if frame[2] > 2 { PLAIN } else { frame[2] },
+            called: if usize::from(frame[3]) > schemes { 0 } else { frame[3] },
+            owner: frame[4],
+            result: frame[5],
+            mask: u32::from_be_bytes([frame[6], frame[7], frame[8], frame[9]]),
+        },
+    }
+}
+
+/// The rows of a label: from the frame that is noted for it up to that noted for the next label, or to the table's end.
+fn rows_of(number: usize, labels: &[Frame], table: &[Frame]) -> Vec<Row> {
+    if number < 2 {
+        return Vec::new();
+    }
+    let noted = |frame: &Frame| usize::from(u16::from_be_bytes([frame[0], frame[1]]));
+    let first = noted(&labels[number]);
+    let end = labels.get(number + 1).map_or(table.len(), noted).min(table.len());
+    (first..end).map(|at| row_of(number as u8, &table[at])).collect()
+}
+
+fn row_of(from: u8, frame: &Frame) -> Row {
+    Row {
+        from,
+        care: u16::from_be_bytes([frame[2], frame[3]]),
+        values: u16::from_be_bytes([frame[4], frame[5]]),
+        function_bit: frame[6],
+        next: frame[7],
+    }
+}
+
+/// The result bits after a tick on a label: owner 0 counts as scheme 1, one above 16 has no bit.
+fn results_after(label: &Label, results: &[bool; 16]) -> [bool; 16] {
+    let mut after = *results;
+    let owner = usize::from(label.owner).max(1);
+    if label.result != 0 && owner <= 16 {
+        after[owner - 1] = label.result == 2;
+    }
+    after
+}
+
+fn code_of(label: &Label) -> u8 {
+    match label.kind {
+        OPERATION_CALL => 0x10 + label.called,
+        FUNCTION_CALL => 0x40 + label.called,
+        RETURN => 0x03,
+        HOME => 0x04,
+        _ => 0x00,
+    }
+}

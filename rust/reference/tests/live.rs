@@ -1,0 +1,182 @@
+//! Live runs and ticks of the reference: on prepared tables they are runs and ticks, on any bytes they keep the rules, and
+//! the generator reaches each of the rules that only a table at fault can show.
+
+use std::collections::BTreeMap;
+
+use reference::compare::live_alike;
+use reference::fast::{Fast, Kept};
+use reference::frames::text_of;
+use reference::generate::{images, runs, states, tables, Random};
+use reference::image::{Image, Label, Row, HOME, PLAIN, RETURN};
+use reference::live::Held;
+use reference::prepare::table_of;
+use reference::{entry, fresh_state, samples, Answer, Library, Reference, State};
+
+/// How many random images are tried.
+const IMAGES: u64 = 2_000;
+/// How many states are tried on each.
+const STATES: usize = 20;
+
+fn image_p() -> Image {
+    let text = entry::translated(&text_of(&samples::chart_p())).expect("a valid chart");
+    entry::image_from_text(&text).expect("its image")
+}
+
+#[test]
+fn the_table_of_chart_p_is_as_written_out() {
+    let frames = [
+        [0x0F, 2, 4, 0, 4, 0, 0, 0, 0, 0],
+        [0x10, 1, 2, 0, 0, 0, 0, 0, 0, 0],
+        [0x10, 2, 3, 0, 0, 0, 0, 0, 0, 0],
+        [0, 8, 4, 0, 1, 0, 0, 0, 0, 0],
+        [0, 8, 3, 0, 0, 0, 0, 0, 0, 0],
+        [0, 8, 1, 2, 1, 0, 0, 0, 0, 1],
+        [0, 9, 0, 0, 2, 0, 0, 0, 0, 0],
+        [0, 11, 1, 2, 2, 0, 0, 0, 0, 2],
+        [0x12, 2, 0, 0, 0, 0, 2, 0, 0, 0],
+        [0x12, 3, 0, 1, 0, 0, 2, 1, 0, 0],
+        [0x12, 3, 0, 1, 0, 1, 2, 4, 0, 0],
+        [0x12, 4, 0, 0, 0, 0, 2, 1, 0, 0],
+    ];
+    assert_eq!(table_of(&image_p()), frames);
+}
+
+#[test]
+fn a_label_without_rows_is_noted_with_the_rows_after_it_or_the_end() {
+    let mut image = image_p();
+    image.rows.retain(|row| row.from == 3);
+    let notes: Vec<u8> = table_of(&image)[3..8].iter().map(|frame| frame[1]).collect();
+    assert_eq!(notes, [8, 8, 8, 8, 10]);
+}
+
+#[test]
+fn live_runs_and_ticks_are_runs_and_ticks() {
+    for library in [&Reference as &dyn Library, &Fast] {
+        let summary = live_alike(library, IMAGES, STATES);
+        for (call, numbers) in [("live_run", &[0, 15, 16, 17, 18][..]), ("live_tick", &[0, 15, 17, 18])] {
+            for number in 0..=18 {
+                let met = summary.count(call, number) > 0;
+                assert_eq!(met, numbers.contains(&number), "{call} {number}\n{summary}");
+            }
+        }
+    }
+}
+
+#[test]
+fn a_kept_machine_ticks_as_the_reference_does() {
+    for seed in 0..IMAGES {
+        let random = &mut Random::new(seed);
+        let image = images::accepted(random);
+        let text = text_of(&image.frames());
+        let Ok(kept) = Kept::new(&text) else { continue };
+        for _ in 0..STATES {
+            let state = states::state(random, &image.labels);
+            let word = random.number() as u16;
+            let (mut wanted, mut given) = (state, state);
+            let ticked = Reference.tick(&text, &mut wanted, word);
+            assert_eq!((kept.tick(&mut given, word), given), (ticked, wanted), "seed {seed}");
+        }
+    }
+}
+
+/// What only a table at fault can show at a tick, and whether this one does.
+fn oddities(held: &Held, state: &State, word: u16) -> [(&'static str, bool); 12] {
+    let top = usize::from(state.depth) - 1;
+    let number = state.places[top];
+    let here = held.labels.get(usize::from(number));
+    let is = |test: &dyn Fn(&Label) -> bool| here.is_some_and(test);
+    let made = held.tick(state, word).is_ok();
+    let taken = |row: &Row| word & row.care == row.values;
+    let first = || held.rows[usize::from(number)].iter().find(|row| taken(row));
+    let bit_ignored = |label: &Label| label.kind == PLAIN && first().is_some_and(|row| row.function_bit != 2);
+    [
+        ("a label above the last", here.is_none()),
+        ("a return at the bottom", top == 0 && is(&|l| l.kind == RETURN)),
+        ("home above the bottom", top > 0 && is(&|l| l.kind == HOME)),
+        ("a call of scheme 0", is(&|l| l.calls() && l.called == 0)),
+        ("a call of scheme 1", is(&|l| l.calls() && l.called == 1)),
+        ("a full stack at a call of scheme 0", !made && is(&|l| l.calls() && l.called == 0)),
+        ("owner 0 writes", made && number > 1 && is(&|l| l.owner == 0 && l.result != 0)),
+        ("an owner above 16 writes", made && is(&|l| l.owner > 16 && l.result != 0)),
+        ("a result above 2", made && is(&|l| l.result > 2)),
+        ("a function bit in the row of a plain tick", is(&bit_ignored)),
+        (
+            "an entry above the last",
+            held.entries.iter().any(|entry| usize::from(*entry) >= held.labels.len()),
+        ),
+        ("a state that does not fit", !held.fits(state)),
+    ]
+}
+
+#[test]
+fn ticks_have_every_oddity() {
+    let mut found = BTreeMap::new();
+    for seed in 0..30_000 {
+        let random = &mut Random::new(seed);
+        let (bytes, mut state) = tables::table_and_state(random);
+        let Ok(held) = Held::of(&bytes) else { continue };
+        if !held.fits(&state) {
+            continue;
+        }
+        for word in runs::words(random, 12) {
+            for (oddity, met) in oddities(&held, &state, word) {
+                *found.entry(oddity).or_insert(0) += usize::from(met);
+            }
+            let Ok(advanced) = held.tick(&state, word) else { break };
+            state = advanced.state;
+        }
+    }
+    let rare: Vec<_> = found.iter().filter(|(_, count)| **count < 10).collect();
+    println!("{found:?}");
+    assert!(rare.is_empty(), "too few ticks have {rare:?}");
+}
+
+/// The table of chart P with some bytes changed: frame, byte and value.
+fn changed(changes: &[(usize, usize, u8)]) -> Vec<u8> {
+    let mut frames = table_of(&image_p());
+    for (frame, k, byte) in changes {
+        frames[*frame][*k] = *byte;
+    }
+    frames.concat()
+}
+
+/// What a live run on these bytes answers from a fresh state of three places, and its codes.
+fn ran(table: &[u8], words: &[u16]) -> (Answer, Vec<u8>) {
+    let (mut masks, mut codes) = (vec![0; words.len()], vec![0; words.len()]);
+    let state = fresh_state(3).expect("a good size");
+    let (answer, _) = entry::live_run(table, &state, words, &mut masks, &mut codes);
+    codes.truncate(answer.count());
+    (answer, codes)
+}
+
+#[test]
+fn the_header_alone_decides_on_11() {
+    let refused = Answer::Refused { number: 11, index: 0, count: 0 };
+    assert_eq!(ran(&[], &[0]).0, refused);
+    let table = changed(&[]);
+    assert_eq!(ran(&table[..119], &[0]).0, refused);
+    for (k, byte) in [(1, 0), (1, 17), (1, 3), (2, 0), (2, 5), (3, 4), (4, 5)] {
+        assert_eq!(ran(&changed(&[(0, k, byte)]), &[0]).0, refused, "byte {k} is {byte}");
+    }
+    for k in [0, 5, 6, 7, 8, 9] {
+        assert_eq!(ran(&changed(&[(0, k, 77)]), &[0]), (Answer::Done(1), vec![0x04]));
+    }
+    assert_eq!(ran(&[table, vec![1; 15]].concat(), &[0]).0, Answer::Done(1));
+}
+
+#[test]
+fn ticks_on_faulty_tables_keep_the_rules() {
+    let refused = |number, count| Answer::Refused { number, index: 0, count };
+    // a return at the bottom has no row
+    let plain_to_return = [(5, 2, 0), (8, 7, 1)];
+    assert_eq!(ran(&changed(&plain_to_return), &[0, 0, 0]), (refused(18, 2), vec![0x04, 0x00]));
+    // a row to a label above the last
+    let to_nothing = [(5, 2, 0), (8, 7, 5)];
+    assert_eq!(ran(&changed(&to_nothing), &[0, 0, 0]), (refused(18, 2), vec![0x04, 0x00]));
+    // home above a call: the entry of scheme 1 takes its place
+    let home_above = [(2, 2, 0)];
+    assert_eq!(ran(&changed(&home_above), &[0; 4]), (Answer::Done(4), vec![0x04, 0x12, 0x04, 0x12]));
+    // a call of a scheme above the last is one of scheme 0, which takes the entry of scheme 1
+    let call_above = [(5, 3, 3)];
+    assert_eq!(ran(&changed(&call_above), &[0; 4]), (refused(17, 3), vec![0x04, 0x10, 0x10]));
+}
