@@ -11,8 +11,8 @@ use Rattle.tables.specs.Prepare.{prepare}
 use Rattle.tables.proofs.prepare as tables-prepare
 use Rattle.tables.proofs.prepare.Reads as tables-prepare-reads
 use Rattle.state.specs.State.{freshState, Makes}
-use Rattle.machine.specs.Run.{run, Runs}
-use Rattle.machine.specs.Advance.{advance, Advances}
+use Rattle.runs.specs.Run.{run, Runs}
+use Rattle.runs.specs.Advance.{advance, Advances}
 use Rattle.machine.specs.Live.{liveRun, liveTick}
 use Rattle.state.proofs.State.fresh as state-fresh
 use Rattle.state.proofs.State.fresh.Reads as state-fresh-reads

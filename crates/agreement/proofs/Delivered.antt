@@ -5,7 +5,7 @@ use mathlib.Core.List.{List, [], _∷_}
 use lib.ListN.{take}
 use Rattle.state.specs.declared.State.{State}
 use Rattle.state.specs.State.{freshState}
-use Rattle.machine.specs.Run.{run}
+use Rattle.runs.specs.Run.{run}
 use Rattle.agreement.specs.Agreement.{Asked, Told, chain, Agreement}
 use Rattle.agreement.specs.Calls.{Calls, none, more, Delivered}
 use Rattle.agreement.proofs.Demand.{theorem}

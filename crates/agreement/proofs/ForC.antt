@@ -8,7 +8,7 @@ use Rattle.translator.specs.Entry.{translate}
 use Rattle.state.specs.declared.State.{State}
 use Rattle.state.specs.State.{freshState}
 use Rattle.state.specs.Bytes.{stateOf}
-use Rattle.machine.specs.Run.{run}
+use Rattle.runs.specs.Run.{run}
 use Rattle.fairleadow.specs.Calls.{LendsC}
 use Rattle.state.proofs.ResultBytes.{fresh-held}
 use Rattle.agreement.specs.Agreement.{Asked, chain, Agreement}

@@ -14,7 +14,7 @@ use Rattle.translator.proofs.SoundTable.{table-fine, table-decoded}
 use Rattle.translator.proofs.Translated.{translated-few}
 use Rattle.state.specs.declared.State.{State}
 use Rattle.state.specs.State.{unfit}
-use Rattle.machine.specs.Run.{Run, noRoom, ticks, runOn, runVerdict, run}
+use Rattle.runs.specs.Run.{Run, noRoom, ticks, runOn, runVerdict, run}
 
 -- refusals 15 and 16, and the ticks, on an image that is given as such
 abbrev pub stateVerdict : Image → State → List ℕ → List ℕ → List ℕ → Verdict

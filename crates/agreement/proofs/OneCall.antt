@@ -9,9 +9,9 @@ use Rattle.tables.specs.Prepare.{prepare}
 use Rattle.tables.proofs.PreparedImage as tables
 use Rattle.state.specs.declared.State.{State}
 use Rattle.state.specs.declared.Answered.{Answered}
-use Rattle.machine.specs.declared.TickReport.{TickReport}
-use Rattle.machine.specs.Run.{Run, run, Runs}
-use Rattle.machine.specs.Advance.{Advance, advance, Advances}
+use Rattle.runs.specs.declared.TickReport.{TickReport}
+use Rattle.runs.specs.Run.{Run, run, Runs}
+use Rattle.runs.specs.Advance.{Advance, advance, Advances}
 use Rattle.machine.specs.Live.{liveRun, liveTick}
 use Rattle.machine.proofs.OneTick.{ranOne, run-advance}
 use Rattle.machine.proofs.Live.{Prepared, live-run-is, live-tick-is}

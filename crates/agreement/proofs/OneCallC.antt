@@ -17,11 +17,11 @@ use Rattle.tables.specs.Prepare.{prepare}
 use Rattle.state.specs.declared.State.{State}
 use Rattle.state.specs.State.{unfit}
 use Rattle.state.specs.Bytes.{stateOf, bytesOf}
-use Rattle.machine.specs.Tick as machine
-use Rattle.machine.specs.Run.{Run, runVerdict, run}
-use Rattle.machine.specs.Advance.{Advance, advance}
-use Rattle.machine.specs.InPlace.{bytesAfter, ifTicked}
-use Rattle.machine.proofs.Normal.{Normal, tick-normal}
+use Rattle.ticks.specs.Tick as machine
+use Rattle.runs.specs.Run.{Run, runVerdict, run}
+use Rattle.runs.specs.Advance.{Advance, advance}
+use Rattle.runs.specs.InPlace.{bytesAfter, ifTicked}
+use Rattle.ticks.proofs.Normal.{Normal, tick-normal}
 use Rattle.machine.proofs.Held.{run-held, tick-held}
 use Rattle.machine.proofs.OneTick as one
 use Rattle.machine.proofs.Live.{Prepared, live-run-is, live-tick-is}

@@ -11,7 +11,7 @@ use Rattle.translator.specs.Entry.{translate}
 use Rattle.state.specs.declared.State.{State}
 use Rattle.state.specs.declared.Answered.{Answered}
 use Rattle.state.specs.State.{freshState, Makes}
-use Rattle.machine.specs.Run.{run, Runs}
+use Rattle.runs.specs.Run.{run, Runs}
 use Rattle.fairleadow.specs.Calls.{LendsC, MakesC, runFor, RunsC}
 use Rattle.agreement.specs.Agreement.{Asked, Told, joined, bound, expectedAll}
 use Rattle.agreement.specs.Calls as calls

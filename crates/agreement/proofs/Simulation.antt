@@ -23,7 +23,7 @@ use Rattle.translator.specs.Rows.{rows}
 use Rattle.translator.specs.Table.{table}
 use Rattle.state.specs.declared.State.{State}
 use Rattle.state.specs.State.{labelAt, entryAt, placeAt}
-use Rattle.machine.specs.Tick.{rowOf, Ticked, ticked, stopped, moved, pushed, tickBy, tick}
+use Rattle.ticks.specs.Tick.{rowOf, Ticked, ticked, stopped, moved, pushed, tickBy, tick}
 use Rattle.rows.specs.Rows.{Found, found, firstRow}
 use Rattle.agreement.specs.Agreement.{isFullCall}
 use Rattle.agreement.proofs.TableFacts.{TableFacts}

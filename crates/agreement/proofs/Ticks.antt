@@ -19,8 +19,8 @@ use Rattle.walk.proofs.Views.{View, a-plain, a-call, a-function, a-home, a-back
 use Rattle.walk.proofs.Trace.{Position, tickOf, returned, movedBy, tickAt, move, trace, Good, view-of, moves}
 use Rattle.translator.specs.Table.{table}
 use Rattle.state.specs.declared.State.{State}
-use Rattle.machine.specs.Tick.{ticked, stopped}
-use Rattle.machine.specs.Run.{Ran, then, ticks}
+use Rattle.ticks.specs.Tick.{ticked, stopped}
+use Rattle.runs.specs.Run.{Ran, then, ticks}
 use Rattle.agreement.specs.Agreement.{isFullCall, bound}
 use Rattle.agreement.proofs.TableFacts.{TableFacts}
 use Rattle.agreement.proofs.Places.{stateOf}

@@ -13,7 +13,7 @@ use Rattle.walk.specs.Walk.{Tick, walk}
 use Rattle.translator.specs.Entry.{translate}
 use Rattle.state.specs.declared.State.{State}
 use Rattle.state.specs.State.{Made}
-use Rattle.machine.specs.Run.{Run, noRoom}
+use Rattle.runs.specs.Run.{Run, noRoom}
 
 -- ---- the three functions that the demand speaks of
 abbrev pub Translator : Type 0

@@ -13,9 +13,9 @@ use Rattle.tables.specs.Prepare.{prepare}
 use Rattle.state.specs.declared.State.{State}
 use Rattle.state.specs.declared.Answered.{Answered}
 use Rattle.state.specs.State.{freshState, Makes}
-use Rattle.machine.specs.declared.TickReport.{TickReport}
-use Rattle.machine.specs.Run.{run, Runs}
-use Rattle.machine.specs.Advance.{advance, Advances}
+use Rattle.runs.specs.declared.TickReport.{TickReport}
+use Rattle.runs.specs.Run.{run, Runs}
+use Rattle.runs.specs.Advance.{advance, Advances}
 use Rattle.machine.specs.Live.{liveRun, liveTick}
 use Rattle.agreement.specs.Agreement.{Asked, Told, joined, bound, expectedAll}
 

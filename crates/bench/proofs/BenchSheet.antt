@@ -8,9 +8,9 @@ use Rattle.frames.specs.Verdict.{fine}
 use Rattle.frames.specs.Answer.{refusal, Lent}
 use Rattle.translator.specs.Entry.{translate}
 use Rattle.state.specs.State.{fresh}
-use Rattle.machine.specs.Tick.{tick}
+use Rattle.ticks.specs.Tick.{tick}
 use Rattle.rows.specs.Rows.{firstRow}
-use Rattle.machine.specs.Run.{Run, ticks, runOn}
+use Rattle.runs.specs.Run.{Run, ticks, runOn}
 use Rattle.bench.specs.Bench.{BenchSheet, imageP, words, chartHome, chartSmall, chartCircle, chartFunction, freshRun, imageOf}
 use Rattle.bench.proofs.Computing.{framing, translating}
 use Rattle.bench.proofs.Tables.{tableP, of-P, imageHome, of-home, imageFunction, of-function}

@@ -18,9 +18,9 @@ use Rattle.translator.specs.Rows.{paths, rowsOf, rows}
 use Rattle.translator.specs.Table.{table}
 use Rattle.translator.specs.Entry.{translateVerdict, translate}
 use Rattle.state.specs.State.{freshState, unfit}
-use Rattle.machine.specs.Tick.{tick}
+use Rattle.ticks.specs.Tick.{tick}
 use Rattle.rows.specs.Rows.{firstRow}
-use Rattle.machine.specs.Run.{ticks, runVerdict, run}
+use Rattle.runs.specs.Run.{ticks, runVerdict, run}
 use Rattle.bench.specs.Bench.{characters}
 
 -- texts of frames, read and written

@@ -15,8 +15,8 @@ use Rattle.charts.specs.Entry.{readVerdict}
 use Rattle.translator.specs.Entry.{translateVerdict, translate}
 use Rattle.state.specs.declared.State.{State}
 use Rattle.state.specs.State.{fresh, freshState}
-use Rattle.machine.specs.Tick.{ticked, tick}
-use Rattle.machine.specs.Run.{Run, runVerdict, run}
+use Rattle.ticks.specs.Tick.{ticked, tick}
+use Rattle.runs.specs.Run.{Run, runVerdict, run}
 use Rattle.agreement.specs.Agreement.{Runner, Translator, Asked, Told, chain, Agreement, Translates}
 use Rattle.agreement.proofs.Demand.{theorem}
 use Rattle.bench.specs.Bench.{chartP, imageP, words, chartHome}

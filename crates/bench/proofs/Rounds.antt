@@ -20,11 +20,11 @@ use Rattle.image.proofs.Sound.{Sound}
 use Rattle.image.proofs.Accepted.{image-sound}
 use Rattle.state.specs.declared.State.{State}
 use Rattle.state.specs.State.{fresh}
-use Rattle.machine.specs.Tick.{Ticked, ticked, pushed, tick}
+use Rattle.ticks.specs.Tick.{Ticked, ticked, pushed, tick}
 use Rattle.rows.specs.Rows.{firstRow}
-use Rattle.machine.specs.Run.{Run, Ran, then, ticks, noRoom, runOn, run}
+use Rattle.runs.specs.Run.{Run, Ran, then, ticks, noRoom, runOn, run}
 use Rattle.state.proofs.Fitness.{fits}
-use Rattle.machine.proofs.Keeps.{fresh-fits}
+use Rattle.ticks.proofs.Keeps.{fresh-fits}
 use Rattle.agreement.proofs.Images.{run-image}
 use Rattle.agreement.proofs.Chain.{fresh-is}
 use Rattle.bench.specs.Bench.{chartHome, freshRun, repeated}

@@ -16,7 +16,7 @@ use Rattle.translator.specs.Table.{table}
 use Rattle.translator.specs.Entry.{translateVerdict, translate}
 use Rattle.state.specs.declared.State.{State}
 use Rattle.state.specs.State.{labelAt, placeAt, freshState}
-use Rattle.machine.specs.Tick.{Ticked, ticked, stopped, moved, rowOf, tick}
+use Rattle.ticks.specs.Tick.{Ticked, ticked, stopped, moved, rowOf, tick}
 use Rattle.rows.specs.Rows.{Found, firstRow}
 use Rattle.agreement.specs.Agreement.{Translator, Agreement, Translates}
 use Rattle.bench.specs.Bench.{lines, imageP, words}

@@ -7,8 +7,8 @@ use Rattle.frames.specs.Frame.{contents}
 use Rattle.image.specs.Image.{Image}
 use Rattle.image.specs.Decode.{decoded}
 use Rattle.state.specs.declared.State.{State}
-use Rattle.machine.specs.Tick.{Ticked}
-use Rattle.machine.specs.Run.{Ran, then, runVerdict, runOn}
+use Rattle.ticks.specs.Tick.{Ticked}
+use Rattle.runs.specs.Run.{Ran, then, runVerdict, runOn}
 use Rattle.agreement.specs.Agreement.{Runner, Told}
 
 abbrev pub Step : Type 0

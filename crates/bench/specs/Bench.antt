@@ -13,7 +13,7 @@ use Rattle.frames.specs.Frame.{contents}
 use Rattle.walk.specs.Walk.{walk}
 use Rattle.translator.specs.Entry.{translate}
 use Rattle.state.specs.State.{fresh, freshState}
-use Rattle.machine.specs.Run.{Run, run}
+use Rattle.runs.specs.Run.{Run, run}
 
 unfoldable pub characters : String → List ℕ
 characters none = []

@@ -16,7 +16,7 @@ use Rattle.translator.specs.Entry.{translateVerdict}
 use Rattle.image.specs.Check.{imageVerdict}
 use Rattle.state.specs.declared.State.{State}
 use Rattle.state.specs.State.{freshState, fresh, noState}
-use Rattle.machine.specs.Run.{Run, run}
+use Rattle.runs.specs.Run.{Run, run}
 use Rattle.bench.specs.Bench.{chartP, imageP, words, freshRun}
 
 -- ---- node records by kind, with the fields that the kind uses

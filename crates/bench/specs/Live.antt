@@ -9,7 +9,7 @@ use Rattle.image.specs.Decode.{decoded}
 use Rattle.tables.specs.Prepare.{prepare}
 use Rattle.tables.specs.Table.{tableImage}
 use Rattle.state.specs.declared.State.{State}
-use Rattle.machine.specs.Advance.{Advance}
+use Rattle.runs.specs.Advance.{Advance}
 use Rattle.machine.specs.Live.{liveTick}
 use Rattle.bench.specs.Bench.{imageP}
 use Rattle.bench.specs.Cases.{stateOf, changedImage}

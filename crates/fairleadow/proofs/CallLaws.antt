@@ -9,10 +9,10 @@ use Rattle.lists.specs.Pick.{pick}
 use Rattle.lists.proofs.Tests.{yes-pick, no-pick}
 use Rattle.frames.specs.Answer.{Reply, number, reply, Lent, Lends}
 use Rattle.frames.specs.declared.Answer.{Answer}
-use Rattle.machine.specs.declared.TickReport.{TickReport}
-use Rattle.machine.specs.Run.{Run}
-use Rattle.machine.specs.Advance.{Advance}
-use Rattle.machine.specs.InPlace.{RunsOn, AdvancesOn}
+use Rattle.runs.specs.declared.TickReport.{TickReport}
+use Rattle.runs.specs.Run.{Run}
+use Rattle.runs.specs.Advance.{Advance}
+use Rattle.runs.specs.InPlace.{RunsOn, AdvancesOn}
 use Rattle.fairleadow.specs.Calls.{Told, RunsC, Ticked, AdvancesC}
 
 pub told-as : {a b : Reply} {n i m : ℕ} → a ≡ b → Told a n i m → Told b n i m

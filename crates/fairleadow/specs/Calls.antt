@@ -6,11 +6,11 @@ use lib.Dec.{eqb}
 use Rattle.lists.specs.Pick.{pick}
 use Rattle.frames.specs.Answer.{Reply, number, index, count, reply, Lent}
 use Rattle.state.specs.State.{Made}
-use Rattle.machine.specs.Run.{Run, run}
-use Rattle.machine.specs.declared.TickReport.{TickReport}
-use Rattle.machine.specs.Advance.{Advance, advance}
+use Rattle.runs.specs.Run.{Run, run}
+use Rattle.runs.specs.declared.TickReport.{TickReport}
+use Rattle.runs.specs.Advance.{Advance, advance}
 use Rattle.machine.specs.Live.{liveRun, liveTick}
-use Rattle.machine.specs.InPlace.{bytesAfter, ifTicked}
+use Rattle.runs.specs.InPlace.{bytesAfter, ifTicked}
 use Rattle.state.specs.Bytes.{stateOf, bytesOf}
 
 -- the number returned, and the index and the count written, are those of the reply

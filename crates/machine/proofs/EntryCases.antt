@@ -31,14 +31,14 @@ use Rattle.state.specs.declared.Answered.{Answered}
 use Rattle.state.specs.State.{unfit}
 use Rattle.state.specs.Bytes.{stateOf, bytesOf}
 use Rattle.state.proofs.ResultBytes.{state-back}
-use Rattle.machine.specs.declared.TickReport.{TickReport}
+use Rattle.runs.specs.declared.TickReport.{TickReport}
 use Rattle.machine.specs.declared.Reported.{Reported}
-use Rattle.machine.specs.Run.{Run, Runs, ticks, noRoom, runVerdict, runOn, run}
-use Rattle.machine.specs.Advance.{Advance, Advances, advanced, advance}
+use Rattle.runs.specs.Run.{Run, Runs, ticks, noRoom, runVerdict, runOn, run}
+use Rattle.runs.specs.Advance.{Advance, Advances, advanced, advance}
 use Rattle.machine.specs.Live.{liveVerdict, liveRun, liveTick}
-use Rattle.machine.specs.InPlace.{ifTicked, RunsOn, AdvancesOn}
-use Rattle.machine.specs.Parts.{tableRun}
-use Rattle.machine.proofs.RunCases.{keptBy, kept-runs}
+use Rattle.runs.specs.InPlace.{ifTicked, RunsOn, AdvancesOn}
+use Rattle.runs.specs.Parts.{tableRun}
+use Rattle.runs.proofs.RunCases.{keptBy, kept-runs}
 use Rattle.machine.proofs.Held.{run-held, tick-held}
 
 -- what a tick answers that is refused before it is tried

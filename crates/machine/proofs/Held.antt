@@ -13,12 +13,13 @@ use Rattle.image.specs.Image.{Image}
 use Rattle.state.specs.declared.State.{State}
 use Rattle.state.specs.Bytes.{stateOf, bytesOf}
 use Rattle.state.proofs.ResultBytes.{state-back, held-places, held-bits}
-use Rattle.machine.specs.Tick.{Ticked, ticked, stopped, tick}
-use Rattle.machine.specs.Run.{Ran, Run, then, ticks, runOn}
-use Rattle.machine.specs.Advance.{Advance, advanced}
-use Rattle.machine.specs.InPlace.{leaves, bytesAfter, ifTicked}
-use Rattle.machine.proofs.Normal.{Same, Normal, Late, ticks-same, ticks-late, tick-normal}
-use Rattle.machine.proofs.RunCases.{late-writes}
+use Rattle.ticks.specs.Tick.{Ticked, ticked, stopped, tick}
+use Rattle.runs.specs.Run.{Ran, Run, then, ticks, runOn}
+use Rattle.runs.specs.Advance.{Advance, advanced}
+use Rattle.runs.specs.InPlace.{leaves, bytesAfter, ifTicked}
+use Rattle.ticks.proofs.Normal.{Same, Normal, tick-normal}
+use Rattle.runs.proofs.Normal.{Late, ticks-same, ticks-late}
+use Rattle.runs.proofs.RunCases.{late-writes}
 
 module _ (b : List ℕ) where
   abbrev s : State

@@ -11,8 +11,8 @@ use Rattle.image.specs.Check.{imageVerdict}
 use Rattle.tables.specs.Table.{badTable, tableImage}
 use Rattle.state.specs.declared.State.{State}
 use Rattle.state.specs.State.{unfit}
-use Rattle.machine.specs.Run.{noRoom, ticks, runOn, run, runVerdict}
-use Rattle.machine.specs.Advance.{advanced, advance}
+use Rattle.runs.specs.Run.{noRoom, ticks, runOn, run, runVerdict}
+use Rattle.runs.specs.Advance.{advanced, advance}
 use Rattle.machine.specs.Live.{liveVerdict, liveRun, liveTick}
 
 -- the bytes b hold the image that the text t says, and neither is refused

@@ -10,9 +10,9 @@ use Rattle.image.specs.Decode.{decoded}
 use Rattle.image.specs.Check.{imageVerdict}
 use Rattle.state.specs.declared.State.{State}
 use Rattle.state.specs.State.{unfit}
-use Rattle.machine.specs.Tick.{Ticked, ticked, stopped, tick}
-use Rattle.machine.specs.Run.{Run, run, runVerdict, ticks}
-use Rattle.machine.specs.Advance.{Advance, advanced, advance}
+use Rattle.ticks.specs.Tick.{Ticked, ticked, stopped, tick}
+use Rattle.runs.specs.Run.{Run, run, runVerdict, ticks}
+use Rattle.runs.specs.Advance.{Advance, advanced, advance}
 
 -- what a run tries but 16: one word has room in one place
 abbrev pub tried : List ℕ → State → Verdict

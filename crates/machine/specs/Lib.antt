@@ -1,6 +1,1 @@
-pub mod Tick
-pub mod Run
-pub mod Parts
-pub mod Advance
 pub mod Live
-pub mod InPlace

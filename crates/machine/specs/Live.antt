@@ -5,8 +5,8 @@ use Rattle.frames.specs.Verdict.{Verdict, next, when}
 use Rattle.tables.specs.Table.{badTable, tableImage}
 use Rattle.state.specs.declared.State.{State}
 use Rattle.state.specs.State.{unfit}
-use Rattle.machine.specs.Run.{Run, noRoom, ticks, runOn}
-use Rattle.machine.specs.Advance.{Advance, advanced}
+use Rattle.runs.specs.Run.{Run, noRoom, ticks, runOn}
+use Rattle.runs.specs.Advance.{Advance, advanced}
 
 -- 11 by the header and the length alone, then 15 and 16 as in any run
 unfoldable pub liveVerdict : List ℕ → State → List ℕ → List ℕ → List ℕ → Verdict

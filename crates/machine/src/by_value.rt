@@ -9,8 +9,8 @@ use crate::in_place::run_bytes;
 use crate::in_place::tick_bytes;
 use state::bytes_of;
 use state::state_of;
-ghost use Rattle.machine.specs.Run.{run, Runs};
-ghost use Rattle.machine.specs.Advance.{advance, Advances};
+ghost use Rattle.runs.specs.Run.{run, Runs};
+ghost use Rattle.runs.specs.Advance.{advance, Advances};
 ghost use Rattle.machine.specs.Live.{liveRun, liveTick};
 
 // A run: what the image check tries, 15 and 16 before the first tick, 17 and 18 tick by tick.

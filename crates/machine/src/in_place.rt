@@ -1,18 +1,18 @@
 // Runs and ticks on the fifty bytes of a state that the caller keeps: on an image, and live on a prepared table.
 use super::TickReport;
-use crate::runs::run_table;
-use crate::runs::tick_table;
 use frames::Answer;
 use frames::refused;
+use runs::run_table;
+use runs::tick_table;
 use tables::LARGEST;
 use tables::bad_table;
 use tables::prepare_table;
 use tables::table_length;
 ghost use Rattle.state.specs.Bytes.{stateOf};
-ghost use Rattle.machine.specs.Run.{run};
-ghost use Rattle.machine.specs.Advance.{advance};
+ghost use Rattle.runs.specs.Run.{run};
+ghost use Rattle.runs.specs.Advance.{advance};
 ghost use Rattle.machine.specs.Live.{liveRun, liveTick};
-ghost use Rattle.machine.specs.InPlace.{RunsOn, AdvancesOn};
+ghost use Rattle.runs.specs.InPlace.{RunsOn, AdvancesOn};
 
 // What the image check tries, 15 and 16 before the first tick, 17 and 18 tick by tick.
 pub fn run_bytes(

@@ -16,8 +16,8 @@ use Rattle.image.specs.Image.{Image}
 use Rattle.image.specs.Decode.{decoded}
 use Rattle.state.specs.declared.State.{State}
 use Rattle.state.specs.State.{freshState}
-use Rattle.machine.specs.Tick.{Ticked, ticked, stopped, tick}
-use Rattle.machine.specs.Run.{Ran, then, ticks, runVerdict, runOn, run}
+use Rattle.ticks.specs.Tick.{Ticked, ticked, stopped, tick}
+use Rattle.runs.specs.Run.{Ran, then, ticks, runVerdict, runOn, run}
 use Rattle.printing.specs.Lines.{codeLine, refusalLine}
 use Rattle.programs.specs.Programs.{words, runLines, runOutput, Prints}
 use Rattle.programs.proofs.Printed.{codes-length, refusal-line-length}

@@ -12,7 +12,7 @@ use Rattle.image.specs.Image.{imageText}
 use Rattle.translator.specs.Table.{table}
 use Rattle.translator.specs.Entry.{translateVerdict}
 use Rattle.state.specs.State.{freshState}
-use Rattle.machine.specs.Run.{Run, run}
+use Rattle.runs.specs.Run.{Run, run}
 use Rattle.printing.specs.Lines.{refusalLine, codeLine}
 
 -- ---- the translator's program: the image, or one frame FF

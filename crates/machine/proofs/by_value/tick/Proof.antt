@@ -40,12 +40,12 @@ use denote.Triple.Table.{entered, cited}
 use denote.Triple.Walked.{says, Stays, stay-ref, stay-none, stay-none-slice, walkOf, AllGo, goes-none, goes-none-slice, goes-ref, Walks, ends-at, walked, walk-meets}
 use denote.Triple.Clauses.{ensured, lasts}
 use denote.Exit.{yes}
-use Rattle.machine.specs.Advance.{advance, Advances}
+use Rattle.runs.specs.Advance.{advance, Advances}
 use Rattle.machine.specs.declared.Reported.{Reported}
 use Rattle.state.specs.declared.State.{State}
-use Rattle.machine.specs.declared.TickReport.{TickReport}
-use Rattle.machine.proofs.TickReport as R
-use Rattle.machine.proofs.TickReport.Laws as R′
+use Rattle.runs.specs.declared.TickReport.{TickReport}
+use Rattle.runs.proofs.TickReport as R
+use Rattle.runs.proofs.TickReport.Laws as R′
 use Rattle.state.proofs.State as T
 use Rattle.state.proofs.State.Laws as T′
 use Rattle.machine.proofs.Reported as S

@@ -1,0 +1,34 @@
+-- What any number of ticks keeps, on any image and from any state, and the numbers that end them.
+use Prim.Native.Nat.{ℕ, _≤_}
+use mathlib.Core.Path.{_≡_, refl, _∙_}
+use mathlib.Core.List.{List, [], _∷_}
+use Rattle.frames.specs.Verdict.{Verdict, fine, refused}
+use Rattle.image.specs.Image.{Image}
+use Rattle.state.specs.declared.State.{State}
+use Rattle.ticks.specs.Tick.{Ticked, ticked, stopped, tick}
+use Rattle.ticks.proofs.Normal.{Same, Normal, tick-normal}
+use Rattle.runs.specs.Run.{then, ticks}
+
+-- no refusal of these numbers is one that a run tries before its first tick
+abbrev pub Late : Verdict → Type 0
+Late fine = Unit {0}
+Late (refused n j) = 17 ≤ n
+
+pub ticks-same : (i : Image) (ws : List ℕ) (s : State) → Same s (ticks i s ws .state)
+unfolding ticks
+ticks-same i [] s = record { size = refl; places = refl; bits = refl }
+ticks-same i (w ∷ ws) s = go (tick i s w) (tick-normal i s w) (ticks-same i ws)
+  where
+    go : (x : Ticked) → Normal s x → ((t : State) → Same t (ticks i t ws .state)) → Same s (then s (λ t. ticks i t ws) x .state)
+    go (ticked m k t) n ih =
+        record { size = ih t .size ∙ n .size; places = ih t .places ∙ n .places; bits = ih t .bits ∙ n .bits }
+    go (stopped k) n ih = record { size = refl; places = refl; bits = refl }
+
+pub ticks-late : (i : Image) (ws : List ℕ) (s : State) → Late (ticks i s ws .verdict)
+unfolding ticks
+ticks-late i [] s = tt
+ticks-late i (w ∷ ws) s = go (tick i s w) (tick-normal i s w) (ticks-late i ws)
+  where
+    go : (x : Ticked) → Normal s x → ((t : State) → Late (ticks i t ws .verdict)) → Late (then s (λ t. ticks i t ws) x .verdict)
+    go (ticked m k t) n ih = ih t
+    go (stopped k) n ih = n

@@ -1,0 +1,241 @@
+-- The answers of a run and of one tick on a table, by what their parts give.
+use mathlib.Core.Path.{_≡_, refl, sym, _∙_, ap, ap₂, subst}
+use mathlib.Core.Bool.{Bool, true, false, _&&_}
+use mathlib.Core.List.{List, [], _∷_}
+use Prim.Native.Nat.{ℕ, zero, suc, _≤_, _<_}
+use native.Mathlib.Omega.{arith}
+use lib.Dec.{leb, ltb, eqb}
+use lib.ListN.{length, getD}
+use borrow.Author.Tests.{lt-ltb, le-ltb, lt-leb, le-leb, ltb-false, ne-eqb}
+use Rattle.lists.specs.Pick.{pick}
+use Rattle.lists.specs.Sequences.{over}
+use Rattle.lists.proofs.Tests.{or-l, or-r, yes-pick, no-pick, and-no, and-true}
+use Rattle.frames.specs.Verdict.{Verdict, fine, refused, next, when}
+use Rattle.frames.specs.Answer.{Reply, success, refusal, number, reply, replied}
+use Rattle.frames.specs.declared.Answer.{Answer}
+use Rattle.frames.specs.declared.Answer.the-variants.{Done, Refused}
+use Rattle.tables.specs.Table.{Whole, tableImage}
+use Rattle.state.specs.declared.State.{State}
+use Rattle.state.specs.State.{badDepth, unfit}
+use Rattle.state.specs.Bytes.{stateOf, bytesOf}
+use Rattle.runs.specs.declared.Ended.{Ended}
+use Rattle.runs.specs.declared.TickReport.{TickReport}
+use Rattle.ticks.specs.Tick.{Ticked, ticked, stopped, tick}
+use Rattle.runs.specs.Run.{Ran, Run, then, ticks, noRoom, runOn}
+use Rattle.runs.specs.Advance.{Advance, advanced}
+use Rattle.runs.specs.InPlace.{leaves, bytesAfter, ifTicked, RunsOn, AdvancesOn}
+use Rattle.ticks.specs.Parts.{Stands}
+use Rattle.runs.specs.Parts.{verdictOf, Room, Ends, tableRun}
+use Rattle.ticks.proofs.Normal.{Normal, tick-normal}
+use Rattle.runs.proofs.Normal.{Late, ticks-late}
+use Rattle.runs.proofs.TurnCases.{number-verdict}
+
+-- ---- a buffer has less room than words, or both have enough
+module _ (ws ms ks : List ℕ) where
+  pub room-first : length ms < length ws → true ≡ noRoom ws ms ks
+  room-first h = rw (lt-ltb (length ms) (length ws) h)
+
+  pub room-second : length ws ≤ length ms → ltb (length ks) (length ws) ≡ noRoom ws ms ks
+  room-second h = rw (le-ltb (length ms) (length ws) h)
+
+  pub room-enough : noRoom ws ms ks ≡ false → Room ws ms ks
+  room-enough e = record {
+    masks = ltb-false (length ms) (length ws) (or-l (ltb (length ms) (length ws)) (ltb (length ks) (length ws)) e);
+    codes = ltb-false (length ks) (length ws) (or-r (ltb (length ms) (length ws)) (ltb (length ks) (length ws)) e);
+  }
+
+-- one word has room in one place
+pub one-room : {w m k : ℕ} → Room (w ∷ []) (m ∷ []) (k ∷ [])
+one-room = record { masks = omega arith; codes = omega arith }
+
+-- ---- which numbers leave the bytes
+pub early-leaves : (n : ℕ) → 1 ≤ n → n ≤ 16 → leaves n ≡ true
+early-leaves n l h = and-true (leb 1 n) _ (le-leb 1 n l) (le-leb n _ (omega arith))
+
+pub late-writes : (n : ℕ) → 17 ≤ n → leaves n ≡ false
+late-writes n h = and-no (leb 1 n) _ (lt-leb n _ (omega arith))
+
+-- a run that is refused before its first tick keeps what it was given
+abbrev pub keptBy : ℕ → ℕ → State → List ℕ → List ℕ → Run
+keptBy n j s ms ks = record { reply = refusal n j 0; state = s; masks = ms; codes = ks }
+
+pub kept-runs : (x : Run) (bytes ms ks : List ℕ) (n j : ℕ) (s : State) → x ≡ keptBy n j s ms ks → 1 ≤ n → n ≤ 16 → (a : Answer) → reply a ≡ refusal n j 0
+    → RunsOn x bytes a bytes ms ks
+unfolding bytesAfter
+kept-runs x bytes ms ks n j s g l h a e =
+    rw g
+    (record {
+      answered = e;
+      bytes = sym (yes-pick (leaves n) bytes (bytesOf s) (early-leaves n l h));
+      masks = refl;
+      codes = refl;
+    })
+
+-- a state that fits has a depth of 1 to Σ
+pub fits-stands : (b : List ℕ) (s : State) → Whole b → unfit (tableImage b) s ≡ false → Stands b s
+unfolding unfit
+fits-stands b s whole e = record { whole = whole; depth = or-l (badDepth s) _ (or-l _ _ (or-l _ _ e)) }
+
+-- ---- a run on a table
+module _ (b before ws ms₀ ks₀ : List ℕ) where
+  abbrev s : State
+  s = stateOf before
+
+  abbrev given : Run
+  given = tableRun b s ws ms₀ ks₀
+
+  abbrev ran : Ran
+  ran = ticks (tableImage b) s ws
+
+  table-unfit : unfit (tableImage b) s ≡ true → given ≡ keptBy 15 0 s ms₀ ks₀
+  unfolding tableRun
+  table-unfit e = ap (λ (t : Bool). runOn (next (when 15 t) λ _. when 16 (noRoom ws ms₀ ks₀)) (λ _. ran) s ms₀ ks₀) e
+
+  table-short : unfit (tableImage b) s ≡ false → noRoom ws ms₀ ks₀ ≡ true → given ≡ keptBy 16 0 s ms₀ ks₀
+  unfolding tableRun
+  table-short e f =
+      ap (λ (t : Bool). runOn (next (when 15 t) λ _. when 16 (noRoom ws ms₀ ks₀)) (λ _. ran) s ms₀ ks₀) e
+      ∙ ap (λ (t : Bool). runOn (when 16 t) (λ _. ran) s ms₀ ks₀) f
+
+  table-runs : unfit (tableImage b) s ≡ false → noRoom ws ms₀ ks₀ ≡ false → given ≡ runOn fine (λ _. ran) s ms₀ ks₀
+  unfolding tableRun
+  table-runs e f =
+      ap (λ (t : Bool). runOn (next (when 15 t) λ _. when 16 (noRoom ws ms₀ ks₀)) (λ _. ran) s ms₀ ks₀) e
+      ∙ ap (λ (t : Bool). runOn (when 16 t) (λ _. ran) s ms₀ ks₀) f
+
+  pub unfit-answer : (t : Bool) → t ≡ unfit (tableImage b) s → t ≡ true → (a : Answer) → a ≡ Refused 15 0 0 → RunsOn given before a before ms₀ ks₀
+  unfit-answer t e h a q = kept-runs given before ms₀ ks₀ 15 0 s (table-unfit (sym e ∙ h)) (omega arith) (omega arith) a (ap reply q)
+
+  module _ (t : Bool) (e : t ≡ unfit (tableImage b) s) (h : t ≡ false) (u : Bool) (f : u ≡ noRoom ws ms₀ ks₀) where
+    pub short-answer : u ≡ true → (a : Answer) → a ≡ Refused 16 0 0 → RunsOn given before a before ms₀ ks₀
+    short-answer g a q = kept-runs given before ms₀ ks₀ 16 0 s (table-short (sym e ∙ h) (sym f ∙ g)) (omega arith) (omega arith) a (ap reply q)
+
+    module _ (g : u ≡ false) (r : Ended) (mid bytes ms ks : List ℕ) (ends : Ends b before ws ms₀ ks₀ r mid ms ks) (tidied : bytes ≡ bytesOf (stateOf mid)) where
+      is : given ≡ runOn fine (λ _. ran) s ms₀ ks₀
+      is = table-runs (sym e ∙ h) (sym f ∙ g)
+
+      late : Late (verdictOf (r .number))
+      late = subst Late (sym (ends .verdict)) (ticks-late (tableImage b) ws s)
+
+      -- neither success nor 17 and 18 leave the bytes
+      writes : (n : ℕ) → Late (verdictOf n) → (m : ℕ) → leaves (number (replied (verdictOf n) m)) ≡ false
+      writes zero l m = refl
+      writes (suc n) l m = late-writes (suc n) l
+
+      pub ran-answer : (a : Answer) → reply a ≡ replied (verdictOf (r .number)) (r .count) → RunsOn given before a bytes ms ks
+      unfolding bytesAfter
+      ran-answer a q =
+          let answered : reply a ≡ replied (ran .verdict) (length (ran .codes)) = q ∙ ap₂ replied (ends .verdict) (ends .count) in
+          let w : leaves (number (replied (ran .verdict) (length (ran .codes)))) ≡ false =
+          ap (λ (x : Reply). leaves (number x)) (sym (ap₂ replied (ends .verdict) (ends .count))) ∙ writes (r .number) late (r .count) in
+          rw is
+          (record {
+            answered = answered;
+            bytes = tidied ∙ ap bytesOf (ends .state) ∙ sym (no-pick _ before (bytesOf (ran .state)) w);
+            masks = ends .masks;
+            codes = ends .codes;
+          })
+
+-- what a run answers by its number
+pub done-replied : (n m : ℕ) → n ≡ 0 → success m ≡ replied (verdictOf n) m
+done-replied n m e = sym (ap (λ (k : ℕ). replied (verdictOf k) m) e)
+
+pub stopped-replied : (n m : ℕ) → (n ≡ 0 → ⊥) → refusal n 0 m ≡ replied (verdictOf n) m
+stopped-replied n m h = sym (ap (λ (v : Verdict). replied v m) (number-verdict n h))
+
+-- ---- one tick on a table
+module _ (b before : List ℕ) (w : ℕ) where
+  abbrev state₀ : State
+  state₀ = stateOf before
+
+  abbrev one : Advance
+  one = advanced (tableRun b state₀ (w ∷ []) (0 ∷ []) (0 ∷ []))
+
+  abbrev refusedBy : ℕ → Advance
+  refusedBy n = record { reply = refusal n 0 0; mask = 0; code = 0; state = state₀ }
+
+  one-unfit : unfit (tableImage b) state₀ ≡ true → one ≡ refusedBy 15
+  one-unfit e = ap advanced (table-unfit b before (w ∷ []) (0 ∷ []) (0 ∷ []) e)
+
+  one-stopped : unfit (tableImage b) state₀ ≡ false → (n : ℕ) → tick (tableImage b) state₀ w ≡ stopped n → one ≡ refusedBy n
+  unfolding ticks
+  one-stopped e n q =
+      ap advanced (table-runs b before (w ∷ []) (0 ∷ []) (0 ∷ []) e refl)
+      ∙ ap (λ (x : Ticked). advanced (runOn fine (λ _. then state₀ (λ t. ticks (tableImage b) t []) x) state₀ (0 ∷ []) (0 ∷ []))) q
+
+  one-ticked : unfit (tableImage b) state₀ ≡ false → (m k : ℕ) (t : State) → tick (tableImage b) state₀ w ≡ ticked m k t
+      → one ≡ record { reply = success 1; mask = m; code = k; state = t }
+  unfolding ticks
+  one-ticked e m k t q =
+      ap advanced (table-runs b before (w ∷ []) (0 ∷ []) (0 ∷ []) e refl)
+      ∙ ap (λ (x : Ticked). advanced (runOn fine (λ _. then state₀ (λ t. ticks (tableImage b) t []) x) state₀ (0 ∷ []) (0 ∷ []))) q
+
+  pub refused-advances : (n : ℕ) → (n ≡ 0 → ⊥) → one ≡ refusedBy n → (a : Answer) → a ≡ Refused n 0 0
+      → AdvancesOn one before (record { answer = a; mask = 0; code = 0 }) before
+  refused-advances n h e a q =
+      rw e
+      (record {
+        answered = ap reply q;
+        mask = refl;
+        code = refl;
+        bytes = sym (no-pick (eqb n 0) (bytesOf state₀) before (ne-eqb n 0 h));
+      })
+
+  module _ (t : Bool) (e : t ≡ unfit (tableImage b) state₀) where
+    pub tick-unfit : t ≡ true → (a : Answer) → a ≡ Refused 15 0 0 → AdvancesOn one before (record { answer = a; mask = 0; code = 0 }) before
+    tick-unfit h a q = refused-advances 15 (λ z. omega arith) (one-unfit (sym e ∙ h)) a q
+
+    module _ (h : t ≡ false) (r : Ended) (mid ms ks : List ℕ) (ends : Ends b before (w ∷ []) (0 ∷ []) (0 ∷ []) r mid ms ks) where
+      abbrev made : Ticked
+      made = tick (tableImage b) state₀ w
+
+      abbrev ran₁ : Ticked → Ran
+      ran₁ x = then state₀ (λ t. ticks (tableImage b) t []) x
+
+      one-word : ticks (tableImage b) state₀ (w ∷ []) ≡ ran₁ made
+      unfolding ticks
+      one-word = refl
+
+      -- a number other than 0 stopped the tick, and 0 finished it
+      number-stood : (r .number ≡ 0 → ⊥) → (made ≡ stopped (r .number)) × (r .count ≡ 0)
+      unfolding ticks
+      number-stood z = go made refl
+        where
+          go : (x : Ticked) → made ≡ x → (made ≡ stopped (r .number)) × (r .count ≡ 0)
+          go (ticked m k u) e =
+              let v : verdictOf (r .number) ≡ fine = ends .verdict ∙ ap (λ (y : Ran). y .verdict) (one-word ∙ ap ran₁ e) in
+              let v₂ : refused (r .number) 0 ≡ fine = sym (number-verdict (r .number) z) ∙ v in
+              let q : _≡_ {A = ℕ} 0 1 = cc in absurd (omega arith)
+          go (stopped n) e =
+              let v : refused (r .number) 0 ≡ refused n 0 =
+              sym (number-verdict (r .number) z) ∙ ends .verdict ∙ ap (λ (y : Ran). y .verdict) (one-word ∙ ap ran₁ e) in
+              let q : r .number ≡ n = cc in
+              (e ∙ ap stopped (sym q), ends .count ∙ ap (λ (y : Ran). length (y .codes)) (one-word ∙ ap ran₁ e))
+
+      number-went : r .number ≡ 0 → (m k : ℕ) → m ≡ getD ms 0 0 → k ≡ getD ks 0 0 → made ≡ ticked m k (stateOf mid)
+      unfolding ticks
+      number-went z m k p q = go made refl (tick-normal (tableImage b) state₀ w)
+        where
+          go : (x : Ticked) → made ≡ x → Normal state₀ x → made ≡ ticked m k (stateOf mid)
+          go (ticked m′ k′ u) e n =
+              let all : ticks (tableImage b) state₀ (w ∷ []) ≡ ran₁ (ticked m′ k′ u) = one-word ∙ ap ran₁ e in
+              let p₁ : m′ ≡ m = sym (p ∙ ap (λ (l : List ℕ). getD l 0 0) (ends .masks ∙ ap (λ (y : Ran). over (y .masks) (0 ∷ [])) all)) in
+              let p₂ : k′ ≡ k = sym (q ∙ ap (λ (l : List ℕ). getD l 0 0) (ends .codes ∙ ap (λ (y : Ran). over (y .codes) (0 ∷ [])) all)) in
+              let p₃ : u ≡ stateOf mid = sym (ends .state ∙ ap (λ (y : Ran). y .state) all) in
+              e ∙ (λ j. ticked (p₁ j) (p₂ j) (p₃ j))
+          go (stopped n′) e n =
+              let v : verdictOf 0 ≡ refused n′ 0 =
+              ap verdictOf (sym z) ∙ ends .verdict ∙ ap (λ (y : Ran). y .verdict) (one-word ∙ ap ran₁ e) in
+              let d : _≡_ {A = ℕ} 0 1 = cc in absurd (omega arith)
+
+      pub tick-stopped : (z : r .number ≡ 0 → ⊥) (a : Answer) → a ≡ Refused (r .number) 0 0
+          → AdvancesOn one before (record { answer = a; mask = 0; code = 0 }) mid
+      tick-stopped z a q =
+          rw (ends .kept (number-stood z .1))
+          (refused-advances (r .number) z (one-stopped (sym e ∙ h) (r .number) (number-stood z .0)) a q)
+
+      pub tick-finished : r .number ≡ 0 → (m k : ℕ) → m ≡ getD ms 0 0 → k ≡ getD ks 0 0 → (bytes : List ℕ) → bytes ≡ bytesOf (stateOf mid)
+          → AdvancesOn one before (record { answer = Done 1; mask = m; code = k }) bytes
+      tick-finished z m k p q bytes u =
+          rw (one-ticked (sym e ∙ h) m k (stateOf mid) (number-went z m k p q))
+          (record { answered = refl; mask = refl; code = refl; bytes = u })

@@ -1,0 +1,4 @@
+pub mod Run
+pub mod Advance
+pub mod InPlace
+pub mod Parts

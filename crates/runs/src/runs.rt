@@ -1,0 +1,118 @@
+// Ticks on a prepared table, one or one for each word, after 15 and 16 were tried.
+use super::Ended;
+use super::TickReport;
+use frames::Answer;
+use frames::refused;
+use state::is_unfit;
+use state::tidy_results;
+use ticks::tick_on;
+ghost use mathlib.Core.Path.{_≡_};
+ghost use mathlib.Core.List.{[], _∷_};
+ghost use Rattle.tables.specs.Table.{Whole};
+ghost use Rattle.state.specs.Bytes.{stateOf};
+ghost use Rattle.runs.specs.Run.{noRoom};
+ghost use Rattle.runs.specs.Advance.{advanced};
+ghost use Rattle.runs.specs.InPlace.{RunsOn, AdvancesOn};
+ghost use Rattle.runs.specs.Parts.{Starts, Ends, tableRun};
+
+// One tick a word, until one is stopped.
+fn tick_all(
+    table: &[u8],
+    bytes: &mut [u8; 50],
+    words: &[u16],
+    masks: &mut [u32],
+    codes: &mut [u8],
+) -> Ended
+    requires { ⌜ Starts (now table) (stateOf (now bytes)) (now words) (now masks) (now codes) ⌝ }
+    ensures { λ r. ⌜ Ends (now (table .entry)) (now (bytes .entry)) (now (words .entry)) (now (masks .entry)) (now (codes .entry)) r (now (bytes .exit)) (now (masks .exit)) (now (codes .exit)) ⌝ }
+{
+    let mut i: usize = 0;
+    while i < words.len() {
+        let done = tick_on(table, bytes, words[i]);
+        let number = done.number;
+        if number != 0 {
+            return Ended { number, count: i };
+        }
+        masks[i] = done.mask;
+        codes[i] = done.code;
+        i += 1;
+    }
+    Ended {
+        number: 0,
+        count: i,
+    }
+}
+
+// Whether a buffer has less room than words.
+fn no_room(words: &[u16], masks: &[u32], codes: &[u8]) -> bool
+    ensures { λ r. ⌜ r ≡ noRoom (now (words .entry)) (now (masks .entry)) (now (codes .entry)) ⌝ }
+{
+    if masks.len() < words.len() {
+        return true;
+    }
+    codes.len() < words.len()
+}
+
+// A run: 15 and 16, then the ticks.
+pub fn run_table(
+    table: &[u8],
+    bytes: &mut [u8; 50],
+    words: &[u16],
+    masks: &mut [u32],
+    codes: &mut [u8],
+) -> Answer
+    requires { ⌜ Whole (now table) ⌝ }
+    ensures { λ r. ⌜ RunsOn (tableRun (now (table .entry)) (stateOf (now (bytes .entry))) (now (words .entry)) (now (masks .entry)) (now (codes .entry))) (now (bytes .entry)) r (now (bytes .exit)) (now (masks .exit)) (now (codes .exit)) ⌝ }
+{
+    if is_unfit(table, bytes) {
+        return refused(15, 0);
+    }
+    if no_room(words, masks, codes) {
+        return refused(16, 0);
+    }
+    let ended = tick_all(table, bytes, words, masks, codes);
+    tidy_results(bytes);
+    let number = ended.number;
+    let count = ended.count;
+    if number == 0 {
+        return Answer::Done(count);
+    }
+    Answer::Refused {
+        number,
+        index: 0,
+        count,
+    }
+}
+
+// One tick: 15, then a tick for one word; a refused one leaves the bytes as they were.
+pub fn tick_table(table: &[u8], bytes: &mut [u8; 50], word: u16) -> TickReport
+    requires { ⌜ Whole (now table) ⌝ }
+    ensures { λ r. ⌜ AdvancesOn (advanced (tableRun (now (table .entry)) (stateOf (now (bytes .entry))) (word ∷ []) (0 ∷ []) (0 ∷ []))) (now (bytes .entry)) r (now (bytes .exit)) ⌝ }
+{
+    let words = [word];
+    let mut masks = [0u32; 1];
+    let mut codes = [0u8; 1];
+    if is_unfit(table, bytes) {
+        let answer = refused(15, 0);
+        return TickReport {
+            answer,
+            mask: 0,
+            code: 0,
+        };
+    }
+    let ended = tick_all(table, bytes, &words, &mut masks, &mut codes);
+    let number = ended.number;
+    if number != 0 {
+        let answer = refused(number, 0);
+        return TickReport {
+            answer,
+            mask: 0,
+            code: 0,
+        };
+    }
+    tidy_results(bytes);
+    let answer = Answer::Done(1);
+    let mask = masks[0];
+    let code = codes[0];
+    TickReport { answer, mask, code }
+}

@@ -1,0 +1,338 @@
+-- On a sound image a tick keeps a fitting state fitting, however it ends.
+use Prim.Native.Nat.{ℕ, zero, suc, _+_, _-_, _≤_, _<_}
+use mathlib.Core.Bool.{Bool, true, false, _&&_}
+use mathlib.Core.Path.{_≡_, refl, ap, _∙_, sym, subst}
+use mathlib.Core.Logic.{_⊎_, inl, inr}
+use mathlib.Core.List.{List, [], _∷_}
+use lib.Dec.{leb, eqb}
+use lib.ListN.{length, getD, set, length-set, getD-replicate}
+use lib.Seq.{getD-set-same, getD-set-other}
+use native.Mathlib.Omega.{arith}
+use borrow.Author.Tests.{eqb-true, ne-eqb, leb-false}
+use Rattle.lists.specs.Pick.{pick}
+use Rattle.lists.proofs.Tests.{or-cases, and-l, split}
+use Rattle.bits.specs.Results.{Results, withResult}
+use Rattle.frames.specs.Frame.{contents}
+use Rattle.frames.specs.Verdict.{fine}
+use Rattle.image.specs.Image.{Image, Label, Row}
+use Rattle.image.specs.Decode.{decoded}
+use Rattle.image.specs.Check.{imageVerdict}
+use Rattle.image.proofs.Sound.{noRow, nthRow, endOf, Reaches, Sound}
+use Rattle.image.proofs.Accepted.{image-sound}
+use Rattle.state.specs.declared.State.{State}
+use Rattle.state.specs.State.{fresh, labelAt, entryAt, placeAt, isCall, unfit}
+use Rattle.ticks.specs.Tick.{rowOf, Ticked, ticked, stopped, moved, pushed, tickBy, tick}
+use Rattle.rows.specs.Rows.{matches, Found, found, missing, firstRow}
+use Rattle.state.proofs.Fitness.{Carries, Fits, fits, unfits}
+use Rattle.rows.proofs.FirstRows.{row-here, row-later}
+
+-- a row that is found is one of the label's
+found-row : (i : Image) (h l w b u : ℕ) (rs : List Row)
+    → ((k : ℕ) → k < length rs → getD rs k noRow .from ≡ l → Reaches i h (getD rs k noRow .next))
+    → firstRow l w b rs ≡ found u → Reaches i h u
+unfolding firstRow
+found-row i h l w b u [] each e = absurd (let z : _≡_ {A = ℕ} 0 1 = cc in omega arith)
+found-row i h l w b u (r ∷ rs) each e = go (eqb (r .from) l && matches w b r) refl (found-row i h l w b u rs (λ k m. each (suc k) (omega arith)))
+  where
+    go : (t : Bool) → (eqb (r .from) l && matches w b r) ≡ t → (firstRow l w b rs ≡ found u → Reaches i h u) → Reaches i h u
+    go true q ih =
+        let p : found (r .next) ≡ found u = sym (row-here l w b r rs q) ∙ e in
+        let same : r .next ≡ u = cc in
+        subst (Reaches i h) same (each 0 (omega arith) (eqb-true (r .from) l (and-l (eqb (r .from) l) (matches w b r) q)))
+    go false q ih = ih (sym (row-later l w b r rs q) ∙ e)
+
+module _ (i : Image) (sound : Sound i) where
+  pub row-leads : (l w b u : ℕ) → firstRow l w b (i .rows) ≡ found u → Reaches i (labelAt i l .owner) u
+  row-leads l w b u e = found-row i (labelAt i l .owner) l w b u (i .rows)
+      (λ k m q. subst (λ (x : ℕ). Reaches i (labelAt i x .owner) (nthRow i k .next)) q (sound .each k m .leading)) e
+
+  -- ---- labels by their kind
+  data Sort (l : ℕ) : Type 0 where
+    first : l ≡ 0 → labelAt i l .kind ≡ 4 → labelAt i l .owner ≡ 1 → Sort l
+    second : l ≡ 1 → labelAt i l .kind ≡ 3 → labelAt i l .owner ≡ 0 → Sort l
+    other : 2 ≤ l → labelAt i l .kind ≤ 2 → Sort l
+
+  sort : (l : ℕ) → l < length (i .labels) → Sort l
+  sort zero m = first refl (ap (λ (x : Label). x .kind) (sound .home)) (ap (λ (x : Label). x .owner) (sound .home))
+  sort (suc zero) m = second refl (ap (λ (x : Label). x .kind) (sound .back)) (ap (λ (x : Label). x .owner) (sound .back))
+  sort (suc (suc l)) m = other (omega arith) (sound .others (suc (suc l)) (omega arith) m .kinds)
+
+  call-kind : (l : ℕ) → isCall (labelAt i l) ≡ true → (1 ≤ labelAt i l .kind) × (labelAt i l .kind ≤ 2)
+  call-kind l e = go (or-cases (eqb (labelAt i l .kind) 1) (eqb (labelAt i l .kind) 2) e)
+    where
+      go : (eqb (labelAt i l .kind) 1 ≡ true) ⊎ (eqb (labelAt i l .kind) 2 ≡ true) → (1 ≤ labelAt i l .kind) × (labelAt i l .kind ≤ 2)
+      go (inl p) = let q = eqb-true (labelAt i l .kind) 1 p in (omega arith, omega arith)
+      go (inr p) = let q = eqb-true (labelAt i l .kind) 2 p in (omega arith, omega arith)
+
+  -- a label of kind 1 or 2 is no home and no return, and calls a scheme of 2 to H
+  called-range : (l : ℕ) → l < length (i .labels) → (1 ≤ labelAt i l .kind) × (labelAt i l .kind ≤ 2)
+      → (2 ≤ labelAt i l .called) × (labelAt i l .called ≤ length (i .entries))
+  called-range l m k = go (sort l m)
+    where
+      go : Sort l → (2 ≤ labelAt i l .called) × (labelAt i l .called ≤ length (i .entries))
+      go (first z q o) = absurd (omega arith)
+      go (second z q o) = absurd (omega arith)
+      go (other z q) = sound .others l z m .calls (λ p. omega arith)
+
+  not-return : (l : ℕ) → l < length (i .labels) → (labelAt i l .kind ≡ 3 → ⊥) → l ≡ 1 → ⊥
+  not-return l m k e = go (sort l m)
+    where
+      go : Sort l → ⊥
+      go (first z q o) = omega arith
+      go (second z q o) = k q
+      go (other z q) = omega arith
+
+  end-other : (h : ℕ) → 2 ≤ h → endOf h ≡ 1
+  end-other h l = ap (λ (t : Bool). pick t 0 1) (ne-eqb h 1 (λ p. omega arith))
+
+  -- what a scheme of 2 and up may lead to may stand above its call
+  reaches-over : (h u : ℕ) → 2 ≤ h → Reaches i h u → (u ≡ 1) ⊎ (labelAt i u .owner ≡ h)
+  reaches-over h u l r = go (r .belongs)
+    where
+      go : (labelAt i u .owner ≡ h) ⊎ (u ≡ endOf h) → (u ≡ 1) ⊎ (labelAt i u .owner ≡ h)
+      go (inl e) = inr e
+      go (inr e) = inl (e ∙ end-other h l)
+
+  -- and what scheme 1 may lead to is owned by it
+  reaches-first : (u : ℕ) → Reaches i 1 u → labelAt i u .owner ≡ 1
+  reaches-first u r = go (r .belongs)
+    where
+      go : (labelAt i u .owner ≡ 1) ⊎ (u ≡ endOf 1) → labelAt i u .owner ≡ 1
+      go (inl e) = e
+      go (inr e) = ap (λ (l : ℕ). labelAt i l .owner) e ∙ ap (λ (x : Label). x .owner) (sound .home)
+
+  -- ---- the top replaced, a label put above it, the top dropped
+  abbrev replaced : State → ℕ → Results → State
+  replaced s u b = record { size = s .size; depth = s .depth; places = set (s .places) (s .depth - 1) u; bits = b }
+
+  replaced-fits : (s : State) (u : ℕ) (b : Results) → Fits i s → (placeAt s (s .depth - 1) ≡ 1 → ⊥)
+      → Reaches i (labelAt i (placeAt s (s .depth - 1)) .owner) u → Fits i (replaced s u b)
+  replaced-fits s u b f ne r = record {
+    whole = length-set (s .places) (s .depth - 1) u ∙ f .whole;
+    small = f .small;
+    some = f .some;
+    most = f .most;
+    labels = λ k l. labels k l (split k (s .depth - 1));
+    carries = λ k l. carries k l (split (k + 1) (s .depth - 1));
+    bottom = bottom (split 0 (s .depth - 1));
+    above = λ k l m. other k (λ p. omega (arith, f .some)) ∙ f .above k l m;
+  }
+    where
+      t : State
+      t = replaced s u b
+
+      same : placeAt t (s .depth - 1) ≡ u
+      same = getD-set-same (s .places) (s .depth - 1) u 0 (omega (arith, f .whole, f .some, f .most, f .small))
+
+      other : (k : ℕ) → (k ≡ s .depth - 1 → ⊥) → placeAt t k ≡ placeAt s k
+      other k ne = getD-set-other (s .places) (s .depth - 1) k u 0 ne
+
+      labels : (k : ℕ) → k < s .depth → (k < s .depth - 1) ⊎ (s .depth - 1 ≤ k) → placeAt t k < length (i .labels)
+      labels k l (inl p) = subst (λ (x : ℕ). x < length (i .labels)) (sym (other k (λ q. omega arith))) (f .labels k l)
+      labels k l (inr p) = let q : k ≡ s .depth - 1 = omega arith in
+          subst (λ (x : ℕ). x < length (i .labels)) (sym (ap (placeAt t) q ∙ same)) (r .inside)
+
+      under : (k : ℕ) → k + 1 ≡ s .depth - 1 → Carries i (placeAt s k) (placeAt s (s .depth - 1)) → Carries i (placeAt s k) u
+      under k q c = record { call = c .call; over = go (c .over) }
+        where
+          two : 2 ≤ labelAt i (placeAt s k) .called
+          two = called-range (placeAt s k) (f .labels k (omega (arith, f .some))) (call-kind (placeAt s k) (c .call)) .0
+
+          go : (placeAt s (s .depth - 1) ≡ 1) ⊎ (labelAt i (placeAt s (s .depth - 1)) .owner ≡ labelAt i (placeAt s k) .called)
+              → (u ≡ 1) ⊎ (labelAt i u .owner ≡ labelAt i (placeAt s k) .called)
+          go (inl e) = absurd (ne e)
+          go (inr e) = reaches-over (labelAt i (placeAt s k) .called) u two (subst (λ (h : ℕ). Reaches i h u) e r)
+
+      carries : (k : ℕ) → k + 1 < s .depth → (k + 1 < s .depth - 1) ⊎ (s .depth - 1 ≤ k + 1) → Carries i (placeAt t k) (placeAt t (k + 1))
+      carries k l (inl p) = rw (other k (λ q. omega arith), other (k + 1) (λ q. omega arith)) (f .carries k l)
+      carries k l (inr p) = let q : k + 1 ≡ s .depth - 1 = omega arith in
+          rw (other k (λ z. omega arith), q, same) (under k q (subst (λ (j : ℕ). Carries i (placeAt s k) (placeAt s j)) q (f .carries k l)))
+
+      bottom : (0 < s .depth - 1) ⊎ (s .depth - 1 ≤ 0) → labelAt i (placeAt t 0) .owner ≡ 1
+      bottom (inl p) = ap (λ (x : ℕ). labelAt i x .owner) (other 0 (λ q. omega arith)) ∙ f .bottom
+      bottom (inr p) = let q : s .depth - 1 ≡ 0 = omega arith in
+          ap (λ (x : ℕ). labelAt i x .owner) (ap (placeAt t) (sym q) ∙ same)
+          ∙ reaches-first u (subst (λ (h : ℕ). Reaches i h u) (ap (λ (j : ℕ). labelAt i (placeAt s j) .owner) q ∙ f .bottom) r)
+
+  abbrev above : State → ℕ → Results → State
+  above s u b = record { size = s .size; depth = suc (s .depth); places = set (s .places) (s .depth) u; bits = b }
+
+  above-fits : (s : State) (u : ℕ) (b : Results) → Fits i s → s .depth < s .size → u < length (i .labels)
+      → Carries i (placeAt s (s .depth - 1)) u → Fits i (above s u b)
+  above-fits s u b f room low c = record {
+    whole = length-set (s .places) (s .depth) u ∙ f .whole;
+    small = f .small;
+    some = omega arith;
+    most = room;
+    labels = λ k l. labels k (split k (s .depth)) l;
+    carries = λ k l. carries k (split (k + 1) (s .depth)) l;
+    bottom = ap (λ (x : ℕ). labelAt i x .owner) (other 0 (λ q. omega (arith, f .some))) ∙ f .bottom;
+    above = λ k l m. other k (λ p. omega arith) ∙ f .above k (omega arith) m;
+  }
+    where
+      t : State
+      t = above s u b
+
+      same : placeAt t (s .depth) ≡ u
+      same = getD-set-same (s .places) (s .depth) u 0 (omega (arith, f .whole, f .small))
+
+      other : (k : ℕ) → (k ≡ s .depth → ⊥) → placeAt t k ≡ placeAt s k
+      other k ne = getD-set-other (s .places) (s .depth) k u 0 ne
+
+      labels : (k : ℕ) → (k < s .depth) ⊎ (s .depth ≤ k) → k < suc (s .depth) → placeAt t k < length (i .labels)
+      labels k (inl p) l = subst (λ (x : ℕ). x < length (i .labels)) (sym (other k (λ q. omega arith))) (f .labels k p)
+      labels k (inr p) l = let q : k ≡ s .depth = omega arith in
+          subst (λ (x : ℕ). x < length (i .labels)) (sym (ap (placeAt t) q ∙ same)) low
+
+      carries : (k : ℕ) → (k + 1 < s .depth) ⊎ (s .depth ≤ k + 1) → k + 1 < suc (s .depth) → Carries i (placeAt t k) (placeAt t (k + 1))
+      carries k (inl p) l = rw (other k (λ q. omega arith), other (k + 1) (λ q. omega arith)) (f .carries k p)
+      carries k (inr p) l =
+          let q : k + 1 ≡ s .depth = omega arith in
+          let z : s .depth - 1 ≡ k = omega arith in
+          rw (other k (λ e. omega arith), q, same) (subst (λ (j : ℕ). Carries i (placeAt s j) u) z c)
+
+  abbrev dropped : State → State
+  dropped s = record { size = s .size; depth = s .depth - 1; places = set (s .places) (s .depth - 1) 0; bits = s .bits }
+
+  dropped-fits : (s : State) → Fits i s → 2 ≤ s .depth → Fits i (dropped s)
+  dropped-fits s f two = record {
+    whole = length-set (s .places) (s .depth - 1) 0 ∙ f .whole;
+    small = f .small;
+    some = omega arith;
+    most = omega (arith, f .most);
+    labels = λ k l. subst (λ (x : ℕ). x < length (i .labels)) (sym (other k (λ q. omega arith))) (f .labels k (omega arith));
+    carries = λ k l. rw (other k (λ q. omega arith), other (k + 1) (λ q. omega arith)) (f .carries k (omega arith));
+    bottom = ap (λ (x : ℕ). labelAt i x .owner) (other 0 (λ q. omega arith)) ∙ f .bottom;
+    above = λ k l m. zero-at k m (split k (s .depth)) l;
+  }
+    where
+      t : State
+      t = dropped s
+
+      other : (k : ℕ) → (k ≡ s .depth - 1 → ⊥) → placeAt t k ≡ placeAt s k
+      other k ne = getD-set-other (s .places) (s .depth - 1) k 0 0 ne
+
+      zero-at : (k : ℕ) → k < 32 → (k < s .depth) ⊎ (s .depth ≤ k) → s .depth - 1 ≤ k → placeAt t k ≡ 0
+      zero-at k m (inl p) l = let q : k ≡ s .depth - 1 = omega arith in
+          ap (placeAt t) q ∙ getD-set-same (s .places) (s .depth - 1) 0 0 (omega (arith, f .whole, f .most, f .small))
+      zero-at k m (inr p) l = other k (λ q. omega arith) ∙ f .above k p m
+
+  -- ---- one tick
+  abbrev pub Keeps : Ticked → Type 0
+  Keeps (ticked m k t) = Fits i t
+  Keeps (stopped n) = Unit {0}
+
+  moved-keeps : (m code : ℕ) (s : State) (k d : ℕ) (places : List ℕ) (b : Results) (f : Found)
+      → ((u : ℕ) → f ≡ found u → Fits i (record { size = s .size; depth = d; places = set places k u; bits = b }))
+      → Keeps (moved m code s k d places b f)
+  moved-keeps m code s k d places b (found u) h = h u refl
+  moved-keeps m code s k d places b missing h = tt
+
+  module _ (s : State) (f : Fits i s) where
+    abbrev top : ℕ
+    top = placeAt s (s .depth - 1)
+
+    top-low : top < length (i .labels)
+    top-low = f .labels (s .depth - 1) (omega (arith, f .some))
+
+    plain-keeps : (w : ℕ) (b : Results) → labelAt i top .kind ≡ 0 → Keeps (tickBy i s w top (labelAt i top) b 0)
+    plain-keeps w b e = moved-keeps _ 0 s _ _ (s .places) b (rowOf i b top w)
+        (λ u q. replaced-fits s u b f (not-return top top-low (λ p. omega arith)) (row-leads top w _ u q))
+
+    call-keeps : (m code : ℕ) (b : Results) → isCall (labelAt i top) ≡ true
+        → Keeps (pushed i s m code (labelAt i top .called) b (leb (s .size) (s .depth)))
+    call-keeps m code b e = go (leb (s .size) (s .depth)) refl
+      where
+        h : ℕ
+        h = labelAt i top .called
+
+        range : (2 ≤ h) × (h ≤ length (i .entries))
+        range = called-range top top-low (call-kind top e)
+
+        enters : Reaches i h (entryAt i h)
+        enters = let q : suc (h - 1) ≡ h = omega (arith, range) in
+            subst (λ (g : ℕ). Reaches i g (entryAt i h)) q (sound .starts (h - 1) (omega (arith, range)))
+
+        go : (t : Bool) → leb (s .size) (s .depth) ≡ t → Keeps (pushed i s m code (labelAt i top .called) b t)
+        go true q = tt
+        go false q = above-fits s (entryAt i h) b f (leb-false (s .size) (s .depth) q) (enters .inside)
+            (record { call = e; over = reaches-over h (entryAt i h) (range .0) enters })
+
+    return-keeps : (m w : ℕ) (b : Results) → labelAt i top .kind ≡ 3
+        → Keeps (moved m 3 s (s .depth - 2) (s .depth - 1) (set (s .places) (s .depth - 1) 0) b (rowOf i b (placeAt s (s .depth - 2)) w))
+    return-keeps m w b e = go (sort top top-low)
+      where
+        deep : labelAt i top .owner ≡ 0 → (1 < s .depth) ⊎ (s .depth ≤ 1) → 2 ≤ s .depth
+        deep o (inl p) = p
+        deep o (inr p) = let q : s .depth - 1 ≡ 0 = omega arith in
+            let z : labelAt i top .owner ≡ 1 = ap (λ (j : ℕ). labelAt i (placeAt s j) .owner) q ∙ f .bottom in absurd (omega arith)
+
+        back : 2 ≤ s .depth → (u : ℕ) → Reaches i (labelAt i (placeAt s (s .depth - 2)) .owner) u
+            → Fits i (record { size = s .size; depth = s .depth - 1; places = set (set (s .places) (s .depth - 1) 0) (s .depth - 2) u; bits = b })
+        back two u r =
+            let d : s .depth - 1 - 1 ≡ s .depth - 2 = omega arith in
+            let same : placeAt (dropped s) (s .depth - 1 - 1) ≡ placeAt s (s .depth - 2) =
+            ap (placeAt (dropped s)) d ∙ getD-set-other (s .places) (s .depth - 1) (s .depth - 2) 0 0 (λ q. omega arith) in
+            let c = call-kind (placeAt s (s .depth - 2)) (f .carries (s .depth - 2) (omega arith) .call) in
+            subst (λ (j : ℕ). Fits i (record { size = s .size; depth = s .depth - 1; places = set (set (s .places) (s .depth - 1) 0) j u; bits = b })) d
+            (replaced-fits (dropped s) u b (dropped-fits s f two)
+            (λ q. not-return (placeAt s (s .depth - 2)) (f .labels (s .depth - 2) (omega arith)) (λ p. omega arith) (sym same ∙ q))
+            (subst (λ (l : ℕ). Reaches i (labelAt i l .owner) u) (sym same) r))
+
+        go : Sort top → Keeps (moved m 3 s (s .depth - 2) (s .depth - 1) (set (s .places) (s .depth - 1) 0) b (rowOf i b (placeAt s (s .depth - 2)) w))
+        go (first z q o) = absurd (omega arith)
+        go (second z q o) = moved-keeps m 3 s _ _ (set (s .places) (s .depth - 1) 0) b (rowOf i b (placeAt s (s .depth - 2)) w)
+            (λ u p. back (deep o (split 1 (s .depth))) u (row-leads (placeAt s (s .depth - 2)) w _ u p))
+        go (other z q) = absurd (omega arith)
+
+    home-keeps : (b : Results) → 4 ≤ labelAt i top .kind → Fits i (replaced s (entryAt i 1) b)
+    home-keeps b e = go (sort top top-low)
+      where
+        go : Sort top → Fits i (replaced s (entryAt i 1) b)
+        go (first z q o) = replaced-fits s (entryAt i 1) b f (λ p. omega arith)
+            (subst (λ (h : ℕ). Reaches i h (entryAt i 1)) (sym o) (sound .starts 0 (sound .first)))
+        go (second z q o) = absurd (omega arith)
+        go (other z q) = absurd (omega arith)
+
+    pub tick-keeps : (w : ℕ) → Keeps (tick i s w)
+    unfolding tick
+    tick-keeps w = go (labelAt i top .kind) refl
+      where
+        x : Label
+        x = labelAt i top
+
+        b : Results
+        b = withResult (x .result) (x .owner) (s .bits)
+
+        go : (k : ℕ) → labelAt i top .kind ≡ k
+            → Keeps (tickBy i s w top (labelAt i top) (withResult (labelAt i top .result) (labelAt i top .owner) (s .bits)) k)
+        go zero e = plain-keeps w b e
+        go (suc zero) e = call-keeps _ _ b (rw e)
+        go (suc (suc zero)) e = call-keeps _ _ b (rw e)
+        go (suc (suc (suc zero))) e = return-keeps _ w b e
+        go (suc (suc (suc (suc n)))) e = home-keeps b (omega arith)
+
+  pub fresh-fits : (n : ℕ) → 1 ≤ n → n ≤ 32 → Fits i (fresh n)
+  fresh-fits n l h = record {
+    whole = refl;
+    small = h;
+    some = omega arith;
+    most = l;
+    labels = λ k m. subst (λ (x : ℕ). x < length (i .labels)) (sym (zero-at k (omega arith))) (omega (arith, sound .two));
+    carries = λ k m. absurd (omega arith);
+    bottom = ap (λ (x : Label). x .owner) (sound .home);
+    above = λ k m j. zero-at k j;
+  }
+    where
+      zero-at : (k : ℕ) → k < 32 → placeAt (fresh n) k ≡ 0
+      zero-at k j = getD-replicate 32 k 0 0 j
+
+-- ---- every accepted image, whatever its rows
+module _ (text : List ℕ) (passes : imageVerdict text ≡ fine) (s : State) (whole : length (s .places) ≡ 32)
+    (fit : unfit (decoded (contents text)) s ≡ false) where
+  abbrev image : Image
+  image = decoded (contents text)
+
+  pub tick-fits : (w m code : ℕ) (t : State) → tick image s w ≡ ticked m code t → unfit image t ≡ false
+  tick-fits w m code t e = fits image t
+      (subst (Keeps image (image-sound text passes)) e (tick-keeps image (image-sound text passes) s (unfits image s whole fit) w))

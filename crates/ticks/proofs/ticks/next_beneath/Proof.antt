@@ -1,0 +1,109 @@
+-- `ticks::ticks::next_beneath` meets its contract: no label lies beneath the top, it has no rows, or its row is looked for.
+use borrow.Author.Needs.{needs}
+use mathlib.Core.Path.{_≡_, _∙_, ap}
+use Prim.Native.Nat.{ℕ, _-_}
+use native.Mathlib.Omega.{arith}
+use Rattle.tables.specs.Labels.{Numbered}
+use Rattle.state.specs.declared.State.{State}
+use Rattle.state.specs.State.{placeAt}
+use Rattle.state.specs.Bytes.{stateOf}
+use Rattle.ticks.proofs.TickCases.{depth-most, size-most, beneath-first, beneath-low, beneath-high, bit-decides, beneath-row}
+use Rattle.ticks.proofs.ticks.next_beneath.Statement.{statement}
+use Rattle.ticks.proofs.ticks.next_beneath.Tie as tie
+
+-- ---- the stages: the depth, the label beneath, and M
+abbrev start : tie.After-depth-of → tie.Start
+start c = c .before .before
+
+abbrev depth : tie.After-place-of → tie.After-depth-of
+depth c = c .before .before
+
+abbrev place : tie.After-last-label → tie.After-place-of
+place c = c .before .before
+
+abbrev state : tie.After-depth-of → State
+state c = stateOf (start c .args .bytes .now)
+
+-- the label beneath the top is what was read
+under-read : (c : tie.After-place-of) → c .place-of .result ≡ placeAt (state (depth c)) (state (depth c) .depth - 2)
+under-read c = c .place-of .ensures ∙ ap (λ (n : ℕ). placeAt (state (depth c)) (n - 2)) (depth c .depth-of .ensures)
+
+-- ---- the needs
+depth-of-requires : tie.Need-depth-of-requires
+depth-of-requires c κs = search needs
+
+returns : tie.Need-returns
+returns c = let d = c .before in beneath-first _ _ (start d .pre) _ _ (d .depth-of .ensures) (c .if1 .taken)
+
+cast-place-of : tie.Need-cast-place-of
+cast-place-of c = search needs
+
+place-of-requires : tie.Need-place-of-requires
+place-of-requires c κs =
+    let d = c .before in
+    let asked = start d .pre .stands in
+    omega (arith, depth-most asked, size-most asked, d .depth-of .ensures, c .if1 .left)
+
+returns-2 : tie.Need-returns-2
+returns-2 c = let p = c .before in beneath-low _ _ (start (depth p) .pre) _ _ (under-read p) (omega (arith, c .if2 .taken))
+
+last-label-requires : tie.Need-last-label-requires
+last-label-requires c κs = start (depth (c .before)) .pre .stands .whole
+
+returns-3 : tie.Need-returns-3
+returns-3 c =
+    let m = c .before in
+    let p = place m in
+    beneath-high _ _ (start (depth p) .pre) _ _ (under-read p) (omega (arith, m .last-label .ensures, c .if3 .taken))
+
+cast-label-read : tie.Need-cast-label-read
+cast-label-read c = search needs
+
+numbered : (c : tie.Else3) → Numbered (start (depth (place (c .before))) .args .table .now) (place (c .before) .place-of .result)
+numbered c =
+    let m = c .before in
+    record {
+      whole = start (depth (place m)) .pre .stands .whole;
+      low = omega (arith, m .before .if2 .left);
+      high = omega (arith, m .last-label .ensures, c .if3 .left);
+    }
+
+label-read-requires : tie.Need-label-read-requires
+label-read-requires c κs = numbered c
+
+bit-of-requires : tie.Need-bit-of-requires
+bit-of-requires c κs = search needs
+
+cast-next-row : tie.Need-cast-next-row
+cast-next-row c = search needs
+
+next-row-requires : tie.Need-next-row-requires
+next-row-requires c κs =
+    let other = c .before .before in
+    bit-decides _ _ _ (c .before .label-read .ensures) (state (depth (place (other .before))) .bits) _ (c .bit-of .ensures) (numbered other)
+
+returns-4 : tie.Need-returns-4
+returns-4 c =
+    let bit = c .before in
+    let label = bit .before in
+    let p = place (label .before .before) in
+    beneath-row _ _ (start (depth p) .pre) _ _ (under-read p) (numbered (label .before)) _ (label .label-read .ensures) _
+    (bit .bit-of .ensures) _ (c .next-row .ensures)
+
+pub next-beneath-spec : {M : Type 1} → statement M
+next-beneath-spec =
+    tie.close
+    (tie.spec
+    depth-of-requires
+    returns
+    cast-place-of
+    place-of-requires
+    returns-2
+    last-label-requires
+    returns-3
+    cast-label-read
+    label-read-requires
+    bit-of-requires
+    cast-next-row
+    next-row-requires
+    returns-4)

@@ -1,0 +1,174 @@
+// One tick on a prepared table and the fifty bytes of a state, in place.
+use super::Stepped;
+use codes::code_of;
+use rows::next_row;
+use state::depth_of;
+use state::place_of;
+use state::put_depth;
+use state::put_place;
+use state::put_result;
+use state::result_of;
+use state::size_of;
+use tables::entry_of;
+use tables::kind_read;
+use tables::label_read;
+use tables::last_label;
+use tables::mask_read;
+ghost use mathlib.Core.Path.{_≡_};
+ghost use Rattle.rows.specs.Rows.{nextOf};
+ghost use Rattle.tables.specs.Table.{tableImage};
+ghost use Rattle.state.specs.Bytes.{stateOf};
+ghost use Rattle.ticks.specs.Tick.{stopped};
+ghost use Rattle.ticks.specs.Parts.{Stands, TopNumbered, TopCalls, TopPlain, TopReturn, TopHome, beneath, bitOf, stepOf, Steps};
+
+// The bit that decides among the rows of a label: the result of the scheme that it calls, where that is a function, else 2.
+fn bit_of(bytes: &[u8; 50], kind: u8, called: u8) -> u8
+    ensures { λ r. ⌜ r ≡ bitOf kind called (stateOf (now (bytes .entry)) .bits) ⌝ }
+{
+    if kind == 2 {
+        return result_of(bytes, called) as u8;
+    }
+    2
+}
+
+// A tick that finds no row to go on by: nothing is done.
+fn no_row() -> Stepped
+    ensures { λ r. ⌜ r ≡ stepOf (stopped 18) ⌝ }
+{
+    Stepped {
+        number: 18,
+        mask: 0,
+        code: 0,
+    }
+}
+
+// A plain tick: the top takes its row, which no bit decides.
+fn tick_plain(table: &[u8], bytes: &mut [u8; 50], word: u16) -> Stepped
+    requires { ⌜ TopPlain (now table) (stateOf (now bytes)) ⌝ }
+    ensures { λ r. ⌜ Steps (now (table .entry)) (now (bytes .entry)) word r (now (bytes .exit)) ⌝ }
+{
+    let top = (depth_of(bytes) - 1) as usize;
+    let l = place_of(bytes, top) as usize;
+    let label = label_read(table, l);
+    let next = next_row(table, l, word, 2);
+    if 256 <= next {
+        return no_row();
+    }
+    let mask = mask_read(table, l);
+    put_result(bytes, label.result, label.owner);
+    put_place(bytes, top, next as u8);
+    Stepped {
+        number: 0,
+        mask: mask,
+        code: 0,
+    }
+}
+
+// Where the label beneath the top leads, or 256 where there is no such label or no row of it matches.
+fn next_beneath(table: &[u8], bytes: &[u8; 50], word: u16) -> u16
+    requires { ⌜ TopReturn (now table) (stateOf (now bytes)) ⌝ }
+    ensures { λ r. ⌜ r ≡ nextOf (beneath (tableImage (now (table .entry))) (stateOf (now (bytes .entry))) word) ⌝ }
+{
+    let depth = depth_of(bytes);
+    if depth < 2 {
+        return 256;
+    }
+    let l = place_of(bytes, (depth - 2) as usize);
+    if l < 2 {
+        return 256;
+    }
+    if last_label(table) < l {
+        return 256;
+    }
+    let label = label_read(table, l as usize);
+    let bit = bit_of(bytes, label.kind, label.called);
+    next_row(table, l as usize, word, bit)
+}
+
+// A return: the top is dropped, and the label beneath takes its row.
+fn tick_back(table: &[u8], bytes: &mut [u8; 50], word: u16) -> Stepped
+    requires { ⌜ TopReturn (now table) (stateOf (now bytes)) ⌝ }
+    ensures { λ r. ⌜ Steps (now (table .entry)) (now (bytes .entry)) word r (now (bytes .exit)) ⌝ }
+{
+    let next = next_beneath(table, bytes, word);
+    if 256 <= next {
+        return no_row();
+    }
+    let depth = depth_of(bytes);
+    put_place(bytes, (depth - 1) as usize, 0);
+    put_place(bytes, (depth - 2) as usize, next as u8);
+    put_depth(bytes, depth - 1);
+    Stepped {
+        number: 0,
+        mask: 0,
+        code: 3,
+    }
+}
+
+// A call: the entry of the called scheme goes above the top; at a full stack nothing is done.
+fn tick_call(table: &[u8], bytes: &mut [u8; 50], word: u16) -> Stepped
+    requires { ⌜ TopCalls (now table) (stateOf (now bytes)) ⌝ }
+    ensures { λ r. ⌜ Steps (now (table .entry)) (now (bytes .entry)) word r (now (bytes .exit)) ⌝ }
+{
+    let depth = depth_of(bytes);
+    if size_of(bytes) <= depth {
+        return Stepped {
+            number: 17,
+            mask: 0,
+            code: 0,
+        };
+    }
+    let label = label_read(table, place_of(bytes, (depth - 1) as usize) as usize);
+    let entry = entry_of(table, label.called);
+    put_result(bytes, label.result, label.owner);
+    put_place(bytes, depth as usize, entry);
+    put_depth(bytes, depth + 1);
+    Stepped {
+        number: 0,
+        mask: label.mask,
+        code: code_of(label.kind, label.called),
+    }
+}
+
+// The home tick: the entry of scheme 1 takes the place of the top.
+fn tick_home(table: &[u8], bytes: &mut [u8; 50], word: u16) -> Stepped
+    requires { ⌜ TopHome (now table) (stateOf (now bytes)) ⌝ }
+    ensures { λ r. ⌜ Steps (now (table .entry)) (now (bytes .entry)) word r (now (bytes .exit)) ⌝ }
+{
+    let top = (depth_of(bytes) - 1) as usize;
+    put_place(bytes, top, entry_of(table, 1));
+    Stepped {
+        number: 0,
+        mask: 0,
+        code: 4,
+    }
+}
+
+// A tick of a label of 2 up, by its kind; one above M has no row.
+fn tick_numbered(table: &[u8], bytes: &mut [u8; 50], word: u16) -> Stepped
+    requires { ⌜ TopNumbered (now table) (stateOf (now bytes)) ⌝ }
+    ensures { λ r. ⌜ Steps (now (table .entry)) (now (bytes .entry)) word r (now (bytes .exit)) ⌝ }
+{
+    let l = place_of(bytes, (depth_of(bytes) - 1) as usize);
+    if last_label(table) < l {
+        return no_row();
+    }
+    let kind = kind_read(table, l as usize);
+    match kind {
+        1..=2 => tick_call(table, bytes, word),
+        _ => tick_plain(table, bytes, word),
+    }
+}
+
+// A tick by the label at the top.
+pub fn tick_on(table: &[u8], bytes: &mut [u8; 50], word: u16) -> Stepped
+    requires { ⌜ Stands (now table) (stateOf (now bytes)) ⌝ }
+    ensures { λ r. ⌜ Steps (now (table .entry)) (now (bytes .entry)) word r (now (bytes .exit)) ⌝ }
+{
+    let l = place_of(bytes, (depth_of(bytes) - 1) as usize);
+    match l {
+        0 => tick_home(table, bytes, word),
+        1 => tick_back(table, bytes, word),
+        _ => tick_numbered(table, bytes, word),
+    }
+}
