@@ -15,6 +15,28 @@ impl State {
     pub const NONE: State = State { size: 0, depth: 0, places: [0; 32], results: [0; 16] };
 }
 
+/// A call that writes into one lent buffer: what is read, the buffer, index and count.
+pub type Write = unsafe extern "C" fn(*const u8, usize, *mut u8, usize, *mut usize, *mut usize) -> u8;
+
+/// A run: an image or a table, the state, words, masks, codes, index and count.
+pub type Run = unsafe extern "C" fn(
+    *const u8,
+    usize,
+    *mut State,
+    *const u16,
+    usize,
+    *mut u32,
+    usize,
+    *mut u8,
+    usize,
+    *mut usize,
+    *mut usize,
+) -> u8;
+
+/// A tick: an image or a table, the state, the word, mask, code, index and count.
+pub type Tick =
+    unsafe extern "C" fn(*const u8, usize, *mut State, u16, *mut u32, *mut u8, *mut usize, *mut usize) -> u8;
+
 extern "C" {
     pub fn fairleadow_read_chart(
         text: *const u8,

@@ -69,30 +69,63 @@ fn from_c(state: &c::State) -> State {
     }
 }
 
+/// A call that writes into one lent buffer.
+fn written(call: c::Write, text: &[u8], out: &mut [u8]) -> Answer {
+    answered(|index, count| unsafe {
+        call(text.as_ptr(), text.len(), out.as_mut_ptr(), out.len(), index, count)
+    })
+}
+
+/// A run, on an image or on a table.
+fn ran(
+    call: c::Run,
+    image: &[u8],
+    state: &State,
+    words: &[u16],
+    masks: &mut [u32],
+    codes: &mut [u8],
+) -> (Answer, State) {
+    let mut kept = to_c(state);
+    let answer = answered(|index, count| unsafe {
+        call(
+            image.as_ptr(),
+            image.len(),
+            &mut kept,
+            words.as_ptr(),
+            words.len(),
+            masks.as_mut_ptr(),
+            masks.len(),
+            codes.as_mut_ptr(),
+            codes.len(),
+            index,
+            count,
+        )
+    });
+    (answer, from_c(&kept))
+}
+
+/// A tick, on an image or on a table.
+fn ticked(call: c::Tick, image: &[u8], state: &mut State, word: u16) -> Ticked {
+    let mut kept = to_c(state);
+    let (mut mask, mut code) = (0, 0);
+    let answer = answered(|index, count| unsafe {
+        call(image.as_ptr(), image.len(), &mut kept, word, &mut mask, &mut code, index, count)
+    });
+    *state = from_c(&kept);
+    Ticked { answer, mask, code }
+}
+
 impl Library for Proved {
     fn read_chart(&self, text: &[u8], out: &mut [u8]) -> Answer {
-        answered(|index, count| unsafe {
-            c::fairleadow_read_chart(text.as_ptr(), text.len(), out.as_mut_ptr(), out.len(), index, count)
-        })
+        written(c::fairleadow_read_chart, text, out)
     }
 
     fn write_chart(&self, records: &[u8], out: &mut [u8]) -> Answer {
-        answered(|index, count| unsafe {
-            c::fairleadow_write_chart(
-                records.as_ptr(),
-                records.len(),
-                out.as_mut_ptr(),
-                out.len(),
-                index,
-                count,
-            )
-        })
+        written(c::fairleadow_write_chart, records, out)
     }
 
     fn translate(&self, text: &[u8], out: &mut [u8]) -> Answer {
-        answered(|index, count| unsafe {
-            c::fairleadow_translate(text.as_ptr(), text.len(), out.as_mut_ptr(), out.len(), index, count)
-        })
+        written(c::fairleadow_translate, text, out)
     }
 
     fn check_image(&self, text: &[u8]) -> Answer {
@@ -113,48 +146,15 @@ impl Library for Proved {
         masks: &mut [u32],
         codes: &mut [u8],
     ) -> (Answer, State) {
-        let mut kept = to_c(state);
-        let answer = answered(|index, count| unsafe {
-            c::fairleadow_run(
-                image.as_ptr(),
-                image.len(),
-                &mut kept,
-                words.as_ptr(),
-                words.len(),
-                masks.as_mut_ptr(),
-                masks.len(),
-                codes.as_mut_ptr(),
-                codes.len(),
-                index,
-                count,
-            )
-        });
-        (answer, from_c(&kept))
+        ran(c::fairleadow_run, image, state, words, masks, codes)
     }
 
     fn tick(&self, image: &[u8], state: &mut State, word: u16) -> Ticked {
-        let mut kept = to_c(state);
-        let (mut mask, mut code) = (0, 0);
-        let answer = answered(|index, count| unsafe {
-            c::fairleadow_tick(
-                image.as_ptr(),
-                image.len(),
-                &mut kept,
-                word,
-                &mut mask,
-                &mut code,
-                index,
-                count,
-            )
-        });
-        *state = from_c(&kept);
-        Ticked { answer, mask, code }
+        ticked(c::fairleadow_tick, image, state, word)
     }
 
     fn prepare(&self, image: &[u8], table: &mut [u8]) -> Answer {
-        answered(|index, count| unsafe {
-            c::fairleadow_prepare(image.as_ptr(), image.len(), table.as_mut_ptr(), table.len(), index, count)
-        })
+        written(c::fairleadow_prepare, image, table)
     }
 
     fn live_run(
@@ -165,42 +165,11 @@ impl Library for Proved {
         masks: &mut [u32],
         codes: &mut [u8],
     ) -> (Answer, State) {
-        let mut kept = to_c(state);
-        let answer = answered(|index, count| unsafe {
-            c::fairleadow_live_run(
-                table.as_ptr(),
-                table.len(),
-                &mut kept,
-                words.as_ptr(),
-                words.len(),
-                masks.as_mut_ptr(),
-                masks.len(),
-                codes.as_mut_ptr(),
-                codes.len(),
-                index,
-                count,
-            )
-        });
-        (answer, from_c(&kept))
+        ran(c::fairleadow_live_run, table, state, words, masks, codes)
     }
 
     fn live_tick(&self, table: &[u8], state: &mut State, word: u16) -> Ticked {
-        let mut kept = to_c(state);
-        let (mut mask, mut code) = (0, 0);
-        let answer = answered(|index, count| unsafe {
-            c::fairleadow_live_tick(
-                table.as_ptr(),
-                table.len(),
-                &mut kept,
-                word,
-                &mut mask,
-                &mut code,
-                index,
-                count,
-            )
-        });
-        *state = from_c(&kept);
-        Ticked { answer, mask, code }
+        ticked(c::fairleadow_live_tick, table, state, word)
     }
 
     fn meaning(&self, code: u8) -> Meaning {

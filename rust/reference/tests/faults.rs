@@ -1,5 +1,8 @@
 //! Libraries with one fault each, the slips and idlers of paper 01 among them: the comparison must find every one.
 
+#[macro_use]
+mod common;
+
 use std::cell::RefCell;
 
 use reference::compare::compare;
@@ -8,20 +11,6 @@ use reference::frames::text_of;
 use reference::image::{Image, FUNCTION_CALL, HOME, RETURN};
 use reference::machine::{self, Advanced};
 use reference::{Answer, Library, Meaning, Reference, State, Ticked};
-
-/// An enum of the faults, and the list of them all.
-macro_rules! faults {
-    ($($fault:ident),* $(,)?) => {
-        #[derive(Clone, Copy, Debug, PartialEq)]
-        enum Fault {
-            $($fault),*
-        }
-
-        use Fault::*;
-
-        const FAULTS: &[Fault] = &[$($fault),*];
-    };
-}
 
 faults! {
     TurnsAllChartsBack,

@@ -1,5 +1,8 @@
 //! Libraries with one fault each in what they make of tables: the comparison must find every one.
 
+#[macro_use]
+#[path = "../common/mod.rs"]
+mod common;
 mod misread;
 
 use reference::answer::Refusal;
@@ -9,20 +12,6 @@ use reference::image::{Label, FUNCTION_CALL, HOME, RETURN};
 use reference::live::Held;
 use reference::machine::Advanced;
 use reference::{Answer, Library, Meaning, Reference, State, Ticked};
-
-/// An enum of the faults, and the list of them all.
-macro_rules! faults {
-    ($($fault:ident),* $(,)?) => {
-        #[derive(Clone, Copy, Debug, PartialEq)]
-        enum Fault {
-            $($fault),*
-        }
-
-        use Fault::*;
-
-        const FAULTS: &[Fault] = &[$($fault),*];
-    };
-}
 
 faults! {
     // what is prepared
