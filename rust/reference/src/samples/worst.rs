@@ -1,0 +1,160 @@
+//! Inputs that keep each entry point busy for long: the samples, constructions for the loops that a call has, and what a
+//! search found. controller/count counts what they take; the comparison makes each of these calls too.
+
+use super::worst_charts::worst_charts;
+use super::worst_images::{worst_images, worst_ticks};
+use super::worst_tables::worst_tables;
+use super::{chart_p, found, largest_image, named_charts};
+use crate::check::chart_of;
+use crate::entry_point::{EntryPoint, Input};
+use crate::frames::Frame;
+use crate::image::{image_of, Image};
+use crate::prepare::table_of;
+use crate::state::{fresh_state, State};
+use crate::{machine, translator};
+
+/// How many words a run has here.
+pub const WORDS: usize = 64;
+
+/// Where an input is from.
+#[derive(Clone, Copy, Debug, PartialEq, Eq)]
+pub enum Origin {
+    /// Chart P, to compare with.
+    ChartP,
+    Sample,
+    Construction,
+    Search,
+}
+
+#[derive(Clone, Debug)]
+pub struct Candidate {
+    pub name: String,
+    pub origin: Origin,
+    pub input: Input,
+}
+
+impl Candidate {
+    fn new(name: &str, origin: Origin, input: Input) -> Candidate {
+        Candidate { name: name.to_string(), origin, input }
+    }
+}
+
+/// All inputs for an entry point, chart P's first.
+pub fn candidates(entry: EntryPoint) -> Vec<Candidate> {
+    let mut all = known(entry);
+    all.extend(found::found(entry).into_iter().map(|(name, input)| Candidate {
+        name,
+        origin: Origin::Search,
+        input,
+    }));
+    all
+}
+
+/// All but what a search found, which begins with these.
+pub fn known(entry: EntryPoint) -> Vec<Candidate> {
+    match entry {
+        EntryPoint::ReadChart | EntryPoint::WriteChart | EntryPoint::Translate => charts(),
+        EntryPoint::CheckImage | EntryPoint::Prepare => images(),
+        EntryPoint::Tick | EntryPoint::Run => ticks(entry),
+        EntryPoint::LiveTick | EntryPoint::LiveRun => live(entry),
+        EntryPoint::Fresh => values("stack of", 0..=33),
+        EntryPoint::Meaning => values("code", 0..=255),
+    }
+}
+
+/// Every value is tried; 32 stands in chart P's place.
+fn values(name: &str, all: std::ops::RangeInclusive<usize>) -> Vec<Candidate> {
+    let candidate = |name: String, origin, value| Candidate {
+        name,
+        origin,
+        input: Input { value, ..Input::of(Vec::new()) },
+    };
+    let first = candidate(format!("{name} 32"), Origin::ChartP, 32);
+    let rest = all.map(|value| candidate(format!("{name} {value}"), Origin::Construction, value));
+    [first].into_iter().chain(rest).collect()
+}
+
+fn sample_charts() -> Vec<(String, Origin, Vec<Frame>)> {
+    let mut all = vec![("chart P".to_string(), Origin::ChartP, chart_p())];
+    all.extend(named_charts().into_iter().map(|(name, records)| (name, Origin::Sample, records)));
+    all
+}
+
+fn charts() -> Vec<Candidate> {
+    let mut all: Vec<Candidate> = sample_charts()
+        .into_iter()
+        .map(|(name, origin, records)| Candidate::new(&name, origin, Input::of(records)))
+        .collect();
+    let constructed = worst_charts().into_iter();
+    all.extend(constructed.map(|(name, it)| Candidate::new(name, Origin::Construction, Input::of(it))));
+    all
+}
+
+/// The images of the charts that translate, and the largest.
+fn sample_images() -> Vec<(String, Origin, Image)> {
+    let image = |records: &[Frame]| translator::image_of(&chart_of(records).ok()?).ok();
+    let mut all: Vec<(String, Origin, Image)> = sample_charts()
+        .into_iter()
+        .filter_map(|(name, origin, records)| Some((name, origin, image(&records)?)))
+        .collect();
+    let largest = image_of(&largest_image()).expect("an accepted image");
+    all.push(("largest image".to_string(), Origin::Sample, largest));
+    all
+}
+
+fn images() -> Vec<Candidate> {
+    let mut all: Vec<Candidate> = sample_images()
+        .into_iter()
+        .map(|(name, origin, image)| Candidate::new(&name, origin, Input::of(image.frames())))
+        .collect();
+    let constructed = worst_images().into_iter();
+    all.extend(
+        constructed.map(|(name, it)| Candidate::new(name, Origin::Construction, Input::of(it.frames()))),
+    );
+    all
+}
+
+/// The samples' images ticked from a fresh state, with the first word all 0 and the next all 1, by turns.
+fn sample_ticks(entry: EntryPoint) -> Vec<(String, Origin, Image, State, Vec<u16>)> {
+    let fresh = fresh_state(32).expect("32 is a size");
+    let mut all = Vec::new();
+    for (name, origin, image) in sample_images() {
+        if matches!(entry, EntryPoint::Run | EntryPoint::LiveRun) {
+            all.push((name, origin, image, fresh, vec![0xFFFF; WORDS]));
+            continue;
+        }
+        let mut state = fresh;
+        for word in [0, 0xFFFF, 0, 0xFFFF, 0xFFFF] {
+            all.push((name.clone(), origin, image.clone(), state, vec![word]));
+            state = machine::tick(&image, &state, word).map_or(state, |advanced| advanced.state);
+        }
+    }
+    all
+}
+
+/// Ticks on images, with what is made of an image.
+fn ticks_on(entry: EntryPoint, frames: fn(&Image) -> Vec<Frame>) -> Vec<Candidate> {
+    let mut all = Vec::new();
+    for (name, origin, image, state, words) in sample_ticks(entry) {
+        all.push(Candidate::new(&name, origin, Input { frames: frames(&image), state, words, value: 0 }));
+    }
+    for (name, image, state, words) in worst_ticks() {
+        let input = Input { frames: frames(&image), state, words, value: 0 };
+        all.push(Candidate::new(name, Origin::Construction, input));
+    }
+    all
+}
+
+fn ticks(entry: EntryPoint) -> Vec<Candidate> {
+    ticks_on(entry, Image::frames)
+}
+
+/// On prepared tables, and on tables that no preparation makes.
+fn live(entry: EntryPoint) -> Vec<Candidate> {
+    let mut all = ticks_on(entry, table_of);
+    for (name, frames, state, words) in worst_tables() {
+        let input = Input { frames, state, words, value: 0 };
+        all.push(Candidate::new(name, Origin::Construction, input));
+    }
+    all
+}
