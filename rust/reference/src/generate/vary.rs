@@ -1,4 +1,5 @@
 //! Inputs for a search: one drawn to begin with, and small changes where they may matter, of one frame or of many in a row.
+//! The seeds of samples/found.rs stand for other changes when this file is changed: search again then.
 
 use super::{charts, images, runs, states, tables, Random};
 use crate::entry_point::{EntryPoint, Input};

@@ -27,7 +27,15 @@ impl Start {
 /// A known input by its name, and the seeds of the changes that were kept.
 type Found = (EntryPoint, &'static str, &'static [u64]);
 
-const FOUND: [Found; 0] = [];
+const FOUND: [Found; 3] = [
+    (EntryPoint::Translate, "Begin before falling conditions with 10 numbers", &[55, 252, 2527]),
+    (
+        EntryPoint::Prepare,
+        "1,024 function rows of 252 labels",
+        &[124, 701, 875, 1450, 2315, 2447, 3177, 3209, 3246],
+    ),
+    (EntryPoint::Tick, "deep return, last of 1,024 function rows", &[717]),
+];
 
 /// An input with changes by these seeds, one after the other.
 pub fn changed(entry: EntryPoint, start: &Start, seeds: &[u64]) -> Input {
@@ -44,7 +52,7 @@ pub fn found(entry: EntryPoint) -> Vec<(String, Input)> {
     of_entry
         .map(|(_, name, kept)| {
             let input = changed(entry, &Start::Known(name.to_string()), kept);
-            (format!("{name}, changed {} times", kept.len()), input)
+            (format!("{name}, {} changes", kept.len()), input)
         })
         .collect()
 }
