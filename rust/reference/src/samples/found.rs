@@ -52,7 +52,7 @@ pub fn found(entry: EntryPoint) -> Vec<(String, Input)> {
     of_entry
         .map(|(_, name, kept)| {
             let input = changed(entry, &Start::Known(name.to_string()), kept);
-            (format!("{name}, {} changes", kept.len()), input)
+            (format!("{name}, changed by the search"), input)
         })
         .collect()
 }

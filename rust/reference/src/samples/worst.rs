@@ -158,3 +158,78 @@ fn live(entry: EntryPoint) -> Vec<Candidate> {
     }
     all
 }
+
+#[cfg(test)]
+mod tests {
+    use super::*;
+    use crate::library::Reference;
+    use crate::prepare::is_table;
+
+    /// What the reference answers to a construction, by its name: the number, the index, and the count.
+    fn answer(entry: EntryPoint, name: &str) -> (u8, usize, usize) {
+        let all = known(entry);
+        let named = all.iter().find(|candidate| candidate.name == name).expect("there is one of this name");
+        match entry.make(&Reference, &named.input).answer {
+            crate::Answer::Done(count) => (0, 0, count),
+            crate::Answer::Refused { number, index, count } => (number, index, count),
+        }
+    }
+
+    fn constructions(entry: EntryPoint) -> impl Iterator<Item = Candidate> {
+        known(entry).into_iter().filter(|candidate| candidate.origin == Origin::Construction)
+    }
+
+    #[test]
+    fn circles_are_found_late() {
+        for candidate in constructions(EntryPoint::ReadChart) {
+            let (number, index, count) = answer(EntryPoint::ReadChart, &candidate.name);
+            let circle = candidate.name.contains("circle");
+            assert!(if circle { number == 8 && index >= 254 } else { count == 256 }, "{}", candidate.name);
+        }
+    }
+
+    #[test]
+    fn long_paths_have_as_many_rows_as_an_image_holds() {
+        let image = |labels: usize| (0, 0, 23 * (2 + labels + 1_024));
+        for name in ["Begin before falling conditions with 10 numbers", "one number after ten"] {
+            assert_eq!(answer(EntryPoint::Translate, name), image(3), "{name}");
+        }
+        let name = "4 operations before one line of conditions";
+        assert_eq!(answer(EntryPoint::Translate, name), image(6));
+        let name = "32 operations before one line of conditions";
+        assert_eq!(answer(EntryPoint::Translate, name), image(34));
+        let name = "Begin before falling conditions with 11 numbers";
+        assert_eq!(answer(EntryPoint::Translate, name), (10, 0, 0));
+    }
+
+    #[test]
+    fn images_have_as_many_frames_as_can_be() {
+        for candidate in constructions(EntryPoint::Prepare) {
+            let wanted = if candidate.name.contains("wrong") { (13, 1_296, 0) } else { (0, 0, 12_970) };
+            assert_eq!(answer(EntryPoint::Prepare, &candidate.name), wanted, "{}", candidate.name);
+        }
+    }
+
+    /// No run ends early but by a stack that is full or a row that is missing.
+    #[test]
+    fn runs_go_on_to_their_end() {
+        for entry in [EntryPoint::Run, EntryPoint::LiveRun] {
+            for candidate in constructions(entry) {
+                let (number, _, count) = answer(entry, &candidate.name);
+                match candidate.name.as_str() {
+                    "no row of 1,024" => assert_eq!((number, count), (18, 0)),
+                    "deep return, operations" => assert_eq!((number, count), (18, 30)),
+                    _ => assert_eq!((number, count), (0, WORDS), "{}", candidate.name),
+                }
+            }
+        }
+    }
+
+    #[test]
+    fn only_the_tables_made_for_it_are_no_tables_of_images() {
+        for candidate in known(EntryPoint::LiveRun) {
+            let whole = candidate.name.contains("whole table");
+            assert_eq!(is_table(&candidate.input.frames), !whole, "{}", candidate.name);
+        }
+    }
+}

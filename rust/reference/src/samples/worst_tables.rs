@@ -21,6 +21,7 @@ fn whole_table_rows() -> Vec<Frame> {
         let note = if label % 2 == 0 { 0 } else { 0xFF };
         match label {
             CALLS => [note, note, FUNCTION_CALL, 1, 1, 0, 0, 0, 0, 0],
+            GOES_ON => [note, note, PLAIN, DECIDES, 1, 0, 0, 0, 0, 0],
             _ => [note, note, PLAIN, DECIDES, 0, 0, 0, 0, 0, 0],
         }
     }));
