@@ -21,7 +21,6 @@ const DRAWN_STARTS: u64 = 3;
 
 /// What a search came to.
 struct Climbed {
-    start: Start,
     first: u64,
     best: u64,
     kept: Vec<u64>,
@@ -56,19 +55,19 @@ impl Search<'_> {
                 kept.push(seed);
             }
         }
-        Climbed { start, first, best, kept }
+        Climbed { first, best, kept }
     }
 
-    /// Without the changes that are not needed for the count.
-    fn pruned(&mut self, mut climbed: Climbed) -> Climbed {
-        for at in (0..climbed.kept.len()).rev() {
-            let mut fewer = climbed.kept.clone();
+    /// The changes without those that are not needed for the count.
+    fn pruned(&mut self, start: Start, best: u64, mut kept: Vec<u64>) -> Vec<u64> {
+        for at in (0..kept.len()).rev() {
+            let mut fewer = kept.clone();
             fewer.remove(at);
-            if self.cycles(&changed(self.entry, &climbed.start, &fewer)) >= climbed.best {
-                climbed.kept = fewer;
+            if self.cycles(&changed(self.entry, start, &fewer)) >= best {
+                kept = fewer;
             }
         }
-        climbed
+        kept
     }
 
     /// The inputs, the longest first, with their cycles.
@@ -81,7 +80,7 @@ impl Search<'_> {
     }
 
     /// Of the inputs that some seeds draw, the one that takes longest.
-    fn drawn(&mut self, seeds: std::ops::Range<u64>) -> Start {
+    fn drawn(&mut self, seeds: std::ops::Range<u64>) -> Start<'static> {
         let longest = seeds.max_by_key(|seed| self.cycles(&Start::Drawn(*seed).input(self.entry)));
         Start::Drawn(longest.expect("there are some"))
     }
@@ -90,16 +89,14 @@ impl Search<'_> {
         let known = self.sorted(known(self.entry));
         let (before, name) = self.sorted(candidates(self.entry))[0].clone();
         println!("{}: {before} cycles so far, {name}", self.entry.name());
-        let mut starts: Vec<Start> =
-            known.into_iter().take(KNOWN).map(|(_, name)| Start::Known(name)).collect();
+        let mut starts: Vec<Start> = known.iter().take(KNOWN).map(|(_, name)| Start::Known(name)).collect();
         starts.extend((0..DRAWN_STARTS).map(|k| self.drawn(seed + k * DRAWN..seed + (k + 1) * DRAWN)));
         for start in starts {
-            let climbed = self.climb(start, seed..seed + cases);
-            let Climbed { start, first, best, .. } = &climbed;
+            let Climbed { first, best, kept } = self.climb(start, seed..seed + cases);
             println!("  {start:?}: {first} cycles, after {cases} changes {best}");
-            if *best > before {
-                let Climbed { start, kept, .. } = self.pruned(climbed);
-                println!("    (EntryPoint::{:?}, {start:?}, &{kept:?}),", self.entry);
+            if best > before {
+                let kept = self.pruned(start, best, kept);
+                println!("    (EntryPoint::{:?}, Start::{start:?}, &{kept:?}),", self.entry);
             }
         }
     }
@@ -111,7 +108,7 @@ fn main() {
         Some(word) => word.parse().expect("SEED and CASES are numbers"),
         None => otherwise,
     };
-    let (seed, cases) = (number(0, 1), number(1, 2_000));
+    let (seed, cases) = (number(0, 1), number(1, 4_000));
     let chosen = |entry: &EntryPoint| words.len() < 3 || words[2..].iter().any(|word| word == entry.name());
     let mut search = Search { board: Counting::start(&Reference), entry: EntryPoint::ReadChart };
     // of fresh and meaning every value is among the candidates

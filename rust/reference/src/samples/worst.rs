@@ -124,8 +124,8 @@ fn sample_ticks(entry: EntryPoint) -> Vec<(String, Origin, Image, State, Vec<u16
             continue;
         }
         let mut state = fresh;
-        for word in [0, 0xFFFF, 0, 0xFFFF, 0xFFFF] {
-            all.push((name.clone(), origin, image.clone(), state, vec![word]));
+        for (k, word) in [0, 0xFFFF, 0, 0xFFFF, 0xFFFF].into_iter().enumerate() {
+            all.push((format!("{name}, tick {}", k + 1), origin, image.clone(), state, vec![word]));
             state = machine::tick(&image, &state, word).map_or(state, |advanced| advanced.state);
         }
     }

@@ -73,7 +73,7 @@ pub fn worst_images() -> Vec<(&'static str, Image)> {
     ]
 }
 
-/// A full stack of 32: BOTTOM, labels that each call, and the return on top.
+/// A full stack of 32: the bottom, labels that each call, and the return on top.
 pub fn full_stack(bottom: u8, kept: u8) -> State {
     let mut places = [kept; 32];
     (places[0], places[31]) = (bottom, RETURN_LABEL);
@@ -94,16 +94,8 @@ pub fn worst_ticks() -> Vec<Ticks> {
         State { size: 32, depth: 1, places, results: [true; 16] }
     };
     let deep = full_stack(BOTTOM, BUSY);
-    let calling = State {
-        depth: 31,
-        places: {
-            let mut places = deep.places;
-            places[30] = BUSY;
-            places[31] = 0;
-            places
-        },
-        ..deep
-    };
+    let mut calling = State { depth: 31, ..deep };
+    calling.places[31] = 0;
     vec![
         ("last of 1,024 plain rows", plain_rows(), at_top(BUSY), vec![0; WORDS]),
         ("no row of 1,024", plain_rows_only(), at_top(BUSY), vec![0; WORDS]),
