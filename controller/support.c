@@ -52,7 +52,11 @@ typedef uint64_t both __attribute__((vector_size(16)));
 
 both __aeabi_uldivmod(uint64_t number, uint64_t by) {
     uint64_t quotient = 0, left = 0;
-    for (int i = 0; i < 64; i++) {
+    int bits = 64;
+    /* the library divides lengths, most of whose bits are leading zeros, which the quotient has too */
+    for (; bits > 16 && number >> 48 == 0; bits -= 16)
+        number <<= 16;
+    for (int i = 0; i < bits; i++) {
         uint64_t carried = left >> 63;
         left = left << 1 | number >> 63;
         number <<= 1;

@@ -1,6 +1,8 @@
 /* Counts, for the emulator, what the board executes in each call that it makes, from the first instruction of make_call to the first
- * of stack_used: instructions, accesses to memory, jumps taken, divisions and long products. Writes a line a call. The functions are
- * those of version 1 of the emulator's interface for plugins, declared here because its header is in no Debian package. */
+ * of stack_used: instructions, accesses to memory, jumps taken, divisions and long products. Writes a line a call, before the board
+ * answers. It counts by blocks, which the emulator enters at their first instruction and leaves after their last, so that a search can
+ * make many calls. The functions are those of version 1 of the emulator's interface for plugins, declared here because its header is in
+ * no Debian package. */
 #include <stdint.h>
 #include <stdio.h>
 #include <stdlib.h>
@@ -9,58 +11,63 @@
 typedef uint64_t plugin_id;
 typedef struct block block;
 typedef struct instruction instruction;
+enum { READ_OR_WRITE = 3, ADD = 0 };
 void qemu_plugin_register_vcpu_tb_trans_cb(plugin_id id, void (*call)(plugin_id, block *));
+void qemu_plugin_register_vcpu_tb_exec_cb(block *block, void (*call)(unsigned, void *), int flags, void *data);
 size_t qemu_plugin_tb_n_insns(const block *block);
 instruction *qemu_plugin_tb_get_insn(const block *block, size_t index);
 uint64_t qemu_plugin_insn_vaddr(const instruction *instruction);
 size_t qemu_plugin_insn_size(const instruction *instruction);
 char *qemu_plugin_insn_disas(const instruction *instruction);
 const char *qemu_plugin_insn_symbol(const instruction *instruction);
-void qemu_plugin_register_vcpu_insn_exec_cb(instruction *instruction, void (*call)(unsigned, void *), int flags, void *data);
-void qemu_plugin_register_vcpu_mem_cb(instruction *instruction, void (*call)(unsigned, uint32_t, uint64_t, void *), int flags,
-                                      int read_or_write, void *data);
+void qemu_plugin_register_vcpu_mem_inline(instruction *instruction, int read_or_write, int operation, void *to, uint64_t more);
 
 #define SHOWN __attribute__((visibility("default")))
 SHOWN int qemu_plugin_version = 1;
 SHOWN int qemu_plugin_install(plugin_id id, const void *info, int count, char **words);
 
-/* An instruction as it was translated. */
+/* A block as it was translated. */
 typedef struct {
-    uint64_t at, next;
-    int begins, ends, divides, multiplies;
-} place;
+    uint64_t at, next; /* its first instruction, and where the one after its last lies */
+    int begins, ends;  /* whether make_call or stack_used begins with it */
+    unsigned long instructions, divisions, products;
+} part;
 
 static FILE *to;
 static uint64_t first, last; /* where make_call and stack_used begin, once that is known */
 static int counting;
-static uint64_t after; /* where the next instruction lies if none jumps */
-static unsigned long instructions, accesses, jumps, divisions, products;
+static uint64_t after;    /* where the next block lies if none jumps */
+static uint64_t accesses; /* from the emulator's start on */
+static uint64_t accesses_before;
+static unsigned long instructions, jumps, divisions, products;
 
-static void executed(unsigned processor, void *data) {
-    const place *here = data;
-    (void)processor;
-    if (here->begins) {
-        instructions = accesses = jumps = divisions = products = 0;
-        after = here->at;
-        counting = 1;
-    }
-    if (here->ends && counting) {
-        fprintf(to, "%lu %lu %lu %lu %lu\n", instructions, accesses, jumps, divisions, products);
-        fflush(to);
-        counting = 0;
-    }
-    if (!counting)
-        return;
-    instructions++;
-    jumps += here->at != after;
-    after = here->next;
-    divisions += here->divides;
-    products += here->multiplies;
+static void begin(const part *here) {
+    instructions = jumps = divisions = products = 0;
+    accesses_before = accesses;
+    after = here->at;
+    counting = 1;
 }
 
-static void accessed(unsigned processor, uint32_t information, uint64_t address, void *data) {
-    (void)processor, (void)information, (void)address, (void)data;
-    accesses += counting;
+static void end(void) {
+    fprintf(to, "%lu %lu %lu %lu %lu\n", instructions, (unsigned long)(accesses - accesses_before), jumps, divisions, products);
+    fflush(to);
+    counting = 0;
+}
+
+static void entered(unsigned processor, void *data) {
+    const part *here = data;
+    (void)processor;
+    if (here->begins)
+        begin(here);
+    if (here->ends && counting)
+        end();
+    if (!counting)
+        return;
+    instructions += here->instructions;
+    divisions += here->divisions;
+    products += here->products;
+    jumps += here->at != after;
+    after = here->next;
 }
 
 static int begins_with(const char *text, const char *word) {
@@ -75,25 +82,30 @@ static int begins(const instruction *here, const char *name, uint64_t *known) {
     return *known != 0 && *known == qemu_plugin_insn_vaddr(here);
 }
 
+static void add(part *here, instruction *each) {
+    char *text = qemu_plugin_insn_disas(each);
+    if (!text)
+        abort();
+    here->next = qemu_plugin_insn_vaddr(each) + qemu_plugin_insn_size(each);
+    here->instructions++;
+    here->divisions += begins_with(text, "udiv") || begins_with(text, "sdiv");
+    here->products += begins_with(text, "umull") || begins_with(text, "umlal") || begins_with(text, "mla") || begins_with(text, "mls");
+    free(text);
+    qemu_plugin_register_vcpu_mem_inline(each, READ_OR_WRITE, ADD, &accesses, 1);
+}
+
 static void translated(plugin_id id, block *all) {
+    instruction *start = qemu_plugin_tb_get_insn(all, 0);
+    part *here = calloc(1, sizeof *here);
     (void)id;
-    for (size_t i = 0; i < qemu_plugin_tb_n_insns(all); i++) {
-        instruction *each = qemu_plugin_tb_get_insn(all, i);
-        char *text = qemu_plugin_insn_disas(each);
-        place *here = calloc(1, sizeof *here);
-        if (!here || !text)
-            abort();
-        here->at = qemu_plugin_insn_vaddr(each);
-        here->next = here->at + qemu_plugin_insn_size(each);
-        here->begins = begins(each, "make_call", &first);
-        here->ends = begins(each, "stack_used", &last);
-        here->divides = begins_with(text, "udiv") || begins_with(text, "sdiv");
-        here->multiplies = begins_with(text, "umull") || begins_with(text, "umlal") || begins_with(text, "mla") ||
-                           begins_with(text, "mls");
-        free(text);
-        qemu_plugin_register_vcpu_insn_exec_cb(each, executed, 0, here);
-        qemu_plugin_register_vcpu_mem_cb(each, accessed, 0, 3, NULL);
-    }
+    if (!here)
+        abort();
+    here->at = qemu_plugin_insn_vaddr(start);
+    here->begins = begins(start, "make_call", &first);
+    here->ends = begins(start, "stack_used", &last);
+    for (size_t i = 0; i < qemu_plugin_tb_n_insns(all); i++)
+        add(here, qemu_plugin_tb_get_insn(all, i));
+    qemu_plugin_register_vcpu_tb_exec_cb(all, entered, 0, here);
 }
 
 /* The one word is to=FILE. */

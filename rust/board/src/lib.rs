@@ -1,6 +1,7 @@
 //! The library on an emulated board, as the other libraries are called: each call goes over a pipe to the program of
 //! controller/board, which an emulator runs.
 
+mod count;
 mod message;
 
 use std::cell::RefCell;
@@ -8,6 +9,7 @@ use std::collections::BTreeMap;
 use std::io::{Read, Write};
 use std::process::{Child, ChildStdin, ChildStdout, Command, Stdio};
 
+pub use count::{Count, Counting};
 use interface::{Answer, Library, Meaning, State, Ticked};
 pub use message::Call;
 use message::{Message, Told, HEAD};

@@ -2,11 +2,12 @@
 //! processor, FAIRLEADOW_SEED and FAIRLEADOW_CASES choose the inputs.
 
 use board::{Board, Call, Notes};
-use interface::{Library, CHART_TEXT, IMAGE_TEXT, RECORDS, TABLE};
+use interface::{Answer, Library, TABLE};
 use reference::compare::compare;
-use reference::frames::{text_of, Frame};
-use reference::samples::{self, Before};
-use reference::{entry, fresh_state, Reference};
+use reference::entry_point::EntryPoint;
+use reference::frames::text_of;
+use reference::samples::worst::candidates;
+use reference::{fresh_state, Reference};
 
 const CASES: u64 = 20_000;
 
@@ -71,29 +72,6 @@ fn the_board_agrees_with_the_reference() {
     assert!(notes.too_large * 100 < notes.calls, "too many calls were not made on the board");
 }
 
-/// The largest charts, those with the longest paths, and slow ones, most of which are refused.
-fn large_charts() -> Vec<Vec<Frame>> {
-    let mut all =
-        vec![samples::operations(254), samples::one_label(), samples::most_rows(), samples::most_schemes()];
-    for before in [Before::Begin, Before::Operation, Before::Function] {
-        for different in [1, 2, 8, 16] {
-            all.push(samples::longest_path(before, different));
-        }
-    }
-    all.extend(samples::slow_charts().into_iter().map(|slow| slow.records));
-    all
-}
-
-type Written = fn(&(dyn Library + 'static), &[u8], &mut [u8]) -> interface::Answer;
-
-/// Holds a call that writes bytes to the reference, and hands back what was written.
-fn written(board: &Board<'static>, call: Written, input: &[u8], room: usize) -> Option<Vec<u8>> {
-    let (mut got, mut wanted) = (vec![0; room], vec![0; room]);
-    let answer = call(&Reference, input, &mut wanted);
-    assert_eq!((call(board, input, &mut got), &got), (answer, &wanted));
-    (answer.number() == 0).then_some(wanted)
-}
-
 /// Runs and ticks of both kinds, from a fresh state and from one deep in calls.
 fn ticks(board: &Board<'static>, image: &[u8], table: &[u8]) {
     let words: Vec<u16> = (0..64u16).map(|k| k.wrapping_mul(40_503)).collect();
@@ -125,20 +103,18 @@ fn the_largest_inputs_keep_to_the_budgets() {
     let known = board.known_stack();
     assert!((4_000..4_200).contains(&known), "the measure is wrong: {known}");
     every_code(&board);
-    let mut images = vec![text_of(&samples::largest_image())];
-    for records in large_charts() {
-        let chart = text_of(&records);
-        written(&board, <dyn Library>::read_chart, &chart, RECORDS);
-        written(&board, <dyn Library>::write_chart, &records.concat(), CHART_TEXT);
-        if written(&board, <dyn Library>::translate, &chart, IMAGE_TEXT).is_some() {
-            images.push(entry::translated(&chart).expect("it was translated"));
+    for entry in EntryPoint::ALL {
+        for candidate in candidates(entry) {
+            let made = |library: &dyn Library| entry.make(library, &candidate.input);
+            assert!(made(&board) == made(&Reference), "{}, {}", entry.name(), candidate.name);
         }
     }
-    for image in images {
-        assert_eq!(board.check_image(&image), Reference.check_image(&image));
-        let table = written(&board, <dyn Library>::prepare, &image, TABLE).expect("the image is in order");
-        ticks(&board, &image, &table);
+    for candidate in candidates(EntryPoint::Prepare) {
+        let image = text_of(&candidate.input.frames);
+        let mut table = [0; TABLE];
+        if let Answer::Done(length) = Reference.prepare(&image, &mut table) {
+            ticks(&board, &image, &table[..length]);
+        }
     }
-    assert_eq!(board.fresh(32), Reference.fresh(32));
     hold_to_budgets(&board.notes());
 }

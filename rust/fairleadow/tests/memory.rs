@@ -9,7 +9,7 @@ use fairleadow::{c, TABLE};
 use reference::entry::translated;
 use reference::frames::{text_of, Frame, CHART_TEXT, IMAGE_TEXT};
 use reference::generate::{charts, Random};
-use reference::samples::{self, Before};
+use reference::samples;
 
 const MEMORY: usize = 65_536;
 const STACK: usize = 1 << 20;
@@ -142,18 +142,9 @@ tick_job!(live_tick, c::fairleadow_live_tick);
 
 /// Large charts, those with the longest paths, slow ones, most of which are refused, and random ones.
 fn worst_charts() -> Vec<Vec<Frame>> {
-    let mut all =
-        vec![samples::operations(254), samples::one_label(), samples::most_rows(), samples::most_schemes()];
-    for before in [Before::Begin, Before::Operation, Before::Function] {
-        for different in [1, 2, 8, 16] {
-            all.push(samples::longest_path(before, different));
-        }
-    }
-    all.extend(samples::slow_charts().into_iter().map(|slow| slow.records));
-    for seed in 0..300 {
-        all.push(charts::chart(&mut Random::new(seed)));
-    }
-    all
+    let samples = samples::named_charts().into_iter().map(|(_, records)| records);
+    let random = (0..300).map(|seed| charts::chart(&mut Random::new(seed)));
+    samples.chain(random).collect()
 }
 
 fn ticks(ground: Vec<u8>) -> Ticks {

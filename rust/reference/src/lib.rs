@@ -7,6 +7,7 @@ pub mod check;
 pub mod codes;
 pub mod compare;
 pub mod entry;
+pub mod entry_point;
 pub mod expectation;
 pub mod fast;
 pub mod frames;

@@ -1,6 +1,14 @@
 //! Charts and an image of chosen size, for benchmarks, the measure of memory and the comparison.
 
+pub mod found;
+mod named;
+pub mod worst;
+mod worst_charts;
+mod worst_images;
+mod worst_tables;
+
 use crate::frames::Frame;
+pub use named::{falling_conditions, named_charts};
 
 /// Chart P of the paper.
 pub fn chart_p() -> Vec<Frame> {

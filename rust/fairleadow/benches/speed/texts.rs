@@ -6,8 +6,10 @@ use std::rc::Rc;
 
 use fairleadow::Proved;
 use reference::entry::translated;
+use reference::entry_point::EntryPoint;
 use reference::fast::Fast;
 use reference::frames::{text_of, Frame, CHART_TEXT, IMAGE_TEXT, RECORDS};
+use reference::samples::worst::{candidates, Origin};
 use reference::{fresh_state, samples, Library, State};
 
 use crate::measure::{Call, Line};
@@ -37,7 +39,7 @@ impl Room {
 
 /// One chart with everything that is made of it, and the calls to measure.
 struct Input {
-    name: &'static str,
+    name: String,
     calls: &'static [&'static str],
     chart: Vec<u8>,
     records: Vec<u8>,
@@ -73,14 +75,15 @@ impl Input {
         let chart = text_of(records);
         let image = translated(&chart).expect("a valid chart");
         let state = fresh_state(32).expect("a good size");
-        Input { name, calls: &CALLS, chart, records: records.concat(), image, state, words: words(65_536) }
+        let (name, records) = (name.to_string(), records.concat());
+        Input { name, calls: &CALLS, chart, records, image, state, words: words(65_536) }
     }
 
-    /// A chart that is only read: it may be refused.
-    fn to_read(name: &'static str, records: &[Frame]) -> Input {
+    /// A chart that is only read, or only translated: it may be refused.
+    fn of_chart(name: String, calls: &'static [&'static str], records: &[Frame]) -> Input {
         let state = fresh_state(32).expect("a good size");
         let (chart, image, words) = (text_of(records), Vec::new(), Vec::new());
-        Input { name, calls: &CALLS[..1], chart, records: records.concat(), image, state, words }
+        Input { name, calls, chart, records: records.concat(), image, state, words }
     }
 
     fn call(&self, call: &str, library: &dyn Library, room: &mut Room) {
@@ -109,9 +112,23 @@ fn side(
     Box::new(move || input.call(call, library, &mut room.borrow_mut()))
 }
 
+/// Slow charts to read, and the charts constructed and found for reading and for translating.
+fn slow_inputs() -> Vec<Input> {
+    let (read, translate) = (&CALLS[..1], &CALLS[2..3]);
+    let slow = samples::slow_charts().into_iter();
+    let mut inputs: Vec<Input> =
+        slow.map(|slow| Input::of_chart(slow.name.to_string(), read, &slow.records)).collect();
+    for (entry, calls) in [(EntryPoint::ReadChart, read), (EntryPoint::Translate, translate)] {
+        let worst = candidates(entry).into_iter();
+        let worst = worst.filter(|one| matches!(one.origin, Origin::Construction | Origin::Search));
+        inputs.extend(worst.map(|one| Input::of_chart(one.name, calls, &one.input.frames)));
+    }
+    inputs
+}
+
 pub fn lines() -> Vec<Line> {
     let mut inputs: Vec<Input> = charts().iter().map(|(name, records)| Input::new(name, records)).collect();
-    inputs.extend(samples::slow_charts().iter().map(|slow| Input::to_read(slow.name, &slow.records)));
+    inputs.extend(slow_inputs());
     let rooms = [Room::new(), Room::new()].map(|room| Rc::new(RefCell::new(room)));
     let mut lines = Vec::new();
     for input in inputs.into_iter().map(Rc::new) {

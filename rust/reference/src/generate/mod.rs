@@ -8,5 +8,6 @@ pub mod random;
 pub mod runs;
 pub mod states;
 pub mod tables;
+pub mod vary;
 
 pub use random::Random;

@@ -1,0 +1,136 @@
+//! The entry points as values, so that one list of inputs serves every library: what a call is handed, and all that it
+//! answers and leaves.
+
+use crate::answer::Answer;
+use crate::frames::{text_of, Frame};
+use crate::library::{Library, Meaning, Ticked};
+use crate::state::State;
+use interface::{CHART_TEXT, IMAGE_TEXT, RECORDS, TABLE};
+
+#[derive(Clone, Copy, Debug, PartialEq, Eq)]
+pub enum EntryPoint {
+    ReadChart,
+    WriteChart,
+    Translate,
+    CheckImage,
+    Prepare,
+    Tick,
+    Run,
+    LiveTick,
+    LiveRun,
+    Fresh,
+    Meaning,
+}
+
+/// What a call is handed; each takes what it needs of this.
+#[derive(Clone, Debug, PartialEq, Eq)]
+pub struct Input {
+    /// Node records, or the frames of an image or of a table.
+    pub frames: Vec<Frame>,
+    pub state: State,
+    pub words: Vec<u16>,
+    /// A stack's size, or a code.
+    pub value: usize,
+}
+
+impl Input {
+    /// A chart's records or an image's frames, and nothing besides.
+    pub fn of(frames: Vec<Frame>) -> Input {
+        Input { frames, state: State::NONE, words: vec![0], value: 0 }
+    }
+}
+
+/// What a call answers, and what it leaves in the buffers and the state that it was lent.
+#[derive(Debug, PartialEq, Eq)]
+pub struct Made {
+    pub answer: Answer,
+    pub meaning: Option<Meaning>,
+    pub bytes: Vec<u8>,
+    pub masks: Vec<u32>,
+    pub codes: Vec<u8>,
+    pub state: State,
+}
+
+impl EntryPoint {
+    pub const ALL: [EntryPoint; 11] = [
+        EntryPoint::ReadChart,
+        EntryPoint::WriteChart,
+        EntryPoint::Translate,
+        EntryPoint::CheckImage,
+        EntryPoint::Prepare,
+        EntryPoint::Tick,
+        EntryPoint::Run,
+        EntryPoint::LiveTick,
+        EntryPoint::LiveRun,
+        EntryPoint::Fresh,
+        EntryPoint::Meaning,
+    ];
+
+    pub fn name(self) -> &'static str {
+        match self {
+            EntryPoint::ReadChart => "read_chart",
+            EntryPoint::WriteChart => "write_chart",
+            EntryPoint::Translate => "translate",
+            EntryPoint::CheckImage => "check_image",
+            EntryPoint::Prepare => "prepare",
+            EntryPoint::Tick => "tick",
+            EntryPoint::Run => "run",
+            EntryPoint::LiveTick => "live_tick",
+            EntryPoint::LiveRun => "live_run",
+            EntryPoint::Fresh => "fresh",
+            EntryPoint::Meaning => "meaning",
+        }
+    }
+
+    /// Makes the call, with buffers that are never too short.
+    pub fn make(self, library: &dyn Library, input: &Input) -> Made {
+        let Input { frames, state, words, value } = input;
+        let (text, bytes) = (|| text_of(frames), || frames.concat());
+        match self {
+            EntryPoint::ReadChart => written(RECORDS, |out| library.read_chart(&text(), out)),
+            EntryPoint::WriteChart => written(CHART_TEXT, |out| library.write_chart(&bytes(), out)),
+            EntryPoint::Translate => written(IMAGE_TEXT, |out| library.translate(&text(), out)),
+            EntryPoint::CheckImage => answered(library.check_image(&text())),
+            EntryPoint::Prepare => written(TABLE, |out| library.prepare(&text(), out)),
+            EntryPoint::Tick => ticked(state, |after| library.tick(&text(), after, words[0])),
+            EntryPoint::LiveTick => ticked(state, |after| library.live_tick(&bytes(), after, words[0])),
+            EntryPoint::Run => {
+                ran(words.len(), |masks, codes| library.run(&text(), state, words, masks, codes))
+            }
+            EntryPoint::LiveRun => {
+                ran(words.len(), |masks, codes| library.live_run(&bytes(), state, words, masks, codes))
+            }
+            EntryPoint::Fresh => {
+                let (answer, state) = library.fresh(*value);
+                Made { state, ..answered(answer) }
+            }
+            EntryPoint::Meaning => {
+                let meaning = library.meaning(*value as u8);
+                Made { meaning: Some(meaning), ..answered(Answer::Done(0)) }
+            }
+        }
+    }
+}
+
+fn answered(answer: Answer) -> Made {
+    let (bytes, masks, codes) = (Vec::new(), Vec::new(), Vec::new());
+    Made { answer, meaning: None, bytes, masks, codes, state: State::NONE }
+}
+
+fn written(room: usize, call: impl FnOnce(&mut [u8]) -> Answer) -> Made {
+    let mut bytes = vec![0xAA; room];
+    let answer = call(&mut bytes);
+    Made { bytes, ..answered(answer) }
+}
+
+fn ticked(state: &State, call: impl FnOnce(&mut State) -> Ticked) -> Made {
+    let mut state = *state;
+    let Ticked { answer, mask, code } = call(&mut state);
+    Made { masks: vec![mask], codes: vec![code], state, ..answered(answer) }
+}
+
+fn ran(room: usize, call: impl FnOnce(&mut [u32], &mut [u8]) -> (Answer, State)) -> Made {
+    let (mut masks, mut codes) = (vec![0xAAAA; room], vec![0xAA; room]);
+    let (answer, state) = call(&mut masks, &mut codes);
+    Made { masks, codes, state, ..answered(answer) }
+}

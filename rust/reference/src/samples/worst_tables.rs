@@ -1,0 +1,49 @@
+//! Tables that no preparation makes, for live calls: by the places that are noted in them, a label's rows are all frames of
+//! the table, the header's too.
+
+use super::worst::WORDS;
+use super::worst_images::full_stack;
+use crate::frames::Frame;
+use crate::image::{FUNCTION_CALL, PLAIN};
+use crate::state::State;
+
+const CALLS: u8 = 2;
+const GOES_ON: u8 = 4;
+/// The bit of a word that decides between the two: no frame but the last matches a word with it, all match one without it.
+const DECIDES: u8 = 4;
+
+/// Each even label's rows begin at frame 0 and end with the table. Taken as rows, all frames lead nowhere but for the last
+/// two: the last but one to a return, the last, which any word matches, to the plain label.
+fn whole_table_rows() -> Vec<Frame> {
+    let mut frames = vec![[15, 16, 255, 4, 0, 0, 0, 0, 0, 0]];
+    frames.extend((1..=16).map(|scheme| [16, scheme, 0, DECIDES, 0, 0, 0, 0, 0, 0]));
+    frames.extend((0..=255u8).map(|label| {
+        let note = if label % 2 == 0 { 0 } else { 0xFF };
+        match label {
+            CALLS => [note, note, FUNCTION_CALL, 1, 1, 0, 0, 0, 0, 0],
+            GOES_ON => [note, note, PLAIN, DECIDES, 1, 0, 0, 0, 0, 0],
+            _ => [note, note, PLAIN, DECIDES, 0, 0, 0, 0, 0, 0],
+        }
+    }));
+    let row = [18, 0, 0, DECIDES, 0, 0, 0, 0, 0, 0];
+    frames.extend([row; 1022]);
+    frames.push([18, 0, 0, DECIDES, 0, 0, 2, 1, 0, 0]);
+    frames.push([18, 0, 0, 0, 0, 0, 2, GOES_ON, 0, 0]);
+    frames
+}
+
+type Ticks = (&'static str, Vec<Frame>, State, Vec<u16>);
+
+pub fn worst_tables() -> Vec<Ticks> {
+    let deep = full_stack(CALLS, CALLS);
+    let decided = u16::from(DECIDES);
+    // thirty-one returns, the last of which goes on at the plain label
+    let words = (0..WORDS).map(|k| if k < 30 { 0 } else { decided }).collect();
+    let mut places = [0; 32];
+    places[0] = GOES_ON;
+    let plain = State { size: 32, depth: 1, places, results: [true; 16] };
+    vec![
+        ("deep return over a whole table", whole_table_rows(), deep, words),
+        ("plain tick over a whole table", whole_table_rows(), plain, vec![decided; WORDS]),
+    ]
+}
