@@ -11,7 +11,7 @@ use lib.Seq.{getD-set-other}
 use native.Mathlib.Omega.{arith}
 use borrow.Author.Tests.{eqb-true, eq-eqb}
 use Rattle.lists.specs.Pick.{pick}
-use Rattle.lists.proofs.Tests.{no-both, and-l, and-r, and-true, split}
+use Rattle.lists.proofs.Tests.{no-both, or-cases, and-l, and-r, and-true, split}
 use Rattle.bits.specs.Results.{Results, resultOf, withResult}
 use Rattle.bits.proofs.ResultLaws.{cleared-own, cleared-keeps, result-keeps}
 use Rattle.frames.specs.Frame.{contents}
@@ -25,7 +25,33 @@ use Rattle.state.specs.State.{labelAt, entryAt, placeAt}
 use Rattle.state.proofs.Fitness.{Fits, unfits}
 use Rattle.ticks.specs.Tick.{rowOf, Ticked, ticked, stopped, moved, pushed, tickBy, tick}
 use Rattle.ticks.specs.Parts.{topOf}
-use Rattle.ticks.specs.Functions.{writesOne, returnsAt, Unwritten, none, more, returned, ZeroRow}
+use Rattle.ticks.specs.Functions.{CallClears, writesOne, returnsAt, Unwritten, none, more, returned, ZeroRow}
+
+-- ---- a finished call
+abbrev Cleared : ℕ → Ticked → Type 0
+Cleared h (ticked m code t) = resultOf h (t .bits) ≡ false
+Cleared h (stopped n) = Unit {0}
+
+pub call-clears : CallClears
+unfolding CallClears tick
+call-clears i s call w m code t e = subst (Cleared h) e (go (or-cases (eqb (x .kind) 1) (eqb (x .kind) 2) call))
+  where
+    x : Label
+    x = labelAt i (topOf s)
+
+    h : ℕ
+    h = x .called
+
+    b : Results
+    b = withResult (x .result) (x .owner) (s .bits)
+
+    pushes : (m code : ℕ) (r : Bool) → Cleared h (pushed i s m code h b r)
+    pushes m code true = tt
+    pushes m code false = cleared-own h b
+
+    go : (eqb (x .kind) 1 ≡ true) ⊎ (eqb (x .kind) 2 ≡ true) → Cleared h (tickBy i s w (topOf s) x b (x .kind))
+    go (inl p) = rw (eqb-true (x .kind) 1 p) (pushes (x .mask) (16 + h) (leb (s .size) (s .depth)))
+    go (inr p) = rw (eqb-true (x .kind) 2 p) (pushes (x .mask) (64 + h) (leb (s .size) (s .depth)))
 
 -- ---- label l at place d - 1 under the top, and the bit of scheme h 0
 module _ (l d h : ℕ) (some : 1 ≤ d) (deep : 2 ≤ h) where

@@ -1,11 +1,12 @@
--- A function's label takes its row for bit 0 if nothing writes 1 to the called scheme's bit between its call and its return, said of
--- the machine's ticks on any accepted image.
+-- A call leaves the bit of the scheme called 0, and a function's label takes its row for bit 0 if nothing writes 1 to that bit between its call
+-- and its return: said of the machine's ticks, on any accepted image.
 use Prim.Native.Nat.{ℕ, suc, _-_}
 use mathlib.Core.Bool.{Bool, true, false, _&&_}
 use mathlib.Core.Path.{_≡_}
 use mathlib.Core.List.{List}
 use lib.Dec.{eqb}
 use lib.ListN.{length, set}
+use Rattle.bits.specs.Results.{resultOf}
 use Rattle.frames.specs.Frame.{contents}
 use Rattle.frames.specs.Verdict.{fine}
 use Rattle.image.specs.Image.{Image}
@@ -13,9 +14,15 @@ use Rattle.image.specs.Decode.{decoded}
 use Rattle.image.specs.Check.{imageVerdict}
 use Rattle.rows.specs.Rows.{Found, firstRow}
 use Rattle.state.specs.declared.State.{State}
-use Rattle.state.specs.State.{labelAt, unfit}
+use Rattle.state.specs.State.{labelAt, isCall, unfit}
 use Rattle.ticks.specs.Tick.{Ticked, ticked, moved, tick}
 use Rattle.ticks.specs.Parts.{topOf}
+
+-- a finished call, of an operation or of a function, leaves the bit of the scheme called 0
+unfoldable pub CallClears : Type 0
+CallClears =
+    (i : Image) (s : State) → let x = labelAt i (topOf s) in isCall x ≡ true → (w m code : ℕ) (t : State) → tick i s w ≡ ticked m code t
+    → resultOf (x .called) (t .bits) ≡ false
 
 -- the tick on s writes 1 to the bit of scheme h: it is made at a label of owner h with result 2
 abbrev pub writesOne : Image → ℕ → State → Bool

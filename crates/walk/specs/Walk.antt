@@ -40,7 +40,7 @@ abbrev pub resume : Performer → ℕ → List Tick → (ℕ → Results → ℕ
 resume go o ts f (spent us) = spent (ts ++ us)
 resume go o ts f (ended us w ws b) = after (ts ++ us) (go o (f w b) ws b)
 
--- one stop v of a scheme with o open, by its word w, and what follows it
+-- one stop v of a scheme with o open, by its word w, and what follows it; a call clears the bit of the scheme called, after v's own result
 abbrev pub act : Performer → Chart → ℕ → ℕ → ℕ → List ℕ → Results → Stop → Course
 act go c o v w ws b (plain m r u) = after (tick v m 0 o) (go o (byArc c w u) ws (withResult r (scheme c v) b))
 act go c o v w ws b (call m r h u) =
