@@ -10,7 +10,7 @@ use native.Mathlib.Omega.{arith}
 use borrow.Author.Tests.{eq-eqb, ne-eqb, le-leb, leb-true, leb-false}
 use Rattle.lists.specs.Pick.{pick}
 use Rattle.lists.proofs.Tests.{and-no}
-use Rattle.bits.specs.Results.{Results, resultOf, withResult}
+use Rattle.bits.specs.Results.{Results, resultOf, withResult, cleared}
 use Rattle.charts.specs.Chart.{Chart, kind, scheme, argument, next0, mask}
 use Rattle.walk.specs.Stops.{start, byArc, byWord, Stop}
 use Rattle.walk.specs.Walk.{Tick}
@@ -56,17 +56,17 @@ module _ (c : Chart) (n : ℕ) (n≤ : n ≤ 32) where
       (set-top c ks (label c v) (zerosOver ks) (label c u))
 
   to-push : (m code h v u : ℕ) (ks : List ℕ) (b d : Results) → 16 ≤ code → length ks < n → entryAt (table c) h ≡ label c u
-      → pushed (table c) (state v ks b) m code h d (leb n (suc (length ks))) ≡ answer n (one m code (suc (length ks))) (state u (v ∷ ks) d)
+      → pushed (table c) (state v ks b) m code h d (leb n (suc (length ks))) ≡ answer n (one v m code (suc (length ks))) (state u (v ∷ ks) (cleared h d))
   to-push m code h v u ks b d l low e = go (leb n (suc (length ks))) refl
     where
       go : (t : Bool) → leb n (suc (length ks)) ≡ t
-          → pushed (table c) (state v ks b) m code h d t ≡ answer n (one m code (suc (length ks))) (state u (v ∷ ks) d)
+          → pushed (table c) (state v ks b) m code h d t ≡ answer n (one v m code (suc (length ks))) (state u (v ∷ ks) (cleared h d))
       go true t = rw (le-leb 16 code l, eq-eqb (suc (length ks)) n (omega (arith, leb-true n (suc (length ks)) t)))
       go false t =
-          ap (λ (ps : List ℕ). ticked m code (record { size = n; depth = suc (suc (length ks)); places = ps; bits = d }))
+          ap (λ (ps : List ℕ). ticked m code (record { size = n; depth = suc (suc (length ks)); places = ps; bits = cleared h d }))
           (ap (λ (j : ℕ). set (below c ks (label c v ∷ zerosOver ks)) (suc (length ks)) j) e
           ∙ set-push c v ks (label c u) (omega (arith, leb-false n (suc (length ks)) t)))
-          ∙ sym (ap (λ (r : Bool). pick r (stopped 17) (ticked m code (state u (v ∷ ks) d)))
+          ∙ sym (ap (λ (r : Bool). pick r (stopped 17) (ticked m code (state u (v ∷ ks) (cleared h d))))
           (and-no (leb 16 code) (eqb (suc (length ks)) n) (ne-eqb (suc (length ks)) n (λ q. omega (arith, leb-false n (suc (length ks)) t)))))
 
   to-under : (m code v u k : ℕ) (ks : List ℕ) (b d : Results) (f : Found) → length ks < 31 → f ≡ found (label c u)
@@ -106,7 +106,7 @@ module _ (c : Chart) (n : ℕ) (n≤ : n ≤ 32) where
     tick-by : (v : ℕ) (ks : List ℕ) (b : Results) (w : ℕ) → length ks < n → Good c (at v ks b) → {s : Stop} → View c v s
         → let x = heldBy c v s in
         tickBy (table c) (state v ks b) w (label c v) x (withResult (x .result) (x .owner) b) (x .kind)
-        ≡ answer n (tickOf (suc (length ks)) s) (stateOf c n (movedBy c v ks w b s))
+        ≡ answer n (tickOf (suc (length ks)) v s) (stateOf c n (movedBy c v ks w b s))
     unfolding table
     tick-by v ks b w low g (a-plain e a) =
         to-top (mask c v) 0 v (byArc c w (next0 c v)) ks b _ _ (tableFacts .rowPlain v w _ (g .top .inside) e)

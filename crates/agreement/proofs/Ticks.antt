@@ -54,7 +54,7 @@ module _ (c : Chart) (n : ℕ) where
   deep-back (k ∷ ks) w b low = omega arith
 
   deep-by : (v : ℕ) (ks : List ℕ) (b : Results) (w : ℕ) → length ks < n → {s : Stop} → View c v s
-      → isFullCall n (tickOf (suc (length ks)) s) ≡ false → length (movedBy c v ks w b s .callers) < n
+      → isFullCall n (tickOf (suc (length ks)) v s) ≡ false → length (movedBy c v ks w b s .callers) < n
   deep-by v ks b w low (a-plain e a) q = low
   deep-by v ks b w low (a-call e a) q = deeper (16 + argument c v) (length ks) (omega arith) low q
   deep-by v ks b w low (a-function e) q = deeper (64 + argument c v) (length ks) (omega arith) low q

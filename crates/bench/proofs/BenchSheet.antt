@@ -11,9 +11,9 @@ use Rattle.state.specs.State.{fresh}
 use Rattle.ticks.specs.Tick.{tick}
 use Rattle.rows.specs.Rows.{firstRow}
 use Rattle.runs.specs.Run.{Run, ticks, runOn}
-use Rattle.bench.specs.Bench.{BenchSheet, imageP, words, chartHome, chartSmall, chartCircle, chartFunction, freshRun, imageOf}
+use Rattle.bench.specs.Bench.{BenchSheet, imageP, words, chartHome, chartSmall, chartCircle, chartFunction, chartBore, boreWords, chartAgain, freshRun, imageOf}
 use Rattle.bench.proofs.Computing.{framing, translating}
-use Rattle.bench.proofs.Tables.{tableP, of-P, imageHome, of-home, imageFunction, of-function}
+use Rattle.bench.proofs.Tables.{tableP, of-P, imageHome, of-home, imageFunction, of-function, tableBore, imageBore, of-bore, tableAgain, imageAgain, of-again}
 use Rattle.bench.proofs.Rounds.{blank, fresh-run, home-walk, home-run, function-run}
 
 refused-texts : (out : List ℕ) → (translate [] out ≡ record { reply = refusal 1 0 0; buffer = out })
@@ -27,7 +27,7 @@ run-P : (size : ℕ) → 1 ≤ size → size ≤ 32 → (ws : List ℕ)
     → freshRun imageP size ws ≡ runOn fine (λ _. ticks tableP (fresh size) ws) (fresh size) (blank ws) (blank ws)
 run-P = fresh-run of-P
 
--- ---- the images of the two other charts
+-- ---- the images of the other charts
 image-home : imageOf 92 chartHome ≡ imageHome
 unfolding framing imageHome
 image-home = ap (λ (l : Lent). l .buffer) (of-home .translated (replicate 92 0))
@@ -39,8 +39,20 @@ image-function = ap (λ (l : Lent). l .buffer) (of-function .translated (replica
 on-function : (size : ℕ) (ws : List ℕ) → freshRun (imageOf 276 chartFunction) size ws ≡ freshRun imageFunction size ws
 on-function size ws = ap (λ (image : List ℕ). freshRun image size ws) image-function
 
+-- ---- calls that clear
+run-bore : freshRun (imageOf 391 chartBore) 2 boreWords ≡ runOn fine (λ _. ticks tableBore (fresh 2) boreWords) (fresh 2) (blank boreWords) (blank boreWords)
+unfolding framing imageBore
+run-bore =
+    ap (λ (l : Lent). freshRun (l .buffer) 2 boreWords) (of-bore .translated (replicate 391 0)) ∙ fresh-run of-bore 2 (omega arith) (omega arith) boreWords
+
+run-again : (ws : List ℕ)
+    → freshRun (imageOf 253 chartAgain) 3 ws ≡ runOn fine (λ _. ticks tableAgain (fresh 3) ws) (fresh 3) (blank ws) (blank ws)
+unfolding framing imageAgain
+run-again ws =
+    ap (λ (l : Lent). freshRun (l .buffer) 3 ws) (of-again .translated (replicate 253 0)) ∙ fresh-run of-again 3 (omega arith) (omega arith) ws
+
 pub bench-sheet : BenchSheet
-unfolding ticks tick firstRow tableP words
+unfolding ticks tick firstRow tableP words tableBore boreWords tableAgain
 bench-sheet = record {
   b1 = of-P .translated;
   b2 = let e = run-P 3 (omega arith) (omega arith) words in
@@ -56,4 +68,7 @@ bench-sheet = record {
   b10 = ap (λ (r : Run). r .codes) (on-function 2 (replicate 6 0)) ∙ function-run 2 (omega arith) (omega arith) (replicate 6 0) .1;
   b10-always = λ size l h ws. let e = on-function size ws in let r = function-run size l h ws in
       (ap (λ (r : Run). r .reply) e ∙ r .0, ap (λ (r : Run). r .codes) e ∙ r .1, ap (λ (r : Run). r .masks) e ∙ r .2);
+  bore = (ap (λ (r : Run). r .reply) run-bore, ap (λ (r : Run). r .codes) run-bore, ap (λ (r : Run). r .masks) run-bore);
+  ownCall = ap (λ (r : Run). r .state .bits) (run-again (replicate 4 0));
+  fullCall = let e = run-again (replicate 6 0) in (ap (λ (r : Run). r .reply) e, ap (λ (r : Run). r .state .bits) e);
 }

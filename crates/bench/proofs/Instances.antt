@@ -14,9 +14,9 @@ use Rattle.state.specs.declared.State.{State}
 use Rattle.state.specs.State.{fresh, freshState}
 use Rattle.agreement.specs.Agreement.{Runner, Asked, Told, told, joined, chain, bound, expectedAll, Agreement}
 use Rattle.agreement.proofs.Chain.{fresh-is}
-use Rattle.bench.specs.Bench.{chartP, imageP, words, chartHome, chartFunction}
+use Rattle.bench.specs.Bench.{chartP, imageP, words, chartHome, chartFunction, chartBore, boreWords}
 use Rattle.bench.proofs.Computing.{walking}
-use Rattle.bench.proofs.Tables.{TranslatesTo, of-P, imageHome, of-home, imageFunction, of-function, chartChoice, imageChoice, of-choice}
+use Rattle.bench.proofs.Tables.{TranslatesTo, of-P, imageHome, of-home, imageFunction, of-function, chartChoice, imageChoice, of-choice, imageBore, of-bore}
 
 -- one run with just room for its words; 7 is no code
 abbrev pub alone : List ℕ → Asked
@@ -89,3 +89,11 @@ module _ (run : Runner) (claim : Agreement translate freshState run) where
   }
   unfolding walking chartChoice chain bound expectedAll
   at-choice = ap first (at-chart of-choice 2 (omega arith) (omega arith) (alone (0 ∷ 0 ∷ 0 ∷ 1 ∷ 0 ∷ []) ∷ []) _ refl)
+
+  pub at-bore : handed run imageBore 2 boreWords ≡ record {
+    reply = success 12;
+    masks = 0 ∷ 0 ∷ 0 ∷ 0 ∷ 0 ∷ 1 ∷ 0 ∷ 0 ∷ 0 ∷ 0 ∷ 2 ∷ 0 ∷ [];
+    codes = 4 ∷ 66 ∷ 0 ∷ 0 ∷ 3 ∷ 0 ∷ 4 ∷ 66 ∷ 0 ∷ 3 ∷ 0 ∷ 4 ∷ [];
+  }
+  unfolding walking chartBore boreWords chain bound expectedAll
+  at-bore = ap first (at-chart of-bore 2 (omega arith) (omega arith) (alone boreWords ∷ []) _ refl)

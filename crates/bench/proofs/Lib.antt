@@ -9,3 +9,4 @@ pub mod Variants
 pub mod Slips
 pub mod Idlers
 pub mod Live
+pub mod Functions

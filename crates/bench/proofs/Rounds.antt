@@ -58,12 +58,12 @@ finished r s ws v m k = rw (full (r .masks) ws m, full (r .codes) ws k, v, k)
 
 -- ---- B6
 home-course : (ws : List ℕ)
-    → perform (length ws) (contents chartHome) 1 1 ws noResults ≡ spent (map (λ w. record { mask = 0; code = 4; opened = 1 }) ws)
+    → perform (length ws) (contents chartHome) 1 1 ws noResults ≡ spent (map (λ w. record { node = 1; mask = 0; code = 4; opened = 1 }) ws)
 unfolding walking chartHome
 home-course [] = refl
-home-course (w ∷ ws) = ap (after (oneTick 0 4 1)) (home-course ws)
+home-course (w ∷ ws) = ap (after (oneTick 1 0 4 1)) (home-course ws)
 
-pub home-walk : (ws : List ℕ) → walk (contents chartHome) ws ≡ map (λ w. record { mask = 0; code = 4; opened = 1 }) ws
+pub home-walk : (ws : List ℕ) → walk (contents chartHome) ws ≡ map (λ w. record { node = 1; mask = 0; code = 4; opened = 1 }) ws
 unfolding walking chartHome
 home-walk ws = ap ticksOf (home-course ws)
 
@@ -115,13 +115,13 @@ module _ (size : ℕ) (two : 2 ≤ size) where
   unfolding tick tableFunction
   home-tick x w = refl
 
-  call-tick : (x : Bool) (w : ℕ) → tick tableFunction (stateAt 1 2 0 x) w ≡ ticked 0 66 (stateAt 2 2 4 x)
+  call-tick : (x : Bool) (w : ℕ) → tick tableFunction (stateAt 1 2 0 x) w ≡ ticked 0 66 (stateAt 2 2 4 false)
   unfolding tick tableFunction
   call-tick x w = ap (pushed tableFunction (stateAt 1 2 0 x) 0 66 2 (stateAt 1 2 0 x .bits)) (lt-leb size 1 (omega arith))
 
-  operation-tick : (x : Bool) (w : ℕ) → tick tableFunction (stateAt 2 2 4 x) w ≡ ticked 0 0 (stateAt 2 2 1 true)
+  operation-tick : (w : ℕ) → tick tableFunction (stateAt 2 2 4 false) w ≡ ticked 0 0 (stateAt 2 2 1 true)
   unfolding tick firstRow tableFunction
-  operation-tick x w = rw (and-zero-r, firstRow)
+  operation-tick w = rw (and-zero-r, firstRow)
 
   return-tick : (w : ℕ) → tick tableFunction (stateAt 2 2 1 true) w ≡ ticked 0 3 (stateAt 1 3 0 true)
   unfolding tick firstRow tableFunction
@@ -154,10 +154,10 @@ module _ (size : ℕ) (two : 2 ≤ size) where
   rounds x [] = none _
   rounds x (a ∷ []) = more (home-tick x a) (none _)
   rounds x (a ∷ b ∷ []) = more (home-tick x a) (more (call-tick x b) (none _))
-  rounds x (a ∷ b ∷ c ∷ []) = more (home-tick x a) (more (call-tick x b) (more (operation-tick x c) (none _)))
-  rounds x (a ∷ b ∷ c ∷ d ∷ []) = more (home-tick x a) (more (call-tick x b) (more (operation-tick x c) (more (return-tick d) (none _))))
+  rounds x (a ∷ b ∷ c ∷ []) = more (home-tick x a) (more (call-tick x b) (more (operation-tick c) (none _)))
+  rounds x (a ∷ b ∷ c ∷ d ∷ []) = more (home-tick x a) (more (call-tick x b) (more (operation-tick c) (more (return-tick d) (none _))))
   rounds x (a ∷ b ∷ c ∷ d ∷ e ∷ ws) = rw (repeats 0 0 0 0 1 (length ws), repeats 4 66 0 3 0 (length ws))
-      (more (home-tick x a) (more (call-tick x b) (more (operation-tick x c) (more (return-tick d) (more (mask-tick e) (rounds true ws))))))
+      (more (home-tick x a) (more (call-tick x b) (more (operation-tick c) (more (return-tick d) (more (mask-tick e) (rounds true ws))))))
 
 pub function-run : (size : ℕ) → 2 ≤ size → size ≤ 32 → (ws : List ℕ) → let r = freshRun imageFunction size ws in
     (r .reply ≡ success (length ws)) × (r .codes ≡ repeated codes5 (length ws)) × (r .masks ≡ repeated masks5 (length ws))

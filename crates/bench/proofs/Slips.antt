@@ -1,4 +1,5 @@
--- The six slips of the bench sheet: the machine, or the table, with one of them is shown not to meet its statement.
+-- The six slips of the bench sheet, and a call that clears no bit: the machine, or the table, with one of them is shown not to meet its
+-- statement.
 use mathlib.Core.Path.{_≡_, ap}
 use mathlib.Core.Bool.{Bool, true, false, _&&_}
 use mathlib.Core.List.{List, [], _∷_}
@@ -8,10 +9,10 @@ use lib.Dec.{leb, eqb}
 use lib.ListN.{getD, set, replicate}
 use Rattle.lists.specs.Pick.{pick}
 use Rattle.bits.specs.Word.{bit}
-use Rattle.bits.specs.Results.{resultOf}
+use Rattle.bits.specs.Results.{resultOf, withResult}
 use Rattle.frames.specs.Frame.{contents}
 use Rattle.frames.specs.Answer.{Lent, lent, count as replyCount}
-use Rattle.image.specs.Image.{Image, Row, imageText}
+use Rattle.image.specs.Image.{Image, Label, Row, imageText}
 use Rattle.translator.specs.Table.{table}
 use Rattle.translator.specs.Entry.{translateVerdict, translate}
 use Rattle.state.specs.declared.State.{State}
@@ -19,11 +20,11 @@ use Rattle.state.specs.State.{labelAt, placeAt, freshState}
 use Rattle.ticks.specs.Tick.{Ticked, ticked, stopped, moved, rowOf, tick}
 use Rattle.rows.specs.Rows.{Found, firstRow}
 use Rattle.agreement.specs.Agreement.{Translator, Agreement, Translates}
-use Rattle.bench.specs.Bench.{lines, imageP, words}
+use Rattle.bench.specs.Bench.{lines, imageP, words, boreWords}
 use Rattle.bench.proofs.Computing.{translating, running}
-use Rattle.bench.proofs.Tables.{imageHome, imageFunction, imageChoice}
-use Rattle.bench.proofs.Instances.{at-home, at-deep, at-shallow, at-function, at-choice}
-use Rattle.bench.proofs.Variants.{Step, ticksBy, runBy, codeAt}
+use Rattle.bench.proofs.Tables.{imageHome, imageFunction, imageChoice, imageBore}
+use Rattle.bench.proofs.Instances.{at-home, at-deep, at-shallow, at-function, at-choice, at-bore}
+use Rattle.bench.proofs.Variants.{Step, ticksBy, runBy, codeAt, maskAt}
 
 -- the label at the top, its tick kind, and the label beneath it
 abbrev top : State → ℕ
@@ -77,6 +78,17 @@ choosesByCall i s w = pick (eqb (kindOf i s) 3)
 pub chooses-by-call-fails : Agreement translate freshState (runBy choosesByCall) → ⊥
 unfolding running ticksBy imageChoice
 chooses-by-call-fails claim = let z : _≡_ {A = ℕ} 4 0 = ap (codeAt 4) (at-choice (runBy choosesByCall) claim) in omega arith
+
+-- ---- a call keeps the bit of the scheme called as it is after the caller's result
+abbrev keptBit : State → Label → Bool
+keptBit s x = resultOf (x .called) (withResult (x .result) (x .owner) (s .bits))
+
+abbrev pub keepsBit : Step
+keepsBit i s w = let x = labelAt i (top s) in pick (isCallKind (x .kind)) (remember (x .called - 1) (keptBit s x) (tick i s w)) (tick i s w)
+
+pub keeps-bit-fails : Agreement translate freshState (runBy keepsBit) → ⊥
+unfolding running ticksBy imageBore boreWords
+keeps-bit-fails claim = let z : _≡_ {A = ℕ} 1 2 = ap (maskAt 10) (at-bore (runBy keepsBit) claim) in omega arith
 
 -- ---- a return from scheme 1
 abbrev pub returnsHome : Step

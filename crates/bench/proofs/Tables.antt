@@ -10,7 +10,7 @@ use Rattle.image.specs.Decode.{decoded}
 use Rattle.image.specs.Check.{imageVerdict}
 use Rattle.translator.specs.Labels.{homeLabel, returnLabel}
 use Rattle.translator.specs.Entry.{translate}
-use Rattle.bench.specs.Bench.{lines, chartP, imageP, chartHome, chartFunction}
+use Rattle.bench.specs.Bench.{lines, chartP, imageP, chartHome, chartFunction, chartBore, chartAgain}
 use Rattle.bench.proofs.Computing.{translating, checking}
 
 pub record TranslatesTo (chart image : List ℕ) (table : Image) : Type 0 where
@@ -88,3 +88,41 @@ tableChoice = record {
 pub of-choice : TranslatesTo chartChoice imageChoice tableChoice
 unfolding translating checking chartChoice imageChoice tableChoice
 of-choice = record { translated = λ out. refl; passes = refl; decodes = refl }
+
+-- ---- the bore test
+unfoldable pub imageBore : List ℕ
+imageBore = lines (
+    "0F020600070000000000E2" ∷ "10010200000000000000ED" ∷ "10020500000000000000E9" ∷ "11000400010000000000EA"
+    ∷ "11010300000000000000EB" ∷ "11020202010000000000E8" ∷ "11030000010000000002E9" ∷ "11040000010000000001E9"
+    ∷ "11050000020000000000E8" ∷ "11060000020200000000E5" ∷ "12020000000000030000E9" ∷ "12020000000001040000E7"
+    ∷ "12030000000002000000E9" ∷ "12040000000002000000E8" ∷ "12050001000002010000E5" ∷ "12050001000102060000DF"
+    ∷ "12060000000002010000E5" ∷ [])
+
+unfoldable pub tableBore : Image
+tableBore = record {
+  entries = 2 ∷ 5 ∷ [];
+  labels = homeLabel ∷ returnLabel ∷ labelWith 2 2 1 0 0 ∷ labelWith 0 0 1 0 2 ∷ labelWith 0 0 1 0 1 ∷ labelWith 0 0 2 0 0 ∷ labelWith 0 0 2 2 0 ∷ [];
+  rows = row 2 0 0 0 3 ∷ row 2 0 0 1 4 ∷ row 3 0 0 2 0 ∷ row 4 0 0 2 0 ∷ row 5 1 0 2 1 ∷ row 5 1 1 2 6 ∷ row 6 0 0 2 1 ∷ [];
+}
+
+pub of-bore : TranslatesTo chartBore imageBore tableBore
+unfolding translating checking chartBore imageBore tableBore
+of-bore = record { translated = λ out. refl; passes = refl; decodes = refl }
+
+-- ---- a scheme that calls itself
+unfoldable pub imageAgain : List ℕ
+imageAgain = lines (
+    "0F020400030000000000E8" ∷ "10010200000000000000ED" ∷ "10020300000000000000EB" ∷ "11000400010000000000EA"
+    ∷ "11010300000000000000EB" ∷ "11020102010000000000E9" ∷ "11030000020200000000E8" ∷ "11040102020200000000E4"
+    ∷ "12020000000002000000EA" ∷ "12030000000002040000E5" ∷ "12040000000002010000E7" ∷ [])
+
+unfoldable pub tableAgain : Image
+tableAgain = record {
+  entries = 2 ∷ 3 ∷ [];
+  labels = homeLabel ∷ returnLabel ∷ labelWith 1 2 1 0 0 ∷ labelWith 0 0 2 2 0 ∷ labelWith 1 2 2 2 0 ∷ [];
+  rows = row 2 0 0 2 0 ∷ row 3 0 0 2 4 ∷ row 4 0 0 2 1 ∷ [];
+}
+
+pub of-again : TranslatesTo chartAgain imageAgain tableAgain
+unfolding translating checking chartAgain imageAgain tableAgain
+of-again = record { translated = λ out. refl; passes = refl; decodes = refl }

@@ -24,3 +24,6 @@ runBy step text s words masks codes = runOn (runVerdict text s words masks codes
 
 abbrev pub codeAt : ℕ → Told → ℕ
 codeAt k t = getD (t .codes) k 0
+
+abbrev pub maskAt : ℕ → Told → ℕ
+maskAt k t = getD (t .masks) k 0

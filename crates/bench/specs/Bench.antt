@@ -1,7 +1,9 @@
--- The bench sheet: its charts, words and answers, B1 to B8 and B10, said about the definitions. (B9 is run by a program.)
+-- The bench sheet: its charts, words and answers, B1 to B8 and B10, said about the definitions, and calls that clear a result bit. (B9 is run
+-- by a program.)
 use Prim.Native.Nat.{ℕ, _%_, _≤_}
 use Prim.Native.Char.{code}
 use Prim.Native.String.{String, [] as none, _∷_ as more}
+use mathlib.Core.Bool.{true, false}
 use mathlib.Core.Path.{_≡_}
 use mathlib.Core.List.{List, [], _∷_, _++_, map}
 use lib.ListN.{length, getD, replicate}
@@ -10,6 +12,7 @@ use Rattle.frames.specs.Answer.{success, refusal, lent}
 use Rattle.lists.specs.Numbers.{range}
 use Rattle.lists.specs.Sequences.{concatMap}
 use Rattle.frames.specs.Frame.{contents}
+use Rattle.bits.specs.Results.{noResults}
 use Rattle.walk.specs.Walk.{walk}
 use Rattle.translator.specs.Entry.{translate}
 use Rattle.state.specs.State.{fresh, freshState}
@@ -55,6 +58,23 @@ chartFunction = lines (
     "00010001000000000000FE" ∷ "04010203020000000000F4" ∷ "02010003000000000001F9" ∷ "01010000000000000000FE"
     ∷ "00020005000000000000F9" ∷ "02020006000200000000F4" ∷ "01020000000000000000FD" ∷ [])
 
+-- the bore test: function 2, on 1 mask 1, on 0 mask 2; scheme 2 writes 1 where condition 0 is set, and writes nothing otherwise
+unfoldable pub chartBore : List ℕ
+chartBore = lines (
+    "00010001000000000000FE" ∷ "04010202030000000000F4" ∷ "02010004000000000002F7" ∷ "02010004000000000001F8"
+    ∷ "01010000000000000000FE" ∷ "00020006000000000000F8" ∷ "03020008070000000000EC" ∷ "02020008000200000000F2"
+    ∷ "01020000000000000000FD" ∷ [])
+
+-- two blocks of it: a bore is found in the first alone
+unfoldable pub boreWords : List ℕ
+boreWords = 0 ∷ 0 ∷ 1 ∷ 0 ∷ 0 ∷ 0 ∷ 0 ∷ 0 ∷ 0 ∷ 0 ∷ 0 ∷ 0 ∷ []
+
+-- an operation that calls scheme 2; scheme 2: an operation that writes 1, and then one that writes 1 and calls scheme 2
+unfoldable pub chartAgain : List ℕ
+chartAgain = lines (
+    "00010001000000000000FE" ∷ "02010202000000000000F9" ∷ "01010000000000000000FE" ∷ "00020004000000000000FA"
+    ∷ "02020005000200000000F5" ∷ "02020206000200000000F2" ∷ "01020000000000000000FD" ∷ [])
+
 -- what the translator writes to a buffer of that many characters
 abbrev pub imageOf : ℕ → List ℕ → List ℕ
 imageOf n text = translate text (replicate n 0) .buffer
@@ -77,7 +97,7 @@ pub record BenchSheet : Type 0 where
   pub b4 : freshRun imageP 1 words .reply ≡ refusal 17 0 1
   pub b5 : (size : ℕ) → 1 ≤ size → size ≤ 32 → freshRun imageP size [] .reply ≡ success 0
   -- every tick of the walk and of the machine is a home tick, whatever the words and the stack size
-  pub b6-walk : (ws : List ℕ) → walk (contents chartHome) ws ≡ map (λ w. record { mask = 0; code = 4; opened = 1 }) ws
+  pub b6-walk : (ws : List ℕ) → walk (contents chartHome) ws ≡ map (λ w. record { node = 1; mask = 0; code = 4; opened = 1 }) ws
   pub b6-run : (size : ℕ) → 1 ≤ size → size ≤ 32 → (ws : List ℕ) → freshRun (imageOf 92 chartHome) size ws ≡ record {
     reply = success (length ws);
     state = fresh size;
@@ -93,3 +113,13 @@ pub record BenchSheet : Type 0 where
       (r .reply ≡ success (length ws))
       × (r .codes ≡ repeated (4 ∷ 66 ∷ 0 ∷ 3 ∷ 0 ∷ []) (length ws))
       × (r .masks ≡ repeated (0 ∷ 0 ∷ 0 ∷ 0 ∷ 1 ∷ []) (length ws))
+  -- mask 1 in the first block and mask 2 in the second: no yes is left over
+  pub bore : let r = freshRun (imageOf 391 chartBore) 2 boreWords in
+      (r .reply ≡ success 12)
+      × (r .codes ≡ 4 ∷ 66 ∷ 0 ∷ 0 ∷ 3 ∷ 0 ∷ 4 ∷ 66 ∷ 0 ∷ 3 ∷ 0 ∷ 4 ∷ [])
+      × (r .masks ≡ 0 ∷ 0 ∷ 0 ∷ 0 ∷ 0 ∷ 1 ∷ 0 ∷ 0 ∷ 0 ∷ 0 ∷ 2 ∷ 0 ∷ [])
+  -- the fourth tick writes 1 to the bit of scheme 2 and calls scheme 2, which leaves a 0
+  pub ownCall : freshRun (imageOf 253 chartAgain) 3 (replicate 4 0) .state .bits ≡ noResults
+  -- the sixth would do so again, but gets 17 and leaves the 1 that the fifth wrote
+  pub fullCall : let r = freshRun (imageOf 253 chartAgain) 3 (replicate 6 0) in
+      (r .reply ≡ refusal 17 0 5) × (r .state .bits ≡ false ∷ true ∷ replicate 14 false)

@@ -1,2 +1,3 @@
 pub mod BitLaws
 pub mod MaskLaws
+pub mod ResultLaws

@@ -19,3 +19,7 @@ resultOf h b = getD b (h - 1) false
 -- the result r of a tick of scheme h: 0 keeps the bit, 1 writes 0, 2 writes 1
 abbrev pub withResult : ℕ → ℕ → Results → Results
 withResult r h b = pick (eqb r 0) b (set b (h - 1) (eqb r 2))
+
+-- a call of scheme h sets its bit to 0
+abbrev pub cleared : ℕ → Results → Results
+cleared h b = set b (h - 1) false

@@ -11,7 +11,7 @@ use native.Mathlib.Omega.{arith}
 use borrow.Author.Tests.{eqb-true, ne-eqb, leb-false}
 use Rattle.lists.specs.Pick.{pick}
 use Rattle.lists.proofs.Tests.{or-cases, and-l, split}
-use Rattle.bits.specs.Results.{Results, withResult}
+use Rattle.bits.specs.Results.{Results, withResult, cleared}
 use Rattle.frames.specs.Frame.{contents}
 use Rattle.frames.specs.Verdict.{fine}
 use Rattle.image.specs.Image.{Image, Label, Row}
@@ -255,7 +255,7 @@ module _ (i : Image) (sound : Sound i) where
 
         go : (t : Bool) → leb (s .size) (s .depth) ≡ t → Keeps (pushed i s m code (labelAt i top .called) b t)
         go true q = tt
-        go false q = above-fits s (entryAt i h) b f (leb-false (s .size) (s .depth) q) (enters .inside)
+        go false q = above-fits s (entryAt i h) (cleared h b) f (leb-false (s .size) (s .depth) q) (enters .inside)
             (record { call = e; over = reaches-over h (entryAt i h) (range .0) enters })
 
     return-keeps : (m w : ℕ) (b : Results) → labelAt i top .kind ≡ 3

@@ -2,3 +2,4 @@ pub mod Normal
 pub mod Keeps
 pub mod Depths
 pub mod TickCases
+pub mod Functions

@@ -39,7 +39,7 @@ module _ (i : Image) (s : State) where
 
     pushed-normal : (m code h : ℕ) (t : Bool) → Normal s (pushed i s m code h b t)
     pushed-normal m code h true = omega arith
-    pushed-normal m code h false = record { size = refl; places = length-set (s .places) (s .depth) (entryAt i h); bits = e }
+    pushed-normal m code h false = record { size = refl; places = length-set (s .places) (s .depth) (entryAt i h); bits = length-set b (h - 1) false ∙ e }
 
     by-normal : (w l : ℕ) (x : Label) (k : ℕ) → Normal s (tickBy i s w l x b k)
     by-normal w l x zero = moved-normal (x .mask) 0 (s .depth - 1) (s .depth) (s .places) (rowOf i b l w) refl

@@ -12,7 +12,7 @@ use lib.ListN.{getD, set}
 use borrow.Author.Tests.{le-leb, lt-leb, leb-false, eq-eqb, ne-eqb}
 use Rattle.lists.specs.Pick.{pick}
 use Rattle.lists.proofs.Tests.{split, yes-pick, no-pick}
-use Rattle.bits.specs.Results.{Results, resultOf, withResult}
+use Rattle.bits.specs.Results.{Results, resultOf, withResult, cleared}
 use Rattle.image.specs.Image.{Image, Label, noLabel, homeLabel, returnLabel}
 use Rattle.image.specs.Decode.{schemeCount, lastLabel}
 use Rattle.tables.specs.Table.{Whole, labelOf, entryOf, tableImage}
@@ -218,10 +218,11 @@ module _ (b before : List ℕ) (w : ℕ) where
 
     pub call-steps : (d : ℕ) → d ≡ s .depth → d < s .size → (l : ℕ) → l ≡ topOf s → (z : declared.Label) → asLabel z ≡ labelOf b l
         → (n : ℕ) → n ≡ entryOf b (z .called) → (g : ℕ) → g ≡ codeOf (z .kind) (z .called)
-        → (first second bytes : List ℕ) → stateOf first ≡ afterResult s (z .result) (z .owner)
-        → stateOf second ≡ withPlace (stateOf first) d n → stateOf bytes ≡ withDepth (stateOf second) (d + 1)
+        → (first second third bytes : List ℕ) → stateOf first ≡ afterResult s (z .result) (z .owner)
+        → stateOf second ≡ afterResult (stateOf first) 1 (z .called)
+        → stateOf third ≡ withPlace (stateOf second) d n → stateOf bytes ≡ withDepth (stateOf third) (d + 1)
         → Steps b before w (record { number = 0; mask = z .mask; code = g }) bytes
-    call-steps d is f l at z read n p g q first second bytes e₁ e₂ e₃ =
+    call-steps d is f l at z read n p g q first second third bytes e₁ e₂ e₃ e₄ =
         let e : asLabel z ≡ caller = read ∙ ap (labelOf b) at in
         let c : z .called ≡ caller .called = ap (λ (u : Label). u .called) e in
         let k : z .kind ≡ caller .kind = ap (λ (u : Label). u .kind) e in
@@ -235,13 +236,14 @@ module _ (b before : List ℕ) (w : ℕ) where
           size = s .size;
           depth = suc (s .depth);
           places = set (s .places) (s .depth) (entryAt (tableImage b) (caller .called));
-          bits = withResult (caller .result) (caller .owner) (s .bits);
+          bits = cleared (caller .called) (withResult (caller .result) (caller .owner) (s .bits));
         } in
         let left : stateOf bytes ≡ t =
-        e₃
+        e₄
         ∙ ap₂ withDepth
-        (e₂ ∙ ap (λ (j : ℕ). withPlace (stateOf first) j n) is
-        ∙ ap₂ (λ (u : State) (v : ℕ). withPlace u (s .depth) v) (e₁ ∙ ap₂ (afterResult s) r o) entry)
+        (e₃ ∙ ap (λ (j : ℕ). withPlace (stateOf second) j n) is
+        ∙ ap₂ (λ (u : State) (v : ℕ). withPlace u (s .depth) v)
+        (e₂ ∙ ap₂ (λ (u : State) (h : ℕ). afterResult u 1 h) (e₁ ∙ ap₂ (afterResult s) r o) c) entry)
         (ap (λ (j : ℕ). j + 1) is ∙ add-one (s .depth)) in
         rw (m, code)
         (steps-ticked b before w (caller .mask) (codeOf (caller .kind) (caller .called)) t bytes

@@ -1,2 +1,3 @@
 pub mod Tick
 pub mod Parts
+pub mod Functions

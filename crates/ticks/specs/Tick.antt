@@ -5,7 +5,7 @@ use mathlib.Core.List.{List}
 use lib.Dec.{leb}
 use lib.ListN.{set}
 use Rattle.lists.specs.Pick.{pick}
-use Rattle.bits.specs.Results.{Results, resultOf, withResult}
+use Rattle.bits.specs.Results.{Results, resultOf, withResult, cleared}
 use Rattle.image.specs.Image.{Image, Label}
 use Rattle.rows.specs.Rows.{Found, found, missing, firstRow}
 use Rattle.state.specs.declared.State.{State}
@@ -25,11 +25,11 @@ abbrev pub moved : ℕ → ℕ → State → ℕ → ℕ → List ℕ → Result
 moved m code s k d places b (found l) = ticked m code (record { size = s .size; depth = d; places = set places k l; bits = b })
 moved m code s k d places b missing = stopped 18
 
--- the entry of scheme h is put above the top; at depth Σ the call is refused
+-- the entry of scheme h is put above the top and the bit of h cleared; at depth Σ the call is refused and nothing is
 abbrev pub pushed : Image → State → ℕ → ℕ → ℕ → Results → Bool → Ticked
 pushed i s m code h b true = stopped 17
 pushed i s m code h b false =
-    ticked m code (record { size = s .size; depth = suc (s .depth); places = set (s .places) (s .depth) (entryAt i h); bits = b })
+    ticked m code (record { size = s .size; depth = suc (s .depth); places = set (s .places) (s .depth) (entryAt i h); bits = cleared h b })
 
 -- by the tick kind of the top label l, which holds x, with the bits after its result
 abbrev pub tickBy : Image → State → ℕ → ℕ → Label → Results → ℕ → Ticked

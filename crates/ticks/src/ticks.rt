@@ -105,7 +105,8 @@ fn tick_back(table: &[u8], bytes: &mut [u8; 50], word: u16) -> Stepped
     }
 }
 
-// A call: the entry of the called scheme goes above the top; at a full stack nothing is done.
+// A call: the entry of the called scheme goes above the top, and its bit is cleared after the caller's result is written; at a full stack
+// nothing is done.
 fn tick_call(table: &[u8], bytes: &mut [u8; 50], word: u16) -> Stepped
     requires { ⌜ TopCalls (now table) (stateOf (now bytes)) ⌝ }
     ensures { λ r. ⌜ Steps (now (table .entry)) (now (bytes .entry)) word r (now (bytes .exit)) ⌝ }
@@ -121,6 +122,7 @@ fn tick_call(table: &[u8], bytes: &mut [u8; 50], word: u16) -> Stepped
     let label = label_read(table, place_of(bytes, (depth - 1) as usize) as usize);
     let entry = entry_of(table, label.called);
     put_result(bytes, label.result, label.owner);
+    put_result(bytes, 1, label.called);
     put_place(bytes, depth as usize, entry);
     put_depth(bytes, depth + 1);
     Stepped {

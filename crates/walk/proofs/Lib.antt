@@ -4,3 +4,4 @@ pub mod Trace
 pub mod Recursion
 pub mod Follow
 pub mod FactsHold
+pub mod Functions

@@ -47,7 +47,7 @@ module _ (go : Performer) (ih : Short go) where
   shorter-act : (c : Chart) (o v w : ℕ) (ws : List ℕ) (b : Results) (s : Stop) → Shorter (suc (suc (length ws))) (act go c o v w ws b s)
   shorter-act c o v w ws b (plain m r u) = step _ o _ ws _
   shorter-act c o v w ws b (call m r h u) = step-in _ _ o _ ws _
-  shorter-act c o v w ws b (function h u₀ u₁) = step-in _ _ o _ ws b
+  shorter-act c o v w ws b (function h u₀ u₁) = step-in _ _ o _ ws _
   shorter-act c o v w ws b (test u) = step _ o _ ws b
   shorter-act c o v w ws b home = step _ o _ ws b
   shorter-act c o v w ws b back = omega arith
@@ -105,20 +105,20 @@ module _ (c : Chart) (facts : Facts c) where
         ∙ same-resume v ks ts f e h under r (shorter-le (suc (length ws)) (suc n) r (omega arith) (shorter n c _ u ws b))
 
     same-back : (v : ℕ) (ks : List ℕ) (w : ℕ) (ws : List ℕ) (b : Results) → Good c (at v ks b) → (scheme c v ≡ 1 → ⊥)
-        → tick 0 3 (suc (length ks)) ++ trace c ws (returned c ks w b) ≡ onward c ks (ended (tick 0 3 (suc (length ks))) w ws b)
+        → tick v 0 3 (suc (length ks)) ++ trace c ws (returned c ks w b) ≡ onward c ks (ended (tick v 0 3 (suc (length ks))) w ws b)
     same-back v [] w ws b g s = absurd (s (g .under))
     same-back v (k ∷ ks) w ws b g s = refl
 
     same-act : (v : ℕ) (ks : List ℕ) (w : ℕ) (ws : List ℕ) (b : Results) → length ws ≤ n → Good c (at v ks b)
         → {s : Stop} → View c v s → stopAt c v ≡ s
-        → tickOf (suc (length ks)) s ∷ trace c ws (movedBy c v ks w b s) ≡ onward c ks (act (perform n c) c (suc (length ks)) v w ws b s)
+        → tickOf (suc (length ks)) v s ∷ trace c ws (movedBy c v ks w b s) ≡ onward c ks (act (perform n c) c (suc (length ks)) v w ws b s)
     same-act v ks w ws b l g (a-plain e a) q = same-after _ ws _ ks _ l (moved-good c facts v ks b w g (a-plain e a))
     same-act v ks w ws b l g (a-call e a) q =
         same-call v ks _ _ (λ x d. sym (ap (resumedBy c v x d) q)) (argument c v)
         (calling c v ks b g (inl e) (facts .calls v (g .top .inside) e a .0)) ws _ _ l (moved-good c facts v ks b w g (a-call e a))
     same-act v ks w ws b l g (a-function e) q =
         same-call v ks _ _ (λ x d. sym (ap (resumedBy c v x d) q)) (argument c v)
-        (calling c v ks b g (inr e) (facts .functions v (g .top .inside) e .0)) ws _ b l (moved-good c facts v ks b w g (a-function e))
+        (calling c v ks b g (inr e) (facts .functions v (g .top .inside) e .0)) ws _ _ l (moved-good c facts v ks b w g (a-function e))
     same-act v ks w ws b l g (a-home e s) q = same-after _ ws _ ks b l (moved-good c facts v ks b w g (a-home e s))
     same-act v ks w ws b l g (a-back e s) q = same-back v ks w ws b g s
     same-act v ks w ws b l g (a-begin e) q = same-after _ ws _ ks b l (moved-good c facts v ks b w g (a-begin e))

@@ -7,7 +7,7 @@ use mathlib.Core.List.{List, [], _∷_, _++_}
 use lib.ListN.{length}
 use native.Mathlib.Omega.{arith}
 use Rattle.lists.specs.Pick.{pick}
-use Rattle.bits.specs.Results.{Results, noResults, resultOf, withResult}
+use Rattle.bits.specs.Results.{Results, noResults, resultOf, withResult, cleared}
 use Rattle.frames.specs.Frame.{size}
 use Rattle.charts.specs.Chart.{Chart, kind, scheme, argument, next0, next1, schemes, end}
 use Rattle.walk.specs.Stops.{stops, start, byArc, byWord, Stop, plain, call, function, test, home, back, stopAt}
@@ -25,17 +25,29 @@ pub record Position : Type 0 where
 abbrev pub at : ℕ → List ℕ → Results → Position
 at v ks b = record { node = v; callers = ks; results = b }
 
-abbrev pub one : ℕ → ℕ → ℕ → Tick
-one m k o = record { mask = m; code = k; opened = o }
+-- mask and code of a stop's tick
+abbrev pub maskOf : Stop → ℕ
+maskOf (plain m r u) = m
+maskOf (call m r h u) = m
+maskOf (function h u₀ u₁) = 0
+maskOf (test u) = 0
+maskOf home = 0
+maskOf back = 0
 
--- the tick of a stop with o schemes open
-abbrev pub tickOf : ℕ → Stop → Tick
-tickOf o (plain m r u) = one m 0 o
-tickOf o (call m r h u) = one m (16 + h) o
-tickOf o (function h u₀ u₁) = one 0 (64 + h) o
-tickOf o (test u) = one 0 0 o
-tickOf o home = one 0 4 o
-tickOf o back = one 0 3 o
+abbrev pub codeOf : Stop → ℕ
+codeOf (plain m r u) = 0
+codeOf (call m r h u) = 16 + h
+codeOf (function h u₀ u₁) = 64 + h
+codeOf (test u) = 0
+codeOf home = 4
+codeOf back = 3
+
+abbrev pub one : ℕ → ℕ → ℕ → ℕ → Tick
+one v m k o = record { node = v; mask = m; code = k; opened = o }
+
+-- the tick of stop v, which does s, with o schemes open
+abbrev pub tickOf : ℕ → ℕ → Stop → Tick
+tickOf o v s = one v (maskOf s) (codeOf s) o
 
 -- where caller k goes on when its call has ended
 abbrev pub resumedBy : Chart → ℕ → ℕ → Results → Stop → ℕ
@@ -56,15 +68,15 @@ returned c (k ∷ ks) w b = at (resumed c k w b) ks b
 
 abbrev pub movedBy : Chart → ℕ → List ℕ → ℕ → Results → Stop → Position
 movedBy c v ks w b (plain m r u) = at (byArc c w u) ks (withResult r (scheme c v) b)
-movedBy c v ks w b (call m r h u) = at (start c h) (v ∷ ks) (withResult r (scheme c v) b)
-movedBy c v ks w b (function h u₀ u₁) = at (start c h) (v ∷ ks) b
+movedBy c v ks w b (call m r h u) = at (start c h) (v ∷ ks) (cleared h (withResult r (scheme c v) b))
+movedBy c v ks w b (function h u₀ u₁) = at (start c h) (v ∷ ks) (cleared h b)
 movedBy c v ks w b (test u) = at (byWord c w u) ks b
 movedBy c v ks w b home = at (start c 1) ks b
 movedBy c v ks w b back = returned c ks w b
 
 -- the tick that is made at a position, and the position after it
 abbrev pub tickAt : Chart → Position → Tick
-tickAt c x = tickOf (suc (length (x .callers))) (stopAt c (x .node))
+tickAt c x = tickOf (suc (length (x .callers))) (x .node) (stopAt c (x .node))
 
 abbrev pub move : Chart → ℕ → Position → Position
 move c w x = movedBy c (x .node) (x .callers) w (x .results) (stopAt c (x .node))

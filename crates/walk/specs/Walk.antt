@@ -4,18 +4,19 @@ use Prim.Native.Nat.{ℕ, zero, suc, _+_}
 use mathlib.Core.List.{List, [], _∷_, _++_}
 use lib.ListN.{length}
 use Rattle.lists.specs.Pick.{pick}
-use Rattle.bits.specs.Results.{Results, noResults, resultOf, withResult}
+use Rattle.bits.specs.Results.{Results, noResults, resultOf, withResult, cleared}
 use Rattle.charts.specs.Chart.{Chart, scheme, end}
 use Rattle.walk.specs.Stops.{start, byArc, byWord, Stop, plain, call, function, test, home, back, stopAt}
 
--- a tick (the paper's word for one step): its mask, its code, and how many schemes were open
+-- a tick (the paper's word for one step): the stop that makes it, its mask, its code, and how many schemes were open
 pub record Tick : Type 0 where
+  pub node : ℕ
   pub mask : ℕ
   pub code : ℕ
   pub opened : ℕ
 
-abbrev pub tick : ℕ → ℕ → ℕ → List Tick
-tick m k o = record { mask = m; code = k; opened = o } ∷ []
+abbrev pub tick : ℕ → ℕ → ℕ → ℕ → List Tick
+tick v m k o = record { node = v; mask = m; code = k; opened = o } ∷ []
 
 -- performing a scheme: the words ran out after these ticks; or its End was reached: the ticks, the End's word, the words left, the result bits
 pub data Course : Type 0 where
@@ -39,16 +40,16 @@ abbrev pub resume : Performer → ℕ → List Tick → (ℕ → Results → ℕ
 resume go o ts f (spent us) = spent (ts ++ us)
 resume go o ts f (ended us w ws b) = after (ts ++ us) (go o (f w b) ws b)
 
--- one stop v of a scheme with o open, by its word w, and what follows it
+-- one stop v of a scheme with o open, by its word w, and what follows it; a call clears the bit of the scheme called, after v's own result
 abbrev pub act : Performer → Chart → ℕ → ℕ → ℕ → List ℕ → Results → Stop → Course
-act go c o v w ws b (plain m r u) = after (tick m 0 o) (go o (byArc c w u) ws (withResult r (scheme c v) b))
+act go c o v w ws b (plain m r u) = after (tick v m 0 o) (go o (byArc c w u) ws (withResult r (scheme c v) b))
 act go c o v w ws b (call m r h u) =
-    resume go o (tick m (16 + h) o) (λ x d. byArc c x u) (go (suc o) (start c h) ws (withResult r (scheme c v) b))
+    resume go o (tick v m (16 + h) o) (λ x d. byArc c x u) (go (suc o) (start c h) ws (cleared h (withResult r (scheme c v) b)))
 act go c o v w ws b (function h u₀ u₁) =
-    resume go o (tick 0 (64 + h) o) (λ x d. byArc c x (pick (resultOf h d) u₁ u₀)) (go (suc o) (start c h) ws b)
-act go c o v w ws b (test u) = after (tick 0 0 o) (go o (byWord c w u) ws b)
-act go c o v w ws b home = after (tick 0 4 o) (go o (start c 1) ws b)
-act go c o v w ws b back = ended (tick 0 3 o) w ws b
+    resume go o (tick v 0 (64 + h) o) (λ x d. byArc c x (pick (resultOf h d) u₁ u₀)) (go (suc o) (start c h) ws (cleared h b))
+act go c o v w ws b (test u) = after (tick v 0 0 o) (go o (byWord c w u) ws b)
+act go c o v w ws b home = after (tick v 0 4 o) (go o (start c 1) ws b)
+act go c o v w ws b back = ended (tick v 0 3 o) w ws b
 
 -- n is at least the number of words
 unfoldable pub perform : ℕ → Chart → Performer

@@ -10,7 +10,7 @@ use Rattle.ticks.proofs.TickCases.{depth-some, depth-most, size-most, c
 use Rattle.ticks.proofs.ticks.tick_call.Statement.{statement}
 use Rattle.ticks.proofs.ticks.tick_call.Tie as tie
 
--- ---- the stages: the size is read, a place is free, the label is read, and the three writes
+-- ---- the stages: the size is read, a place is free, the label is read, and the four writes
 abbrev start : tie.After-size-of → tie.Start
 start c = c .before .before .before .before .before
 
@@ -18,7 +18,7 @@ abbrev sized : tie.After-label-read → tie.After-size-of
 sized c = c .before .before .before .before
 
 abbrev label : tie.After-put-depth → tie.After-label-read
-label c = c .before .before .before .before .before .before .before
+label c = c .before .before .before .before .before .before .before .before .before
 
 -- ---- the needs
 depth-of-requires : tie.Need-depth-of-requires
@@ -63,14 +63,17 @@ entry-of-requires c κs =
 put-result-requires : tie.Need-put-result-requires
 put-result-requires c κs = search needs
 
+put-result-requires-2 : tie.Need-put-result-requires-2
+put-result-requires-2 c κs = search needs
+
 cast-put-place : tie.Need-cast-put-place
 cast-put-place c = search needs
 
 put-place-requires : tie.Need-put-place-requires
 put-place-requires c κs =
-    let size = sized (c .before .before .before .before) in
+    let size = sized (c .before .before .before .before .before .before) in
     let asked = start size .pre .stands in
-    omega (arith, size-most asked, size .size-of .ensures, c .before .before .before .before .before .before .before .if1 .left)
+    omega (arith, size-most asked, size .size-of .ensures, c .before .before .before .before .before .before .before .before .before .if1 .left)
 
 add-put-depth : tie.Need-add-put-depth
 add-put-depth c = search needs
@@ -85,16 +88,17 @@ code-of-requires c κs =
 
 returns-2 : tie.Need-returns-2
 returns-2 c =
-    let third = c .before in
+    let fourth = c .before in
+    let third = fourth .before .before in
     let second = third .before .before in
     let first = second .before .before in
-    let l = label third in
+    let l = label fourth in
     let size = sized l in
     let depth = size .before .before .depth-of .ensures in
     call-steps _ _ _ (start size .pre) _ depth (omega (arith, size .size-of .ensures, l .before .before .before .if1 .left)) _
     (l .before .place-of .ensures ∙ ap (λ (d : ℕ). placeAt (stateOf (start size .args .bytes .now)) (d - 1)) depth) _ (l .label-read .ensures) _
-    (first .before .before .entry-of .ensures) _ (c .code-of .ensures) _ _ _ (first .put-result .ensures) (second .put-place .ensures)
-    (third .put-depth .ensures)
+    (first .before .before .entry-of .ensures) _ (c .code-of .ensures) _ _ _ _ (first .put-result .ensures) (second .put-result2 .ensures)
+    (third .put-place .ensures) (fourth .put-depth .ensures)
 
 pub tick-call-spec : {M : Type 1} → statement M
 tick-call-spec =
@@ -110,6 +114,7 @@ tick-call-spec =
     label-read-requires
     entry-of-requires
     put-result-requires
+    put-result-requires-2
     cast-put-place
     put-place-requires
     add-put-depth
