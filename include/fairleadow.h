@@ -44,7 +44,7 @@ typedef struct {
     uint8_t size;        /* places that the stack may use, 1 to 32 */
     uint8_t depth;       /* places in use */
     uint8_t places[32];  /* labels, the bottom first; 0 above the depth */
-    uint8_t results[16]; /* result bits 0 or 1, scheme h's at h - 1; another byte is read as 1, and written as 1 by a run or a tick */
+    uint8_t results[16]; /* result bits 0 or 1, scheme h's at h - 1, which a call of h sets to 0; another byte is read as 1, and written as 1 by a run or a tick */
 } fairleadow_state;
 
 #include "fairleadow_calls.h"

@@ -99,7 +99,7 @@ impl Held {
         rows.iter().find(matches).map(|row| row.next).ok_or(18)
     }
 
-    /// One tick of a state with a depth of 1 to its size, or 17 or 18.
+    /// One tick of a state with a depth of 1 to its size, or 17 or 18. A call clears the bit of the scheme called; 0 counts as 1.
     pub fn tick(&self, state: &State, word: u16) -> Result<Advanced, u8> {
         let top = usize::from(state.depth) - 1;
         let here = self.label(state.places[top]);
@@ -110,6 +110,7 @@ impl Held {
             OPERATION_CALL | FUNCTION_CALL => {
                 after.places[top + 1] = self.entry(here.called);
                 after.depth += 1;
+                after.results[usize::from(here.called).max(1) - 1] = false;
             }
             RETURN if top == 0 => return Err(18),
             RETURN => {

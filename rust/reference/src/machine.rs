@@ -47,7 +47,7 @@ fn next_label(image: &Image, results: &[bool; 16], from: u8, word: u16) -> Optio
     matching.map(|row| row.next)
 }
 
-/// One tick of a fitting state, or 17 or 18.
+/// One tick of a fitting state, or 17 or 18. A finished call sets the bit of the scheme called to 0, after its own result is written.
 pub fn tick(image: &Image, state: &State, word: u16) -> Result<Advanced, u8> {
     let top = usize::from(state.depth) - 1;
     let at = state.places[top];
@@ -73,6 +73,7 @@ pub fn tick(image: &Image, state: &State, word: u16) -> Result<Advanced, u8> {
             }
             after.places[top + 1] = entry(image, here.called);
             after.depth += 1;
+            after.results[usize::from(here.called) - 1] = false;
             let base = if here.kind == OPERATION_CALL { 0x10 } else { 0x40 };
             base + here.called
         }

@@ -58,8 +58,9 @@ impl Walk<'_> {
         Ok(())
     }
 
-    /// Performs a called scheme and makes the return tick of its End, whose word it hands back.
+    /// Clears the result of a called scheme, performs it and makes the return tick of its End, whose word it hands back.
     fn call(&mut self, scheme: u8, open: usize) -> Result<u16, OutOfWords> {
+        self.results[usize::from(scheme)] = false;
         self.perform(scheme, open + 1)?;
         self.tick(self.chart.end(scheme), 0, 0x03, open + 1)
     }

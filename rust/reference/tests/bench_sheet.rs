@@ -156,6 +156,58 @@ fn b10_a_function() {
     }
 }
 
+/// A function whose scheme writes 1 where condition 0 is 1 and nothing otherwise; on 1 mask 1, then End.
+fn bore_test() -> Vec<u8> {
+    text_of(&[
+        BEGIN,
+        [4, 1, 2, 3, 2, 0, 0, 0, 0, 0],
+        [2, 1, 0, 3, 0, 0, 0, 0, 0, 1],
+        END,
+        [0, 2, 0, 5, 0, 0, 0, 0, 0, 0],
+        [3, 2, 0, 7, 6, 0, 0, 0, 0, 0],
+        [2, 2, 0, 7, 0, 2, 0, 0, 0, 0],
+        [1, 2, 0, 0, 0, 0, 0, 0, 0, 0],
+    ])
+}
+
+/// The first block has a bore, the second has none: its answer is no, whatever the first one left.
+#[test]
+fn two_blocks() {
+    let image = entry::translated(&bore_test()).unwrap();
+    let words = [0, 0, 1, 0, 0, 0, 0, 0, 0, 0, 0];
+    let (answer, masks, codes) = run(&image, 2, &words);
+    assert_eq!(answer, Answer::Done(11));
+    assert_eq!(codes, [0x04, 0x42, 0x00, 0x00, 0x03, 0x00, 0x04, 0x42, 0x00, 0x03, 0x04]);
+    assert_eq!(masks, [0, 0, 0, 0, 0, 1, 0, 0, 0, 0, 0]);
+}
+
+/// The answer of a run that starts with scheme 2's bit at 1, and that bit after it.
+fn bit_after(image: &[u8], size: usize, words: &[u16]) -> (Answer, bool) {
+    let mut state = fresh_state(size).unwrap();
+    state.results[1] = true;
+    let (mut masks, mut codes) = ([0; 4], [0; 4]);
+    let (answer, after) = entry::run(image, &state, words, &mut masks, &mut codes);
+    (answer, after.results[1])
+}
+
+/// An operation of scheme 2 that writes 1 and calls scheme 2 leaves a 0; a call that finds the stack full leaves the bit.
+#[test]
+fn a_call_clears_after_it_writes() {
+    let text = text_of(&[
+        BEGIN,
+        [2, 1, 2, 2, 0, 0, 0, 0, 0, 0],
+        END,
+        [0, 2, 0, 4, 0, 0, 0, 0, 0, 0],
+        [2, 2, 2, 5, 0, 2, 0, 0, 0, 0],
+        [1, 2, 0, 0, 0, 0, 0, 0, 0, 0],
+    ]);
+    let image = entry::translated(&text).unwrap();
+    assert_eq!(bit_after(&image, 3, &[0]), (Answer::Done(1), true));
+    assert_eq!(bit_after(&image, 3, &[0; 2]), (Answer::Done(2), false));
+    assert_eq!(bit_after(&image, 3, &[0; 3]), (Answer::Done(3), false));
+    assert_eq!(bit_after(&image, 1, &[0; 2]), (refused(17, 0, 1), true));
+}
+
 #[test]
 fn programs_print_refusals() {
     assert_eq!(programs::translate(b""), b"FF01000000000000000000\n");

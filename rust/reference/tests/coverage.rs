@@ -39,7 +39,7 @@ fn every_answer_is_met_and_no_other() {
 }
 
 /// Each feature that some generated chart must have, and whether this one has it.
-fn features(chart: &Chart) -> [(&'static str, bool); 16] {
+fn features(chart: &Chart) -> [(&'static str, bool); 17] {
     let nodes = &chart.nodes;
     let any = |test: &dyn Fn(usize) -> bool| (0..nodes.len()).any(test);
     let first = nodes[chart.begin(1)].on0;
@@ -53,6 +53,7 @@ fn features(chart: &Chart) -> [(&'static str, bool); 16] {
         ("Begin to End alone", nodes.len() == 2),
         ("16 schemes", chart.schemes() == 16),
         ("a scheme that calls itself", any(&|v| calls(chart, v, nodes[v].scheme))),
+        ("a 1 written to the bit that the same tick's call clears", any(&|v| clears_its_own(chart, v))),
         ("schemes that call each other", (2..=chart.schemes()).any(|h| mutual(chart, h))),
         ("a function", any(&|v| nodes[v].kind == Kind::Function)),
         ("two arcs to one node", any(&|v| nodes[v].arcs().len() == 2 && nodes[v].on0 == nodes[v].on1)),
@@ -70,6 +71,12 @@ fn features(chart: &Chart) -> [(&'static str, bool); 16] {
 fn calls(chart: &Chart, at: usize, scheme: u8) -> bool {
     let node = &chart.nodes[at];
     matches!(node.kind, Kind::Operation | Kind::Function) && node.argument == scheme
+}
+
+/// Whether an operation writes 1 and calls its own scheme.
+fn clears_its_own(chart: &Chart, at: usize) -> bool {
+    let node = &chart.nodes[at];
+    node.kind == Kind::Operation && node.result == 2 && calls(chart, at, node.scheme)
 }
 
 /// Whether another scheme calls this one and is called by it.

@@ -8,7 +8,7 @@ use std::cell::RefCell;
 use reference::compare::compare;
 use reference::entry::{self, image_from_text};
 use reference::frames::text_of;
-use reference::image::{Image, FUNCTION_CALL, HOME, RETURN};
+use reference::image::{Image, Label, FUNCTION_CALL, HOME, RETURN};
 use reference::machine::{self, Advanced};
 use reference::{Answer, Library, Meaning, Reference, State, Ticked};
 
@@ -29,6 +29,10 @@ faults! {
     ReturnsFromSchemeOne,
     FullOnePlaceEarly,
     WritesTheResultOfAFullCall,
+    KeepsTheCalledBit,
+    ClearsTheCallersBit,
+    ClearsBeforeTheResult,
+    ClearsAtAFullStack,
     KeepsDroppedPlaces,
     ReadsIntoShortBuffers,
     NamesTheFrameAfter,
@@ -74,7 +78,23 @@ impl Faulty {
         if self.fault == ReturnsFromSchemeOne && label.kind == HOME {
             advanced.code = 0x03;
         }
+        if label.calls() {
+            self.clear(&label, state, &mut advanced.state);
+        }
         Ok(advanced)
+    }
+
+    /// What the faults make of the result bits after a finished call.
+    fn clear(&self, label: &Label, before: &State, after: &mut State) {
+        let (owner, called) = (usize::from(label.owner) - 1, usize::from(label.called) - 1);
+        let own = label.result != 0 && owner == called;
+        let kept = if own { label.result == 2 } else { before.results[called] };
+        match self.fault {
+            KeepsTheCalledBit => after.results[called] = kept,
+            ClearsTheCallersBit => (after.results[called], after.results[owner]) = (kept, false),
+            ClearsBeforeTheResult if own => after.results[called] = label.result == 2,
+            _ => {}
+        }
     }
 
     fn return_of(&self, image: &Image, state: &State, word: u16) -> Result<Advanced, u8> {
@@ -117,6 +137,11 @@ impl Faulty {
                 Err(number) => {
                     if self.fault == WritesTheResultOfAFullCall {
                         state.results[0] = !state.results[0];
+                    }
+                    if self.fault == ClearsAtAFullStack && number == 17 {
+                        let top = state.places[usize::from(state.depth) - 1];
+                        let called = image.labels[usize::from(top)].called;
+                        state.results[usize::from(called) - 1] = false;
                     }
                     return (Answer::Refused { number, index: 0, count }, state);
                 }

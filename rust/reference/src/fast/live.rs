@@ -32,6 +32,13 @@ fn noted(frame: &Frame) -> usize {
     usize::from(u16::from_be_bytes([frame[0], frame[1]]))
 }
 
+fn write_result(results: &mut [bool; 16], label: &Label) {
+    let owner = usize::from(label.owner).max(1) - 1;
+    if label.result != 0 && owner < 16 {
+        results[owner] = label.result == 2;
+    }
+}
+
 /// A table that refusal 11 lets pass.
 pub struct Table<'a> {
     frames: &'a [Frame],
@@ -132,8 +139,6 @@ impl<'a> Table<'a> {
     pub fn tick(&self, state: &mut State, word: u16) -> Result<(u32, u8), u8> {
         let top = usize::from(state.depth) - 1;
         let label = self.label(state.places[top]);
-        let owner = usize::from(label.owner).max(1) - 1;
-        let written = (label.result != 0 && owner < 16).then_some((owner, label.result == 2));
         let code = match label.kind {
             PLAIN => {
                 state.places[top] = self.next(state.places[top], None, word)?;
@@ -145,7 +150,10 @@ impl<'a> Table<'a> {
                 }
                 state.places[top + 1] = self.entry(label.called);
                 state.depth += 1;
-                label.called + if label.kind == OPERATION_CALL { 0x10 } else { 0x40 }
+                write_result(&mut state.results, &label);
+                state.results[usize::from(label.called).max(1) - 1] = false;
+                let base = if label.kind == OPERATION_CALL { 0x10 } else { 0x40 };
+                return Ok((label.mask, base + label.called));
             }
             HOME => {
                 state.places[top] = self.entry(1);
@@ -160,9 +168,7 @@ impl<'a> Table<'a> {
                 0x03
             }
         };
-        if let Some((place, bit)) = written {
-            state.results[place] = bit;
-        }
+        write_result(&mut state.results, &label);
         Ok((label.mask, code))
     }
 

@@ -69,6 +69,12 @@ impl<B: Bits> Stack<B> {
     fn state(&self, results: [bool; 16]) -> State {
         State { size: self.size as u8, depth: self.depth as u8, places: self.places, results }
     }
+
+    fn write_result(&mut self, label: &Label) {
+        if label.result != 0 {
+            self.bits.write(label.owner, label.result == 2);
+        }
+    }
 }
 
 pub struct Machine {
@@ -197,7 +203,10 @@ impl Machine {
                 }
                 stack.places[top + 1] = self.entries[usize::from(label.called)];
                 stack.depth += 1;
-                label.called + if label.kind == OPERATION_CALL { 0x10 } else { 0x40 }
+                stack.write_result(&label);
+                stack.bits.write(label.called, false);
+                let base = if label.kind == OPERATION_CALL { 0x10 } else { 0x40 };
+                return Ok((label.mask, base + label.called));
             }
             HOME => {
                 stack.places[top] = self.entries[1];
@@ -211,9 +220,7 @@ impl Machine {
                 0x03
             }
         };
-        if label.result != 0 {
-            stack.bits.write(label.owner, label.result == 2);
-        }
+        stack.write_result(&label);
         Ok((label.mask, code))
     }
 }

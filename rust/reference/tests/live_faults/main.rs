@@ -57,6 +57,8 @@ faults! {
     EmptiesTheStackAtHome,
     CallsLabelZeroForSchemeZero,
     NamesSchemeOneForSchemeZero,
+    KeepsTheCalledBit,
+    ClearsNothingForSchemeZero,
     RefusesAReturnAtTheBottomAsUnfit,
     WritesTheResultOfAFullCall,
     WritesARefusedTick,
@@ -64,6 +66,15 @@ faults! {
 
 /// The reference with one fault.
 struct Faulty(Fault);
+
+/// The bit of the scheme called as if the call had not cleared it.
+fn keep_bit(here: &Label, before: &State, after: &mut State) {
+    let bit = usize::from(here.called).max(1) - 1;
+    after.results[bit] = before.results[bit];
+    if usize::from(here.owner).max(1) - 1 == bit {
+        write(after, here);
+    }
+}
 
 fn refused(number: u8) -> Answer {
     Refusal { number, index: 0 }.into()
@@ -153,6 +164,12 @@ impl Faulty {
                 advanced.state.places[top + 1] = 0;
             }
             NamesSchemeOneForSchemeZero if here.calls() && here.called == 0 => advanced.code += 1,
+            KeepsTheCalledBit if here.calls() && here.called > 0 => {
+                keep_bit(here, state, &mut advanced.state)
+            }
+            ClearsNothingForSchemeZero if here.calls() && here.called == 0 => {
+                keep_bit(here, state, &mut advanced.state);
+            }
             _ => {}
         }
         Ok(advanced)
