@@ -156,16 +156,17 @@ fn b10_a_function() {
     }
 }
 
-/// A function whose scheme writes 1 where condition 0 is 1 and nothing otherwise; on 1 mask 1, then End.
+/// A function, on 1 mask 1, on 0 mask 2; its scheme writes 1 where condition 0 is 1 and writes nothing otherwise.
 fn bore_test() -> Vec<u8> {
     text_of(&[
         BEGIN,
-        [4, 1, 2, 3, 2, 0, 0, 0, 0, 0],
-        [2, 1, 0, 3, 0, 0, 0, 0, 0, 1],
+        [4, 1, 2, 2, 3, 0, 0, 0, 0, 0],
+        [2, 1, 0, 4, 0, 0, 0, 0, 0, 2],
+        [2, 1, 0, 4, 0, 0, 0, 0, 0, 1],
         END,
-        [0, 2, 0, 5, 0, 0, 0, 0, 0, 0],
-        [3, 2, 0, 7, 6, 0, 0, 0, 0, 0],
-        [2, 2, 0, 7, 0, 2, 0, 0, 0, 0],
+        [0, 2, 0, 6, 0, 0, 0, 0, 0, 0],
+        [3, 2, 0, 8, 7, 0, 0, 0, 0, 0],
+        [2, 2, 0, 8, 0, 2, 0, 0, 0, 0],
         [1, 2, 0, 0, 0, 0, 0, 0, 0, 0],
     ])
 }
@@ -174,11 +175,11 @@ fn bore_test() -> Vec<u8> {
 #[test]
 fn two_blocks() {
     let image = entry::translated(&bore_test()).unwrap();
-    let words = [0, 0, 1, 0, 0, 0, 0, 0, 0, 0, 0];
+    let words = [0, 0, 1, 0, 0, 0, 0, 0, 0, 0, 0, 0];
     let (answer, masks, codes) = run(&image, 2, &words);
-    assert_eq!(answer, Answer::Done(11));
-    assert_eq!(codes, [0x04, 0x42, 0x00, 0x00, 0x03, 0x00, 0x04, 0x42, 0x00, 0x03, 0x04]);
-    assert_eq!(masks, [0, 0, 0, 0, 0, 1, 0, 0, 0, 0, 0]);
+    assert_eq!(answer, Answer::Done(12));
+    assert_eq!(codes, [0x04, 0x42, 0x00, 0x00, 0x03, 0x00, 0x04, 0x42, 0x00, 0x03, 0x00, 0x04]);
+    assert_eq!(masks, [0, 0, 0, 0, 0, 1, 0, 0, 0, 0, 2, 0]);
 }
 
 /// The answer of a run that starts with scheme 2's bit at 1, and that bit after it.
