@@ -174,7 +174,7 @@ fn each_character(text: &[u8], met: &mut Met, hold: fn(&[u8], &mut Met)) {
 fn every_character_of_the_examples() {
     let folder = Path::new(env!("CARGO_MANIFEST_DIR")).join("../../examples");
     let mut met = Met::new();
-    for name in ["bore", "finishing", "home", "paper", "roughing"] {
+    for name in ["bore", "finishing", "home", "paper", "roughing", "two_blocks"] {
         let file = |kind: &str| fs::read(folder.join(name).with_extension(kind)).expect("an example");
         each_character(&file("chart"), &mut met, hold_chart);
         each_character(&file("image"), &mut met, hold_image);

@@ -37,7 +37,7 @@ fn translate_cases_expects_what_the_reference_prints() {
 
 #[test]
 fn the_examples_are_what_the_reference_prints() {
-    for name in ["bore", "finishing", "home", "paper", "roughing"] {
+    for name in ["bore", "finishing", "home", "paper", "roughing", "two_blocks"] {
         let example = |kind: &str| file(&folder("examples").join(name).with_extension(kind));
         assert!(programs::translate(&example("chart")) == example("image"), "{name}");
         assert!(programs::run(&example("image")) == example("codes"), "{name}");

@@ -38,13 +38,13 @@ pub fn plain_rows() -> Image {
     })
 }
 
-/// Functions of scheme 2: all rows match any word, but only the last two match a result of 1. They lead to the return on a
-/// word with bit 0 clear, and else back to the label.
+/// Functions of scheme 2: all rows match any word, but only the last two match a result of 0, which a call leaves. They lead
+/// to the return on a word with bit 0 clear, and else back to the label.
 pub fn function_rows() -> Image {
     filled(FUNCTION_CALL, 2, |k| match ROWS - k {
-        2 => Row { care: 1, ..any_word(BUSY, 1, RETURN_LABEL) },
-        1 => Row { care: 1, values: 1, ..any_word(BUSY, 1, BUSY) },
-        _ => any_word(BUSY, 0, RETURN_LABEL),
+        2 => Row { care: 1, ..any_word(BUSY, 0, RETURN_LABEL) },
+        1 => Row { care: 1, values: 1, ..any_word(BUSY, 0, BUSY) },
+        _ => any_word(BUSY, 1, RETURN_LABEL),
     })
 }
 
@@ -77,7 +77,7 @@ pub fn worst_images() -> Vec<(&'static str, Image)> {
 pub fn full_stack(bottom: u8, kept: u8) -> State {
     let mut places = [kept; 32];
     (places[0], places[31]) = (bottom, RETURN_LABEL);
-    State { size: 32, depth: 32, places, results: [true; 16] }
+    State { size: 32, depth: 32, places, results: [false; 16] }
 }
 
 /// Thirty returns, each over all rows, the last of which comes back to the label; then calls and returns by turns.
