@@ -47,7 +47,7 @@ fn tick_plain(table: &[u8], schemes: u8, bytes: &mut [u8; 50], word: u16) -> Ste
     requires { ⌜ schemes ≡ schemeCount (now table) ⌝ }
     ensures { λ r. ⌜ Steps (now (table .entry)) (now (bytes .entry)) word r (now (bytes .exit)) ⌝ }
 {
-    let top = (depth_of(bytes) - 1) as usize;
+    let top = (depth_of(bytes) as usize) - 1;
     let l = place_of(bytes, top) as usize;
     let next = next_row(table, schemes, l, word, 2);
     if 256 <= next {
@@ -73,7 +73,7 @@ fn next_beneath(table: &[u8], schemes: u8, last: u8, bytes: &[u8; 50], word: u16
     if depth < 2 {
         return 256;
     }
-    let l = place_of(bytes, (depth - 2) as usize);
+    let l = place_of(bytes, (depth as usize) - 2);
     if l < 2 {
         return 256;
     }
@@ -96,8 +96,8 @@ fn tick_back(table: &[u8], schemes: u8, last: u8, bytes: &mut [u8; 50], word: u1
         return no_row();
     }
     let depth = depth_of(bytes);
-    put_place(bytes, (depth - 1) as usize, 0);
-    put_place(bytes, (depth - 2) as usize, next as u8);
+    put_place(bytes, (depth as usize) - 1, 0);
+    put_place(bytes, (depth as usize) - 2, next as u8);
     put_depth(bytes, depth - 1);
     Stepped {
         number: 0,
@@ -123,7 +123,7 @@ fn tick_call(table: &[u8], schemes: u8, bytes: &mut [u8; 50], word: u16) -> Step
     let label = label_read(
         table,
         schemes,
-        place_of(bytes, (depth - 1) as usize) as usize,
+        place_of(bytes, (depth as usize) - 1) as usize,
     );
     let entry = entry_of(table, label.called);
     put_result(bytes, label.result, label.owner);
@@ -141,7 +141,7 @@ fn tick_home(table: &[u8], bytes: &mut [u8; 50], word: u16) -> Stepped
     requires { ⌜ TopHome (now table) (stateOf (now bytes)) ⌝ }
     ensures { λ r. ⌜ Steps (now (table .entry)) (now (bytes .entry)) word r (now (bytes .exit)) ⌝ }
 {
-    let top = (depth_of(bytes) - 1) as usize;
+    let top = (depth_of(bytes) as usize) - 1;
     put_place(bytes, top, entry_of(table, 1));
     Stepped {
         number: 0,
@@ -156,7 +156,7 @@ fn tick_numbered(table: &[u8], schemes: u8, last: u8, bytes: &mut [u8; 50], word
     requires { ⌜ Header (now table) schemes last ⌝ }
     ensures { λ r. ⌜ Steps (now (table .entry)) (now (bytes .entry)) word r (now (bytes .exit)) ⌝ }
 {
-    let l = place_of(bytes, (depth_of(bytes) - 1) as usize);
+    let l = place_of(bytes, (depth_of(bytes) as usize) - 1);
     if last < l {
         return no_row();
     }
@@ -173,7 +173,7 @@ pub fn tick_on(table: &[u8], schemes: u8, last: u8, bytes: &mut [u8; 50], word: 
     requires { ⌜ Header (now table) schemes last ⌝ }
     ensures { λ r. ⌜ Steps (now (table .entry)) (now (bytes .entry)) word r (now (bytes .exit)) ⌝ }
 {
-    let l = place_of(bytes, (depth_of(bytes) - 1) as usize);
+    let l = place_of(bytes, (depth_of(bytes) as usize) - 1);
     match l {
         0 => tick_home(table, bytes, word),
         1 => tick_back(table, schemes, last, bytes, word),

@@ -35,6 +35,9 @@ returns c = let d = c .before in beneath-first _ _ (start d .pre .0) _ _ (d .dep
 cast-place-of : tie.Need-cast-place-of
 cast-place-of c = search needs
 
+sub-place-of : tie.Need-sub-place-of
+sub-place-of c = omega (arith, c .if1 .left)
+
 place-of-requires : tie.Need-place-of-requires
 place-of-requires c κs =
     let d = c .before in
@@ -95,6 +98,7 @@ next-beneath-spec =
     depth-of-requires
     returns
     cast-place-of
+    sub-place-of
     place-of-requires
     returns-2
     returns-3

@@ -84,11 +84,11 @@ tick-back-spec =
     no-row-requires
     returns
     depth-of-requires
-    sub-put-place
     cast-put-place
+    sub-put-place
     put-place-requires
-    sub-put-place-2
     cast-put-place-2
+    sub-put-place-2
     cast-put-place-3
     put-place-requires-2
     sub-put-depth

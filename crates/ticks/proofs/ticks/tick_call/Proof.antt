@@ -107,8 +107,8 @@ tick-call-spec =
     depth-of-requires
     size-of-requires
     returns
-    sub-place-of
     cast-place-of
+    sub-place-of
     place-of-requires
     cast-label-read
     label-read-requires

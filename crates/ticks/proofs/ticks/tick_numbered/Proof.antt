@@ -132,8 +132,8 @@ tick-numbered-spec =
     tie.close
     (tie.spec
     depth-of-requires
-    sub-place-of
     cast-place-of
+    sub-place-of
     place-of-requires
     no-row-requires
     returns

@@ -67,8 +67,8 @@ tick-on-spec =
     tie.close
     (tie.spec
     depth-of-requires
-    sub-place-of
     cast-place-of
+    sub-place-of
     place-of-requires
     tick-home-requires
     tick-back-requires

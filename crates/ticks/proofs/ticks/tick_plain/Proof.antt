@@ -96,8 +96,8 @@ tick-plain-spec =
     tie.close
     (tie.spec
     depth-of-requires
-    sub-top
     cast-top
+    sub-top
     place-of-requires
     cast-l
     next-row-requires
