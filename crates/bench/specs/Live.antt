@@ -14,17 +14,17 @@ use Rattle.machine.specs.Live.{liveTick}
 use Rattle.bench.specs.Bench.{imageP}
 use Rattle.bench.specs.Cases.{stateOf, changedImage}
 
--- the table of chart P: header, entries, labels with the first frames of their rows, rows
+-- the table of chart P: header, entries, labels with the frames at which their rows end, rows
 unfoldable pub tableP : List ℕ
 tableP =
     15 ∷ 2 ∷ 4 ∷ 0 ∷ 4 ∷ 0 ∷ 0 ∷ 0 ∷ 0 ∷ 0
     ∷ 16 ∷ 1 ∷ 2 ∷ 0 ∷ 0 ∷ 0 ∷ 0 ∷ 0 ∷ 0 ∷ 0
     ∷ 16 ∷ 2 ∷ 3 ∷ 0 ∷ 0 ∷ 0 ∷ 0 ∷ 0 ∷ 0 ∷ 0
-    ∷ 0 ∷ 8 ∷ 4 ∷ 0 ∷ 1 ∷ 0 ∷ 0 ∷ 0 ∷ 0 ∷ 0
-    ∷ 0 ∷ 8 ∷ 3 ∷ 0 ∷ 0 ∷ 0 ∷ 0 ∷ 0 ∷ 0 ∷ 0
-    ∷ 0 ∷ 8 ∷ 1 ∷ 2 ∷ 1 ∷ 0 ∷ 0 ∷ 0 ∷ 0 ∷ 1
-    ∷ 0 ∷ 9 ∷ 0 ∷ 0 ∷ 2 ∷ 0 ∷ 0 ∷ 0 ∷ 0 ∷ 0
-    ∷ 0 ∷ 11 ∷ 1 ∷ 2 ∷ 2 ∷ 0 ∷ 0 ∷ 0 ∷ 0 ∷ 2
+    ∷ 8 ∷ 0 ∷ 4 ∷ 0 ∷ 1 ∷ 0 ∷ 0 ∷ 0 ∷ 0 ∷ 0
+    ∷ 8 ∷ 0 ∷ 3 ∷ 0 ∷ 0 ∷ 0 ∷ 0 ∷ 0 ∷ 0 ∷ 0
+    ∷ 9 ∷ 0 ∷ 1 ∷ 2 ∷ 1 ∷ 0 ∷ 0 ∷ 0 ∷ 0 ∷ 1
+    ∷ 11 ∷ 0 ∷ 0 ∷ 0 ∷ 2 ∷ 0 ∷ 0 ∷ 0 ∷ 0 ∷ 0
+    ∷ 12 ∷ 0 ∷ 1 ∷ 2 ∷ 2 ∷ 0 ∷ 0 ∷ 0 ∷ 0 ∷ 2
     ∷ 18 ∷ 2 ∷ 0 ∷ 0 ∷ 0 ∷ 0 ∷ 2 ∷ 0 ∷ 0 ∷ 0
     ∷ 18 ∷ 3 ∷ 0 ∷ 1 ∷ 0 ∷ 0 ∷ 2 ∷ 1 ∷ 0 ∷ 0
     ∷ 18 ∷ 3 ∷ 0 ∷ 1 ∷ 0 ∷ 1 ∷ 2 ∷ 4 ∷ 0 ∷ 0
@@ -50,7 +50,7 @@ pub record LiveCases : Type 0 where
   pub cut : ticking (take 119 tableP) (stateOf 1 (2 ∷ [])) 0 .reply ≡ refusal 11 0 0
   pub counts : ticking (damaged 0 1 0) (stateOf 1 (2 ∷ [])) 0 .reply ≡ refusal 11 0 0
   -- rows of label 3 that are noted to begin behind the table
-  pub behind : ticking (damaged 6 0 255) (stateOf 2 (2 ∷ 3 ∷ [])) 0 .reply ≡ refusal 18 0 0
+  pub behind : ticking (damaged 5 1 255) (stateOf 2 (2 ∷ 3 ∷ [])) 0 .reply ≡ refusal 18 0 0
   -- a scheme called that the table does not have: entry 1 is taken, and the code names none
   pub called : ticking (damaged 5 3 200) (stateOf 1 (2 ∷ [])) 0 .code ≡ 16
   -- a function bit in a plain label's row does not count

@@ -1,5 +1,5 @@
 -- One frame of a table as the code compares it, the search from one frame up to another, and where the rows of a label stand.
-use Prim.Native.Nat.{ℕ, _+_, _*_, _-_, _≤_, _<_, min}
+use Prim.Native.Nat.{ℕ, _+_, _*_, _-_, _≤_, _<_}
 use mathlib.Core.Bool.{Bool, true, false, _&&_, _||_}
 use mathlib.Core.Path.{_≡_, sym, _∙_, ap, ap₂}
 use mathlib.Core.List.{List}
@@ -11,11 +11,12 @@ use borrow.Author.Tests.{lt-ltb, le-ltb, eq-eqb, ne-eqb}
 use Rattle.lists.specs.Numbers.{lowest}
 use Rattle.lists.proofs.Tests.{yes-pick, no-pick}
 use Rattle.lists.proofs.Searches.{lowest-here, lowest-on, lowest-over}
-use Rattle.frames.specs.Frame.{size, field, pairAt}
-use Rattle.image.specs.Decode.{lastLabel, labelsFrom}
-use Rattle.tables.specs.Table.{tableEnd, firstOn, endOn, Whole}
+use Rattle.frames.specs.Frame.{size, field}
+use Rattle.image.specs.Decode.{labelsFrom}
+use Rattle.tables.specs.Table.{tableEnd, notedIn, firstOn, endOn, Whole}
+use Rattle.tables.specs.Labels.{Framed}
 use Rattle.tables.proofs.Front.{end-inside}
-use Rattle.rows.specs.Search.{swapped, matching, Leaves}
+use Rattle.rows.specs.Search.{swapped, matching, nextAmong}
 use Rattle.rows.proofs.Swaps.{swapped-twice, turned-agrees}
 
 -- ---- one frame: care mask, values and function bit as they were read
@@ -71,40 +72,41 @@ module _ (b : List ℕ) (first end word bit : ℕ) where
     matching-word : t ≡ p f
     matching-word = q ∙ ap (λ (w : ℕ). matching b w bit f) (ap (λ (w : ℕ). swapped w) e ∙ swapped-twice word small)
 
-    pub search-found : f < end → t ≡ true → f ≡ lowest p first (end - first)
-    search-found h y = sym (lowest-here p end f h (sym matching-word ∙ y)) ∙ left
+    pub search-found : f < end → t ≡ true → (n : ℕ) → n ≡ field b f 7 → n ≡ nextAmong b word bit first end
+    search-found h y n e =
+        let at : f ≡ lowest p first (end - first) = sym (lowest-here p end f h (sym matching-word ∙ y)) ∙ left in
+        let k : ℕ = lowest p first (end - first) in
+        e ∙ ap (λ (j : ℕ). field b j 7) at ∙ sym (yes-pick (ltb k end) (field b k 7) 256 (lt-ltb k end (omega arith)))
 
     pub search-on : f < end → t ≡ false → Left (f + 1)
     search-on h y = sym (lowest-on p end f h (sym matching-word ∙ y)) ∙ left
 
-  pub search-over : (f : ℕ) → Left f → end ≤ f → f ≡ lowest p first (end - first)
-  search-over f left h = sym (lowest-over p end f h) ∙ left
+  pub search-over : (f : ℕ) → Left f → end ≤ f → 256 ≡ nextAmong b word bit first end
+  search-over f left h =
+      let at : f ≡ lowest p first (end - first) = sym (lowest-over p end f h) ∙ left in
+      let k : ℕ = lowest p first (end - first) in
+      sym (no-pick (ltb k end) (field b k 7) 256 (le-ltb k end (omega arith)))
 
 -- ---- where the rows of label l stand
 pub end-within : (b : List ℕ) (l end : ℕ) → Whole b → end ≡ endOn b l → end ≤ size b
 end-within b l end x e = omega (arith, end-inside b l, x .alone)
 
-module _ (b : List ℕ) (l : ℕ) (x : Leaves b l) where
+-- n is H as the caller has it
+module _ (b : List ℕ) (n l : ℕ) (x : Framed b n l) where
   pub frames-all : size b ≡ tableEnd b
-  frames-all = omega (arith, x .whole .alone)
+  frames-all = omega (arith, x .label .whole .alone)
 
-  pub first-read : (n r : ℕ) → n ≡ labelsFrom b → r ≡ pairAt b (n + l) 0 → r ≡ firstOn b l
-  first-read n r e q = q ∙ ap (λ (m : ℕ). pairAt b (m + l) 0) e
+  pub first-read : (r : ℕ) → r ≡ field b (n + l) 0 + field b (n + l) 1 * 256 → r ≡ firstOn b l
+  first-read r q =
+      q ∙ ap (λ (f : ℕ). field b f 0 + field b f 1 * 256)
+      (let e : n + l ≡ labelsFrom b + (l - 1) = omega (arith, x .schemes, x .label .low) in e)
 
-  module _ (all last : ℕ) (e : all ≡ size b) (q : last ≡ lastLabel b) where
-    pub end-last : last ≤ l → all ≡ endOn b l
-    end-last h =
-        e ∙ frames-all
-        ∙ sym (no-pick (ltb l (lastLabel b)) (min (firstOn b (l + 1)) (tableEnd b)) (tableEnd b) (le-ltb l (lastLabel b) (omega arith)))
+  module _ (all end : ℕ) (e : all ≡ size b) (q : end ≡ field b (1 + n + l) 0 + field b (1 + n + l) 1 * 256) where
+    end-read : end ≡ notedIn b l
+    end-read = q ∙ ap (λ (m : ℕ). field b (1 + m + l) 0 + field b (1 + m + l) 1 * 256) (x .schemes)
 
-    module _ (h : l < last) (next : ℕ) (r : next ≡ firstOn b (l + 1)) where
-      end-next : endOn b l ≡ min next all
-      end-next =
-          yes-pick (ltb l (lastLabel b)) (min (firstOn b (l + 1)) (tableEnd b)) (tableEnd b) (lt-ltb l (lastLabel b) (omega arith))
-          ∙ ap₂ (λ (m n : ℕ). min m n) (sym r) (sym (e ∙ frames-all))
+    pub end-here : end < all → end ≡ endOn b l
+    end-here k = omega (arith, end-read, frames-all)
 
-      pub end-here : next < all → next ≡ endOn b l
-      end-here k = omega (arith, end-next)
-
-      pub end-clipped : all ≤ next → all ≡ endOn b l
-      end-clipped k = omega (arith, end-next)
+    pub end-clipped : all ≤ end → all ≡ endOn b l
+    end-clipped k = omega (arith, end-read, frames-all)

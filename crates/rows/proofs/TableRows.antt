@@ -2,16 +2,17 @@
 use Prim.Native.Nat.{ℕ, zero, suc, _+_, _*_, _-_, _≤_, _<_}
 use mathlib.Core.Bool.{Bool, true, false, _&&_, _||_}
 use mathlib.Core.Path.{_≡_, refl, sym, _∙_, ap, ap₂}
+use mathlib.Core.Logic.{_⊎_, inl, inr}
 use mathlib.Core.List.{List, map}
 use native.Mathlib.Decide.{ℕ-discrete}
 use native.Mathlib.Omega.{arith}
-use lib.Dec.{eqb}
+use lib.Dec.{ltb, eqb}
 use lib.ListN.{length, getD}
-use borrow.Author.Tests.{eq-eqb, ne-eqb}
+use borrow.Author.Tests.{lt-ltb, le-ltb, eq-eqb, ne-eqb}
 use Rattle.lists.specs.Pick.{pick}
 use Rattle.lists.specs.Numbers.{range, lowest}
 use Rattle.lists.specs.Sequences.{concatMap}
-use Rattle.lists.proofs.Tests.{no-pick}
+use Rattle.lists.proofs.Tests.{yes-pick, no-pick, split}
 use Rattle.lists.proofs.Ranges.{length-map-range, getD-map-range}
 use Rattle.lists.proofs.Searches.{lowest-past, lowest-above}
 use Rattle.lists.proofs.Joins.{All, all-every, all-map, all-concat}
@@ -22,7 +23,7 @@ use Rattle.image.specs.Decode.{lastLabel}
 use Rattle.image.proofs.Sound.{noRow}
 use Rattle.tables.specs.Table.{labelOf, firstOn, endOn, rowOn, rowsOn, tableImage}
 use Rattle.rows.specs.Rows.{matches, Found, found, missing, firstRow, nextOf}
-use Rattle.rows.specs.Search.{matching, Deciding}
+use Rattle.rows.specs.Search.{matching, nextAmong, Deciding}
 use Rattle.rows.proofs.FirstRows.{row-here, row-later, missing-first, missing-last, found-next, any-bit}
 
 lowest-first : (p : ℕ → Bool) (i n : ℕ) → p i ≡ true → lowest p i (suc n) ≡ i
@@ -134,18 +135,24 @@ module _ (b : List ℕ) (l w bit : ℕ) where
   next-high last e h = sym (ap nextOf (row-above (omega arith)))
 
   -- ---- the search among the frames of label l
-  module _ (d : Deciding b l bit) (first end f : ℕ) (p : first ≡ firstOn b l) (q : end ≡ endOn b l)
-      (e : f ≡ lowest (matching b w bit) first (end - first)) where
+  module _ (d : Deciding b l bit) (first end : ℕ) (p : first ≡ firstOn b l) (q : end ≡ endOn b l) where
     own-rows : firstRow l w bit (tableImage b .rows) ≡ among l first (end - first)
     own-rows = row-own (d .label .low) (d .label .high) ∙ sym (ap₂ (λ (i j : ℕ). among l i (j - i)) p q)
 
-    pub next-found : (n : ℕ) → f < end → n ≡ field b f 7 → n ≡ nextOf (firstRow l w bit (tableImage b .rows))
-    next-found n k r =
-        r ∙ ap (λ (i : ℕ). field b i 7) e
-        ∙ sym (ap nextOf (own-rows ∙ own-found d first (end - first) (omega (arith, lowest-above (matching b w bit) first (end - first)))))
+    pub next-is : (n : ℕ) → n ≡ nextAmong b w bit first end → n ≡ nextOf (firstRow l w bit (tableImage b .rows))
+    next-is n r = r ∙ go (split f end) ∙ sym (ap nextOf own-rows)
+      where
+        f : ℕ
+        f = lowest (matching b w bit) first (end - first)
 
-    pub next-none : end ≤ f → 256 ≡ nextOf (firstRow l w bit (tableImage b .rows))
-    next-none k = sym (ap nextOf (own-rows ∙ own-none d first (end - first) (omega (arith, lowest-above (matching b w bit) first (end - first)))))
+        low : first ≤ f
+        low = lowest-above (matching b w bit) first (end - first)
+
+        go : (f < end) ⊎ (end ≤ f) → nextAmong b w bit first end ≡ nextOf (among l first (end - first))
+        go (inl h) =
+            yes-pick (ltb f end) (field b f 7) 256 (lt-ltb f end h) ∙ sym (ap nextOf (own-found d first (end - first) (omega (arith, low))))
+        go (inr h) =
+            no-pick (ltb f end) (field b f 7) 256 (le-ltb f end h) ∙ sym (ap nextOf (own-none d first (end - first) (omega (arith, low))))
 
 -- ---- no row of a label that calls no function looks at the bit
 module _ (b : List ℕ) (l w p q : ℕ) (n : labelOf b l .kind ≡ 2 → ⊥) where

@@ -1,15 +1,13 @@
 // Which row of a prepared table a label takes, by the word and a result bit.
 use image::byte;
-use image::labels_from;
-use image::pair;
 ghost use mathlib.Core.Path.{_≡_};
-ghost use Prim.Native.Nat.{_+_, _*_, _-_, _≤_, _<_};
-ghost use Rattle.lists.specs.Numbers.{lowest};
+ghost use Prim.Native.Nat.{_+_, _*_, _≤_, _<_};
 ghost use Rattle.frames.specs.Frame.{size, field};
-ghost use Rattle.image.specs.Decode.{lastLabel};
+ghost use Rattle.image.specs.Decode.{schemeCount};
 ghost use Rattle.tables.specs.Table.{firstOn, endOn, tableImage};
+ghost use Rattle.tables.specs.Labels.{Framed};
 ghost use Rattle.rows.specs.Rows.{firstRow, nextOf};
-ghost use Rattle.rows.specs.Search.{swapped, matching, Leaves, Deciding};
+ghost use Rattle.rows.specs.Search.{swapped, matching, nextAmong, Deciding};
 
 // The two bytes of a word in the other order. A row is compared with its bytes as they stand, which spares turning care mask and
 // values round at each row.
@@ -45,56 +43,51 @@ fn is_matching(table: &[u8], f: usize, turned: u16, bit: u8) -> bool
     only == bit
 }
 
-// The first frame from first up to end whose row matches; where none does, first or end, whichever is higher.
-fn find_row(table: &[u8], first: usize, end: usize, word: u16, bit: u8) -> usize
+// Where the first matching row of the frames from first up to end leads, or 256 where none matches.
+fn find_next(table: &[u8], first: usize, end: usize, word: u16, bit: u8) -> u16
     requires { ⌜ end ≤ size (now table) ⌝ }
-    ensures { λ r. ⌜ r ≡ lowest (matching (now (table .entry)) word bit) first (end - first) ⌝ }
+    ensures { λ r. ⌜ r ≡ nextAmong (now (table .entry)) word bit first end ⌝ }
 {
     let turned = swap(word);
     let mut f = first;
     while f < end {
         if is_matching(table, f, turned, bit) {
-            return f;
+            return byte(table, f, 7) as u16;
         }
         f += 1;
     }
-    f
+    256
 }
 
-// The frame that label l's frame notes.
-fn first_of(table: &[u8], l: usize) -> usize
-    requires { ⌜ Leaves (now table) l ⌝ }
+// Where the rows of label l begin: the frame that the label before it notes.
+fn first_of(table: &[u8], schemes: u8, l: usize) -> usize
+    requires { ⌜ Framed (now table) schemes l ⌝ }
     ensures { λ r. ⌜ r ≡ firstOn (now (table .entry)) l ⌝ }
 {
-    pair(table, labels_from(table) + l, 0) as usize
+    low_pair(table, (schemes as usize) + l, 0) as usize
 }
 
-// Where the rows of label l end.
-fn end_of(table: &[u8], l: usize) -> usize
-    requires { ⌜ Leaves (now table) l ⌝ }
+// Where the rows of label l end: the frame that it notes, within the table.
+fn end_of(table: &[u8], schemes: u8, l: usize) -> usize
+    requires { ⌜ Framed (now table) schemes l ⌝ }
     ensures { λ r. ⌜ r ≡ endOn (now (table .entry)) l ⌝ }
 {
     let all = table.len() / 10;
-    if (byte(table, 0, 2) as usize) <= l {
-        return all;
-    }
-    let next = first_of(table, l + 1);
-    if next < all {
-        return next;
+    let end = low_pair(table, 1 + (schemes as usize) + l, 0) as usize;
+    if end < all {
+        return end;
     }
     all
 }
 
-// Where the first matching row leads of label l, which has a frame with rows of its own, or 256 where none matches. The bit is 2 for a label
-// that calls no function.
-pub fn next_row(table: &[u8], l: usize, word: u16, bit: u8) -> u16
+// Where the first matching row of label l leads, which has a frame with rows of its own, or 256 where none matches. The bit is 2 for a
+// label that calls no function.
+pub fn next_row(table: &[u8], schemes: u8, l: usize, word: u16, bit: u8) -> u16
     requires { ⌜ Deciding (now table) l bit ⌝ }
+    requires { ⌜ schemes ≡ schemeCount (now table) ⌝ }
     ensures { λ r. ⌜ r ≡ nextOf (firstRow l word bit (tableImage (now (table .entry)) .rows)) ⌝ }
 {
-    let end = end_of(table, l);
-    let f = find_row(table, first_of(table, l), end, word, bit);
-    if f < end {
-        return byte(table, f, 7) as u16;
-    }
-    256
+    let first = first_of(table, schemes, l);
+    let end = end_of(table, schemes, l);
+    find_next(table, first, end, word, bit)
 }

@@ -5,6 +5,8 @@ use frames::Answer;
 use frames::refused;
 use state::is_unfit;
 use state::tidy_results;
+use tables::last_label;
+use tables::scheme_count;
 use ticks::tick_on;
 ghost use mathlib.Core.Path.{_≡_};
 ghost use mathlib.Core.List.{[], _∷_};
@@ -26,9 +28,11 @@ fn tick_all(
     requires { ⌜ Starts (now table) (stateOf (now bytes)) (now words) (now masks) (now codes) ⌝ }
     ensures { λ r. ⌜ Ends (now (table .entry)) (now (bytes .entry)) (now (words .entry)) (now (masks .entry)) (now (codes .entry)) r (now (bytes .exit)) (now (masks .exit)) (now (codes .exit)) ⌝ }
 {
+    let schemes = scheme_count(table);
+    let last = last_label(table);
     let mut i: usize = 0;
     while i < words.len() {
-        let done = tick_on(table, bytes, words[i]);
+        let done = tick_on(table, schemes, last, bytes, words[i]);
         let number = done.number;
         if number != 0 {
             return Ended { number, count: i };

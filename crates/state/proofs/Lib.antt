@@ -4,3 +4,5 @@ pub mod ByteParts
 pub mod TidyTurns
 pub mod Fitness
 pub mod FitCases
+pub mod AboveCases
+pub mod ClimbCases

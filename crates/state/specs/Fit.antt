@@ -1,15 +1,23 @@
--- What the tests of a state's fitness ask.
-use Prim.Native.Nat.{ℕ, _≤_, _<_}
+-- What the tests of a state's fitness ask and promise.
+use Prim.Native.Nat.{ℕ, _≤_}
+use mathlib.Core.Bool.{Bool, _&&_, _||_, not}
 use mathlib.Core.List.{List}
+use lib.Dec.{eqb}
+use Rattle.image.specs.Image.{Image}
 use Rattle.tables.specs.Table.{Whole}
 use Rattle.state.specs.declared.State.{State}
+use Rattle.state.specs.State.{labelAt, placeAt}
 
--- a table, and no more places in use than there are
+-- a table, and 1 to 32 places in use
 pub record Deep (b : List ℕ) (s : State) : Type 0 where
   pub whole : Whole b
+  pub some : 1 ≤ s .depth
   pub most : s .depth ≤ 32
 
--- the same, and a place up to the depth
-pub record Filled (b : List ℕ) (s : State) (k : ℕ) : Type 0 where
-  pub deep : Deep b s
-  pub within : k < s .depth
+-- the part of 15 that speaks of the bottom's owner
+abbrev pub unfitBottom : Image → State → Bool
+unfitBottom i s = not (eqb (labelAt i (placeAt s 0) .owner) 1)
+
+-- label l of that owner may not stand at place k, where one of that scheme is called
+abbrev pub astray : ℕ → ℕ → ℕ → ℕ → Bool
+astray owner scheme l k = not (eqb owner scheme) && (not (eqb l 1) || eqb k 0)

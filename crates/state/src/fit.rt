@@ -4,80 +4,97 @@ use crate::fresh::bad_size;
 use crate::parts::depth_of;
 use crate::parts::place_of;
 use crate::parts::size_of;
-use image::byte;
 use tables::label_of;
+use tables::last_label;
 ghost use mathlib.Core.Path.{_≡_};
-ghost use mathlib.Core.Bool.{not};
-ghost use Prim.Native.Nat.{_-_, _≤_};
-ghost use lib.Dec.{eqb};
+ghost use mathlib.Core.Bool.{_||_, not};
+ghost use Prim.Native.Nat.{_-_, _≤_, _<_};
+ghost use lib.Dec.{leb, eqb};
+ghost use Rattle.lists.specs.Pick.{pick};
 ghost use Rattle.lists.specs.Numbers.{any};
 ghost use Rattle.tables.specs.Table.{Whole, tableImage};
-ghost use Rattle.state.specs.State.{placeAt, mayCarry, unfitPlace, badDepth, unfit};
+ghost use Rattle.state.specs.State.{placeAt, unfitPlace, badDepth, unfit};
 ghost use Rattle.state.specs.Bytes.{stateOf};
-ghost use Rattle.state.specs.Fit.{Filled, Deep};
+ghost use Rattle.state.specs.Fit.{astray, unfitBottom, Deep};
 
-// Whether label l may be kept under another.
-fn may_carry(table: &[u8], l: u8, above: u8) -> bool
-    requires { ⌜ Whole (now table) ⌝ }
-    ensures { λ r. ⌜ r ≡ mayCarry (tableImage (now (table .entry))) l above ⌝ }
+// Whether a label of that kind may not be kept under another: only a call may.
+fn calls_none(kind: u8) -> bool
+    ensures { λ r. ⌜ r ≡ not (eqb kind 1 || eqb kind 2) ⌝ }
 {
-    let label = label_of(table, l);
-    let kind = label.kind;
     match kind {
-        1..=2 => {
-            if above == 1 {
-                return true;
-            }
-            let held = label_of(table, above);
-            held.owner == label.called
-        }
-        _ => false,
+        1..=2 => false,
+        _ => true,
     }
 }
 
-// Whether place k, up to the depth, holds no label of the image or one that may not be kept there.
-fn unfit_place(table: &[u8], bytes: &[u8; 50], k: usize) -> bool
-    requires { ⌜ Filled (now table) (stateOf (now bytes)) k ⌝ }
-    ensures { λ r. ⌜ r ≡ unfitPlace (tableImage (now (table .entry))) (stateOf (now (bytes .entry))) k ⌝ }
+// Whether label l may not stand at place k: it is of another scheme than the one that is called there, and no 1 above the bottom.
+fn is_astray(owner: u8, scheme: u8, l: u8, k: usize) -> bool
+    ensures { λ r. ⌜ r ≡ astray owner scheme l k ⌝ }
 {
-    let l = place_of(bytes, k);
-    if byte(table, 0, 2) < l {
+    if owner == scheme {
+        return false;
+    }
+    if l != 1 {
         return true;
     }
-    let next = k + 1;
-    let depth = depth_of(bytes) as usize;
-    if next < depth {
-        return !may_carry(table, l, place_of(bytes, next));
-    }
-    false
+    k == 0
 }
 
-// Whether some place up to the depth does not fit.
+// Whether some place up to the depth does not fit, or the bottom is not of scheme 1. Each label is read once, from the bottom up, with the
+// scheme that the one below calls.
 fn any_unfit(table: &[u8], bytes: &[u8; 50]) -> bool
     requires { ⌜ Deep (now table) (stateOf (now bytes)) ⌝ }
-    ensures { λ r. ⌜ r ≡ any (unfitPlace (tableImage (now (table .entry))) (stateOf (now (bytes .entry)))) 0 (stateOf (now (bytes .entry)) .depth) ⌝ }
+    ensures { λ r. ⌜ r ≡ (any (unfitPlace (tableImage (now (table .entry))) (stateOf (now (bytes .entry)))) 0 (stateOf (now (bytes .entry)) .depth) || unfitBottom (tableImage (now (table .entry))) (stateOf (now (bytes .entry)))) ⌝ }
 {
+    let last = last_label(table);
     let depth = depth_of(bytes) as usize;
-    for k in 0..depth {
-        if unfit_place(table, bytes, k) {
+    let mut scheme: u8 = 1;
+    let mut k: usize = 0;
+    while k < depth {
+        let l = place_of(bytes, k);
+        if last < l {
             return true;
         }
+        let label = label_of(table, l);
+        if is_astray(label.owner, scheme, l, k) {
+            return true;
+        }
+        k += 1;
+        if calls_none(label.kind) {
+            return k < depth;
+        }
+        scheme = label.called;
     }
     false
 }
 
-// Whether some place above the depth is not 0.
+// Place k where it lies above the depth, and 0 where it does not.
+fn place_above(bytes: &[u8; 50], depth: usize, k: usize) -> u8
+    requires { ⌜ k < 32 ⌝ }
+    ensures { λ r. ⌜ r ≡ pick (leb depth k) (placeAt (stateOf (now (bytes .entry))) k) 0 ⌝ }
+{
+    if depth <= k {
+        return place_of(bytes, k);
+    }
+    0
+}
+
+// Whether some place above the depth is not 0. No place ends the loop, so that it can be unrolled to one instruction a place.
 fn any_filled(bytes: &[u8; 50]) -> bool
     requires { ⌜ stateOf (now bytes) .depth ≤ 32 ⌝ }
     ensures { λ r. ⌜ r ≡ any (λ k. not (eqb (placeAt (stateOf (now (bytes .entry))) k) 0)) (stateOf (now (bytes .entry)) .depth) (32 - stateOf (now (bytes .entry)) .depth) ⌝ }
 {
     let depth = depth_of(bytes) as usize;
-    for k in depth..State::PLACES {
-        if place_of(bytes, k) != 0 {
-            return true;
-        }
+    if State::PLACES <= depth {
+        return false;
     }
-    false
+    let mut bits: u8 = 0;
+    let mut k: usize = 0;
+    while k < State::PLACES {
+        bits = bits | place_above(bytes, depth, k);
+        k += 1;
+    }
+    bits != 0
 }
 
 // Whether the stack size is refused, or the depth lies outside 1 to it.
@@ -104,10 +121,6 @@ pub fn is_unfit(table: &[u8], bytes: &[u8; 50]) -> bool
         return true;
     }
     if any_unfit(table, bytes) {
-        return true;
-    }
-    let bottom = label_of(table, place_of(bytes, 0));
-    if bottom.owner != 1 {
         return true;
     }
     any_filled(bytes)

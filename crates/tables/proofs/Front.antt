@@ -17,19 +17,12 @@ use Rattle.frames.specs.Frame.{size, field, pairAt, quadAt}
 use Rattle.image.specs.Image.{Label, noLabel}
 use Rattle.image.specs.Decode.{schemeCount, lastLabel, rowCount, labelsFrom, entryIn}
 use Rattle.image.specs.Check.{badCounts}
-use Rattle.tables.specs.Table.{tableEnd, badTable, labelOn, labelOf, firstOn, endOn, rowOn, rowsOn, tableImage, front, Whole}
+use Rattle.tables.specs.Table.{tableEnd, badTable, labelOn, labelOf, notedIn, firstOn, endOn, rowOn, rowsOn, tableImage, front, Whole}
 use Rattle.tables.proofs.RangeLaws.{map-alike, concat-alike}
 
 -- the rows of a label end within the table
 pub end-inside : (b : List ℕ) (l : ℕ) → endOn b l ≤ tableEnd b
-end-inside b l = go (cases (ltb l (lastLabel b)))
-  where
-    go : (ltb l (lastLabel b) ≡ true) ⊎ (ltb l (lastLabel b) ≡ false) → endOn b l ≤ tableEnd b
-    go (inl e) =
-        let z : endOn b l ≡ min (firstOn b (l + 1)) (tableEnd b) =
-        yes-pick (ltb l (lastLabel b)) (min (firstOn b (l + 1)) (tableEnd b)) (tableEnd b) e in omega arith
-    go (inr e) =
-        let z : endOn b l ≡ tableEnd b = no-pick (ltb l (lastLabel b)) (min (firstOn b (l + 1)) (tableEnd b)) (tableEnd b) e in omega arith
+end-inside b l = omega arith
 
 module _ (b c : List ℕ) (same : (k : ℕ) → k < 10 * tableEnd b → getD c k 0 ≡ getD b k 0) where
   field-same : (f k : ℕ) → f < tableEnd b → k < 10 → field c f k ≡ field b f k
@@ -89,20 +82,11 @@ module _ (b c : List ℕ) (same : (k : ℕ) → k < 10 * tableEnd b → getD c k
       ∙ sym (no-pick (ltb (lastLabel b) l) noLabel (labelOn b l) (le-ltb (lastLabel b) l h)))
 
   -- ---- the rows of one label
-  first-same : (l : ℕ) → l ≤ lastLabel b → firstOn c l ≡ firstOn b l
-  first-same l h = ap₂ (λ (x y : ℕ). x * 256 + y) (label-field l 0 h (omega arith)) (label-field l 1 h (omega arith))
+  noted-same : (l : ℕ) → l ≤ lastLabel b → notedIn c l ≡ notedIn b l
+  noted-same l h = ap₂ (λ (x y : ℕ). x + y * 256) (label-field l 0 h (omega arith)) (label-field l 1 h (omega arith))
 
   end-on-same : (l : ℕ) → l ≤ lastLabel b → endOn c l ≡ endOn b l
-  end-on-same l h =
-      ap₂ (λ (m e : ℕ). pick (ltb l m) (min (firstOn c (l + 1)) e) e) last-same end-same ∙ go (cases (ltb l (lastLabel b)))
-    where
-      go : (ltb l (lastLabel b) ≡ true) ⊎ (ltb l (lastLabel b) ≡ false)
-          → pick (ltb l (lastLabel b)) (min (firstOn c (l + 1)) (tableEnd b)) (tableEnd b) ≡ endOn b l
-      go (inl e) =
-          ap (λ (x : ℕ). pick (ltb l (lastLabel b)) (min x (tableEnd b)) (tableEnd b)) (first-same (l + 1) (omega (arith, ltb-true l (lastLabel b) e)))
-      go (inr e) =
-          no-pick (ltb l (lastLabel b)) (min (firstOn c (l + 1)) (tableEnd b)) (tableEnd b) e
-          ∙ sym (no-pick (ltb l (lastLabel b)) (min (firstOn b (l + 1)) (tableEnd b)) (tableEnd b) e)
+  end-on-same l h = ap₂ (λ (n e : ℕ). min n e) (noted-same l h) end-same
 
   row-same : (l f : ℕ) → l ≤ lastLabel b → f < tableEnd b → rowOn c l f ≡ rowOn b l f
   row-same l f g h =
@@ -115,7 +99,7 @@ module _ (b c : List ℕ) (same : (k : ℕ) → k < 10 * tableEnd b → getD c k
 
   rows-on-same : (l : ℕ) → l ≤ lastLabel b → rowsOn c l ≡ rowsOn b l
   rows-on-same l h =
-      ap₂ (λ (f e : ℕ). map (rowOn c l) (range f (e - f))) (first-same l h) (end-on-same l h)
+      ap₂ (λ (f e : ℕ). map (rowOn c l) (range f (e - f))) (noted-same (l - 1) (omega arith)) (end-on-same l h)
       ∙ map-alike (rowOn c l) (rowOn b l) (firstOn b l) (endOn b l - firstOn b l)
       (λ f p q. row-same l f h (omega (arith, end-inside b l)))
 

@@ -1,17 +1,17 @@
 -- What the functions that read a label of a table hand back, by the bytes that they find.
-use Prim.Native.Nat.{ℕ, zero, suc, _+_, _-_, _≤_, _<_}
-use mathlib.Core.Path.{_≡_, refl, sym, _∙_, ap}
+use Prim.Native.Nat.{ℕ, zero, suc, _+_, _*_, _-_, _≤_, _<_}
+use mathlib.Core.Path.{_≡_, refl, sym, _∙_, ap, ap₂}
 use mathlib.Core.List.{List}
 use native.Mathlib.Omega.{arith}
 use lib.Dec.{ltb}
 use borrow.Author.Tests.{lt-ltb, le-ltb}
 use Rattle.lists.specs.Pick.{pick}
 use Rattle.lists.proofs.Tests.{yes-pick, no-pick}
-use Rattle.frames.specs.Frame.{field, quadAt}
+use Rattle.frames.specs.Frame.{field, pairAt, quadAt}
 use Rattle.image.specs.Image.{Label, noLabel, homeLabel, returnLabel}
 use Rattle.image.specs.Decode.{schemeCount, lastLabel, labelsFrom, labelIn}
 use Rattle.tables.specs.Table.{labelOn, labelOf, entryOf}
-use Rattle.tables.specs.Labels.{Numbered}
+use Rattle.tables.specs.Labels.{Numbered, Framed}
 
 -- ---- a label of the table, and one above M
 module _ (b : List ℕ) (l : ℕ) where
@@ -69,17 +69,23 @@ module _ (b : List ℕ) (l : ℕ) (asked : Numbered b l) where
         found ∙ sym (ap (λ (x : Label). x .called) label-numbered
         ∙ no-pick (ltb (schemeCount b) (labelIn b l .called)) 0 (labelIn b l .called) (le-ltb (schemeCount b) (labelIn b l .called) (omega arith)))
 
-  pub mask-known : (m : ℕ) → m ≡ quadAt b (labelsFrom b + l) 6 → m ≡ labelOf b l .mask
-  mask-known m p = p ∙ sym (ap (λ (x : Label). x .mask) label-numbered)
-
   pub label-made : (k h o r m : ℕ) → k ≡ labelOf b l .kind → h ≡ labelOf b l .called → o ≡ field b (labelsFrom b + l) 4
-      → r ≡ field b (labelsFrom b + l) 5 → m ≡ quadAt b (labelsFrom b + l) 6
+      → r ≡ field b (labelsFrom b + l) 5 → m ≡ labelOf b l .mask
       → record { kind = k; called = h; owner = o; result = r; mask = m } ≡ labelOf b l
   label-made k h o r m p₁ p₂ p₃ p₄ p₅ =
       let q₃ : o ≡ labelOf b l .owner = p₃ ∙ sym (ap (λ (x : Label). x .owner) label-numbered) in
       let q₄ : r ≡ labelOf b l .result = p₄ ∙ sym (ap (λ (x : Label). x .result) label-numbered) in
-      let q₅ : m ≡ labelOf b l .mask = mask-known m p₅ in
-      λ j. record { kind = p₁ j; called = p₂ j; owner = q₃ j; result = q₄ j; mask = q₅ j }
+      λ j. record { kind = p₁ j; called = p₂ j; owner = q₃ j; result = q₄ j; mask = p₅ j }
+
+-- ---- with H as the caller has it, n
+module _ (b : List ℕ) (n l : ℕ) (asked : Framed b n l) where
+  pub field-framed : (k r : ℕ) → r ≡ field b (1 + n + l) k → r ≡ field b (labelsFrom b + l) k
+  field-framed k r e = e ∙ ap (λ (m : ℕ). field b (1 + m + l) k) (asked .schemes)
+
+  pub mask-framed : (u v : ℕ) → u ≡ pairAt b (1 + n + l) 6 → v ≡ pairAt b (1 + n + l) 8 → u * 65536 + v ≡ labelOf b l .mask
+  mask-framed u v p q =
+      ap₂ (λ (x y : ℕ). x * 65536 + y) p q ∙ ap (λ (m : ℕ). quadAt b (1 + m + l) 6) (asked .schemes)
+      ∙ sym (ap (λ (x : Label). x .mask) (label-numbered b l (asked .label)))
 
 -- ---- entries
 module _ (b : List ℕ) (h e : ℕ) where

@@ -13,7 +13,7 @@ use Rattle.image.specs.Decode.{schemeCount, lastLabel, rowCount, labelsFrom, ro
 use Rattle.image.specs.Check.{tableVerdict}
 use Rattle.image.proofs.Accepted.{counted}
 use Rattle.tables.specs.Prepare.{firstFrame, notedTo, noted}
-use Rattle.tables.specs.Table.{tableEnd, firstOn}
+use Rattle.tables.specs.Table.{tableEnd, notedIn}
 
 -- every label of an accepted table has its frame within it
 pub rows-inside : (b : List ℕ) → tableVerdict b ≡ fine → rowsFrom b ≤ size b
@@ -33,51 +33,51 @@ module _ (b : List ℕ) where
   unfolding notedTo
   noted-to-length zero = refl
   noted-to-length (suc n) =
-      length-set (set (notedTo b n) (place b n) (firstFrame b n / 256)) (place b n + 1) (firstFrame b n % 256)
-      ∙ length-set (notedTo b n) (place b n) (firstFrame b n / 256) ∙ noted-to-length n
+      length-set (set (notedTo b n) (place b n) (firstFrame b (n + 1) % 256)) (place b n + 1) (firstFrame b (n + 1) / 256)
+      ∙ length-set (notedTo b n) (place b n) (firstFrame b (n + 1) % 256) ∙ noted-to-length n
 
   pub noted-to-other : (n p : ℕ) → Away b n p → getD (notedTo b n) p 0 ≡ getD b p 0
   unfolding notedTo
   noted-to-other zero p a = refl
   noted-to-other (suc n) p a =
-      getD-set-other (set (notedTo b n) (place b n) (firstFrame b n / 256)) (place b n + 1) p (firstFrame b n % 256) 0 (a n (omega arith) .1)
-      ∙ getD-set-other (notedTo b n) (place b n) p (firstFrame b n / 256) 0 (a n (omega arith) .0)
+      getD-set-other (set (notedTo b n) (place b n) (firstFrame b (n + 1) % 256)) (place b n + 1) p (firstFrame b (n + 1) / 256) 0 (a n (omega arith) .1)
+      ∙ getD-set-other (notedTo b n) (place b n) p (firstFrame b (n + 1) % 256) 0 (a n (omega arith) .0)
       ∙ noted-to-other n p (λ l h. a l (omega arith))
 
-  noted-to-high : (n l : ℕ) → l < n → place b l < length b → getD (notedTo b n) (place b l) 0 ≡ firstFrame b l / 256
-  unfolding notedTo
-  noted-to-high zero l h g = absurd (omega arith)
-  noted-to-high (suc n) l h g = go (ℕ-discrete l n) (noted-to-high n l)
-    where
-      go : Dec (l ≡ n) → (l < n → place b l < length b → getD (notedTo b n) (place b l) 0 ≡ firstFrame b l / 256)
-          → getD (notedTo b (suc n)) (place b l) 0 ≡ firstFrame b l / 256
-      go (yes e) ih =
-          getD-set-other (set (notedTo b n) (place b n) (firstFrame b n / 256)) (place b n + 1) (place b l) (firstFrame b n % 256) 0 (λ z. omega arith)
-          ∙ ap (λ (p : ℕ). getD (set (notedTo b n) (place b n) (firstFrame b n / 256)) p 0) (ap (place b) e)
-          ∙ getD-set-same (notedTo b n) (place b n) (firstFrame b n / 256) 0 (omega (arith, noted-to-length n))
-          ∙ ap (λ (m : ℕ). firstFrame b m / 256) (sym e)
-      go (no e) ih =
-          getD-set-other (set (notedTo b n) (place b n) (firstFrame b n / 256)) (place b n + 1) (place b l) (firstFrame b n % 256) 0 (λ z. omega arith)
-          ∙ getD-set-other (notedTo b n) (place b n) (place b l) (firstFrame b n / 256) 0 (λ z. e (omega arith))
-          ∙ ih (omega arith) g
-
-  noted-to-low : (n l : ℕ) → l < n → place b l + 1 < length b → getD (notedTo b n) (place b l + 1) 0 ≡ firstFrame b l % 256
+  noted-to-low : (n l : ℕ) → l < n → place b l < length b → getD (notedTo b n) (place b l) 0 ≡ firstFrame b (l + 1) % 256
   unfolding notedTo
   noted-to-low zero l h g = absurd (omega arith)
   noted-to-low (suc n) l h g = go (ℕ-discrete l n) (noted-to-low n l)
     where
-      go : Dec (l ≡ n) → (l < n → place b l + 1 < length b → getD (notedTo b n) (place b l + 1) 0 ≡ firstFrame b l % 256)
-          → getD (notedTo b (suc n)) (place b l + 1) 0 ≡ firstFrame b l % 256
+      go : Dec (l ≡ n) → (l < n → place b l < length b → getD (notedTo b n) (place b l) 0 ≡ firstFrame b (l + 1) % 256)
+          → getD (notedTo b (suc n)) (place b l) 0 ≡ firstFrame b (l + 1) % 256
       go (yes e) ih =
-          ap (λ (p : ℕ). getD (set (set (notedTo b n) (place b n) (firstFrame b n / 256)) (place b n + 1) (firstFrame b n % 256)) p 0)
-          (ap (λ (m : ℕ). place b m + 1) e)
-          ∙ getD-set-same (set (notedTo b n) (place b n) (firstFrame b n / 256)) (place b n + 1) (firstFrame b n % 256) 0
-          (omega (arith, noted-to-length n, length-set (notedTo b n) (place b n) (firstFrame b n / 256)))
-          ∙ ap (λ (m : ℕ). firstFrame b m % 256) (sym e)
+          getD-set-other (set (notedTo b n) (place b n) (firstFrame b (n + 1) % 256)) (place b n + 1) (place b l) (firstFrame b (n + 1) / 256) 0 (λ z. omega arith)
+          ∙ ap (λ (p : ℕ). getD (set (notedTo b n) (place b n) (firstFrame b (n + 1) % 256)) p 0) (ap (place b) e)
+          ∙ getD-set-same (notedTo b n) (place b n) (firstFrame b (n + 1) % 256) 0 (omega (arith, noted-to-length n))
+          ∙ ap (λ (m : ℕ). firstFrame b (m + 1) % 256) (sym e)
       go (no e) ih =
-          getD-set-other (set (notedTo b n) (place b n) (firstFrame b n / 256)) (place b n + 1) (place b l + 1) (firstFrame b n % 256) 0
+          getD-set-other (set (notedTo b n) (place b n) (firstFrame b (n + 1) % 256)) (place b n + 1) (place b l) (firstFrame b (n + 1) / 256) 0 (λ z. omega arith)
+          ∙ getD-set-other (notedTo b n) (place b n) (place b l) (firstFrame b (n + 1) % 256) 0 (λ z. e (omega arith))
+          ∙ ih (omega arith) g
+
+  noted-to-high : (n l : ℕ) → l < n → place b l + 1 < length b → getD (notedTo b n) (place b l + 1) 0 ≡ firstFrame b (l + 1) / 256
+  unfolding notedTo
+  noted-to-high zero l h g = absurd (omega arith)
+  noted-to-high (suc n) l h g = go (ℕ-discrete l n) (noted-to-high n l)
+    where
+      go : Dec (l ≡ n) → (l < n → place b l + 1 < length b → getD (notedTo b n) (place b l + 1) 0 ≡ firstFrame b (l + 1) / 256)
+          → getD (notedTo b (suc n)) (place b l + 1) 0 ≡ firstFrame b (l + 1) / 256
+      go (yes e) ih =
+          ap (λ (p : ℕ). getD (set (set (notedTo b n) (place b n) (firstFrame b (n + 1) % 256)) (place b n + 1) (firstFrame b (n + 1) / 256)) p 0)
+          (ap (λ (m : ℕ). place b m + 1) e)
+          ∙ getD-set-same (set (notedTo b n) (place b n) (firstFrame b (n + 1) % 256)) (place b n + 1) (firstFrame b (n + 1) / 256) 0
+          (omega (arith, noted-to-length n, length-set (notedTo b n) (place b n) (firstFrame b (n + 1) % 256)))
+          ∙ ap (λ (m : ℕ). firstFrame b (m + 1) / 256) (sym e)
+      go (no e) ih =
+          getD-set-other (set (notedTo b n) (place b n) (firstFrame b (n + 1) % 256)) (place b n + 1) (place b l + 1) (firstFrame b (n + 1) / 256) 0
           (λ z. e (omega arith))
-          ∙ getD-set-other (notedTo b n) (place b n) (place b l + 1) (firstFrame b n / 256) 0 (λ z. omega arith)
+          ∙ getD-set-other (notedTo b n) (place b n) (place b l + 1) (firstFrame b (n + 1) % 256) 0 (λ z. omega arith)
           ∙ ih (omega arith) g
 
   -- a byte of a row
@@ -150,17 +150,18 @@ module _ (b : List ℕ) where
       } in
       ap at f ∙ (λ j. record { kind = e₂ j; called = e₃ j; owner = e₄ j; result = e₅ j; mask = e₆ j })
 
-  -- ---- where the rows of label l begin
+  -- ---- where the rows of label l end
   module _ (ok : tableVerdict b ≡ fine) (l : ℕ) (h : l ≤ lastLabel b) where
-    pub noted-high : field (noted b) (labelsFrom b + l) 0 ≡ firstFrame b l / 256
-    noted-high =
+    pub noted-low : field (noted b) (labelsFrom b + l) 0 ≡ firstFrame b (l + 1) % 256
+    noted-low =
         ap (λ (p : ℕ). getD (noted b) p 0) (let e : place b l + 0 ≡ place b l = omega arith in e)
-        ∙ noted-to-high b (lastLabel b + 1) l (omega arith) (omega (arith, rows-inside b ok))
+        ∙ noted-to-low b (lastLabel b + 1) l (omega arith) (omega (arith, rows-inside b ok))
 
-    pub noted-low : field (noted b) (labelsFrom b + l) 1 ≡ firstFrame b l % 256
-    noted-low = noted-to-low b (lastLabel b + 1) l (omega arith) (omega (arith, rows-inside b ok))
+    pub noted-high : field (noted b) (labelsFrom b + l) 1 ≡ firstFrame b (l + 1) / 256
+    noted-high = noted-to-high b (lastLabel b + 1) l (omega arith) (omega (arith, rows-inside b ok))
 
-    pub noted-first : firstOn (noted b) l ≡ firstFrame b l
-    noted-first =
-        ap (λ (n : ℕ). pairAt (noted b) (n + l) 0) noted-labels-from ∙ ap₂ (λ (x y : ℕ). x * 256 + y) noted-high noted-low
-        ∙ (let e : firstFrame b l / 256 * 256 + firstFrame b l % 256 ≡ firstFrame b l = omega arith in e)
+    pub noted-in : notedIn (noted b) l ≡ firstFrame b (l + 1)
+    noted-in =
+        ap (λ (n : ℕ). field (noted b) (n + l) 0 + field (noted b) (n + l) 1 * 256) noted-labels-from
+        ∙ ap₂ (λ (x y : ℕ). x + y * 256) noted-low noted-high
+        ∙ (let e : firstFrame b (l + 1) % 256 + firstFrame b (l + 1) / 256 * 256 ≡ firstFrame b (l + 1) = omega arith in e)

@@ -1,4 +1,4 @@
--- The loop that notes where the rows of each label begin: the search for a label goes on where the one before it ended.
+-- The loop that notes where the rows of each label end: the search for a label goes on where the one before it ended.
 use Prim.Native.Nat.{ℕ, _+_, _*_, _-_, _/_, _%_, _≤_, _<_}
 use mathlib.Core.Bool.{false}
 use mathlib.Core.Path.{_≡_, refl, sym, _∙_, ap, ap₂}
@@ -49,37 +49,37 @@ module _ (b : List ℕ) (ok : tableVerdict b ≡ fine) where
     pub notes-place : (n at : ℕ) → n ≡ schemeCount b → at ≡ 10 * (1 + n + l) → l ≤ lastLabel b → at + 1 < length out
     notes-place n at schemes is h = omega (arith, notes-length, rows-inside b ok)
 
-    module _ {end next : ℕ} (all : end ≡ size b) (e : next ≡ lowest (reached out l) f (end - f)) where
+    module _ {end next : ℕ} (all : end ≡ size b) (e : next ≡ lowest (reached out (l + 1)) f (end - f)) where
       -- the rows of the table are still as they were
-      same-rows : next ≡ lowest (reached b l) f (size b - f)
+      same-rows : next ≡ lowest (reached b (l + 1)) f (size b - f)
       same-rows =
-          e ∙ ap (λ (n : ℕ). lowest (reached out l) f (n - f)) all
-          ∙ lowest-alike (reached out l) (reached b l) f (size b - f)
-          (λ k h _. ap (λ (x : ℕ). leb l x)
+          e ∙ ap (λ (n : ℕ). lowest (reached out (l + 1)) f (n - f)) all
+          ∙ lowest-alike (reached out (l + 1)) (reached b (l + 1)) f (size b - f)
+          (λ k h _. ap (λ (x : ℕ). leb (l + 1) x)
           (ap (λ (xs : List ℕ). field xs k 1) (t .is) ∙ noted-to-row b l k 1 (t .low) (omega (arith, t .behind)) (omega arith)))
 
       next-inside : next ≤ size b
-      next-inside = omega (arith, same-rows, lowest-inside (reached b l) f (size b) (t .inside))
+      next-inside = omega (arith, same-rows, lowest-inside (reached b (l + 1)) f (size b) (t .inside))
 
       -- a frame's number fits two bytes
       pub notes-small : lastLabel b < 256 → next < 65536
       notes-small h = omega (arith, counted b ok .most, counted b ok .few, counted b ok .all, next-inside)
 
-      pub notes-turn : (at : ℕ) → at ≡ place b l → l ≤ lastLabel b → Notes b (set (set out at (next / 256)) (at + 1) (next % 256)) next (l + 1)
+      pub notes-turn : (at : ℕ) → at ≡ place b l → l ≤ lastLabel b → Notes b (set (set out at (next % 256)) (at + 1) (next / 256)) next (l + 1)
       unfolding notedTo
       notes-turn at is h =
-          let q : next ≡ firstFrame b l = same-rows ∙ t .rest l (omega arith) in
+          let q : next ≡ firstFrame b (l + 1) = same-rows ∙ t .rest (l + 1) (omega arith) in
           record {
             is =
-                ap₂ (λ (n v : ℕ). set (set out n (v / 256)) (n + 1) (v % 256)) is q
-                ∙ ap (λ (xs : List ℕ). set (set xs (place b l) (firstFrame b l / 256)) (place b l + 1) (firstFrame b l % 256)) (t .is)
+                ap₂ (λ (n v : ℕ). set (set out n (v % 256)) (n + 1) (v / 256)) is q
+                ∙ ap (λ (xs : List ℕ). set (set xs (place b l) (firstFrame b (l + 1) % 256)) (place b l + 1) (firstFrame b (l + 1) / 256)) (t .is)
                 ∙ ap (notedTo b) (sym (add-one l));
             low = omega arith;
-            behind = omega (arith, t .behind, same-rows, lowest-above (reached b l) f (size b - f));
+            behind = omega (arith, t .behind, same-rows, lowest-above (reached b (l + 1)) f (size b - f));
             inside = next-inside;
             rest = λ m k.
                 ap (λ (x : ℕ). lowest (reached b m) x (size b - x)) same-rows
-                ∙ lowest-from (reached b l) f (size b) (t .inside) (reached b m) (below-more b l m (omega arith))
+                ∙ lowest-from (reached b (l + 1)) f (size b) (t .inside) (reached b m) (below-more b (l + 1) m (omega arith))
                 ∙ t .rest m (omega arith);
           }
 

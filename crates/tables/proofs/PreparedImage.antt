@@ -30,7 +30,7 @@ use Rattle.tables.specs.Table.{tableEnd, badTable, labelOn, labelOf, fir
 use Rattle.tables.proofs.RangeLaws.{map-alike, map-moved, concat-alike, ranges-join}
 use Rattle.tables.proofs.Front.{alike-image, counts-same, end-same}
 use Rattle.tables.proofs.TableReads.{label-on}
-use Rattle.tables.proofs.Noted.{noted-length, noted-schemes, noted-last, noted-rows, noted-end, noted-label, noted-late, noted-pair, noted-first}
+use Rattle.tables.proofs.Noted.{noted-length, noted-schemes, noted-last, noted-rows, noted-end, noted-label, noted-late, noted-pair, noted-in}
 use Rattle.tables.proofs.FirstFrames.{first-low, first-inside, first-rises, first-own, first-two, first-last}
 
 -- the row in frame f, with the label that its own byte 1 names
@@ -98,20 +98,11 @@ module _ (b : List ℕ) (ok : tableVerdict b ≡ fine) where
             go (no z) = omega (arith, s .calls z .1, e, entries-count b)
 
     -- ---- rows: between the noted frames of two labels stand the rows of the first
+    first-noted : (l : ℕ) → 1 ≤ l → l ≤ lastLabel b → firstOn (noted b) l ≡ firstFrame b l
+    first-noted l g h = noted-in b ok (l - 1) (omega arith) ∙ ap (firstFrame b) (let e : l - 1 + 1 ≡ l = omega arith in e)
+
     end-noted : (l : ℕ) → l ≤ lastLabel b → endOn (noted b) l ≡ firstFrame b (l + 1)
-    end-noted l h =
-        ap₂ (λ (m e : ℕ). pick (ltb l m) (min (firstOn (noted b) (l + 1)) e) e) (noted-last b) (noted-end b ∙ whole-size)
-        ∙ go (split l (lastLabel b))
-      where
-        go : (l < lastLabel b) ⊎ (lastLabel b ≤ l)
-            → pick (ltb l (lastLabel b)) (min (firstOn (noted b) (l + 1)) (size b)) (size b) ≡ firstFrame b (l + 1)
-        go (inl g) =
-            yes-pick (ltb l (lastLabel b)) (min (firstOn (noted b) (l + 1)) (size b)) (size b) (lt-ltb l (lastLabel b) g)
-            ∙ (let e : min (firstOn (noted b) (l + 1)) (size b) ≡ firstFrame b (l + 1) =
-            omega (arith, noted-first b ok (l + 1) (omega arith), first-inside b ok (l + 1)) in e)
-        go (inr g) =
-            no-pick (ltb l (lastLabel b)) (min (firstOn (noted b) (l + 1)) (size b)) (size b) (le-ltb l (lastLabel b) g)
-            ∙ sym (ap (firstFrame b) (let e : l + 1 ≡ lastLabel b + 1 = omega arith in e) ∙ first-last b ok bytes)
+    end-noted l h = omega (arith, noted-in b ok l h, noted-end b, whole-size, first-inside b ok (l + 1))
 
     -- only a row of a function call's label has a function bit other than 2
     bit-own : (l f : ℕ) → l ≤ lastLabel b → firstFrame b l ≤ f → f < firstFrame b (l + 1)
@@ -160,16 +151,16 @@ module _ (b : List ℕ) (ok : tableVerdict b ≡ fine) where
         let e₇ : field (noted b) f 7 ≡ field b f 7 = noted-late b f 7 (omega arith) (omega arith) in
         λ j. record { from = e₁ j; care = e₂ j; values = e₄ j; bit = e₆ j; next = e₇ j }
 
-    rows-own : (l : ℕ) → l ≤ lastLabel b → rowsOn (noted b) l ≡ map (rowAt b) (range (firstFrame b l) (firstFrame b (l + 1) - firstFrame b l))
-    rows-own l h =
-        ap₂ (λ (f e : ℕ). map (rowOn (noted b) l) (range f (e - f))) (noted-first b ok l h) (end-noted l h)
+    rows-own : (l : ℕ) → 1 ≤ l → l ≤ lastLabel b → rowsOn (noted b) l ≡ map (rowAt b) (range (firstFrame b l) (firstFrame b (l + 1) - firstFrame b l))
+    rows-own l g h =
+        ap₂ (λ (f e : ℕ). map (rowOn (noted b) l) (range f (e - f))) (first-noted l g h) (end-noted l h)
         ∙ map-alike (rowOn (noted b) l) (rowAt b) (firstFrame b l) (firstFrame b (l + 1) - firstFrame b l)
         (λ f p q. row-own l f h p (omega (arith, first-rises b ok l)))
 
     rows-all : concatMap (rowsOn (noted b)) (range 2 (lastLabel b - 1)) ≡ map (rowIn b) (range 0 (rowCount b))
     rows-all =
         concat-alike (rowsOn (noted b)) (λ l. map (rowAt b) (range (firstFrame b l) (firstFrame b (l + 1) - firstFrame b l)))
-        2 (lastLabel b - 1) (λ l p q. rows-own l (omega arith))
+        2 (lastLabel b - 1) (λ l p q. rows-own l (omega arith) (omega arith))
         ∙ ranges-join (rowAt b) (firstFrame b) (first-rises b ok) 2 (lastLabel b - 1)
         ∙ ap₂ (λ (f e : ℕ). map (rowAt b) (range f (e - f))) (first-two b ok bytes)
         (ap (firstFrame b) (let e : 2 + (lastLabel b - 1) ≡ lastLabel b + 1 = omega (arith, counted b ok .two) in e) ∙ first-last b ok bytes)

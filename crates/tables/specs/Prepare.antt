@@ -1,4 +1,4 @@
--- An image prepared for ticks: its table, and in the frame of each label where the rows of that label begin.
+-- An image prepared for ticks: its table, and in the frame of each label where the rows of that label end.
 use Prim.Native.Nat.{ℕ, zero, suc, _+_, _*_, _-_, _/_, _%_}
 use mathlib.Core.Bool.{Bool}
 use mathlib.Core.Path.{_≡_}
@@ -22,10 +22,11 @@ reached b l f = leb l (field b f 1)
 abbrev pub firstFrame : List ℕ → ℕ → ℕ
 firstFrame b l = lowest (reached b l) (rowsFrom b) (size b - rowsFrom b)
 
--- bytes 0 and 1 of a label's frame say only where it stands; in the first n labels they hold the first frame of its rows instead, high byte first
+-- bytes 0 and 1 of a label's frame say only where it stands; in the first n labels they hold the frame at which its rows end instead, low byte first
 unfoldable pub notedTo : List ℕ → ℕ → List ℕ
 notedTo b zero = b
-notedTo b (suc l) = let at = 10 * (labelsFrom b + l) in set (set (notedTo b l) at (firstFrame b l / 256)) (at + 1) (firstFrame b l % 256)
+notedTo b (suc l) =
+    let at = 10 * (labelsFrom b + l) in let end = firstFrame b (l + 1) in set (set (notedTo b l) at (end % 256)) (at + 1) (end / 256)
 
 abbrev pub noted : List ℕ → List ℕ
 noted b = notedTo b (lastLabel b + 1)

@@ -37,12 +37,15 @@ labelOn b (suc (suc l)) = let x = labelIn b (suc (suc l)) in record {
 abbrev pub labelOf : List ℕ → ℕ → Label
 labelOf b l = pick (ltb (lastLabel b) l) noLabel (labelOn b l)
 
--- the rows of label l stand from the frame noted in its own frame up to the one noted in the next label's, and within the table
+-- the frame noted in that of label l, at which its rows end: those of the next label begin there, and none stands past the table
+abbrev pub notedIn : List ℕ → ℕ → ℕ
+notedIn b l = let f = labelsFrom b + l in field b f 0 + field b f 1 * 256
+
 abbrev pub firstOn : List ℕ → ℕ → ℕ
-firstOn b l = pairAt b (labelsFrom b + l) 0
+firstOn b l = notedIn b (l - 1)
 
 abbrev pub endOn : List ℕ → ℕ → ℕ
-endOn b l = pick (ltb l (lastLabel b)) (min (firstOn b (l + 1)) (tableEnd b)) (tableEnd b)
+endOn b l = min (notedIn b l) (tableEnd b)
 
 -- the function bit counts only in the rows of a label that calls a function
 abbrev pub rowOn : List ℕ → ℕ → ℕ → Row

@@ -1,20 +1,29 @@
 // Labels and entries of a table, whatever its bytes are.
 use super::Label;
 use image::byte;
-use image::label_byte;
-use image::label_mask;
+use image::pair;
 ghost use mathlib.Core.Path.{_≡_};
-ghost use Prim.Native.Nat.{_≤_};
-ghost use Rattle.image.specs.Decode.{schemeCount, lastLabel};
+ghost use Prim.Native.Nat.{_+_, _≤_, _<_};
+ghost use Rattle.frames.specs.Frame.{field};
+ghost use Rattle.image.specs.Decode.{schemeCount, lastLabel, labelsFrom};
 ghost use Rattle.tables.specs.Table.{Whole, labelOf, entryOf};
-ghost use Rattle.tables.specs.Labels.{asLabel, Numbered};
+ghost use Rattle.tables.specs.Labels.{asLabel, Framed};
+
+// Byte k of the frame of label l. H, read once by a caller that reads many, says where the frame stands.
+fn field_of(table: &[u8], schemes: u8, l: usize, k: usize) -> u8
+    requires { ⌜ Framed (now table) schemes l ⌝ }
+    requires { ⌜ k < 10 ⌝ }
+    ensures { λ r. ⌜ r ≡ field (now (table .entry)) (labelsFrom (now (table .entry)) + l) k ⌝ }
+{
+    byte(table, 1 + (schemes as usize) + l, k)
+}
 
 // A kind above 2 counts as 0.
-pub fn kind_read(table: &[u8], l: usize) -> u8
-    requires { ⌜ Numbered (now table) l ⌝ }
+pub fn kind_read(table: &[u8], schemes: u8, l: usize) -> u8
+    requires { ⌜ Framed (now table) schemes l ⌝ }
     ensures { λ r. ⌜ r ≡ labelOf (now (table .entry)) l .kind ⌝ }
 {
-    let kind = label_byte(table, l, 2);
+    let kind = field_of(table, schemes, l, 2);
     if 2 < kind {
         return 0;
     }
@@ -22,37 +31,45 @@ pub fn kind_read(table: &[u8], l: usize) -> u8
 }
 
 // A scheme above H counts as none.
-fn called_read(table: &[u8], l: usize) -> u8
-    requires { ⌜ Numbered (now table) l ⌝ }
+fn called_read(table: &[u8], schemes: u8, l: usize) -> u8
+    requires { ⌜ Framed (now table) schemes l ⌝ }
     ensures { λ r. ⌜ r ≡ labelOf (now (table .entry)) l .called ⌝ }
 {
-    let called = label_byte(table, l, 3);
-    if byte(table, 0, 1) < called {
+    let called = field_of(table, schemes, l, 3);
+    if schemes < called {
         return 0;
     }
     called
 }
 
-// The mask of a label of 2 to M, for a caller that needs no other field with it.
-pub fn mask_read(table: &[u8], l: usize) -> u32
-    requires { ⌜ Numbered (now table) l ⌝ }
+fn mask_read(table: &[u8], schemes: u8, l: usize) -> u32
+    requires { ⌜ Framed (now table) schemes l ⌝ }
     ensures { λ r. ⌜ r ≡ labelOf (now (table .entry)) l .mask ⌝ }
 {
-    label_mask(table, l)
+    let f = 1 + (schemes as usize) + l;
+    (pair(table, f, 6) as u32) * 65536 + (pair(table, f, 8) as u32)
 }
 
 // A label of 2 to M, by its frame.
-pub fn label_read(table: &[u8], l: usize) -> Label
-    requires { ⌜ Numbered (now table) l ⌝ }
+pub fn label_read(table: &[u8], schemes: u8, l: usize) -> Label
+    requires { ⌜ Framed (now table) schemes l ⌝ }
     ensures { λ r. ⌜ asLabel r ≡ labelOf (now (table .entry)) l ⌝ }
 {
     Label {
-        kind: kind_read(table, l),
-        called: called_read(table, l),
-        owner: label_byte(table, l, 4),
-        result: label_byte(table, l, 5),
-        mask: label_mask(table, l),
+        kind: kind_read(table, schemes, l),
+        called: called_read(table, schemes, l),
+        owner: field_of(table, schemes, l, 4),
+        result: field_of(table, schemes, l, 5),
+        mask: mask_read(table, schemes, l),
     }
+}
+
+// H, the number of schemes.
+pub fn scheme_count(table: &[u8]) -> u8
+    requires { ⌜ Whole (now table) ⌝ }
+    ensures { λ r. ⌜ r ≡ schemeCount (now (table .entry)) ⌝ }
+{
+    byte(table, 0, 1)
 }
 
 // M, the highest label.
@@ -92,7 +109,7 @@ pub fn label_of(table: &[u8], l: u8) -> Label
             result: 0,
             mask: 0,
         },
-        _ => label_read(table, l as usize),
+        _ => label_read(table, scheme_count(table), l as usize),
     }
 }
 

@@ -13,7 +13,7 @@ pub use labels::kind_read;
 pub use labels::label_of;
 pub use labels::label_read;
 pub use labels::last_label;
-pub use labels::mask_read;
+pub use labels::scheme_count;
 
 // A label as the machine reads it.
 pub struct Label {

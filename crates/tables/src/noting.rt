@@ -1,4 +1,4 @@
-// Where the rows of each label begin, noted in the label's frame.
+// Where the rows of each label end, noted in the label's frame.
 use image::byte;
 use image::rows_from;
 ghost use mathlib.Core.Path.{_≡_};
@@ -24,7 +24,7 @@ fn skip_below(table: &[u8], first: usize, end: usize, l: usize) -> usize
     f
 }
 
-// Into the frame of each label goes the first frame of rows from it on.
+// Into the frame of each label goes the first frame of rows of a label above it.
 pub fn note_rows(table: &mut [u8])
     requires { ⌜ tableVerdict (now table) ≡ fine ⌝ }
     ensures { λ _. ⌜ now (table .exit) ≡ noted (now (table .entry)) ⌝ }
@@ -35,10 +35,10 @@ pub fn note_rows(table: &mut [u8])
     let mut f = rows_from(table);
     let mut l: usize = 0;
     while l <= last {
-        f = skip_below(table, f, end, l);
+        f = skip_below(table, f, end, l + 1);
         let at = 10 * (labels + l);
-        table[at] = (f / 256) as u8;
-        table[at + 1] = (f % 256) as u8;
+        table[at] = (f % 256) as u8;
+        table[at + 1] = (f / 256) as u8;
         l += 1;
     }
 }

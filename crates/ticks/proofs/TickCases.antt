@@ -311,13 +311,13 @@ module _ (b before : List ℕ) (w : ℕ) where
         (steps-stopped b before w 18
         (tick-plain b s (y .stands) w (y .kind) ∙ ap (moved _ 0 s _ _ _ _) (none-found n row row-is (λ u p. next-small b bytes _ w _ u p) h)))
 
-    -- z is what was read of the top, and mask its mask
-    pub plain-steps : n < 256 → (k : ℕ) → k ≡ s .depth - 1 → (z : declared.Label) → asLabel z ≡ labelOf b l → (mask : ℕ) → mask ≡ labelOf b l .mask
+    -- z is what was read of the top
+    pub plain-steps : n < 256 → (k : ℕ) → k ≡ s .depth - 1 → (z : declared.Label) → asLabel z ≡ labelOf b l
         → (first bytes : List ℕ) → stateOf first ≡ afterResult s (z .result) (z .owner) → stateOf bytes ≡ withPlace (stateOf first) k n
-        → Steps b before w (record { number = 0; mask = mask; code = 0 }) bytes
-    plain-steps h k r z read mask read-mask first bytes e₁ e₂ =
+        → Steps b before w (record { number = 0; mask = z .mask; code = 0 }) bytes
+    plain-steps h k r z read first bytes e₁ e₂ =
         let is : asLabel z ≡ top = read ∙ ap (labelOf b) at in
-        let m : mask ≡ top .mask = read-mask ∙ ap (λ (j : ℕ). labelOf b j .mask) at in
+        let m : z .mask ≡ top .mask = ap (λ (u : Label). u .mask) is in
         let c : z .result ≡ top .result = ap (λ (u : Label). u .result) is in
         let o : z .owner ≡ top .owner = ap (λ (u : Label). u .owner) is in
         rw m

@@ -7,6 +7,7 @@ use lib.Dec.{eqb}
 use Rattle.lists.specs.Pick.{pick}
 use Rattle.bits.specs.Results.{Results, resultOf}
 use Rattle.image.specs.Image.{Image}
+use Rattle.image.specs.Decode.{schemeCount, lastLabel}
 use Rattle.tables.specs.Table.{Whole, labelOf, tableImage}
 use Rattle.tables.specs.Labels.{Numbered}
 use Rattle.rows.specs.Rows.{Found}
@@ -20,6 +21,11 @@ use Rattle.ticks.specs.Tick.{rowOf, Ticked, ticked, stopped, tick}
 pub record Stands (b : List ℕ) (s : State) : Type 0 where
   pub whole : Whole b
   pub depth : badDepth s ≡ false
+
+-- H and M as the caller has them
+pub record Header (b : List ℕ) (h m : ℕ) : Type 0 where
+  pub schemes : h ≡ schemeCount b
+  pub last : m ≡ lastLabel b
 
 -- ---- the label at the top, and what the function for each sort of label asks
 abbrev pub topOf : State → ℕ

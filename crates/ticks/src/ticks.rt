@@ -12,14 +12,13 @@ use state::size_of;
 use tables::entry_of;
 use tables::kind_read;
 use tables::label_read;
-use tables::last_label;
-use tables::mask_read;
 ghost use mathlib.Core.Path.{_≡_};
 ghost use Rattle.rows.specs.Rows.{nextOf};
+ghost use Rattle.image.specs.Decode.{schemeCount};
 ghost use Rattle.tables.specs.Table.{tableImage};
 ghost use Rattle.state.specs.Bytes.{stateOf};
 ghost use Rattle.ticks.specs.Tick.{stopped};
-ghost use Rattle.ticks.specs.Parts.{Stands, TopNumbered, TopCalls, TopPlain, TopReturn, TopHome, beneath, bitOf, stepOf, Steps};
+ghost use Rattle.ticks.specs.Parts.{Stands, Header, TopNumbered, TopCalls, TopPlain, TopReturn, TopHome, beneath, bitOf, stepOf, Steps};
 
 // The bit that decides among the rows of a label: the result of the scheme that it calls, where that is a function, else 2.
 fn bit_of(bytes: &[u8; 50], kind: u8, called: u8) -> u8
@@ -43,60 +42,62 @@ fn no_row() -> Stepped
 }
 
 // A plain tick: the top takes its row, which no bit decides.
-fn tick_plain(table: &[u8], bytes: &mut [u8; 50], word: u16) -> Stepped
+fn tick_plain(table: &[u8], schemes: u8, bytes: &mut [u8; 50], word: u16) -> Stepped
     requires { ⌜ TopPlain (now table) (stateOf (now bytes)) ⌝ }
+    requires { ⌜ schemes ≡ schemeCount (now table) ⌝ }
     ensures { λ r. ⌜ Steps (now (table .entry)) (now (bytes .entry)) word r (now (bytes .exit)) ⌝ }
 {
-    let top = (depth_of(bytes) - 1) as usize;
+    let top = (depth_of(bytes) as usize) - 1;
     let l = place_of(bytes, top) as usize;
-    let label = label_read(table, l);
-    let next = next_row(table, l, word, 2);
+    let next = next_row(table, schemes, l, word, 2);
     if 256 <= next {
         return no_row();
     }
-    let mask = mask_read(table, l);
+    let label = label_read(table, schemes, l);
     put_result(bytes, label.result, label.owner);
     put_place(bytes, top, next as u8);
     Stepped {
         number: 0,
-        mask: mask,
+        mask: label.mask,
         code: 0,
     }
 }
 
 // Where the label beneath the top leads, or 256 where there is no such label or no row of it matches.
-fn next_beneath(table: &[u8], bytes: &[u8; 50], word: u16) -> u16
+fn next_beneath(table: &[u8], schemes: u8, last: u8, bytes: &[u8; 50], word: u16) -> u16
     requires { ⌜ TopReturn (now table) (stateOf (now bytes)) ⌝ }
+    requires { ⌜ Header (now table) schemes last ⌝ }
     ensures { λ r. ⌜ r ≡ nextOf (beneath (tableImage (now (table .entry))) (stateOf (now (bytes .entry))) word) ⌝ }
 {
     let depth = depth_of(bytes);
     if depth < 2 {
         return 256;
     }
-    let l = place_of(bytes, (depth - 2) as usize);
+    let l = place_of(bytes, (depth as usize) - 2);
     if l < 2 {
         return 256;
     }
-    if last_label(table) < l {
+    if last < l {
         return 256;
     }
-    let label = label_read(table, l as usize);
+    let label = label_read(table, schemes, l as usize);
     let bit = bit_of(bytes, label.kind, label.called);
-    next_row(table, l as usize, word, bit)
+    next_row(table, schemes, l as usize, word, bit)
 }
 
 // A return: the top is dropped, and the label beneath takes its row.
-fn tick_back(table: &[u8], bytes: &mut [u8; 50], word: u16) -> Stepped
+fn tick_back(table: &[u8], schemes: u8, last: u8, bytes: &mut [u8; 50], word: u16) -> Stepped
     requires { ⌜ TopReturn (now table) (stateOf (now bytes)) ⌝ }
+    requires { ⌜ Header (now table) schemes last ⌝ }
     ensures { λ r. ⌜ Steps (now (table .entry)) (now (bytes .entry)) word r (now (bytes .exit)) ⌝ }
 {
-    let next = next_beneath(table, bytes, word);
+    let next = next_beneath(table, schemes, last, bytes, word);
     if 256 <= next {
         return no_row();
     }
     let depth = depth_of(bytes);
-    put_place(bytes, (depth - 1) as usize, 0);
-    put_place(bytes, (depth - 2) as usize, next as u8);
+    put_place(bytes, (depth as usize) - 1, 0);
+    put_place(bytes, (depth as usize) - 2, next as u8);
     put_depth(bytes, depth - 1);
     Stepped {
         number: 0,
@@ -107,8 +108,9 @@ fn tick_back(table: &[u8], bytes: &mut [u8; 50], word: u16) -> Stepped
 
 // A call: the entry of the called scheme goes above the top, and its bit is cleared after the caller's result is written; at a full stack
 // nothing is done.
-fn tick_call(table: &[u8], bytes: &mut [u8; 50], word: u16) -> Stepped
+fn tick_call(table: &[u8], schemes: u8, bytes: &mut [u8; 50], word: u16) -> Stepped
     requires { ⌜ TopCalls (now table) (stateOf (now bytes)) ⌝ }
+    requires { ⌜ schemes ≡ schemeCount (now table) ⌝ }
     ensures { λ r. ⌜ Steps (now (table .entry)) (now (bytes .entry)) word r (now (bytes .exit)) ⌝ }
 {
     let depth = depth_of(bytes);
@@ -119,7 +121,11 @@ fn tick_call(table: &[u8], bytes: &mut [u8; 50], word: u16) -> Stepped
             code: 0,
         };
     }
-    let label = label_read(table, place_of(bytes, (depth - 1) as usize) as usize);
+    let label = label_read(
+        table,
+        schemes,
+        place_of(bytes, (depth as usize) - 1) as usize,
+    );
     let entry = entry_of(table, label.called);
     put_result(bytes, label.result, label.owner);
     put_result(bytes, 1, label.called);
@@ -137,7 +143,7 @@ fn tick_home(table: &[u8], bytes: &mut [u8; 50], word: u16) -> Stepped
     requires { ⌜ TopHome (now table) (stateOf (now bytes)) ⌝ }
     ensures { λ r. ⌜ Steps (now (table .entry)) (now (bytes .entry)) word r (now (bytes .exit)) ⌝ }
 {
-    let top = (depth_of(bytes) - 1) as usize;
+    let top = (depth_of(bytes) as usize) - 1;
     put_place(bytes, top, entry_of(table, 1));
     Stepped {
         number: 0,
@@ -147,30 +153,32 @@ fn tick_home(table: &[u8], bytes: &mut [u8; 50], word: u16) -> Stepped
 }
 
 // A tick of a label of 2 up, by its kind; one above M has no row.
-fn tick_numbered(table: &[u8], bytes: &mut [u8; 50], word: u16) -> Stepped
+fn tick_numbered(table: &[u8], schemes: u8, last: u8, bytes: &mut [u8; 50], word: u16) -> Stepped
     requires { ⌜ TopNumbered (now table) (stateOf (now bytes)) ⌝ }
+    requires { ⌜ Header (now table) schemes last ⌝ }
     ensures { λ r. ⌜ Steps (now (table .entry)) (now (bytes .entry)) word r (now (bytes .exit)) ⌝ }
 {
-    let l = place_of(bytes, (depth_of(bytes) - 1) as usize);
-    if last_label(table) < l {
+    let l = place_of(bytes, (depth_of(bytes) as usize) - 1);
+    if last < l {
         return no_row();
     }
-    let kind = kind_read(table, l as usize);
+    let kind = kind_read(table, schemes, l as usize);
     match kind {
-        1..=2 => tick_call(table, bytes, word),
-        _ => tick_plain(table, bytes, word),
+        1..=2 => tick_call(table, schemes, bytes, word),
+        _ => tick_plain(table, schemes, bytes, word),
     }
 }
 
-// A tick by the label at the top.
-pub fn tick_on(table: &[u8], bytes: &mut [u8; 50], word: u16) -> Stepped
+// A tick by the label at the top. H and M, which say where labels stand, a run reads once for all its ticks.
+pub fn tick_on(table: &[u8], schemes: u8, last: u8, bytes: &mut [u8; 50], word: u16) -> Stepped
     requires { ⌜ Stands (now table) (stateOf (now bytes)) ⌝ }
+    requires { ⌜ Header (now table) schemes last ⌝ }
     ensures { λ r. ⌜ Steps (now (table .entry)) (now (bytes .entry)) word r (now (bytes .exit)) ⌝ }
 {
-    let l = place_of(bytes, (depth_of(bytes) - 1) as usize);
+    let l = place_of(bytes, (depth_of(bytes) as usize) - 1);
     match l {
         0 => tick_home(table, bytes, word),
-        1 => tick_back(table, bytes, word),
-        _ => tick_numbered(table, bytes, word),
+        1 => tick_back(table, schemes, last, bytes, word),
+        _ => tick_numbered(table, schemes, last, bytes, word),
     }
 }

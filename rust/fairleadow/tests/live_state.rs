@@ -116,9 +116,9 @@ fn a_refused_live_tick_leaves_the_state_the_mask_and_the_code() {
     let kept = state;
     assert_eq!(live_tick(&table, &mut state, 0), ((17, 0, 0), 123, 45));
     assert_eq!(live_tick(&table[1..], &mut state, 0), ((11, 0, 0), 123, 45));
-    // label 2 as a plain one whose rows begin at the end
+    // label 2 as a plain one whose rows end where they begin
     let mut without = table.clone();
-    (without[50], without[51], without[52]) = (0, 12, 0);
+    (without[50], without[51], without[52]) = (8, 0, 0);
     assert_eq!(live_tick(&without, &mut state, 0), ((18, 0, 0), 123, 45));
     assert_eq!(state, kept);
     state.places[1] = 2;

@@ -139,14 +139,14 @@ fn label_of(number: usize, frame: &Frame, schemes: usize) -> Label {
     }
 }
 
-/// The rows of a label: from the frame that is noted for it up to that noted for the next label, or to the table's end.
+/// The rows of a label: from the frame that is noted for the label before it up to that noted for it, or to the table's end.
 fn rows_of(number: usize, labels: &[Frame], table: &[Frame]) -> Vec<Row> {
     if number < 2 {
         return Vec::new();
     }
-    let noted = |frame: &Frame| usize::from(u16::from_be_bytes([frame[0], frame[1]]));
-    let first = noted(&labels[number]);
-    let end = labels.get(number + 1).map_or(table.len(), noted).min(table.len());
+    let noted = |frame: &Frame| usize::from(u16::from_le_bytes([frame[0], frame[1]]));
+    let first = noted(&labels[number - 1]);
+    let end = noted(&labels[number]).min(table.len());
     (first..end).map(|at| row_of(number as u8, &table[at])).collect()
 }
 

@@ -1,4 +1,4 @@
-//! An image prepared for ticks: the bytes of its frames, each label's with a note of where its rows begin.
+//! An image prepared for ticks: the bytes of its frames, each label's with a note of where its rows end.
 
 use crate::frames::Frame;
 use crate::image::{image_of, Image};
@@ -8,15 +8,15 @@ pub fn table_of(image: &Image) -> Vec<Frame> {
     let mut table = image.frames();
     let first_label = 1 + image.entries.len();
     for label in 0..image.labels.len() {
-        let note = first_row_from(image, label) as u16;
-        table[first_label + label][..2].copy_from_slice(&note.to_be_bytes());
+        let note = first_row_above(image, label) as u16;
+        table[first_label + label][..2].copy_from_slice(&note.to_le_bytes());
     }
     table
 }
 
-/// The number of the first frame whose row leaves this label or a higher one; the number of frames if there is none.
-fn first_row_from(image: &Image, label: usize) -> usize {
-    let before = image.rows.iter().take_while(|row| usize::from(row.from) < label).count();
+/// The number of the first frame whose row leaves a higher label than this; the number of frames if there is none.
+fn first_row_above(image: &Image, label: usize) -> usize {
+    let before = image.rows.iter().take_while(|row| usize::from(row.from) <= label).count();
     1 + image.entries.len() + image.labels.len() + before
 }
 

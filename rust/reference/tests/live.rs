@@ -28,11 +28,11 @@ fn the_table_of_chart_p_is_as_written_out() {
         [0x0F, 2, 4, 0, 4, 0, 0, 0, 0, 0],
         [0x10, 1, 2, 0, 0, 0, 0, 0, 0, 0],
         [0x10, 2, 3, 0, 0, 0, 0, 0, 0, 0],
-        [0, 8, 4, 0, 1, 0, 0, 0, 0, 0],
-        [0, 8, 3, 0, 0, 0, 0, 0, 0, 0],
-        [0, 8, 1, 2, 1, 0, 0, 0, 0, 1],
-        [0, 9, 0, 0, 2, 0, 0, 0, 0, 0],
-        [0, 11, 1, 2, 2, 0, 0, 0, 0, 2],
+        [8, 0, 4, 0, 1, 0, 0, 0, 0, 0],
+        [8, 0, 3, 0, 0, 0, 0, 0, 0, 0],
+        [9, 0, 1, 2, 1, 0, 0, 0, 0, 1],
+        [11, 0, 0, 0, 2, 0, 0, 0, 0, 0],
+        [12, 0, 1, 2, 2, 0, 0, 0, 0, 2],
         [0x12, 2, 0, 0, 0, 0, 2, 0, 0, 0],
         [0x12, 3, 0, 1, 0, 0, 2, 1, 0, 0],
         [0x12, 3, 0, 1, 0, 1, 2, 4, 0, 0],
@@ -42,11 +42,11 @@ fn the_table_of_chart_p_is_as_written_out() {
 }
 
 #[test]
-fn a_label_without_rows_is_noted_with_the_rows_after_it_or_the_end() {
+fn a_label_without_rows_is_noted_as_the_label_before_it() {
     let mut image = image_p();
     image.rows.retain(|row| row.from == 3);
-    let notes: Vec<u8> = table_of(&image)[3..8].iter().map(|frame| frame[1]).collect();
-    assert_eq!(notes, [8, 8, 8, 8, 10]);
+    let notes: Vec<u8> = table_of(&image)[3..8].iter().map(|frame| frame[0]).collect();
+    assert_eq!(notes, [8, 8, 8, 10, 10]);
 }
 
 #[test]

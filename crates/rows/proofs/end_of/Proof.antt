@@ -1,34 +1,27 @@
--- `rows::end_of` meets its contract: the frame that the next label notes, or the end of the table.
+-- `rows::end_of` meets its contract: the frame that the label notes, or the end of the table.
 use borrow.Author.Needs.{needs}
 use mathlib.Core.Path.{refl}
-use Rattle.rows.proofs.SearchCases.{end-last, end-here, end-clipped}
+use Rattle.rows.proofs.SearchCases.{end-here, end-clipped}
 use Rattle.rows.proofs.end_of.Statement.{statement}
 use Rattle.rows.proofs.end_of.Tie as tie
 
-byte-requires : tie.Need-byte-requires
-byte-requires c κs = search needs
+add-low-pair : tie.Need-add-low-pair
+add-low-pair c = search needs
 
-cast-if1 : tie.Need-cast-if1
-cast-if1 c = search needs
+add-low-pair-2 : tie.Need-add-low-pair-2
+add-low-pair-2 c = search needs
+
+low-pair-requires : tie.Need-low-pair-requires
+low-pair-requires c κs = search needs
+
+cast-end : tie.Need-cast-end
+cast-end c = search needs
 
 returns : tie.Need-returns
-returns c = end-last _ _ (c .before .before .before .pre) _ _ refl (c .before .byte .ensures) (search needs)
-
-add-first-of : tie.Need-add-first-of
-add-first-of c = search needs
-
-first-of-requires : tie.Need-first-of-requires
-first-of-requires c κs = search needs
+returns c = end-here _ _ _ (c .before .before .before .pre) _ _ refl (c .before .low-pair .ensures) (search needs)
 
 returns-2 : tie.Need-returns-2
-returns-2 c =
-    let start = c .before .before .before .before .before in
-    end-here _ _ (start .pre) _ _ refl (c .before .before .before .byte .ensures) (search needs) _ (c .before .first-of .ensures) (search needs)
-
-returns-3 : tie.Need-returns-3
-returns-3 c =
-    let start = c .before .before .before .before .before in
-    end-clipped _ _ (start .pre) _ _ refl (c .before .before .before .byte .ensures) (search needs) _ (c .before .first-of .ensures) (search needs)
+returns-2 c = end-clipped _ _ _ (c .before .before .before .pre) _ _ refl (c .before .low-pair .ensures) (search needs)
 
 pub end-of-spec : {M : Type 1} → statement M
-end-of-spec = tie.close (tie.spec byte-requires cast-if1 returns add-first-of first-of-requires returns-2 returns-3)
+end-of-spec = tie.close (tie.spec add-low-pair add-low-pair-2 low-pair-requires cast-end returns returns-2)

@@ -1,23 +1,20 @@
--- `rows::first_of` meets its contract: two bytes of the label's frame.
+-- `rows::first_of` meets its contract: two bytes of the frame of the label before it.
 use borrow.Author.Needs.{needs}
 use Rattle.rows.proofs.SearchCases.{first-read}
 use Rattle.rows.proofs.first_of.Statement.{statement}
 use Rattle.rows.proofs.first_of.Tie as tie
 
-labels-from-requires : tie.Need-labels-from-requires
-labels-from-requires c κs = search needs
+add-low-pair : tie.Need-add-low-pair
+add-low-pair c = search needs
 
-add-pair : tie.Need-add-pair
-add-pair c = search needs
-
-pair-requires : tie.Need-pair-requires
-pair-requires c κs = search needs
+low-pair-requires : tie.Need-low-pair-requires
+low-pair-requires c κs = search needs
 
 cast-result : tie.Need-cast-result
 cast-result c = search needs
 
 returns : tie.Need-returns
-returns c = first-read _ _ (c .before .before .before .pre) _ _ (c .before .labels-from .ensures) (c .pair .ensures)
+returns c = first-read _ _ _ (c .before .before .pre) _ (c .low-pair .ensures)
 
 pub first-of-spec : {M : Type 1} → statement M
-first-of-spec = tie.close (tie.spec labels-from-requires add-pair pair-requires cast-result returns)
+first-of-spec = tie.close (tie.spec add-low-pair low-pair-requires cast-result returns)

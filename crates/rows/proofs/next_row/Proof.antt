@@ -1,50 +1,26 @@
 -- `rows::next_row` meets its contract: the first matching row among the frames of the label's own rows, or none.
 use borrow.Author.Needs.{needs}
-use native.Mathlib.Omega.{arith}
-use Rattle.rows.proofs.TableRows.{next-found, next-none}
+use Rattle.rows.proofs.TableRows.{next-is}
 use Rattle.rows.proofs.SearchCases.{end-within}
 use Rattle.rows.proofs.next_row.Statement.{statement}
 use Rattle.rows.proofs.next_row.Tie as tie
 
-end-of-requires : tie.Need-end-of-requires
-end-of-requires c κs = search needs
-
 first-of-requires : tie.Need-first-of-requires
-first-of-requires c κs = search needs
+first-of-requires c κs = record { label = c .before .pre .0 .label; schemes = c .before .pre .1 }
 
-find-row-requires : tie.Need-find-row-requires
-find-row-requires c κs =
+end-of-requires : tie.Need-end-of-requires
+end-of-requires c κs = let start = c .before .before in record { label = start .pre .0 .label; schemes = start .pre .1 }
+
+find-next-requires : tie.Need-find-next-requires
+find-next-requires c κs =
     let start = c .before .before .before in
-    end-within _ _ _ (start .pre .label .whole) (c .before .end-of .ensures)
-
-byte-requires : tie.Need-byte-requires
-byte-requires c κs =
-    let start = c .before .before .before .before .before in
-    omega (arith, c .if1 .taken, end-within _ _ _ (start .pre .label .whole) (c .before .before .before .end-of .ensures))
-
-cast-result : tie.Need-cast-result
-cast-result c = search needs
+    end-within _ _ _ (start .pre .0 .label .whole) (c .end-of .ensures)
 
 returns : tie.Need-returns
 returns c =
-    let start = c .before .before .before .before .before .before in
-    next-found (start .args .table .now) (start .args .l) _ _ (start .pre) _ _ _ (c .before .before .before .first-of .ensures)
-    (c .before .before .before .before .end-of .ensures) (c .before .before .find-row .ensures) _ (c .before .if1 .taken) (c .byte .ensures)
-
-returns-2 : tie.Need-returns-2
-returns-2 c =
-    let start = c .before .before .before .before .before in
-    next-none (start .args .table .now) (start .args .l) _ _ (start .pre) _ _ _ (c .before .before .first-of .ensures)
-    (c .before .before .before .end-of .ensures) (c .before .find-row .ensures) (search needs)
+    let start = c .before .before .before .before in
+    next-is (start .args .table .now) (start .args .l) _ _ (start .pre .0) _ _ (c .before .before .first-of .ensures)
+    (c .before .end-of .ensures) _ (c .find-next .ensures)
 
 pub next-row-spec : {M : Type 1} → statement M
-next-row-spec =
-    tie.close
-    (tie.spec
-    end-of-requires
-    first-of-requires
-    find-row-requires
-    byte-requires
-    cast-result
-    returns
-    returns-2)
+next-row-spec = tie.close (tie.spec first-of-requires end-of-requires find-next-requires returns)

@@ -13,7 +13,7 @@ pub fn prepare(frames: &[Frame], parts: &Parts, table: &mut [Frame]) {
     let first_row = first_label + parts.labels;
     let mut label = 0;
     for (at, row) in frames.iter().enumerate().skip(first_row) {
-        while label <= usize::from(row[1]) {
+        while label < usize::from(row[1]) {
             note(&mut table[first_label + label], at);
             label += 1;
         }
@@ -24,12 +24,12 @@ pub fn prepare(frames: &[Frame], parts: &Parts, table: &mut [Frame]) {
 }
 
 fn note(frame: &mut Frame, at: usize) {
-    let [high, low] = (at as u16).to_be_bytes();
-    (frame[0], frame[1]) = (high, low);
+    let [low, high] = (at as u16).to_le_bytes();
+    (frame[0], frame[1]) = (low, high);
 }
 
 fn noted(frame: &Frame) -> usize {
-    usize::from(u16::from_be_bytes([frame[0], frame[1]]))
+    usize::from(u16::from_le_bytes([frame[0], frame[1]]))
 }
 
 fn write_result(results: &mut [bool; 16], label: &Label) {
@@ -116,8 +116,8 @@ impl<'a> Table<'a> {
         if label < 2 || label > self.last {
             return &[];
         }
-        let end = if label == self.last { self.frames.len() } else { noted(self.frame(label + 1)) };
-        self.frames.get(noted(self.frame(label))..end.min(self.frames.len())).unwrap_or(&[])
+        let (first, end) = (noted(self.frame(label - 1)), noted(self.frame(label)));
+        self.frames.get(first..end.min(self.frames.len())).unwrap_or(&[])
     }
 
     /// With no bit the function bits do not count.

@@ -102,7 +102,7 @@ fn fault(random: &mut Random, frames: &mut [Frame]) {
         4..=6 => {
             let at =
                 random.pick(&[0, 1, first_label, first_row, row, any, count - 1, count, count + 3, 65_535]);
-            frames[label][..2].copy_from_slice(&(at as u16).to_be_bytes());
+            frames[label][..2].copy_from_slice(&(at as u16).to_le_bytes());
         }
         7 | 8 => frames[label][2] = random.pick(&[0, 1, 2, 3, 4, 255]),
         9 => frames[label][3] = scheme,

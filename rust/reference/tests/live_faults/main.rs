@@ -21,7 +21,7 @@ faults! {
     CountsFrames,
     NotesNothing,
     NotesOnlyOwnRows,
-    NotesTheLowByteFirst,
+    NotesTheHighByteFirst,
     NotesTheFrameAfter,
     // what a table is taken to hold
     LooksAtTheFirstByte,
@@ -35,7 +35,7 @@ faults! {
     ReadsRowsPastTheEnd,
     ReadsReversedRows,
     WantsRowsOfTheirLabel,
-    EndsTheLastLabelByTheFrameBehind,
+    EndsTheLastLabelWithTheTable,
     // which states fit
     AcceptsAnyState,
     AcceptsAnyBottom,
@@ -208,15 +208,15 @@ impl Faulty {
         for label in 0..image.labels.len() {
             let at = 10 * (1 + image.entries.len() + label);
             let own = image.rows.iter().any(|row| usize::from(row.from) == label);
-            let noted = u16::from_be_bytes([table[at], table[at + 1]]);
+            let noted = u16::from_le_bytes([table[at], table[at + 1]]);
             let note = match self.0 {
-                NotesNothing => 0x1100 + label as u16,
+                NotesNothing => 0x11 + 256 * label as u16,
                 NotesOnlyOwnRows if !own => 0,
-                NotesTheLowByteFirst => noted.swap_bytes(),
+                NotesTheHighByteFirst => noted.swap_bytes(),
                 NotesTheFrameAfter => noted + 1,
                 _ => noted,
             };
-            table[at..at + 2].copy_from_slice(&note.to_be_bytes());
+            table[at..at + 2].copy_from_slice(&note.to_le_bytes());
         }
     }
 }

@@ -29,14 +29,13 @@ impl<'a> Raw<'a> {
 
     fn noted(&self, frame: usize) -> usize {
         let frame = self.frames[frame.min(self.frames.len() - 1)];
-        usize::from(u16::from_be_bytes([frame[0], frame[1]]))
+        usize::from(u16::from_le_bytes([frame[0], frame[1]]))
     }
 
-    /// Where the rows of a label begin, and where those of the next label do.
+    /// Where the rows of a label begin, and where they end.
     fn range(&self, label: usize) -> (usize, usize) {
         let at = 1 + self.schemes + label;
-        let next = if label == self.last { self.end } else { self.noted(at + 1) };
-        (self.noted(at), next)
+        (self.noted(at - 1), self.noted(at))
     }
 
     fn rows(&self, from: usize, end: usize) -> Vec<Row> {
@@ -114,9 +113,7 @@ impl Faulty {
                 rows.retain(|row| usize::from(row.from) == label);
                 rows
             }
-            EndsTheLastLabelByTheFrameBehind if label == raw.last => {
-                raw.rows(first, raw.noted(1 + raw.schemes + label + 1))
-            }
+            EndsTheLastLabelWithTheTable if label == raw.last => raw.rows(first, raw.end),
             _ => return,
         };
         held.rows[label] = rows;

@@ -9,17 +9,17 @@ use Rattle.runs.proofs.runs.tick_all.Statement.{statement}
 use Rattle.runs.proofs.runs.tick_all.Tie as tie
 
 abbrev Inv-loop : tie.InvT-loop
-Inv-loop table bytes₀ words masks₀ codes₀ i₀ bytes masks codes i = Turn table bytes₀ words masks₀ codes₀ bytes masks codes i
+Inv-loop table bytes₀ words masks₀ codes₀ schemes last i₀ bytes masks codes i = Turn table bytes₀ words masks₀ codes₀ bytes masks codes i
 
 abbrev μ-loop : tie.MeasureT-loop
-μ-loop table bytes₀ words masks₀ codes₀ i₀ bytes masks codes i = length words - i
+μ-loop table bytes₀ words masks₀ codes₀ schemes last i₀ bytes masks codes i = length words - i
 
--- ---- the stages: the buffers are known, a turn begins, its tick is made
+-- ---- the stages: the header is read, a turn begins, its tick is made
 abbrev At : (tie.InvT-loop → tie.MeasureT-loop → Type 0) → Type 0
 At stage = stage Inv-loop μ-loop
 
-abbrev start : At tie.After-slice-known2 → At tie.Start
-start c = c .before .before .before .before
+abbrev start : At tie.After-last-label → At tie.Start
+start c = c .before .before .before .before .before .before
 
 abbrev turned : At tie.After-tick-on → At tie.At-loop
 turned c = c .before .before .before .before
@@ -28,6 +28,12 @@ abbrev begun : At tie.After-tick-on → At tie.Start
 begun c = start (turned c .before)
 
 -- ---- the needs
+scheme-count-requires : At tie.Need-scheme-count-requires
+scheme-count-requires c κs = search needs
+
+last-label-requires : At tie.Need-last-label-requires
+last-label-requires c κs = search needs
+
 loop-holds : At tie.Need-loop-holds
 loop-holds c = turn-start _ _ _ _ _ (start c .pre .stands)
 
@@ -38,7 +44,10 @@ shared-slice-read-tick-on : At tie.Need-shared-slice-read-tick-on
 shared-slice-read-tick-on c = search needs
 
 tick-on-requires : At tie.Need-tick-on-requires
-tick-on-requires c κs = c .before .before .before .loop .inv .stands
+tick-on-requires c κs =
+    let turn = c .before .before .before in
+    let header = turn .before in
+    (turn .loop .inv .stands, record { schemes = header .before .scheme-count .ensures; last = header .last-label .ensures })
 
 same-length : At tie.Need-same-length
 same-length c = turned (c .before) .loop .inv .sizeMasks
@@ -86,6 +95,8 @@ tick-all-spec =
     (tie.spec
     Inv-loop
     μ-loop
+    scheme-count-requires
+    last-label-requires
     loop-holds
     mul-tick-on
     shared-slice-read-tick-on

@@ -10,6 +10,9 @@ last-label-requires c κs = search needs
 returns : tie.Need-returns
 returns c = let start = c .before .before .before in label-above (start .args .table .now) (start .args .l) (search needs)
 
+scheme-count-requires : tie.Need-scheme-count-requires
+scheme-count-requires c κs = search needs
+
 label-read-requires : tie.Need-label-read-requires
 label-read-requires c κs = search needs
 
@@ -24,4 +27,4 @@ returns-4 c = search needs
 
 pub label-of-spec : {M : Type 1} → statement M
 label-of-spec =
-    tie.close (tie.spec last-label-requires returns label-read-requires returns-2 returns-3 returns-4)
+    tie.close (tie.spec last-label-requires returns scheme-count-requires label-read-requires returns-2 returns-3 returns-4)

@@ -10,20 +10,20 @@ kind-read-requires c κs = search needs
 called-read-requires : tie.Need-called-read-requires
 called-read-requires c κs = search needs
 
-label-byte-requires : tie.Need-label-byte-requires
-label-byte-requires c κs = search needs
+field-of-requires : tie.Need-field-of-requires
+field-of-requires c κs = search needs
 
-label-byte-requires-2 : tie.Need-label-byte-requires-2
-label-byte-requires-2 c κs = search needs
+field-of-requires-2 : tie.Need-field-of-requires-2
+field-of-requires-2 c κs = search needs
 
-label-mask-requires : tie.Need-label-mask-requires
-label-mask-requires c κs = search needs
+mask-read-requires : tie.Need-mask-read-requires
+mask-read-requires c κs = search needs
 
 returns : tie.Need-returns
 returns c =
     let called = c .before .before .before in
-    label-made _ _ (called .before .before .before .pre) _ _ _ _ _ (called .before .kind-read .ensures) (called .called-read .ensures)
-    (c .before .before .label-byte .ensures) (c .before .label-byte2 .ensures) (c .label-mask .ensures)
+    label-made _ _ (called .before .before .before .pre .label) _ _ _ _ _ (called .before .kind-read .ensures) (called .called-read .ensures)
+    (c .before .before .field-of .ensures) (c .before .field-of2 .ensures) (c .mask-read .ensures)
 
 pub label-read-spec : {M : Type 1} → statement M
 label-read-spec =
@@ -31,7 +31,7 @@ label-read-spec =
     (tie.spec
     kind-read-requires
     called-read-requires
-    label-byte-requires
-    label-byte-requires-2
-    label-mask-requires
+    field-of-requires
+    field-of-requires-2
+    mask-read-requires
     returns)

@@ -69,6 +69,9 @@ rows-from-requires c κs = let first = known (c .before .before .before) .before
 loop-holds : At tie.Need-loop-holds
 loop-holds c = notes-start _ (start c .pre) _ (c .rows-from .ensures)
 
+add-skip-below : At tie.Need-add-skip-below
+add-skip-below c = search needs
+
 skip-below-requires : At tie.Need-skip-below-requires
 skip-below-requires c κs = let at = c .before .before in (at .loop .inv .inside, omega (arith, notes-length _ (start (at .before) .pre) (at .loop .inv)))
 
@@ -124,6 +127,7 @@ note-rows-spec =
     cast-last
     rows-from-requires
     loop-holds
+    add-skip-below
     skip-below-requires
     add-at
     mul-at

@@ -11,15 +11,12 @@ use Rattle.ticks.proofs.TickCases.{depth-most, size-most, beneath-first
 use Rattle.ticks.proofs.ticks.next_beneath.Statement.{statement}
 use Rattle.ticks.proofs.ticks.next_beneath.Tie as tie
 
--- ---- the stages: the depth, the label beneath, and M
+-- ---- the stages: the depth, and the label beneath
 abbrev start : tie.After-depth-of → tie.Start
 start c = c .before .before
 
 abbrev depth : tie.After-place-of → tie.After-depth-of
 depth c = c .before .before
-
-abbrev place : tie.After-last-label → tie.After-place-of
-place c = c .before .before
 
 abbrev state : tie.After-depth-of → State
 state c = stateOf (start c .args .bytes .now)
@@ -33,43 +30,46 @@ depth-of-requires : tie.Need-depth-of-requires
 depth-of-requires c κs = search needs
 
 returns : tie.Need-returns
-returns c = let d = c .before in beneath-first _ _ (start d .pre) _ _ (d .depth-of .ensures) (c .if1 .taken)
+returns c = let d = c .before in beneath-first _ _ (start d .pre .0) _ _ (d .depth-of .ensures) (c .if1 .taken)
 
 cast-place-of : tie.Need-cast-place-of
 cast-place-of c = search needs
 
+sub-place-of : tie.Need-sub-place-of
+sub-place-of c = omega (arith, c .if1 .left)
+
 place-of-requires : tie.Need-place-of-requires
 place-of-requires c κs =
     let d = c .before in
-    let asked = start d .pre .stands in
+    let asked = start d .pre .0 .stands in
     omega (arith, depth-most asked, size-most asked, d .depth-of .ensures, c .if1 .left)
 
 returns-2 : tie.Need-returns-2
-returns-2 c = let p = c .before in beneath-low _ _ (start (depth p) .pre) _ _ (under-read p) (omega (arith, c .if2 .taken))
-
-last-label-requires : tie.Need-last-label-requires
-last-label-requires c κs = start (depth (c .before)) .pre .stands .whole
+returns-2 c = let p = c .before in beneath-low _ _ (start (depth p) .pre .0) _ _ (under-read p) (omega (arith, c .if2 .taken))
 
 returns-3 : tie.Need-returns-3
 returns-3 c =
-    let m = c .before in
-    let p = place m in
-    beneath-high _ _ (start (depth p) .pre) _ _ (under-read p) (omega (arith, m .last-label .ensures, c .if3 .taken))
+    let p = c .before .before in
+    let asked = start (depth p) .pre in
+    beneath-high _ _ (asked .0) _ _ (under-read p) (omega (arith, asked .1 .last, c .if3 .taken))
 
 cast-label-read : tie.Need-cast-label-read
 cast-label-read c = search needs
 
-numbered : (c : tie.Else3) → Numbered (start (depth (place (c .before))) .args .table .now) (place (c .before) .place-of .result)
+abbrev place : tie.Else3 → tie.After-place-of
+place c = c .before .before
+
+numbered : (c : tie.Else3) → Numbered (start (depth (place c)) .args .table .now) (place c .place-of .result)
 numbered c =
-    let m = c .before in
+    let asked = start (depth (place c)) .pre in
     record {
-      whole = start (depth (place m)) .pre .stands .whole;
-      low = omega (arith, m .before .if2 .left);
-      high = omega (arith, m .last-label .ensures, c .if3 .left);
+      whole = asked .0 .stands .whole;
+      low = omega (arith, c .before .if2 .left);
+      high = omega (arith, asked .1 .last, c .if3 .left);
     }
 
 label-read-requires : tie.Need-label-read-requires
-label-read-requires c κs = numbered c
+label-read-requires c κs = record { label = numbered c; schemes = start (depth (place c)) .pre .1 .schemes }
 
 bit-of-requires : tie.Need-bit-of-requires
 bit-of-requires c κs = search needs
@@ -80,14 +80,15 @@ cast-next-row c = search needs
 next-row-requires : tie.Need-next-row-requires
 next-row-requires c κs =
     let other = c .before .before in
-    bit-decides _ _ _ (c .before .label-read .ensures) (state (depth (place (other .before))) .bits) _ (c .bit-of .ensures) (numbered other)
+    let d = depth (place other) in
+    (bit-decides _ _ _ (c .before .label-read .ensures) (state d .bits) _ (c .bit-of .ensures) (numbered other), start d .pre .1 .schemes)
 
 returns-4 : tie.Need-returns-4
 returns-4 c =
     let bit = c .before in
     let label = bit .before in
-    let p = place (label .before .before) in
-    beneath-row _ _ (start (depth p) .pre) _ _ (under-read p) (numbered (label .before)) _ (label .label-read .ensures) _
+    let p = place (label .before) in
+    beneath-row _ _ (start (depth p) .pre .0) _ _ (under-read p) (numbered (label .before)) _ (label .label-read .ensures) _
     (bit .bit-of .ensures) _ (c .next-row .ensures)
 
 pub next-beneath-spec : {M : Type 1} → statement M
@@ -97,9 +98,9 @@ next-beneath-spec =
     depth-of-requires
     returns
     cast-place-of
+    sub-place-of
     place-of-requires
     returns-2
-    last-label-requires
     returns-3
     cast-label-read
     label-read-requires

@@ -24,7 +24,7 @@ no-row-requires c κs = search needs
 returns : tie.Need-returns
 returns c =
     let n = c .before .before in
-    back-stop _ _ _ (start n .pre) _ (n .next-beneath .ensures) (λ k. omega (arith, n .before .before .shared-slice-known .given k))
+    back-stop _ _ _ (start n .pre .0) _ (n .next-beneath .ensures) (λ k. omega (arith, n .before .before .shared-slice-known .given k))
     (c .before .if1 .taken) _ (c .no-row .ensures)
 
 depth-of-requires : tie.Need-depth-of-requires
@@ -34,10 +34,10 @@ depth-of-requires c κs = search needs
 two : (c : tie.After-depth-of) → 2 ≤ c .depth-of .result
 two c =
     let n = next c in
-    omega (arith, back-deep _ _ _ (start n .pre) _ (n .next-beneath .ensures) (c .before .before .if1 .left), c .depth-of .ensures)
+    omega (arith, back-deep _ _ _ (start n .pre .0) _ (n .next-beneath .ensures) (c .before .before .if1 .left), c .depth-of .ensures)
 
 most : (c : tie.After-depth-of) → c .depth-of .result ≤ 32
-most c = let asked = start (next c) .pre .stands in omega (arith, depth-most asked, size-most asked, c .depth-of .ensures)
+most c = let asked = start (next c) .pre .0 .stands in omega (arith, depth-most asked, size-most asked, c .depth-of .ensures)
 
 sub-put-place : tie.Need-sub-put-place
 sub-put-place c = omega (arith, two (c .before))
@@ -73,7 +73,7 @@ returns-2 c =
     let d = first .before .before in
     let n = next d in
     let is = d .depth-of .ensures in
-    back-steps _ _ _ (start n .pre) _ (n .next-beneath .ensures) (d .before .before .if1 .left) _ _ (ap (λ (k : ℕ). k - 1) is)
+    back-steps _ _ _ (start n .pre .0) _ (n .next-beneath .ensures) (d .before .before .if1 .left) _ _ (ap (λ (k : ℕ). k - 1) is)
     (ap (λ (k : ℕ). k - 2) is) _ _ _ (first .put-place .ensures) (second .put-place2 .ensures) (c .put-depth .ensures)
 
 pub tick-back-spec : {M : Type 1} → statement M
@@ -84,11 +84,11 @@ tick-back-spec =
     no-row-requires
     returns
     depth-of-requires
-    sub-put-place
     cast-put-place
+    sub-put-place
     put-place-requires
-    sub-put-place-2
     cast-put-place-2
+    sub-put-place-2
     cast-put-place-3
     put-place-requires-2
     sub-put-depth

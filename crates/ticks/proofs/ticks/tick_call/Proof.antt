@@ -30,12 +30,12 @@ size-of-requires c κs = search needs
 returns : tie.Need-returns
 returns c =
     let size = c .before in
-    call-full _ _ _ (start size .pre) (omega (arith, size .size-of .ensures, size .before .before .depth-of .ensures, c .if1 .taken))
+    call-full _ _ _ (start size .pre .0) (omega (arith, size .size-of .ensures, size .before .before .depth-of .ensures, c .if1 .taken))
 
 sub-place-of : tie.Need-sub-place-of
 sub-place-of c =
     let size = c .before .before in
-    omega (arith, depth-some (start size .pre .stands), size .before .before .depth-of .ensures)
+    omega (arith, depth-some (start size .pre .0 .stands), size .before .before .depth-of .ensures)
 
 cast-place-of : tie.Need-cast-place-of
 cast-place-of c = search needs
@@ -43,7 +43,7 @@ cast-place-of c = search needs
 place-of-requires : tie.Need-place-of-requires
 place-of-requires c κs =
     let size = c .before .before in
-    let asked = start size .pre .stands in
+    let asked = start size .pre .0 .stands in
     omega (arith, depth-some asked, depth-most asked, size-most asked, size .before .before .depth-of .ensures)
 
 cast-label-read : tie.Need-cast-label-read
@@ -53,11 +53,15 @@ label-read-requires : tie.Need-label-read-requires
 label-read-requires c κs =
     let size = c .before .before .before in
     let s = stateOf (start size .args .bytes .now) in
-    numbered-as (c .place-of .ensures ∙ ap (λ (d : ℕ). placeAt s (d - 1)) (size .before .before .depth-of .ensures)) (start size .pre .label)
+    let asked = start size .pre in
+    record {
+      label = numbered-as (c .place-of .ensures ∙ ap (λ (d : ℕ). placeAt s (d - 1)) (size .before .before .depth-of .ensures)) (asked .0 .label);
+      schemes = asked .1;
+    }
 
 entry-of-requires : tie.Need-entry-of-requires
 entry-of-requires c κs =
-    let asked = start (sized c) .pre .stands in
+    let asked = start (sized c) .pre .0 .stands in
     (asked .whole, omega (arith, called-low asked (c .before .place-of .result), ap (λ (x : Label). x .called) (c .label-read .ensures)))
 
 put-result-requires : tie.Need-put-result-requires
@@ -72,7 +76,7 @@ cast-put-place c = search needs
 put-place-requires : tie.Need-put-place-requires
 put-place-requires c κs =
     let size = sized (c .before .before .before .before .before .before) in
-    let asked = start size .pre .stands in
+    let asked = start size .pre .0 .stands in
     omega (arith, size-most asked, size .size-of .ensures, c .before .before .before .before .before .before .before .before .before .if1 .left)
 
 add-put-depth : tie.Need-add-put-depth
@@ -84,7 +88,7 @@ put-depth-requires c κs = search needs
 code-of-requires : tie.Need-code-of-requires
 code-of-requires c κs =
     let l = label c in
-    omega (arith, called-few (start (sized l) .pre .stands) (l .before .place-of .result), ap (λ (x : Label). x .called) (l .label-read .ensures))
+    omega (arith, called-few (start (sized l) .pre .0 .stands) (l .before .place-of .result), ap (λ (x : Label). x .called) (l .label-read .ensures))
 
 returns-2 : tie.Need-returns-2
 returns-2 c =
@@ -95,7 +99,7 @@ returns-2 c =
     let l = label fourth in
     let size = sized l in
     let depth = size .before .before .depth-of .ensures in
-    call-steps _ _ _ (start size .pre) _ depth (omega (arith, size .size-of .ensures, l .before .before .before .if1 .left)) _
+    call-steps _ _ _ (start size .pre .0) _ depth (omega (arith, size .size-of .ensures, l .before .before .before .if1 .left)) _
     (l .before .place-of .ensures ∙ ap (λ (d : ℕ). placeAt (stateOf (start size .args .bytes .now)) (d - 1)) depth) _ (l .label-read .ensures) _
     (first .before .before .entry-of .ensures) _ (c .code-of .ensures) _ _ _ _ (first .put-result .ensures) (second .put-result2 .ensures)
     (third .put-place .ensures) (fourth .put-depth .ensures)
@@ -107,8 +111,8 @@ tick-call-spec =
     depth-of-requires
     size-of-requires
     returns
-    sub-place-of
     cast-place-of
+    sub-place-of
     place-of-requires
     cast-label-read
     label-read-requires

@@ -40,4 +40,4 @@ returns c =
 pub tick-home-spec : {M : Type 1} → statement M
 tick-home-spec =
     tie.close
-    (tie.spec depth-of-requires sub-top cast-top entry-of-requires put-place-requires returns)
+    (tie.spec depth-of-requires cast-top sub-top entry-of-requires put-place-requires returns)

@@ -13,94 +13,98 @@ use Rattle.ticks.proofs.TickCases.{depth-some, depth-most, size-most, k
 use Rattle.ticks.proofs.ticks.tick_numbered.Statement.{statement}
 use Rattle.ticks.proofs.ticks.tick_numbered.Tie as tie
 
--- ---- the stages: the depth, the top, M, and the label
+-- ---- the stages: the depth, the top, and its kind
 abbrev start : tie.After-depth-of → tie.Start
 start c = c .before .before .before
 
-abbrev depth : tie.After-last-label → tie.After-depth-of
-depth c = c .before .before
+abbrev depth : tie.After-place-of → tie.After-depth-of
+depth c = c .before
 
-abbrev last : tie.After-kind-read → tie.After-last-label
-last c = c .before .before
+abbrev place : tie.After-kind-read → tie.After-place-of
+place c = c .before .before
 
 -- the label at the top is what was read, one of 2 to M, and its kind
-top-read : (c : tie.After-last-label) → c .before .place-of .result ≡ topOf (stateOf (start (depth c) .args .bytes .now))
+top-read : (c : tie.After-place-of) → c .place-of .result ≡ topOf (stateOf (start (depth c) .args .bytes .now))
 top-read c =
     let s = stateOf (start (depth c) .args .bytes .now) in
-    c .before .place-of .ensures ∙ ap (λ (n : ℕ). placeAt s (n - 1)) (depth c .depth-of .ensures)
+    c .place-of .ensures ∙ ap (λ (n : ℕ). placeAt s (n - 1)) (depth c .depth-of .ensures)
 
 abbrev TopLabel : tie.After-kind-read → Type 0
-TopLabel c = let begun = start (depth (last c)) in Numbered (begun .args .table .now) (topOf (stateOf (begun .args .bytes .now)))
+TopLabel c = let begun = start (depth (place c)) in Numbered (begun .args .table .now) (topOf (stateOf (begun .args .bytes .now)))
 
 top-label : (c : tie.After-kind-read) → TopLabel c
 top-label c =
-    let m = last c in
-    let asked = start (depth m) .pre in
+    let p = place c in
+    let asked = start (depth p) .pre in
     record {
-      whole = asked .stands .whole;
-      low = asked .low;
-      high = omega (arith, top-read m, m .last-label .ensures, c .before .if1 .left);
+      whole = asked .0 .stands .whole;
+      low = asked .0 .low;
+      high = omega (arith, top-read p, asked .1 .last, c .before .if1 .left);
     }
 
 abbrev KindRead : tie.After-kind-read → Type 0
 KindRead c =
-    let begun = start (depth (last c)) in
+    let begun = start (depth (place c)) in
     c .kind-read .result ≡ topKind (begun .args .table .now) (stateOf (begun .args .bytes .now))
 
 kind-read : (c : tie.After-kind-read) → KindRead c
 kind-read c =
-    let m = last c in
-    c .kind-read .ensures ∙ ap (λ (l : ℕ). labelOf (start (depth m) .args .table .now) l .kind) (top-read m)
+    let p = place c in
+    c .kind-read .ensures ∙ ap (λ (l : ℕ). labelOf (start (depth p) .args .table .now) l .kind) (top-read p)
 
 -- ---- the needs
 depth-of-requires : tie.Need-depth-of-requires
 depth-of-requires c κs = search needs
 
 sub-place-of : tie.Need-sub-place-of
-sub-place-of c = omega (arith, depth-some (start c .pre .stands), c .depth-of .ensures)
+sub-place-of c = omega (arith, depth-some (start c .pre .0 .stands), c .depth-of .ensures)
 
 cast-place-of : tie.Need-cast-place-of
 cast-place-of c = search needs
 
 place-of-requires : tie.Need-place-of-requires
 place-of-requires c κs =
-    let asked = start c .pre .stands in
+    let asked = start c .pre .0 .stands in
     omega (arith, depth-some asked, depth-most asked, size-most asked, c .depth-of .ensures)
-
-last-label-requires : tie.Need-last-label-requires
-last-label-requires c κs = start (c .before) .pre .stands .whole
 
 no-row-requires : tie.Need-no-row-requires
 no-row-requires c κs = search needs
 
 returns : tie.Need-returns
 returns c =
-    let m = c .before .before in
-    high-stop _ _ _ (start (depth m) .pre) _ (top-read m) (omega (arith, m .last-label .ensures, c .before .if1 .taken)) _ (c .no-row .ensures)
+    let p = c .before .before in
+    let asked = start (depth p) .pre in
+    high-stop _ _ _ (asked .0) _ (top-read p) (omega (arith, asked .1 .last, c .before .if1 .taken)) _ (c .no-row .ensures)
 
 cast-kind-read : tie.Need-cast-kind-read
 cast-kind-read c = search needs
 
 kind-read-requires : tie.Need-kind-read-requires
 kind-read-requires c κs =
-    let m = c .before in
-    let asked = start (depth m) .pre in
+    let p = c .before in
+    let asked = start (depth p) .pre in
     record {
-      whole = asked .stands .whole;
-      low = omega (arith, top-read m, asked .low);
-      high = omega (arith, m .last-label .ensures, c .if1 .left);
+      label = record {
+        whole = asked .0 .stands .whole;
+        low = omega (arith, top-read p, asked .0 .low);
+        high = omega (arith, asked .1 .last, c .if1 .left);
+      };
+      schemes = asked .1 .schemes;
     }
 
 tick-call-requires : tie.Need-tick-call-requires
 tick-call-requires c κs =
     let label = c .before .before .before in
     let kind = kind-read label in
-    record {
-      stands = start (depth (last label)) .pre .stands;
-      label = top-label label;
-      low = omega (arith, kind, c .before .before .if2 .left);
-      high = omega (arith, kind, c .before .if3 .taken);
-    }
+    let asked = start (depth (place label)) .pre in (
+      record {
+        stands = asked .0 .stands;
+        label = top-label label;
+        low = omega (arith, kind, c .before .before .if2 .left);
+        high = omega (arith, kind, c .before .if3 .taken);
+      },
+      asked .1 .schemes,
+    )
 
 tick-plain-requires : tie.Need-tick-plain-requires
 tick-plain-requires c κs =
@@ -108,11 +112,14 @@ tick-plain-requires c κs =
     let label = both .before in
     let kind = kind-read label in
     let top = top-label label in
-    record {
-      stands = start (depth (last label)) .pre .stands;
-      label = top;
-      kind = ⊎-elim (λ t. omega (arith, kind, t .taken)) (λ t. omega (arith, kind, t .1 .left, kind-low top)) (both .if2 .came);
-    }
+    let asked = start (depth (place label)) .pre in (
+      record {
+        stands = asked .0 .stands;
+        label = top;
+        kind = ⊎-elim (λ t. omega (arith, kind, t .taken)) (λ t. omega (arith, kind, t .1 .left, kind-low top)) (both .if2 .came);
+      },
+      asked .1 .schemes,
+    )
 
 returns-2 : tie.Need-returns-2
 returns-2 c = c .tick-call .ensures
@@ -125,10 +132,9 @@ tick-numbered-spec =
     tie.close
     (tie.spec
     depth-of-requires
-    sub-place-of
     cast-place-of
+    sub-place-of
     place-of-requires
-    last-label-requires
     no-row-requires
     returns
     cast-kind-read

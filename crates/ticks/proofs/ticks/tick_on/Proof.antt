@@ -25,31 +25,33 @@ depth-of-requires : tie.Need-depth-of-requires
 depth-of-requires c κs = search needs
 
 sub-place-of : tie.Need-sub-place-of
-sub-place-of c = omega (arith, depth-some (start c .pre), c .depth-of .ensures)
+sub-place-of c = omega (arith, depth-some (start c .pre .0), c .depth-of .ensures)
 
 cast-place-of : tie.Need-cast-place-of
 cast-place-of c = search needs
 
 place-of-requires : tie.Need-place-of-requires
 place-of-requires c κs =
-    let asked = start c .pre in
+    let asked = start c .pre .0 in
     omega (arith, depth-some asked, depth-most asked, size-most asked, c .depth-of .ensures)
 
 tick-home-requires : tie.Need-tick-home-requires
 tick-home-requires c κs =
     let top = c .before .before in
-    record { stands = start (top .before) .pre; label = sym (top-read top) ∙ c .before .match .keys1 }
+    record { stands = start (top .before) .pre .0; label = sym (top-read top) ∙ c .before .match .keys1 }
 
 tick-back-requires : tie.Need-tick-back-requires
 tick-back-requires c κs =
     let top = c .before .before in
-    record { stands = start (top .before) .pre; label = sym (top-read top) ∙ c .before .match .keys2 }
+    let asked = start (top .before) .pre in
+    (record { stands = asked .0; label = sym (top-read top) ∙ c .before .match .keys2 }, asked .1)
 
 tick-numbered-requires : tie.Need-tick-numbered-requires
 tick-numbered-requires c κs =
     let rest = c .before in
     let top = rest .before in
-    record { stands = start (top .before) .pre; low = two-up (top-read top) (rest .match .rest) }
+    let asked = start (top .before) .pre in
+    (record { stands = asked .0; low = two-up (top-read top) (rest .match .rest) }, asked .1)
 
 returns : tie.Need-returns
 returns c = c .tick-home .ensures
@@ -65,8 +67,8 @@ tick-on-spec =
     tie.close
     (tie.spec
     depth-of-requires
-    sub-place-of
     cast-place-of
+    sub-place-of
     place-of-requires
     tick-home-requires
     tick-back-requires

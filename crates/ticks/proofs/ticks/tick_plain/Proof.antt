@@ -10,7 +10,7 @@ use Rattle.ticks.proofs.TickCases.{depth-some, depth-most, size-most, n
 use Rattle.ticks.proofs.ticks.tick_plain.Statement.{statement}
 use Rattle.ticks.proofs.ticks.tick_plain.Tie as tie
 
--- ---- the stages: the depth, the top and its label, where its row leads
+-- ---- the stages: the depth, the top, where its row leads
 abbrev start : tie.After-depth-of → tie.Start
 start c = c .before .before .before
 
@@ -18,7 +18,7 @@ abbrev depth : tie.After-place-of → tie.After-depth-of
 depth c = c .before .before
 
 abbrev top : tie.After-next-row → tie.After-place-of
-top c = c .before .before
+top c = c .before
 
 -- the label at the top is what was read
 top-read : (c : tie.After-place-of) → c .place-of .result ≡ topOf (stateOf (start (depth c) .args .bytes .now))
@@ -31,7 +31,7 @@ depth-of-requires : tie.Need-depth-of-requires
 depth-of-requires c κs = search needs
 
 sub-top : tie.Need-sub-top
-sub-top c = omega (arith, depth-some (start c .pre .stands), c .depth-of .ensures)
+sub-top c = omega (arith, depth-some (start c .pre .0 .stands), c .depth-of .ensures)
 
 cast-top : tie.Need-cast-top
 cast-top c = search needs
@@ -39,20 +39,17 @@ cast-top c = search needs
 place-of-requires : tie.Need-place-of-requires
 place-of-requires c κs =
     let d = c .before in
-    let asked = start d .pre .stands in
+    let asked = start d .pre .0 .stands in
     omega (arith, depth-some asked, depth-most asked, size-most asked, d .depth-of .ensures)
 
 cast-l : tie.Need-cast-l
 cast-l c = search needs
 
-label-read-requires : tie.Need-label-read-requires
-label-read-requires c κs = numbered-as (top-read c) (start (depth c) .pre .label)
-
 next-row-requires : tie.Need-next-row-requires
 next-row-requires c κs =
-    let t = c .before in
+    let t = c in
     let asked = start (depth t) .pre in
-    plain-decides (top-read t) (asked .label) (asked .kind)
+    (plain-decides (top-read t) (asked .0 .label) (asked .0 .kind), asked .1)
 
 no-row-requires : tie.Need-no-row-requires
 no-row-requires c κs = search needs
@@ -62,13 +59,14 @@ returns c =
     let next = c .before .before in
     let t = top next in
     let d = depth t in
-    plain-stop _ _ _ (start d .pre) _ (top-read t) _ (next .next-row .ensures)
+    plain-stop _ _ _ (start d .pre .0) _ (top-read t) _ (next .next-row .ensures)
     (λ k. omega (arith, d .before .before .shared-slice-known .given k)) (c .before .if1 .taken) _ (c .no-row .ensures)
 
-mask-read-requires : tie.Need-mask-read-requires
-mask-read-requires c κs =
+label-read-requires : tie.Need-label-read-requires
+label-read-requires c κs =
     let t = top (c .before) in
-    numbered-as (top-read t) (start (depth t) .pre .label)
+    let asked = start (depth t) .pre in
+    record { label = numbered-as (top-read t) (asked .0 .label); schemes = asked .1 }
 
 put-result-requires : tie.Need-put-result-requires
 put-result-requires c κs = search needs
@@ -79,7 +77,7 @@ cast-put-place c = omega (arith, c .before .before .before .before .if1 .left)
 put-place-requires : tie.Need-put-place-requires
 put-place-requires c κs =
     let d = depth (top (c .before .before .before .before .before)) in
-    let asked = start d .pre .stands in
+    let asked = start d .pre .0 .stands in
     omega (arith, depth-some asked, depth-most asked, size-most asked, d .depth-of .ensures)
 
 returns-2 : tie.Need-returns-2
@@ -89,8 +87,8 @@ returns-2 c =
     let next = read .before .before in
     let t = top next in
     let d = depth t in
-    plain-steps _ _ _ (start d .pre) _ (top-read t) _ (next .next-row .ensures)
-    (read .before .if1 .left) _ (ap (λ (n : ℕ). n - 1) (d .depth-of .ensures)) _ (next .before .label-read .ensures) _ (read .mask-read .ensures)
+    plain-steps _ _ _ (start d .pre .0) _ (top-read t) _ (next .next-row .ensures)
+    (read .before .if1 .left) _ (ap (λ (n : ℕ). n - 1) (d .depth-of .ensures)) _ (read .label-read .ensures)
     _ _ (written .put-result .ensures) (c .put-place .ensures)
 
 pub tick-plain-spec : {M : Type 1} → statement M
@@ -98,15 +96,14 @@ tick-plain-spec =
     tie.close
     (tie.spec
     depth-of-requires
-    sub-top
     cast-top
+    sub-top
     place-of-requires
     cast-l
-    label-read-requires
     next-row-requires
     no-row-requires
     returns
-    mask-read-requires
+    label-read-requires
     put-result-requires
     cast-put-place
     put-place-requires

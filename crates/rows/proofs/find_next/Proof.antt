@@ -1,10 +1,10 @@
--- `rows::find_row` meets its contract: the loop keeps what is left to search.
+-- `rows::find_next` meets its contract: the loop keeps what is left to search.
 use borrow.Author.Needs.{needs}
 use mathlib.Core.Path.{refl}
 use Prim.Native.Nat.{_-_}
 use Rattle.rows.proofs.SearchCases.{Left, search-found, search-on, search-over}
-use Rattle.rows.proofs.find_row.Statement.{statement}
-use Rattle.rows.proofs.find_row.Tie as tie
+use Rattle.rows.proofs.find_next.Statement.{statement}
+use Rattle.rows.proofs.find_next.Tie as tie
 
 abbrev Inv-loop : tie.InvT-loop
 Inv-loop table first end word bit turned f₀ f = Left table first end word bit f
@@ -21,12 +21,20 @@ loop-holds c = refl
 is-matching-requires : tie.Need-is-matching-requires Inv-loop μ-loop
 is-matching-requires c κs = search needs
 
+byte-requires : tie.Need-byte-requires Inv-loop μ-loop
+byte-requires c κs = search needs
+
+cast-result : tie.Need-cast-result Inv-loop μ-loop
+cast-result c = search needs
+
 returns : tie.Need-returns Inv-loop μ-loop
 returns c =
-    let loop = c .before .before .before .loop in
-    let given = c .before .before .before .before .before .before .args in
+    let test = c .before in
+    let loop = test .before .before .before .loop in
+    let given = test .before .before .before .before .before .before .args in
     search-found (given .table .now) (given .first) (given .end) (given .word) (given .bit) _ _ (loop .inv)
-    (c .before .before .before .before .swap .ensures) (search needs) _ (c .before .is-matching .ensures) (search needs) (c .if1 .taken)
+    (test .before .before .before .before .swap .ensures) (search needs) _ (test .before .is-matching .ensures) (search needs) (test .if1 .taken)
+    _ (c .byte .ensures)
 
 add-f : tie.Need-add-f Inv-loop μ-loop
 add-f c = search needs
@@ -46,8 +54,8 @@ returns-2 c =
     let given = c .before .before .before .before .args in
     search-over (given .table .now) (given .first) (given .end) (given .word) (given .bit) _ (c .before .loop .inv) (search needs)
 
-pub find-row-spec : {M : Type 1} → statement M
-find-row-spec =
+pub find-next-spec : {M : Type 1} → statement M
+find-next-spec =
     tie.close
     (tie.spec
     Inv-loop
@@ -55,6 +63,8 @@ find-row-spec =
     swap-requires
     loop-holds
     is-matching-requires
+    byte-requires
+    cast-result
     returns
     add-f
     loop-less
