@@ -2,7 +2,7 @@
 use mathlib.Core.Path.{_≡_, refl, sym, _∙_, ap}
 use mathlib.Core.Bool.{Bool, true, false, _||_, not}
 use mathlib.Core.List.{List}
-use Prim.Native.Nat.{ℕ, zero, suc, _+_, _-_, _≤_, _<_}
+use Prim.Native.Nat.{ℕ, zero, suc, _+_, _≤_, _<_}
 use native.Mathlib.Omega.{arith}
 use lib.Bits.{bitAnd}
 use lib.Dec.{ltb, eqb}
@@ -11,9 +11,8 @@ use Rattle.lists.proofs.Tests.{or-l, or-r, or-true-r}
 use Rattle.frames.specs.Frame.{field}
 use Rattle.image.specs.Image.{Label, Row}
 use Rattle.image.specs.Decode.{schemeCount, lastLabel, labelsFrom, rowsFrom, entryIn, labelIn, rowIn}
-use Rattle.image.specs.Check.{filled, within, badEntry, isLabel, badCalled, badLabel, badBit, badRow, positionOf, badFrame, badContent}
-use Rattle.image.specs.Parts.{kindOf, badKind, badTest}
-use Rattle.image.proofs.PositionCases.{position-entry, position-label, position-row, position-header}
+use Rattle.image.specs.Check.{filled, within, badEntry, isLabel, badCalled, badLabel, badBit, badRow}
+use Rattle.image.specs.Parts.{badKind, badTest}
 
 -- ---- labels of a scheme
 module _ (b : List ℕ) (h l : ℕ) where
@@ -153,26 +152,3 @@ module _ (b : List ℕ) (r : Row) where
 pub row-last : (b : List ℕ) (k n : ℕ) (x : Bool) → x ≡ filled b (n + k) 8 2 → n ≡ rowsFrom b
     → filled b (rowsFrom b + k) 8 2 ≡ badRow b (rowsFrom b + k) (rowIn b k) → x ≡ badRow b (rowsFrom b + k) (rowIn b k)
 row-last b k n x read from rest = read ∙ ap (λ (m : ℕ). filled b (m + k) 8 2) from ∙ rest
-
--- ---- one frame
-module _ (b : List ℕ) (f : ℕ) where
-  pub content-entry : (x : Bool) → kindOf (positionOf b f) ≡ 16 → x ≡ badEntry b f → x ≡ badContent b f
-  unfolding badContent
-  content-entry x e q = q ∙ sym (ap (badFrame b f) (position-entry b f e))
-
-  pub content-label : (x : Bool) (y : ℕ) → kindOf (positionOf b f) ≡ 17 → y ≡ labelsFrom b
-      → x ≡ badLabel b (f - y) (labelIn b (f - y)) → x ≡ badContent b f
-  unfolding badContent
-  content-label x y e q r = r ∙ ap (λ (n : ℕ). badLabel b (f - n) (labelIn b (f - n))) q ∙ sym (ap (badFrame b f) (position-label b f e))
-
-  pub content-row : (x : Bool) (y : ℕ) → kindOf (positionOf b f) ≡ 18 → rowsFrom b ≤ f → y ≡ rowsFrom b
-      → x ≡ badRow b (rowsFrom b + (f - y)) (rowIn b (f - y)) → x ≡ badContent b f
-  unfolding badContent
-  content-row x y e l q r =
-      r ∙ ap (λ (n : ℕ). badRow b (rowsFrom b + (f - n)) (rowIn b (f - n))) q
-      ∙ ap (λ (n : ℕ). badRow b n (rowIn b (f - rowsFrom b))) (omega arith) ∙ sym (ap (badFrame b f) (position-row b f e))
-
-  pub content-header : (kindOf (positionOf b f) ≡ 16 → ⊥) → (kindOf (positionOf b f) ≡ 17 → ⊥)
-      → (kindOf (positionOf b f) ≡ 18 → ⊥) → false ≡ badContent b f
-  unfolding badContent
-  content-header p q r = sym (ap (badFrame b f) (position-header b f p q r))

@@ -7,4 +7,5 @@ pub mod FieldCases
 pub mod TableCases
 pub mod ReadCases
 pub mod Accepted
+pub mod FaultSearch
 pub mod Refuses

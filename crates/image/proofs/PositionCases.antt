@@ -1,6 +1,6 @@
 -- The cases of refusals 11 and 12, as the code meets them.
 use mathlib.Core.Path.{_≡_, refl, sym, _∙_, ap}
-use mathlib.Core.Bool.{Bool, true, false, _||_, not}
+use mathlib.Core.Bool.{Bool, true, false, _&&_, _||_, not}
 use mathlib.Core.List.{List}
 use Prim.Native.Nat.{ℕ, zero, suc, _+_, _-_, _≤_, _<_}
 use native.Mathlib.Omega.{arith}
@@ -132,31 +132,43 @@ pub falls-later : (b : List ℕ) (k x y : ℕ) → (k ≡ 0 → ⊥) → x ≡ f
 falls-later b zero x y n p q = absurd (n refl)
 falls-later b (suc k) x y n p q = rw (p, q) (ap (λ (j : ℕ). ltb (field b (rowsFrom b + suc k) 1) (field b (rowsFrom b + j) 1)) (omega arith))
 
+-- a frame of another kind, or of another number
+module _ (x k n m : ℕ) where
+  pub other-kind : (x ≡ k → ⊥) → true ≡ not (eqb x k && eqb n m)
+  other-kind h = simp (ne-eqb x k h)
+
+  pub other-number : (y : ℕ) → x ≡ k → y ≡ n → not (eqb y m) ≡ not (eqb x k && eqb n m)
+  other-number y h q = rw q (simp (eq-eqb x k h))
+
+-- a row of another kind, the first row, a later one
+module _ (x : ℕ) (b : List ℕ) (k : ℕ) where
+  pub row-kind : (x ≡ 18 → ⊥) → true ≡ (not (eqb x 18) || falls b k)
+  row-kind h = simp (ne-eqb x 18 h)
+
+  pub row-first : x ≡ 18 → k ≡ 0 → false ≡ (not (eqb x 18) || falls b k)
+  row-first h z = sym (ap (λ (j : ℕ). not (eqb x 18) || falls b j) z ∙ simp (eq-eqb x 18 h))
+
+  pub row-later : (t : Bool) → x ≡ 18 → t ≡ falls b k → t ≡ (not (eqb x 18) || falls b k)
+  row-later t h q = q ∙ sym (simp (eq-eqb x 18 h))
+
 module _ (b : List ℕ) (f : ℕ) where
-  pub stray-entry-kind : kindOf (positionOf b f) ≡ 16 → (field b f 0 ≡ 16 → ⊥) → true ≡ stray b f
+  pub stray-entry : (x : Bool) → kindOf (positionOf b f) ≡ 16 → x ≡ strayFrame b f (entryAt f) → x ≡ stray b f
   unfolding stray
-  stray-entry-kind e h = sym (ap (strayFrame b f) (position-entry b f e) ∙ simp (ne-eqb (field b f 0) 16 h))
+  stray-entry x e q = q ∙ sym (ap (strayFrame b f) (position-entry b f e))
 
-  pub stray-entry : (x : ℕ) → kindOf (positionOf b f) ≡ 16 → field b f 0 ≡ 16 → x ≡ field b f 1 → not (eqb x f) ≡ stray b f
+  pub stray-label : (x : Bool) (y : ℕ) → kindOf (positionOf b f) ≡ 17 → labelsFrom b ≤ f → y ≡ labelsFrom b
+      → x ≡ strayFrame b (labelsFrom b + (f - y)) (labelAt (f - y)) → x ≡ stray b f
   unfolding stray
-  stray-entry x e h q = rw q (sym (ap (strayFrame b f) (position-entry b f e) ∙ simp (eq-eqb (field b f 0) 16 h)))
+  stray-label x y e l q r =
+      r ∙ ap (λ (n : ℕ). strayFrame b (labelsFrom b + (f - n)) (labelAt (f - n))) q
+      ∙ ap (λ (n : ℕ). strayFrame b n (labelAt (f - labelsFrom b))) (omega arith) ∙ sym (ap (strayFrame b f) (position-label b f e))
 
-  pub stray-label-kind : kindOf (positionOf b f) ≡ 17 → (field b f 0 ≡ 17 → ⊥) → true ≡ stray b f
+  pub stray-row : (x : Bool) (y : ℕ) → kindOf (positionOf b f) ≡ 18 → rowsFrom b ≤ f → y ≡ rowsFrom b
+      → x ≡ strayFrame b (rowsFrom b + (f - y)) (rowAt (f - y)) → x ≡ stray b f
   unfolding stray
-  stray-label-kind e h = sym (ap (strayFrame b f) (position-label b f e) ∙ simp (ne-eqb (field b f 0) 17 h))
-
-  pub stray-label : (x y : ℕ) → kindOf (positionOf b f) ≡ 17 → field b f 0 ≡ 17 → x ≡ field b f 1 → y ≡ labelsFrom b
-      → not (eqb x (f - y)) ≡ stray b f
-  unfolding stray
-  stray-label x y e h q r = rw (q, r) (sym (ap (strayFrame b f) (position-label b f e) ∙ simp (eq-eqb (field b f 0) 17 h)))
-
-  pub stray-row-kind : kindOf (positionOf b f) ≡ 18 → (field b f 0 ≡ 18 → ⊥) → true ≡ stray b f
-  unfolding stray
-  stray-row-kind e h = sym (ap (strayFrame b f) (position-row b f e) ∙ simp (ne-eqb (field b f 0) 18 h))
-
-  pub stray-row : (x : Bool) (y : ℕ) → kindOf (positionOf b f) ≡ 18 → field b f 0 ≡ 18 → y ≡ rowsFrom b → x ≡ falls b (f - y) → x ≡ stray b f
-  unfolding stray
-  stray-row x y e h q r = r ∙ ap (λ (n : ℕ). falls b (f - n)) q ∙ sym (ap (strayFrame b f) (position-row b f e) ∙ simp (eq-eqb (field b f 0) 18 h))
+  stray-row x y e l q r =
+      r ∙ ap (λ (n : ℕ). strayFrame b (rowsFrom b + (f - n)) (rowAt (f - n))) q
+      ∙ ap (λ (n : ℕ). strayFrame b n (rowAt (f - rowsFrom b))) (omega arith) ∙ sym (ap (strayFrame b f) (position-row b f e))
 
   pub stray-header : (kindOf (positionOf b f) ≡ 16 → ⊥) → (kindOf (positionOf b f) ≡ 17 → ⊥)
       → (kindOf (positionOf b f) ≡ 18 → ⊥) → false ≡ stray b f

@@ -1,20 +1,17 @@
 // Refusal 13: the fields of entries, labels and rows.
-use crate::positions::kind_at;
 use crate::table::byte;
 use crate::table::filled_to;
 use crate::table::label_byte;
 use crate::table::label_mask;
-use crate::table::labels_from;
 use crate::table::row_byte;
 use crate::table::row_pair;
 use crate::table::rows_from;
 ghost use mathlib.Core.Path.{_≡_};
 ghost use mathlib.Core.Bool.{not};
-ghost use Prim.Native.Nat.{_+_, _-_, _<_, _≤_};
-ghost use Rattle.lists.specs.Numbers.{lowest};
+ghost use Prim.Native.Nat.{_+_, _<_, _≤_};
 ghost use Rattle.frames.specs.Frame.{size};
 ghost use Rattle.image.specs.Decode.{labelIn, rowIn, lastLabel, labelsFrom, rowsFrom};
-ghost use Rattle.image.specs.Check.{within, badEntry, isLabel, badLabel, badBit, badRow, badContent};
+ghost use Rattle.image.specs.Check.{within, badEntry, isLabel, badLabel, badBit, badRow};
 ghost use Rattle.image.specs.Parts.{badKind, badTest};
 
 // Label l is of the image, and scheme h owns it or ends with it.
@@ -35,7 +32,7 @@ fn is_within(table: &[u8], h: usize, l: usize) -> bool
 }
 
 // The entry of scheme h.
-fn bad_entry(table: &[u8], h: usize) -> bool
+pub fn bad_entry(table: &[u8], h: usize) -> bool
     requires { ⌜ (rowsFrom (now table) ≤ size (now table)) × (h < size (now table)) ⌝ }
     ensures { λ r. ⌜ r ≡ badEntry (now (table .entry)) h ⌝ }
 {
@@ -103,7 +100,7 @@ fn bad_numbered(table: &[u8], l: usize) -> bool
 }
 
 // Label l.
-fn bad_label(table: &[u8], l: usize) -> bool
+pub fn bad_label(table: &[u8], l: usize) -> bool
     requires { ⌜ labelsFrom (now table) + l < size (now table) ⌝ }
     ensures { λ r. ⌜ r ≡ badLabel (now (table .entry)) l (labelIn (now (table .entry)) l) ⌝ }
 {
@@ -147,7 +144,7 @@ fn bad_test(table: &[u8], k: usize) -> bool
 }
 
 // Row k.
-fn bad_row(table: &[u8], k: usize) -> bool
+pub fn bad_row(table: &[u8], k: usize) -> bool
     requires { ⌜ rowsFrom (now table) + k < size (now table) ⌝ }
     ensures { λ r. ⌜ r ≡ badRow (now (table .entry)) (rowsFrom (now (table .entry)) + k) (rowIn (now (table .entry)) k) ⌝ }
 {
@@ -163,33 +160,4 @@ fn bad_row(table: &[u8], k: usize) -> bool
         return true;
     }
     filled_to(table, rows_from(table) + k, 8, 10)
-}
-
-// 13, of one frame
-fn bad_content(table: &[u8], f: usize) -> bool
-    requires { ⌜ (rowsFrom (now table) ≤ size (now table)) × (f < size (now table)) ⌝ }
-    ensures { λ r. ⌜ r ≡ badContent (now (table .entry)) f ⌝ }
-{
-    let kind = kind_at(table, f);
-    match kind {
-        16 => bad_entry(table, f),
-        17 => bad_label(table, f - labels_from(table)),
-        18 => bad_row(table, f - rows_from(table)),
-        _ => false,
-    }
-}
-
-// The lowest of n frames that 13 refuses, or n.
-pub fn lowest_bad(table: &[u8], n: usize) -> usize
-    requires { ⌜ (rowsFrom (now table) ≤ size (now table)) × (n ≤ size (now table)) ⌝ }
-    ensures { λ r. ⌜ r ≡ lowest (badContent (now (table .entry))) 0 n ⌝ }
-{
-    let mut f: usize = 0;
-    while f < n {
-        if bad_content(table, f) {
-            return f;
-        }
-        f += 1;
-    }
-    f
 }

@@ -1,5 +1,6 @@
 // The image: entries, labels and rows as frames, and the check of an image's text.
 mod check;
+mod faults;
 mod fields;
 mod positions;
 mod read;

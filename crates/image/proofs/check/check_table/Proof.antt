@@ -1,4 +1,4 @@
--- `image::check::check_table` meets its contract: 11 to 13 in turn, the first that refuses answers.
+-- `image::check::check_table` meets its contract: 11, then one pass for 12 and 13; where it finds a frame, 12 goes before 13.
 use mathlib.Core.Path.{_≡_, sym, _∙_, ap}
 use mathlib.Core.Bool.{false}
 use native.Mathlib.Omega.{arith}
@@ -24,35 +24,34 @@ refused-requires c κs = search needs
 returns : tie.Need-returns
 returns c = ap reply (c .refused .ensures) ∙ table-header _ (sym (c .before .before .bad-header .ensures) ∙ c .before .if1 .taken)
 
+lowest-fault-requires : tie.Need-lowest-fault-requires
+lowest-fault-requires c κs = omega (arith, header-size _ (header c))
+
+returns-2 : tie.Need-returns-2
+returns-2 c = let fault = c .before in table-good _ (header (fault .before)) _ (fault .lowest-fault .ensures) (c .if2 .taken)
+
 lowest-stray-requires : tie.Need-lowest-stray-requires
 lowest-stray-requires c κs = search needs
 
 refused-requires-2 : tie.Need-refused-requires-2
 refused-requires-2 c κs = search needs
 
-returns-2 : tie.Need-returns-2
-returns-2 c =
+returns-3 : tie.Need-returns-3
+returns-3 c =
     let strays = c .before .before in
-    ap reply (c .refused2 .ensures) ∙ table-stray _ (header (strays .before)) _ (strays .lowest-stray .ensures) (search needs)
-
-lowest-bad-requires : tie.Need-lowest-bad-requires
-lowest-bad-requires c κs = (omega (arith, header-size _ (header (c .before .before))), search needs)
+    let fault = strays .before .before in
+    ap reply (c .refused2 .ensures)
+    ∙ table-stray _ (header (fault .before)) _ (fault .lowest-fault .ensures) _ (strays .lowest-stray .ensures) (search needs)
 
 refused-requires-3 : tie.Need-refused-requires-3
 refused-requires-3 c κs = search needs
 
-returns-3 : tie.Need-returns-3
-returns-3 c =
-    let bad = c .before .before in
-    let strays = bad .before .before in
-    ap reply (c .refused3 .ensures)
-    ∙ table-bad _ (header (strays .before)) _ (strays .lowest-stray .ensures) (search needs) _ (bad .lowest-bad .ensures) (search needs)
-
 returns-4 : tie.Need-returns-4
 returns-4 c =
-    let bad = c .before in
-    let strays = bad .before .before in
-    table-good _ (header (strays .before)) _ (strays .lowest-stray .ensures) (search needs) _ (bad .lowest-bad .ensures) (search needs)
+    let strays = c .before .before in
+    let fault = strays .before .before in
+    ap reply (c .refused3 .ensures)
+    ∙ table-bad _ (header (fault .before)) _ (fault .lowest-fault .ensures) _ (strays .lowest-stray .ensures) (search needs) (search needs)
 
 pub check-table-spec : {M : Type 1} → statement M
 check-table-spec =
@@ -61,10 +60,10 @@ check-table-spec =
     bad-header-requires
     refused-requires
     returns
+    lowest-fault-requires
+    returns-2
     lowest-stray-requires
     refused-requires-2
-    returns-2
-    lowest-bad-requires
-    refused-requires-3
     returns-3
+    refused-requires-3
     returns-4)
