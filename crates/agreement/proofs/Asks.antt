@@ -8,8 +8,8 @@ use Rattle.chart_text.proofs.write_chart as write-chart
 use Rattle.chart_text.proofs.write_chart.Reads as write-chart-reads
 use Rattle.translator.proofs.translate as translate
 use Rattle.translator.proofs.translate.Reads as translate-reads
-use Rattle.image.proofs.check_image as check-image
-use Rattle.image.proofs.check_image.Reads as check-image-reads
+use Rattle.image_check.proofs.check_image as check-image
+use Rattle.image_check.proofs.check_image.Reads as check-image-reads
 use Rattle.tables.proofs.prepare as prepare
 use Rattle.tables.proofs.prepare.Reads as prepare-reads
 use Rattle.state.proofs.State.fresh as fresh

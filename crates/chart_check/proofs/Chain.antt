@@ -10,17 +10,15 @@ use Rattle.frames.specs.declared.Answer.{Answer}
 use Rattle.frames.specs.declared.Answer.the-variants.{Refused}
 use Rattle.frames.proofs.Chains.{lowest-refused, lowest-fine, next-refused, next-on}
 use Rattle.charts.specs.Chart.{Chart, schemes}
-use Rattle.charts.specs.Check.{badField, badScheme, badArc, badCall, onCircle, cutOff, chartVerdict}
+use Rattle.charts.specs.Check.{badField, badScheme, badArc, badCall, cutOff, chartVerdict}
+use Rattle.chart_check.specs.Asked.{joinedVerdict}
 
 -- ---- the verdicts from a refusal on
 abbrev pub from9 : Chart → Verdict
 from9 c = atLowest 9 (cutOff c) (size c)
 
-abbrev pub from8 : Chart → Verdict
-from8 c = next (atLowest 8 (onCircle c) (size c)) λ _. from9 c
-
 abbrev pub from7 : Chart → Verdict
-from7 c = next (atLowest 7 (badCall c) (size c)) λ _. from8 c
+from7 c = next (atLowest 7 (badCall c) (size c)) λ _. joinedVerdict c
 
 abbrev pub from6 : Chart → Verdict
 from6 c = next (atLowest 6 (badArc c) (size c)) λ _. from7 c
@@ -43,10 +41,6 @@ module _ (v : Verdict) (m : ℕ) (p : ℕ → Bool) (n : ℕ) (rest : Verdict) (
 
   pub goes-on : n ≤ r → v ≡ rest
   goes-on h = left ∙ next-on (atLowest m p n) (λ _. rest) (lowest-fine m p n r found h)
-
--- the search for schemes goes up to the number that the code has found
-pub schemes-told : (c : Chart) (h : ℕ) (r t : Bool) → h ≡ schemes c → r ≡ any (badScheme c) 1 h → r ≡ t → any (badScheme c) 1 (schemes c) ≡ t
-schemes-told c h r t highest found is = sym (found ∙ ap (λ (k : ℕ). any (badScheme c) 1 k) highest) ∙ is
 
 pub answered : (v : Verdict) (r : Answer) (k i : ℕ) → r ≡ Refused k i 0 → v ≡ refused k i → reply r ≡ judged v 0
 answered v r k i e f = ap reply e ∙ sym (ap (λ v. judged v 0) f)

@@ -1,4 +1,4 @@
--- What the checks of a chart ask of their callers: lists with room for all nodes, marks for all of them, refusals that found nothing.
+-- What the checks of a chart ask of their callers: lists with room for all nodes, marks for all of them, refusals that found nothing; what is left of the verdict then.
 use Prim.Native.Nat.{ℕ, _≤_}
 use mathlib.Core.Path.{_≡_}
 use mathlib.Core.Bool.{Bool, false}
@@ -7,8 +7,9 @@ use lib.ListN.{length, replicate}
 use Rattle.lists.specs.Numbers.{lowest, any}
 use Rattle.graph.specs.Listed.{Listed}
 use Rattle.frames.specs.Frame.{size}
+use Rattle.frames.specs.Verdict.{Verdict, next, atLowest}
 use Rattle.charts.specs.Chart.{Chart, schemes}
-use Rattle.charts.specs.Check.{badField, badScheme, badArc}
+use Rattle.charts.specs.Check.{badField, badScheme, badArc, onCircle, cutOff}
 use Rattle.charts.specs.Finished.{Finished}
 
 -- as many nodes as a byte can number, and a list with room for all
@@ -32,6 +33,10 @@ pub record Search (c : Chart) (unfinished : List Bool) (path : List ℕ) : Type 
   pub few : size c ≤ 256
   pub room : size c ≤ length path
   pub finished : Finished c unfinished
+
+-- 8 and 9
+abbrev pub joinedVerdict : Chart → Verdict
+joinedVerdict c = next (atLowest 8 (onCircle c) (size c)) λ _. atLowest 9 (cutOff c) (size c)
 
 -- refusals 4 to 6 find nothing
 pub record Passed (c : Chart) : Type 0 where

@@ -1,11 +1,7 @@
-// Refusals 4 to 9 of node records, each tried on all nodes before the next.
-use crate::circles::lowest_circle;
-use crate::joined::lowest_cut_off;
-use charts::any_bad_scheme;
-use charts::highest_scheme;
-use charts::lowest_arc;
-use charts::lowest_call;
-use charts::lowest_field;
+// Refusals 4 to 9 of node records, each before the next.
+use crate::joined::check_joined;
+use charts::check_fields;
+use charts::lowest_arc_and_call;
 use frames::Answer;
 use frames::refused;
 ghost use mathlib.Core.Path.{_≡_};
@@ -20,29 +16,22 @@ pub fn check_chart(records: &[u8]) -> Answer
     ensures { λ r. ⌜ reply r ≡ judged (chartVerdict (now (records .entry))) 0 ⌝ }
 {
     let n = records.len() / 10;
-    let field = lowest_field(records);
+    let tried = check_fields(records);
+    let field = tried.field;
     if field < n {
         return refused(4, field);
     }
-    let highest = highest_scheme(records);
-    if any_bad_scheme(records, highest) {
+    if tried.scheme {
         return refused(5, 0);
     }
-    let arc = lowest_arc(records);
+    let found = lowest_arc_and_call(records, tried.highest);
+    let arc = found.arc;
     if arc < n {
         return refused(6, arc);
     }
-    let call = lowest_call(records, highest);
+    let call = found.call;
     if call < n {
         return refused(7, call);
     }
-    let circle = lowest_circle(records);
-    if circle < n {
-        return refused(8, circle);
-    }
-    let cut_off = lowest_cut_off(records);
-    if cut_off < n {
-        return refused(9, cut_off);
-    }
-    Answer::Done(0)
+    check_joined(records)
 }

@@ -5,7 +5,7 @@ use crate::marks::join;
 use crate::marks::mark_kind;
 use charts::field;
 ghost use mathlib.Core.Path.{_≡_};
-ghost use Prim.Native.Nat.{_≤_, _<_};
+ghost use Prim.Native.Nat.{_<_};
 ghost use lib.ListN.{length};
 ghost use Rattle.lists.specs.Numbers.{lowest};
 ghost use Rattle.graph.specs.Reach.{marked, joinedFrom};
@@ -56,8 +56,9 @@ fn search_circle(records: &[u8], unfinished: &[bool], list: &mut [u8]) -> usize
     v
 }
 
-// The same: at first all conditions are unfinished, then a search finishes what it can. The list serves both as the path and for marks.
-fn find_circle(records: &[u8], unfinished: &mut [bool], list: &mut [u8]) -> usize
+// The lowest node that 8 refuses, or the number of nodes: at first all conditions are unfinished, then a search finishes what it can.
+// The list serves both as the path and for marks.
+pub fn lowest_circle(records: &[u8], unfinished: &mut [bool], list: &mut [u8]) -> usize
     requires { ⌜ length (now unfinished) ≡ size (now records) ⌝ }
     requires { ⌜ Room (now records) (now list) ⌝ }
     ensures { λ r. ⌜ r ≡ lowest (onCircle (now (records .entry))) 0 (size (now (records .entry))) ⌝ }
@@ -65,15 +66,4 @@ fn find_circle(records: &[u8], unfinished: &mut [bool], list: &mut [u8]) -> usiz
     mark_kind(records, 3, unfinished);
     finish_all(records, unfinished, list);
     search_circle(records, unfinished, list)
-}
-
-// The lowest node that 8 refuses, or the number of nodes.
-pub fn lowest_circle(records: &[u8]) -> usize
-    requires { ⌜ size (now records) ≤ 256 ⌝ }
-    ensures { λ r. ⌜ r ≡ lowest (onCircle (now (records .entry))) 0 (size (now (records .entry))) ⌝ }
-{
-    let n = records.len() / 10;
-    let mut unfinished = [false; 256];
-    let mut list = [0u8; 256];
-    find_circle(records, &mut unfinished[..n], &mut list)
 }

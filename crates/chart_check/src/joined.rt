@@ -1,15 +1,19 @@
-// Refusal 9: nodes that no arcs join from the Begin of their scheme.
+// Refusal 9, nodes that no arcs join from the Begin of their scheme; 8 and 9 in turn.
+use crate::circles::lowest_circle;
 use crate::marks::join;
 use crate::marks::mark_kind;
+use frames::Answer;
+use frames::refused;
 ghost use mathlib.Core.Path.{_≡_};
 ghost use mathlib.Core.Bool.{not};
 ghost use lib.ListN.{length};
 ghost use Rattle.lists.specs.Numbers.{lowest};
 ghost use Rattle.graph.specs.Reach.{marked, reach};
 ghost use Rattle.frames.specs.Frame.{size};
+ghost use Rattle.frames.specs.Answer.{reply, judged};
 ghost use Rattle.charts.specs.Check.{arcs, cutOff};
 ghost use Rattle.charts.specs.Marks.{kindMarks};
-ghost use Rattle.chart_check.specs.Asked.{Room, Passed};
+ghost use Rattle.chart_check.specs.Asked.{Room, Passed, joinedVerdict};
 
 // The nodes that arcs join from some Begin are marked; the lowest other one, or the number of nodes.
 fn lowest_apart(records: &[u8], marks: &mut [bool], list: &mut [u8]) -> usize
@@ -24,12 +28,39 @@ fn lowest_apart(records: &[u8], marks: &mut [bool], list: &mut [u8]) -> usize
 }
 
 // The lowest node that 9 refuses, or the number of nodes. Arcs stay within a scheme, so the marks of all Begins serve every scheme.
-pub fn lowest_cut_off(records: &[u8]) -> usize
-    requires { ⌜ Passed (now records) ⌝ }
+fn lowest_cut_off(records: &[u8], marks: &mut [bool], list: &mut [u8]) -> usize
+    requires { ⌜ (length (now marks) ≡ size (now records)) × Passed (now records) ⌝ }
+    requires { ⌜ Room (now records) (now list) ⌝ }
     ensures { λ r. ⌜ r ≡ lowest (cutOff (now (records .entry))) 0 (size (now (records .entry))) ⌝ }
+{
+    lowest_apart(records, marks, list)
+}
+
+// 8 and 9; marks and list serve both.
+fn try_joined(records: &[u8], marks: &mut [bool], list: &mut [u8]) -> Answer
+    requires { ⌜ (length (now marks) ≡ size (now records)) × Passed (now records) ⌝ }
+    requires { ⌜ Room (now records) (now list) ⌝ }
+    ensures { λ r. ⌜ reply r ≡ judged (joinedVerdict (now (records .entry))) 0 ⌝ }
+{
+    let n = records.len() / 10;
+    let circle = lowest_circle(records, marks, list);
+    if circle < n {
+        return refused(8, circle);
+    }
+    let cut_off = lowest_cut_off(records, marks, list);
+    if cut_off < n {
+        return refused(9, cut_off);
+    }
+    Answer::Done(0)
+}
+
+// The same, with room for 256 nodes.
+pub fn check_joined(records: &[u8]) -> Answer
+    requires { ⌜ Passed (now records) ⌝ }
+    ensures { λ r. ⌜ reply r ≡ judged (joinedVerdict (now (records .entry))) 0 ⌝ }
 {
     let n = records.len() / 10;
     let mut marks = [false; 256];
     let mut list = [0u8; 256];
-    lowest_apart(records, &mut marks[..n], &mut list)
+    try_joined(records, &mut marks[..n], &mut list)
 }

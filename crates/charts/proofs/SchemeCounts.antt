@@ -18,31 +18,31 @@ use Rattle.charts.specs.Counts.{countsTo, notOne}
 
 -- ---- the counts of the first v nodes
 module _ (c : Chart) (k : ℕ) where
-  pub counts-start : (counts : List ℕ) → counts ≡ replicate 256 0 → counts ≡ countsTo c k 0
+  pub counts-start : (counts : List ℕ) → counts ≡ replicate 17 0 → counts ≡ countsTo c k 0
   unfolding count
-  counts-start counts e = e ∙ tabulate-none (λ h. count (isOf c k h) 0 0) 256 (λ u. refl)
+  counts-start counts e = e ∙ tabulate-none (λ h. count (isOf c k h) 0 0) 17 (λ u. refl)
 
   module _ (v : ℕ) (counts : List ℕ) (e : counts ≡ countsTo c k v) where
-    pub counts-long : length counts ≡ 256
-    counts-long = ap (λ (xs : List ℕ). length xs) e ∙ length-tabulate (λ h. count (isOf c k h) 0 v) 256
+    pub counts-long : length counts ≡ 17
+    counts-long = ap (λ (xs : List ℕ). length xs) e ∙ length-tabulate (λ h. count (isOf c k h) 0 v) 17
 
-    pub counts-at : (h : ℕ) → h < 256 → getD counts h 0 ≡ count (isOf c k h) 0 v
-    counts-at h l = ap (λ (xs : List ℕ). getD xs h 0) e ∙ getD-tabulate (λ h. count (isOf c k h) 0 v) 256 h l
+    pub counts-at : (h : ℕ) → h < 17 → getD counts h 0 ≡ count (isOf c k h) 0 v
+    counts-at h l = ap (λ (xs : List ℕ). getD xs h 0) e ∙ getD-tabulate (λ h. count (isOf c k h) 0 v) 17 h l
 
-    pub counts-low : (h : ℕ) → h < 256 → getD counts h 0 ≤ v
+    pub counts-low : (h : ℕ) → h < 17 → getD counts h 0 ≤ v
     counts-low h l = omega (arith, counts-at h l, count-le (isOf c k h) 0 v)
 
     -- a node of another kind
     pub counts-pass : (x : ℕ) → x ≡ kind c v → (x ≡ k → ⊥) → counts ≡ countsTo c k (v + 1)
-    counts-pass x p n = e ∙ tabulate-alike (λ h. count (isOf c k h) 0 v) (λ h. count (isOf c k h) 0 (v + 1)) 256
+    counts-pass x p n = e ∙ tabulate-alike (λ h. count (isOf c k h) 0 v) (λ h. count (isOf c k h) 0 (v + 1)) 17
         (λ h l. sym (count-pass (isOf c k h) v (ap (λ b. b && eqb (scheme c v) h) (ne-eqb (kind c v) k (λ q. n (p ∙ q))))))
 
     -- one of this kind counts for its scheme alone
-    pub counts-more : (x h : ℕ) → x ≡ kind c v → x ≡ k → h ≡ scheme c v → h < 256
+    pub counts-more : (x h : ℕ) → x ≡ kind c v → x ≡ k → h ≡ scheme c v → h < 17
         → set counts h (getD counts h 0 + 1) ≡ countsTo c k (v + 1)
     counts-more x h p q s l =
         ap (λ (xs : List ℕ). set xs h (getD counts h 0 + 1)) e
-        ∙ tabulate-set (λ h. count (isOf c k h) 0 v) (λ h. count (isOf c k h) 0 (v + 1)) 256 h (getD counts h 0 + 1) l
+        ∙ tabulate-set (λ h. count (isOf c k h) 0 v) (λ h. count (isOf c k h) 0 (v + 1)) 17 h (getD counts h 0 + 1) l
         (ap (λ (y : ℕ). y + 1) (counts-at h l)
         ∙ sym (count-yes (isOf c k h) v
         (and-true (is c k v) (eqb (scheme c v) h) (eq-eqb (kind c v) k (sym p ∙ q)) (eq-eqb (scheme c v) h (sym s)))))
@@ -64,7 +64,7 @@ unfolding any
 any-alike p q i zero h = refl
 any-alike p q i (suc n) h = rw (h i (omega arith) (omega arith), any-alike p q (suc i) n (λ j a b. h j (omega arith) (omega arith)))
 
-pub bad-counts : (c : Chart) (begins ends : List ℕ) (n : ℕ) → begins ≡ countsTo c 0 (size c) → ends ≡ countsTo c 1 (size c) → n < 256
+pub bad-counts : (c : Chart) (begins ends : List ℕ) (n : ℕ) → begins ≡ countsTo c 0 (size c) → ends ≡ countsTo c 1 (size c) → n < 17
     → any (notOne begins ends) 1 n ≡ any (badScheme c) 1 n
 bad-counts c begins ends n e f l =
     any-alike (notOne begins ends) (badScheme c) 1 n

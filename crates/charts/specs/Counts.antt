@@ -7,9 +7,9 @@ use lib.ListN.{getD}
 use Rattle.lists.specs.Numbers.{tabulate, count}
 use Rattle.charts.specs.Chart.{Chart, isOf}
 
--- for each scheme, a byte, how many of the first v nodes are of kind k
+-- for each scheme up to 16, how many of the first v nodes are of kind k
 abbrev pub countsTo : Chart → ℕ → ℕ → List ℕ
-countsTo c k v = tabulate (λ h. count (isOf c k h) 0 v) 256
+countsTo c k v = tabulate (λ h. count (isOf c k h) 0 v) 17
 
 -- by the counts of Begins and of Ends, scheme h has not exactly one of each
 abbrev pub notOne : List ℕ → List ℕ → ℕ → Bool

@@ -1,13 +1,13 @@
 // Refusals 6 and 7: where arcs lead, and which schemes are called.
+use crate::Lowest;
 use crate::fields::field;
 ghost use mathlib.Core.Path.{_≡_};
 ghost use mathlib.Core.Bool.{_||_};
 ghost use Prim.Native.Nat.{_+_, _*_, _≤_, _<_};
 ghost use lib.ListN.{length};
-ghost use Rattle.lists.specs.Numbers.{lowest};
-ghost use Rattle.frames.specs.Frame.{size};
 ghost use Rattle.charts.specs.Chart.{next0, next1, schemes};
 ghost use Rattle.charts.specs.Check.{badEnd, badArc, badCall};
+ghost use Rattle.charts.specs.Found.{LowestFound};
 
 // An arc of node v to u leads to no node, to another scheme or to a Begin.
 fn bad_end(records: &[u8], v: usize, u: usize) -> bool
@@ -46,21 +46,6 @@ fn bad_arc(records: &[u8], v: usize) -> bool
     }
 }
 
-// The lowest node that 6 refuses, or the number of nodes.
-pub fn lowest_arc(records: &[u8]) -> usize
-    ensures { λ r. ⌜ r ≡ lowest (badArc (now (records .entry))) 0 (size (now (records .entry))) ⌝ }
-{
-    let n = records.len() / 10;
-    let mut v: usize = 0;
-    while v < n {
-        if bad_arc(records, v) {
-            return v;
-        }
-        v += 1;
-    }
-    v
-}
-
 // 7: node v calls scheme 1 or one above the highest, or is a function that calls 0.
 fn bad_call(records: &[u8], highest: u8, v: usize) -> bool
     requires { ⌜ 10 * v + 10 ≤ length (now records) ⌝ }
@@ -85,18 +70,23 @@ fn bad_call(records: &[u8], highest: u8, v: usize) -> bool
     }
 }
 
-// The lowest node that 7 refuses, or the number of nodes.
-pub fn lowest_call(records: &[u8], highest: u8) -> usize
+// 6 and 7 tried on each node, from the last one down: the node found last is the lowest.
+pub fn lowest_arc_and_call(records: &[u8], highest: u8) -> Lowest
     requires { ⌜ highest ≡ schemes (now records) ⌝ }
-    ensures { λ r. ⌜ r ≡ lowest (badCall (now (records .entry))) 0 (size (now (records .entry))) ⌝ }
+    ensures { λ r. ⌜ LowestFound (now (records .entry)) r ⌝ }
 {
     let n = records.len() / 10;
-    let mut v: usize = 0;
-    while v < n {
-        if bad_call(records, highest, v) {
-            return v;
+    let mut arc = n;
+    let mut call = n;
+    let mut v = n;
+    while 0 < v {
+        v -= 1;
+        if bad_arc(records, v) {
+            arc = v;
         }
-        v += 1;
+        if bad_call(records, highest, v) {
+            call = v;
+        }
     }
-    v
+    Lowest { arc, call }
 }

@@ -2,8 +2,7 @@
 ghost use mathlib.Core.Path.{_≡_};
 ghost use Prim.Native.Nat.{_+_, _*_, _≤_, _<_};
 ghost use lib.ListN.{length};
-ghost use Rattle.lists.specs.Numbers.{lowest};
-ghost use Rattle.frames.specs.Frame.{size, field};
+ghost use Rattle.frames.specs.Frame.{field};
 ghost use Rattle.charts.specs.Check.{filledFrom, badUse, badField};
 
 // Byte k of node v.
@@ -80,7 +79,7 @@ fn bad_use(records: &[u8], v: usize, kind: u8) -> bool
 }
 
 // 4: node v has a field outside its values.
-fn bad_field(records: &[u8], v: usize) -> bool
+pub fn bad_field(records: &[u8], v: usize) -> bool
     requires { ⌜ 10 * v + 10 ≤ length (now records) ⌝ }
     ensures { λ r. ⌜ r ≡ badField (now (records .entry)) v ⌝ }
 {
@@ -92,19 +91,4 @@ fn bad_field(records: &[u8], v: usize) -> bool
         return true;
     }
     bad_use(records, v, field(records, v, 0))
-}
-
-// The lowest node that 4 refuses, or the number of nodes.
-pub fn lowest_field(records: &[u8]) -> usize
-    ensures { λ r. ⌜ r ≡ lowest (badField (now (records .entry))) 0 (size (now (records .entry))) ⌝ }
-{
-    let n = records.len() / 10;
-    let mut v: usize = 0;
-    while v < n {
-        if bad_field(records, v) {
-            return v;
-        }
-        v += 1;
-    }
-    v
 }

@@ -64,7 +64,7 @@ pub extern "C" fn fairleadow_translate(
 pub extern "C" fn fairleadow_check_image(image: &[u8], at: &mut usize, made: &mut usize) -> u8
     ensures { λ r. ⌜ Told (judged (imageVerdict (now (image .entry))) 0) r (now (at .exit)) (now (made .exit)) ⌝ }
 {
-    let answer = image::check_image(image);
+    let answer = image_check::check_image(image);
     tell(answer, at, made)
 }
 

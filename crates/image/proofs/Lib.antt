@@ -2,9 +2,6 @@ pub mod Sound
 pub mod Written
 pub mod Decoded
 pub mod Passes
-pub mod PositionCases
-pub mod FieldCases
-pub mod TableCases
-pub mod ReadCases
 pub mod Accepted
 pub mod Refuses
+pub mod Cases

@@ -1,16 +1,14 @@
-// The image: entries, labels and rows as frames, and the check of an image's text.
-mod check;
-mod fields;
-mod positions;
-mod read;
+// The image: entries, labels and rows as frames, and what stands in a decoded table.
+mod counts;
 mod table;
 
-pub use positions::bad_counts;
-pub use read::check_image;
-pub use read::read_image;
+pub use counts::bad_counts;
 pub use table::byte;
+pub use table::filled_to;
 pub use table::label_byte;
 pub use table::label_mask;
 pub use table::labels_from;
 pub use table::pair;
+pub use table::row_byte;
+pub use table::row_pair;
 pub use table::rows_from;

@@ -45,7 +45,7 @@ fn text_of(table: [u8; 120], edits: &[u8]) -> [u8; 276] {
 
 fn check(table: [u8; 120], edits: &[u8]) {
     let text = text_of(table, edits);
-    report(0, image::check_image(&text));
+    report(0, image_check::check_image(&text));
 }
 
 // The table is checked under each edit by itself.
@@ -62,14 +62,14 @@ fn check_each(table: [u8; 120], edits: &[u8]) {
 
 fn check_front(text: &[u8], n: usize) {
     if n <= text.len() {
-        report(0, image::check_image(&text[..n]));
+        report(0, image_check::check_image(&text[..n]));
     }
 }
 
 fn check_text(table: [u8; 120], edits: &[u8]) {
     let mut text = text_of(table, &[]);
     patch(&mut text, edits);
-    report(0, image::check_image(&text));
+    report(0, image_check::check_image(&text));
 }
 
 fn line(bytes: &[u8]) {
@@ -123,7 +123,7 @@ fn texts(p: [u8; 120]) {
     check_front(&text, 0);
     check_front(&text, 275);
     let long = [48u8; 29854];
-    report(0, image::check_image(&long));
+    report(0, image_check::check_image(&long));
     check_text(p, &[21, 101]);
     check_text(p, &[45, 32]);
     check_text(p, &[67, 48]);

@@ -21,7 +21,7 @@ use Rattle.frames.proofs.Reading.{read-fine}
 use Rattle.frames.proofs.Lent.{lent-refused, lent-short, lent-done}
 use Rattle.image.specs.Check.{tableVerdict, imageVerdict}
 use Rattle.image.proofs.Accepted.{image-table}
-use Rattle.image.proofs.ReadCases.{good-text, front-contents, front-length}
+use Rattle.image_check.proofs.ReadCases.{good-text, front-contents, front-length}
 use Rattle.tables.specs.Prepare.{noted, prepare, preparedInto, Prepares}
 use Rattle.tables.proofs.Noted.{noted-length}
 

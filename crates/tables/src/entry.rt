@@ -4,7 +4,7 @@ use crate::noting::note_rows;
 use frames::Answer;
 use frames::put_bytes;
 use frames::refused;
-use image::read_image;
+use image_check::read_image;
 ghost use Prim.Native.Nat.{_≤_};
 ghost use lib.ListN.{length};
 ghost use Rattle.frames.specs.Answer.{Lends};

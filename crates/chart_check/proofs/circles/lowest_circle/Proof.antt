@@ -1,23 +1,24 @@
--- `chart_check::circles::lowest_circle` meets its contract: a table of 256 lends the marks.
-use mathlib.Core.Path.{sym}
-use mathlib.Core.Bool.{false}
-use Rattle.frames.specs.Frame.{size}
-use Rattle.chart_check.proofs.MarkCases.{part-long}
+-- `chart_check::circles::lowest_circle` meets its contract: at first all conditions are unfinished.
+use Rattle.chart_check.proofs.FinishedCases.{finished-none}
 use borrow.Author.Needs.{needs}
 use Rattle.chart_check.proofs.circles.lowest_circle.Statement.{statement}
 use Rattle.chart_check.proofs.circles.lowest_circle.Tie as tie
 
-array-borrow-prefix-unfinished : tie.Need-array-borrow-prefix-unfinished
-array-borrow-prefix-unfinished c = search needs
+mark-kind-requires : tie.Need-mark-kind-requires
+mark-kind-requires c κs = search needs
 
-slice-aggregate-find-circle : tie.Need-slice-aggregate-find-circle
-slice-aggregate-find-circle c = sym (part-long 256 (size (c .before .before .args .records .now)) false (search needs))
+finish-all-requires : tie.Need-finish-all-requires
+finish-all-requires c κs =
+    record { few = search needs; room = search needs; finished = finished-none _ _ (c .before .before .before .before .mark-kind .ensures) }
 
-slice-aggregate-find-circle-2 : tie.Need-slice-aggregate-find-circle-2
-slice-aggregate-find-circle-2 c = search needs
+search-circle-requires : tie.Need-search-circle-requires
+search-circle-requires c κs = search needs
 
-find-circle-requires : tie.Need-find-circle-requires
-find-circle-requires c κs = (part-long 256 (size (c .before .before .before .args .records .now)) false (search needs), search needs)
+same-length : tie.Need-same-length
+same-length c = search needs
+
+same-length-2 : tie.Need-same-length-2
+same-length-2 c = search needs
 
 returns : tie.Need-returns
 returns c = search needs
@@ -26,8 +27,9 @@ pub lowest-circle-spec : {M : Type 1} → statement M
 lowest-circle-spec =
     tie.close
     (tie.spec
-    array-borrow-prefix-unfinished
-    slice-aggregate-find-circle
-    slice-aggregate-find-circle-2
-    find-circle-requires
+    mark-kind-requires
+    finish-all-requires
+    search-circle-requires
+    same-length
+    same-length-2
     returns)

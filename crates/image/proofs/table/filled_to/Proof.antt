@@ -4,7 +4,7 @@ use mathlib.Core.Path.{_≡_, sym, _∙_}
 use Prim.Native.Nat.{_-_, _≤_}
 use Rattle.lists.proofs.Searches.{any-here, any-on, any-over}
 use Rattle.image.specs.Check.{filled}
-use Rattle.image.proofs.PositionCases.{unequal, equal}
+use Rattle.image.proofs.Cases.{unequal, equal}
 use Rattle.image.proofs.table.filled_to.Statement.{statement}
 use Rattle.image.proofs.table.filled_to.Tie as tie
 

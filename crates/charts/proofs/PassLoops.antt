@@ -1,0 +1,131 @@
+-- The passes over the nodes: two searches from the last node down, and refusal 4 with the counts of 5.
+use mathlib.Core.Path.{_≡_, refl, sym, _∙_, ap}
+use mathlib.Core.Logic.{_⊎_, inl, inr}
+use mathlib.Core.Bool.{Bool, true, false}
+use mathlib.Core.List.{List}
+use Prim.Native.Nat.{ℕ, _+_, _-_, _≤_, _<_, max}
+use native.Mathlib.Nat.{sub-zero}
+use native.Mathlib.Omega.{arith}
+use lib.ListN.{length, replicate, length-replicate}
+use Rattle.lists.specs.Pick.{pick}
+use Rattle.lists.specs.Numbers.{lowest, highest, any}
+use Rattle.lists.proofs.Tests.{cases, yes-pick, no-pick}
+use Rattle.lists.proofs.Searches.{lowest-here, lowest-on, lowest-over, Searching, searching-first, searching-found, searching-next, searching-over, highest-next}
+use Rattle.frames.specs.Frame.{size}
+use Rattle.charts.specs.Chart.{Chart, scheme, schemes}
+use Rattle.charts.specs.Check.{badField, badScheme, badArc, badCall}
+use Rattle.charts.specs.Counts.{countsTo, notOne}
+use Rattle.charts.specs.Found.{CountsFound, FieldsFound, LowestFound}
+use Rattle.charts.specs.declared.Counted.{Counted}
+use Rattle.charts.proofs.Nodes.{field-scheme}
+use Rattle.charts.proofs.SchemeCounts.{counts-start, counts-long, bad-counts}
+
+-- ---- two searches from the last number down
+-- the lowest where the number before the others is tried too
+lowest-below : (p : ℕ → Bool) (n v r : ℕ) → 0 < v → v ≤ n → r ≡ lowest p v (n - v) → pick (p (v - 1)) (v - 1) r ≡ lowest p (v - 1) (n - (v - 1))
+lowest-below p n v r some low e = go (cases (p (v - 1)))
+  where
+    go : (p (v - 1) ≡ true) ⊎ (p (v - 1) ≡ false) → pick (p (v - 1)) (v - 1) r ≡ lowest p (v - 1) (n - (v - 1))
+    go (inl h) = yes-pick (p (v - 1)) (v - 1) r h ∙ sym (lowest-here p n (v - 1) (omega arith) h)
+    go (inr h) =
+        no-pick (p (v - 1)) (v - 1) r h ∙ e ∙ ap (λ (j : ℕ). lowest p j (n - j)) (omega arith) ∙ sym (lowest-on p n (v - 1) (omega arith) h)
+
+-- the numbers from v up to n are tried
+pub record Downward (p q : ℕ → Bool) (n v a b : ℕ) : Type 0 where
+  pub low : v ≤ n
+  pub first : a ≡ lowest p v (n - v)
+  pub second : b ≡ lowest q v (n - v)
+
+pub downward-none : (p q : ℕ → Bool) (n : ℕ) → Downward p q n n n n
+downward-none p q n = record {
+  low = omega arith;
+  first = sym (lowest-over p n n (omega arith));
+  second = sym (lowest-over q n n (omega arith));
+}
+
+module _ (p q : ℕ → Bool) (n v a b : ℕ) (d : Downward p q n v a b) where
+  pub downward-turn : (x y : Bool) (a′ b′ : ℕ) → 0 < v → x ≡ p (v - 1) → y ≡ q (v - 1) → a′ ≡ pick x (v - 1) a → b′ ≡ pick y (v - 1) b
+      → Downward p q n (v - 1) a′ b′
+  downward-turn x y a′ b′ some ex ey ea eb = record {
+    low = omega (arith, d .low);
+    first = ea ∙ ap (λ (t : Bool). pick t (v - 1) a) ex ∙ lowest-below p n v a some (d .low) (d .first);
+    second = eb ∙ ap (λ (t : Bool). pick t (v - 1) b) ey ∙ lowest-below q n v b some (d .low) (d .second);
+  }
+
+  module _ (h : v ≤ 0) where
+    whole : (p : ℕ → Bool) → lowest p v (n - v) ≡ lowest p 0 n
+    whole p = ap (λ (j : ℕ). lowest p j (n - j)) (omega arith) ∙ ap (lowest p 0) (sub-zero n)
+
+    pub downward-first : a ≡ lowest p 0 n
+    downward-first = d .first ∙ whole p
+
+    pub downward-second : b ≡ lowest q 0 n
+    downward-second = d .second ∙ whole q
+
+-- ---- 4 and the counts of 5
+-- the nodes below v have good fields and are counted
+pub record Counting (c : Chart) (n v h : ℕ) (bs es : List ℕ) : Type 0 where
+  pub search : Searching (badField c) n v
+  pub all : n ≡ size c
+  pub highest : h ≡ highest (scheme c) 0 v
+  pub low : h ≤ 16
+  pub begins : bs ≡ countsTo c 0 v
+  pub ends : es ≡ countsTo c 1 v
+
+pub counting-none : (c : Chart) (n : ℕ) (bs es : List ℕ) → n ≡ size c → bs ≡ replicate 17 0 → es ≡ replicate 17 0 → Counting c n 0 0 bs es
+unfolding highest
+counting-none c n bs es e p q = record {
+  search = searching-first _ _;
+  all = e;
+  highest = refl;
+  low = omega arith;
+  begins = counts-start c 0 bs p;
+  ends = counts-start c 1 es q;
+}
+
+module _ (c : Chart) (n v h : ℕ) (bs es : List ℕ) (d : Counting c n v h bs es) where
+  pub begins-long : length bs ≡ length (replicate {A = ℕ} 17 0)
+  begins-long = counts-long c 0 v bs (d .begins) ∙ sym (length-replicate {A = ℕ} 17 0)
+
+  pub ends-long : length es ≡ length (replicate {A = ℕ} 17 0)
+  ends-long = counts-long c 1 v es (d .ends) ∙ sym (length-replicate {A = ℕ} 17 0)
+
+  pub counting-turn : (h′ s : ℕ) (bs′ es′ : List ℕ) → v < n → badField c v ≡ false → s ≡ scheme c v → h′ ≡ max h s
+      → bs′ ≡ countsTo c 0 (v + 1) → es′ ≡ countsTo c 1 (v + 1) → Counting c n (v + 1) h′ bs′ es′
+  counting-turn h′ s bs′ es′ l good is e p q = record {
+    search = searching-next (badField c) n v (d .search) l good;
+    all = d .all;
+    highest = omega (arith, highest-next (scheme c) v, d .highest);
+    low = omega (arith, d .low, field-scheme c v good .1);
+    begins = p;
+    ends = q;
+  }
+
+  pub counting-stop : v < n → badField c v ≡ true → CountsFound c (record { field = v; highest = h }) bs es
+  counting-stop l bad = record {
+    field = searching-found (badField c) n v (d .search) l bad ∙ ap (lowest (badField c) 0) (d .all);
+    low = d .low;
+    highest = λ m. absurd (omega (arith, d .all));
+    begins = λ m. absurd (omega (arith, d .all));
+    ends = λ m. absurd (omega (arith, d .all));
+  }
+
+  pub counting-all : n ≤ v → CountsFound c (record { field = v; highest = h }) bs es
+  counting-all l =
+      let e : v ≡ size c = omega (arith, d .all, d .search .inside) in
+      record {
+        field = searching-over (badField c) n v (d .search) l ∙ ap (lowest (badField c) 0) (d .all);
+        low = d .low;
+        highest = λ m. d .highest ∙ ap (highest (scheme c) 0) e;
+        begins = λ m. d .begins ∙ ap (countsTo c 0) e;
+        ends = λ m. d .ends ∙ ap (countsTo c 1) e;
+      }
+
+-- the schemes by the counts
+pub fields-found : (c : Chart) (r : Counted) (bs es : List ℕ) (t : Bool) → CountsFound c r bs es → t ≡ any (notOne bs es) 1 (r .highest)
+    → FieldsFound c (record { field = r .field; scheme = t; highest = r .highest })
+fields-found c r bs es t d e = record {
+  field = d .field;
+  scheme = λ l. e ∙ bad-counts c bs es (r .highest) (d .begins l) (d .ends l) (omega (arith, d .low)) ∙ ap (any (badScheme c) 1) (d .highest l);
+  highest = d .highest;
+}

@@ -1,0 +1,25 @@
+// The counts of the header, as far as refusal 11 tries them by themselves.
+use crate::table::byte;
+use crate::table::pair;
+ghost use mathlib.Core.Path.{_≡_};
+ghost use Prim.Native.Nat.{_<_};
+ghost use Rattle.frames.specs.Frame.{size};
+ghost use Rattle.image.specs.Check.{badCounts};
+
+// H is not 1 to 16, M is 0, or there are more than 1,024 rows.
+pub fn bad_counts(table: &[u8]) -> bool
+    requires { ⌜ 0 < size (now table) ⌝ }
+    ensures { λ r. ⌜ r ≡ badCounts (now (table .entry)) ⌝ }
+{
+    let schemes = byte(table, 0, 1);
+    if schemes == 0 {
+        return true;
+    }
+    if 16 < schemes {
+        return true;
+    }
+    if byte(table, 0, 2) == 0 {
+        return true;
+    }
+    1024 < pair(table, 0, 3)
+}

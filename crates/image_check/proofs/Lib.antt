@@ -1,0 +1,4 @@
+pub mod PositionCases
+pub mod TableCases
+pub mod ReadCases
+pub mod FaultSearch

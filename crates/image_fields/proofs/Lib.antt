@@ -1,0 +1,2 @@
+pub mod StrayCases
+pub mod FieldCases
