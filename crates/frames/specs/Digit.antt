@@ -10,10 +10,6 @@ use Rattle.lists.specs.Numbers.{tabulate}
 unfoldable pub digitOf : ℕ → ℕ
 digitOf c = pick (leb 48 c && leb c 57) (c - 48) (pick (leb 65 c && leb c 70) (c - 55) 255)
 
--- of every character, in their order
-unfoldable pub digitTable : List ℕ
-digitTable = tabulate digitOf 256
-
 unfoldable pub charOf : ℕ → ℕ
 charOf d = pick (ltb d 10) (48 + d) (55 + d)
 
