@@ -1,9 +1,7 @@
-// Characters and digits. The digit of a character is found by arithmetic, without a jump once it is compiled.
+// Characters and digits, each found from the other by arithmetic.
 ghost use mathlib.Core.Path.{_≡_};
 ghost use Prim.Native.Nat.{_<_};
-ghost use Rattle.frames.specs.Digit.{digitOf, charOf, characterTable};
-
-const CHARACTERS: [u8; 16] = *b"0123456789ABCDEF";
+ghost use Rattle.frames.specs.Digit.{digitOf, charOf};
 
 // The digit that a character stands for, or 255.
 pub fn digit(c: u8) -> u8
@@ -18,19 +16,10 @@ pub fn digit(c: u8) -> u8
     255
 }
 
-// The character of every digit.
-pub fn character_table() -> [u8; 16]
-    ensures { λ r. ⌜ r ≡ characterTable ⌝ }
-{
-    CHARACTERS
-}
-
 // The character of a digit.
-pub fn character(characters: &[u8], d: u8) -> u8
-    requires { ⌜ now characters ≡ characterTable ⌝ }
+pub fn character(d: u8) -> u8
     requires { ⌜ d < 16 ⌝ }
     ensures { λ r. ⌜ r ≡ charOf d ⌝ }
 {
-    let i = d as usize;
-    characters[i]
+    d + 48 + 7 * ((9 < d) as u8)
 }

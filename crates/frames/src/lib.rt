@@ -5,7 +5,6 @@ mod read;
 mod write;
 
 pub use characters::character;
-pub use characters::character_table;
 pub use check::bad_length;
 pub use read::read_text;
 pub use write::put_bytes;
