@@ -22,7 +22,8 @@ module _ (b out₀ out : List ℕ) (at n f : ℕ) (done : Pieces (frameOf b) 23 
   pub text-turn : (out′ : List ℕ) → at + 23 * n ≤ length out₀ → f < n → length out′ ≡ length out → out′ ≡ written out (at + f * 23) (frameOf b f)
       → Pieces (frameOf b) 23 out₀ out′ at n (f + 1)
   text-turn out′ room h s e =
-      pieces-turn (frameOf b) 23 out₀ at n (λ k. length-frame (tenAt b k) (length-map-range (field b k) 0 10)) out out′ f (at + f * 23) done h (omega arith) (omega arith) s e
+      let long : (k : ℕ) → length (frameOf b k) ≡ 23 = λ k. length-frame (tenAt b k) (length-map-range (field b k) 0 10) in
+      pieces-turn (frameOf b) 23 out₀ at n long out out′ f (at + f * 23) done h (omega arith) (omega arith) s e
 
   pub text-end : n ≡ size b → n ≤ f → out ≡ written out₀ at (textOf b)
   unfolding textOf
@@ -35,7 +36,8 @@ pub text-one : (b out₀ out : List ℕ) (at : ℕ) → at + 23 * size b ≤ len
     → out ≡ written out₀ at (textOf b)
 text-one b out₀ out at room one s e =
     let put : out ≡ written out₀ (at + 0 * 23) (frameOf b 0) = e ∙ ap (λ (p : ℕ). written out₀ p (frameOf b 0)) (omega arith) in
-    text-end b out₀ out at 1 1 (text-turn b out₀ out₀ at 1 0 (pieces-none (frameOf b) 23 out₀ at 1) out (omega arith) (omega arith) s put) (sym one) (omega arith)
+    let none : Pieces (frameOf b) 23 out₀ out₀ at 1 0 = pieces-none (frameOf b) 23 out₀ at 1 in
+    text-end b out₀ out at 1 1 (text-turn b out₀ out₀ at 1 0 none out (omega arith) (omega arith) s put) (sym one) (omega arith)
 
 pub length-text : (b : List ℕ) → length (textOf b) ≡ 23 * size b
 unfolding textOf

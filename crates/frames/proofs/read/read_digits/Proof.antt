@@ -52,7 +52,9 @@ loop-less : tie.Need-loop-less Inv-loop μ-loop
 loop-less c = search needs
 
 loop-again : tie.Need-loop-again Inv-loop μ-loop
-loop-again c = taken-turn _ _ _ _ _ (c .before .before .before .before .before .loop .inv) _ _ (search needs) (c .before .before .digit .ensures) (c .digit2 .ensures)
+loop-again c =
+    let done = c .before .before .before .before .before .loop .inv in
+    taken-turn _ _ _ _ _ done _ _ (search needs) (c .before .before .digit .ensures) (c .digit2 .ensures)
 
 returns : tie.Need-returns Inv-loop μ-loop
 returns c = taken-all _ _ _ _ _ (c .before .loop .inv) (search needs)

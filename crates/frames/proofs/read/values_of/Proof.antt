@@ -21,8 +21,11 @@ abbrev μ-loop : tie.MeasureT-loop
 abbrev Read : Type 0
 Read = tie.After-shared-slice-known3 Inv-loop μ-loop
 
+abbrev turn : Read → tie.At-loop Inv-loop μ-loop
+turn c = c .before .before .before .before
+
 abbrev digits : Read → List ℕ
-digits c = c .before .before .before .before .before .before .args .digits .now
+digits c = turn c .before .before .args .digits .now
 
 abbrev place : Read → ℕ
 place c = c .before .before .place-of .result
@@ -32,7 +35,6 @@ known : (c : Read) → (getD (digits c) (place c) 0 < 256) × (getD (digits c) (
 known c = (omega (arith, c .shared-slice-known3 .given (place c)), omega (arith, c .shared-slice-known3 .given (place c + 1)))
 
 -- ---- the needs
-
 loop-holds : tie.Need-loop-holds Inv-loop μ-loop
 loop-holds c = filled-none _ _ _ _ refl
 
@@ -73,7 +75,9 @@ loop-less : tie.Need-loop-less Inv-loop μ-loop
 loop-less c = search needs
 
 loop-again : tie.Need-loop-again Inv-loop μ-loop
-loop-again c = filled-turn _ _ _ _ _ _ (c .before .before .before .before .loop .inv) (search needs) (value-made (digits c) (c .before .before .before .before .loop .k) (place c) (c .before .before .place-of .ensures .0))
+loop-again c =
+    filled-turn _ _ _ _ _ _ (turn c .loop .inv) (search needs)
+    (value-made (digits c) (turn c .loop .k) (place c) (c .before .before .place-of .ensures .0))
 
 returns : tie.Need-returns Inv-loop μ-loop
 returns c = filled-all _ _ _ _ _ (c .before .loop .inv) (search needs)

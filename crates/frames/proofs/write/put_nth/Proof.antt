@@ -4,6 +4,14 @@ use Rattle.frames.proofs.TextLoops.{frame-put}
 use Rattle.frames.proofs.write.put_nth.Statement.{statement}
 use Rattle.frames.proofs.write.put_nth.Tie as tie
 
+-- ---- what holds at the stages
+abbrev made : tie.After-slice-known2 → tie.After-ten-at
+made c = c .before .before .before .before .before
+
+abbrev start : tie.After-slice-known2 → tie.Start
+start c = made c .before .before .before
+
+-- ---- the needs
 ten-at-requires : tie.Need-ten-at-requires
 ten-at-requires c κs = search needs
 
@@ -17,7 +25,9 @@ same-length : tie.Need-same-length
 same-length c = search needs
 
 returns : tie.Need-returns
-returns c = frame-put (c .before .before .before .before .before .before .before .before .args .bytes .now) _ _ _ _ (c .before .before .before .before .before .before .before .before .args .f) (c .before .before .before .before .before .ten-at .ensures) (c .before .before .put-frame .ensures)
+returns c =
+    let a = start c .args in
+    frame-put (a .bytes .now) _ _ _ _ (a .f) (made c .ten-at .ensures) (c .before .before .put-frame .ensures)
 
 pub put-nth-spec : {M : Type 1} → statement M
 put-nth-spec =

@@ -13,6 +13,17 @@ Inv-loop out₀ at bytes n f₀ out f = Pieces (frameOf bytes) 23 out₀ out at 
 abbrev μ-loop : tie.MeasureT-loop
 μ-loop out₀ at bytes n f₀ out f = n - f
 
+-- ---- what holds at the stages
+abbrev At : (tie.InvT-loop → tie.MeasureT-loop → Type 0) → Type 0
+At stage = stage Inv-loop μ-loop
+
+abbrev turn : At tie.After-put-nth2 → At tie.At-loop
+turn c = c .before .before .before
+
+abbrev start : At tie.At-loop → At tie.Start
+start c = c .before .before .before .before
+
+-- ---- the needs
 put-nth-requires : tie.Need-put-nth-requires Inv-loop μ-loop
 put-nth-requires c κs = search needs
 
@@ -45,7 +56,8 @@ loop-less c = search needs
 loop-again : tie.Need-loop-again Inv-loop μ-loop
 loop-again c =
     let put = c .before .before in
-    text-turn (put .before .before .before .before .before .before .before .args .bytes .now) _ _ _ _ _ (put .before .before .before .loop .inv) _ (search needs) (search needs) (put .put-nth2 .kept .0) (put .put-nth2 .ensures)
+    text-turn (start (turn put) .args .bytes .now) _ _ _ _ _ (turn put .loop .inv) _ (search needs) (search needs)
+    (put .put-nth2 .kept .0) (put .put-nth2 .ensures)
 
 same-length-2 : tie.Need-same-length-2 Inv-loop μ-loop
 same-length-2 c = search needs
