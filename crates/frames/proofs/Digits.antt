@@ -1,15 +1,27 @@
 -- Digits and characters: each of the sixteen digits has one character, and a byte is read back from its two.
 use Prim.Native.Nat.{ℕ, zero, suc, _+_, _*_, _-_, _/_, _%_, _≤_, _<_}
-use mathlib.Core.Path.{_≡_, _∙_, ap}
+use mathlib.Core.Bool.{Bool, true, false, _&&_}
+use mathlib.Core.Path.{_≡_, refl, sym, _∙_, ap}
 use mathlib.Core.Logic.{⊎-elim, _⊎_, inl, inr}
-use mathlib.Core.List.{List}
+use mathlib.Core.List.{_++_}
 use native.Mathlib.Omega.{arith}
-use lib.ListN.{length, getD}
-use borrow.Author.Tests.{le-ltb, lt-ltb, le-leb, lt-leb}
-use Rattle.lists.proofs.Tests.{split}
-use Rattle.lists.proofs.Tabulated.{length-tabulate, getD-tabulate}
-use Rattle.frames.specs.Digit.{digitOf, digitTable, charOf, characterTable}
+use mir.Val.{boolByte}
+use lib.Dec.{leb, ltb}
+use lib.ListN.{getD, replicate}
+use borrow.Author.Tests.{le-ltb, lt-ltb, le-leb, lt-leb, leb-true}
+use Rattle.lists.specs.Numbers.{range, tabulate}
+use Rattle.lists.proofs.Tests.{and-l, and-r, split}
+use Rattle.frames.specs.Digit.{digitOf, charOf}
 use Rattle.frames.specs.Frame.{byteText}
+
+-- what each of the 256 characters gives, computed: 48 of them nothing, then 0 to 9, 7 nothing, A to F, the others nothing
+pub digit-each : tabulate digitOf 256 ≡ replicate 48 255 ++ (range 0 10 ++ (replicate 7 255 ++ (range 10 6 ++ replicate 185 255)))
+unfolding tabulate digitOf
+digit-each = refl
+
+-- a test of two bounds
+pub within : (a b c : ℕ) → (leb a c && leb c b) ≡ true → (a ≤ c) × (c ≤ b)
+within a b c h = (leb-true a c (and-l (leb a c) (leb c b) h), leb-true c b (and-r (leb a c) (leb c b) h))
 
 pub digit-low : (c : ℕ) → 48 ≤ c → c ≤ 57 → digitOf c ≡ c - 48
 unfolding digitOf
@@ -34,6 +46,17 @@ pub char-high : (d : ℕ) → 10 ≤ d → charOf d ≡ 55 + d
 unfolding charOf
 char-high d h = simp (le-ltb d 10 h)
 
+-- a test as a number, and the character of a digit by it
+pub test-small : (b : Bool) → boolByte b ≤ 1
+test-small true = omega arith
+test-small false = omega arith
+
+pub char-made : (d : ℕ) → d + 48 + 7 * boolByte (ltb 9 d) ≡ charOf d
+char-made d =
+    ⊎-elim (λ (l : d < 10). ap (λ (b : Bool). d + 48 + 7 * boolByte b) (le-ltb 9 d (omega arith)) ∙ omega arith ∙ sym (char-low d l))
+    (λ (l : 10 ≤ d). ap (λ (b : Bool). d + 48 + 7 * boolByte b) (lt-ltb 9 d (omega arith)) ∙ omega arith ∙ sym (char-high d l))
+    (split d 10)
+
 pub digit-char : (d : ℕ) → d < 16 → digitOf (charOf d) ≡ d
 digit-char d h =
     ⊎-elim (λ (l : d < 10). ap digitOf (char-low d l) ∙ digit-low (48 + d) (omega arith) (omega arith) ∙ omega arith)
@@ -57,25 +80,6 @@ char-digit c h =
   where
     none : (c < 48) ⊎ ((57 < c) × (c < 65)) ⊎ (70 < c) → charOf (digitOf c) ≡ c
     none o = absurd (omega (arith, digit-none c o))
-
--- the digit of each character stands at its place of the table
-module _ (table : List ℕ) (is : table ≡ digitTable) where
-  pub digits-length : length table ≡ 256
-  unfolding digitTable
-  digits-length = ap length is ∙ length-tabulate digitOf 256
-
-  pub digits-at : (c : ℕ) → c < 256 → getD table c 0 ≡ digitOf c
-  unfolding digitTable
-  digits-at c h = ap (λ (xs : List ℕ). getD xs c 0) is ∙ getD-tabulate digitOf 256 c h
-
-module _ (table : List ℕ) (is : table ≡ characterTable) where
-  pub characters-length : length table ≡ 16
-  unfolding characterTable
-  characters-length = ap length is ∙ length-tabulate charOf 16
-
-  pub characters-at : (d : ℕ) → d < 16 → getD table d 0 ≡ charOf d
-  unfolding characterTable
-  characters-at d h = ap (λ (xs : List ℕ). getD xs d 0) is ∙ getD-tabulate charOf 16 d h
 
 -- the two characters of a byte
 pub pair-digit : (b t : ℕ) → b < 256 → t < 2 → digitOf (getD (byteText b) t 0) < 16

@@ -7,6 +7,7 @@ pub mod Contents
 pub mod Reading
 pub mod Lent
 pub mod FrameLoops
+pub mod ReadFrame
 pub mod ReadLoops
 pub mod TextLoops
 pub mod Refuses

@@ -1,41 +1,43 @@
 -- The loop that writes the text of contents, frame by frame.
 use mathlib.Core.Path.{_≡_, sym, _∙_, ap}
 use mathlib.Core.List.{List}
-use Prim.Native.Nat.{ℕ, _+_, _-_, _*_, _≤_, _<_}
+use Prim.Native.Nat.{ℕ, _+_, _*_, _≤_, _<_}
 use native.Mathlib.Omega.{arith}
-use lib.ListN.{length, getD, take, drop, length-take, length-drop}
-use lib.Seq.{getD-take, getD-drop}
+use lib.ListN.{length}
 use Rattle.lists.specs.Numbers.{range}
 use Rattle.lists.specs.Sequences.{concatMap, written}
 use Rattle.lists.proofs.Joins.{concat-map, length-concat-range}
-use Rattle.lists.proofs.Ranges.{map-count, length-map-range}
-use Rattle.lists.proofs.Fills.{Pieces, pieces-turn, pieces-all}
+use Rattle.lists.proofs.Ranges.{length-map-range}
+use Rattle.lists.proofs.Fills.{Pieces, pieces-none, pieces-turn, pieces-all}
 use Rattle.frames.specs.Frame.{size, field, tenAt, frameText, textOf}
 use Rattle.frames.proofs.FrameLoops.{length-frame}
-
--- the part of the contents that is frame f
-pub part-ten : (b : List ℕ) (f : ℕ) → 10 * f + 10 ≤ length b → take (f * 10 + 10 - f * 10) (drop (f * 10) b) ≡ tenAt b f
-part-ten b f room =
-    let xs : List ℕ = take (f * 10 + 10 - f * 10) (drop (f * 10) b) in
-    let n : 10 ≡ length xs = simp (length-take, length-drop) (omega arith) in
-    sym (map-count (field b f) 0 xs 0 10 n
-    (λ i l. ap (λ (j : ℕ). getD b j 0) (omega arith) ∙ sym (getD-drop (f * 10) b i 0) ∙ sym (getD-take (f * 10 + 10 - f * 10) (drop (f * 10) b) i 0 (omega arith))))
 
 abbrev pub frameOf : List ℕ → ℕ → List ℕ
 frameOf b f = frameText (tenAt b f)
 
+pub frame-put : (b ten out out′ : List ℕ) (at f : ℕ) → ten ≡ tenAt b f → out′ ≡ written out at (frameText ten) → out′ ≡ written out at (frameOf b f)
+frame-put b ten out out′ at f e q = q ∙ ap (λ (xs : List ℕ). written out at (frameText xs)) e
+
 module _ (b out₀ out : List ℕ) (at n f : ℕ) (done : Pieces (frameOf b) 23 out₀ out at n f) where
-  pub text-turn : (out′ : List ℕ) → at + 23 * n ≤ length out₀ → n ≡ size b → f < n → length out′ ≡ length out
-      → out′ ≡ written out (at + f * 23) (frameText (take (f * 10 + 10 - f * 10) (drop (f * 10) b))) → Pieces (frameOf b) 23 out₀ out′ at n (f + 1)
-  text-turn out′ room m h s e =
-      pieces-turn (frameOf b) 23 out₀ at n (λ k. length-frame (tenAt b k) (length-map-range (field b k) 0 10)) out out′ f (at + f * 23) done h (omega arith) (omega arith) s
-      (rw (part-ten b f (omega arith)) at e)
+  pub text-turn : (out′ : List ℕ) → at + 23 * n ≤ length out₀ → f < n → length out′ ≡ length out → out′ ≡ written out (at + f * 23) (frameOf b f)
+      → Pieces (frameOf b) 23 out₀ out′ at n (f + 1)
+  text-turn out′ room h s e =
+      let long : (k : ℕ) → length (frameOf b k) ≡ 23 = λ k. length-frame (tenAt b k) (length-map-range (field b k) 0 10) in
+      pieces-turn (frameOf b) 23 out₀ at n long out out′ f (at + f * 23) done h (omega arith) (omega arith) s e
 
   pub text-end : n ≡ size b → n ≤ f → out ≡ written out₀ at (textOf b)
   unfolding textOf
   text-end e h =
       pieces-all (frameOf b) 23 out₀ at n out f done h
       ∙ ap (written out₀ at) (ap (λ (m : ℕ). concatMap (frameOf b) (range 0 m)) e ∙ sym (concat-map frameText (tenAt b) (range 0 (size b))))
+
+-- a text of one frame
+pub text-one : (b out₀ out : List ℕ) (at : ℕ) → at + 23 * size b ≤ length out₀ → size b ≡ 1 → length out ≡ length out₀ → out ≡ written out₀ at (frameOf b 0)
+    → out ≡ written out₀ at (textOf b)
+text-one b out₀ out at room one s e =
+    let put : out ≡ written out₀ (at + 0 * 23) (frameOf b 0) = e ∙ ap (λ (p : ℕ). written out₀ p (frameOf b 0)) (omega arith) in
+    let none : Pieces (frameOf b) 23 out₀ out₀ at 1 0 = pieces-none (frameOf b) 23 out₀ at 1 in
+    text-end b out₀ out at 1 1 (text-turn b out₀ out₀ at 1 0 none out (omega arith) (omega arith) s put) (sym one) (omega arith)
 
 pub length-text : (b : List ℕ) → length (textOf b) ≡ 23 * size b
 unfolding textOf

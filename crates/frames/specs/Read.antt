@@ -1,22 +1,12 @@
 -- What a lent buffer holds after a text was read into it, refused or not.
-use Prim.Native.Nat.{ℕ, _+_, _*_, _%_}
-use mathlib.Core.Bool.{Bool, _||_}
+use Prim.Native.Nat.{ℕ, _%_}
 use mathlib.Core.List.{List, map}
-use lib.Dec.{leb}
-use lib.ListN.{length, getD}
+use lib.ListN.{length}
 use Rattle.lists.specs.Pick.{pick}
 use Rattle.lists.specs.Numbers.{range}
 use Rattle.lists.specs.Sequences.{over}
-use Rattle.frames.specs.Digit.{digitOf}
 use Rattle.frames.specs.Frame.{byteAt, contents}
 use Rattle.frames.specs.Check.{badLength}
-
--- the byte of the two characters from an offset on, and whether one of them is no digit
-abbrev pub byteFrom : List ℕ → ℕ → ℕ
-byteFrom t i = 16 * digitOf (getD t i 0) + digitOf (getD t (i + 1) 0)
-
-abbrev pub badPair : List ℕ → ℕ → Bool
-badPair t i = leb 16 (digitOf (getD t i 0)) || leb 16 (digitOf (getD t (i + 1) 0))
 
 -- the ten bytes that are stored of frame f; they are the frame's own where 2 does not refuse it
 abbrev pub storedOf : List ℕ → ℕ → List ℕ

@@ -1,56 +1,25 @@
-// Characters and digits. A text is read by one table of digits, laid out once.
+// Characters and digits, each found from the other by arithmetic.
 ghost use mathlib.Core.Path.{_≡_};
 ghost use Prim.Native.Nat.{_<_};
-ghost use Rattle.frames.specs.Digit.{digitOf, digitTable, charOf, characterTable};
-
-const DIGITS: [u8; 256] = *b"\xFF\xFF\xFF\xFF\xFF\xFF\xFF\xFF\xFF\xFF\xFF\xFF\xFF\xFF\xFF\xFF\
-    \xFF\xFF\xFF\xFF\xFF\xFF\xFF\xFF\xFF\xFF\xFF\xFF\xFF\xFF\xFF\xFF\
-    \xFF\xFF\xFF\xFF\xFF\xFF\xFF\xFF\xFF\xFF\xFF\xFF\xFF\xFF\xFF\xFF\
-    \x00\x01\x02\x03\x04\x05\x06\x07\x08\x09\xFF\xFF\xFF\xFF\xFF\xFF\
-    \xFF\x0A\x0B\x0C\x0D\x0E\x0F\xFF\xFF\xFF\xFF\xFF\xFF\xFF\xFF\xFF\
-    \xFF\xFF\xFF\xFF\xFF\xFF\xFF\xFF\xFF\xFF\xFF\xFF\xFF\xFF\xFF\xFF\
-    \xFF\xFF\xFF\xFF\xFF\xFF\xFF\xFF\xFF\xFF\xFF\xFF\xFF\xFF\xFF\xFF\
-    \xFF\xFF\xFF\xFF\xFF\xFF\xFF\xFF\xFF\xFF\xFF\xFF\xFF\xFF\xFF\xFF\
-    \xFF\xFF\xFF\xFF\xFF\xFF\xFF\xFF\xFF\xFF\xFF\xFF\xFF\xFF\xFF\xFF\
-    \xFF\xFF\xFF\xFF\xFF\xFF\xFF\xFF\xFF\xFF\xFF\xFF\xFF\xFF\xFF\xFF\
-    \xFF\xFF\xFF\xFF\xFF\xFF\xFF\xFF\xFF\xFF\xFF\xFF\xFF\xFF\xFF\xFF\
-    \xFF\xFF\xFF\xFF\xFF\xFF\xFF\xFF\xFF\xFF\xFF\xFF\xFF\xFF\xFF\xFF\
-    \xFF\xFF\xFF\xFF\xFF\xFF\xFF\xFF\xFF\xFF\xFF\xFF\xFF\xFF\xFF\xFF\
-    \xFF\xFF\xFF\xFF\xFF\xFF\xFF\xFF\xFF\xFF\xFF\xFF\xFF\xFF\xFF\xFF\
-    \xFF\xFF\xFF\xFF\xFF\xFF\xFF\xFF\xFF\xFF\xFF\xFF\xFF\xFF\xFF\xFF\
-    \xFF\xFF\xFF\xFF\xFF\xFF\xFF\xFF\xFF\xFF\xFF\xFF\xFF\xFF\xFF\xFF";
-
-const CHARACTERS: [u8; 16] = *b"0123456789ABCDEF";
-
-// The digit of every character.
-pub fn digit_table() -> [u8; 256]
-    ensures { λ r. ⌜ r ≡ digitTable ⌝ }
-{
-    DIGITS
-}
+ghost use Rattle.frames.specs.Digit.{digitOf, charOf};
 
 // The digit that a character stands for, or 255.
-pub fn digit(digits: &[u8], c: u8) -> u8
-    requires { ⌜ now digits ≡ digitTable ⌝ }
+pub fn digit(c: u8) -> u8
     ensures { λ r. ⌜ r ≡ digitOf c ⌝ }
 {
-    let i = c as usize;
-    digits[i]
-}
-
-// The character of every digit.
-pub fn character_table() -> [u8; 16]
-    ensures { λ r. ⌜ r ≡ characterTable ⌝ }
-{
-    CHARACTERS
+    if (48 <= c) & (c <= 57) {
+        return c - 48;
+    }
+    if (65 <= c) & (c <= 70) {
+        return c - 55;
+    }
+    255
 }
 
 // The character of a digit.
-pub fn character(characters: &[u8], d: u8) -> u8
-    requires { ⌜ now characters ≡ characterTable ⌝ }
+pub fn character(d: u8) -> u8
     requires { ⌜ d < 16 ⌝ }
     ensures { λ r. ⌜ r ≡ charOf d ⌝ }
 {
-    let i = d as usize;
-    characters[i]
+    d + 48 + 7 * ((9 < d) as u8)
 }

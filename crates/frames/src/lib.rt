@@ -5,7 +5,6 @@ mod read;
 mod write;
 
 pub use characters::character;
-pub use characters::character_table;
 pub use check::bad_length;
 pub use read::read_text;
 pub use write::put_bytes;
@@ -34,9 +33,9 @@ pub fn refused(number: u8, index: usize) -> Answer
     }
 }
 
-// A byte of a text as its two characters give it, and whether one of them is no digit.
-struct Byte {
-    value: u16,
+// The digits of a frame's characters 0 to 15, then of 6 to 21, and whether one of these is no digit.
+struct FrameDigits {
+    digits: [u8; 32],
     form: bool,
 }
 

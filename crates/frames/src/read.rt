@@ -1,58 +1,93 @@
 // A text read in one pass: refusals 1 to 3, and the bytes of its frames, ten of each, into a lent buffer.
 use crate::Answer;
-use crate::Byte;
 use crate::Faults;
+use crate::FrameDigits;
 use crate::Lowest;
 use crate::characters::digit;
-use crate::characters::digit_table;
 use crate::check::bad_length;
 use crate::refused;
 ghost use mathlib.Core.Path.{_≡_};
-ghost use Prim.Native.Nat.{_+_, _*_, _≤_};
+ghost use mathlib.Core.List.{map};
+ghost use Prim.Native.Nat.{_+_, _*_, _≤_, _<_};
 ghost use lib.ListN.{length};
-ghost use Rattle.frames.specs.Digit.{digitTable};
+ghost use Rattle.lists.specs.Numbers.{range};
 ghost use Rattle.frames.specs.Frame.{frameCount};
 ghost use Rattle.frames.specs.Check.{textVerdict};
 ghost use Rattle.frames.specs.Read.{readInto};
-ghost use Rattle.frames.specs.Reads.{ByteRead, FrameAsked, FrameRead, FramesRead};
+ghost use Rattle.frames.specs.Reads.{DigitsRead, placeOf, valueOf, FrameAsked, FrameRead, FramesRead};
 ghost use Rattle.frames.specs.Answer.{reply, judged};
 
-// The byte of the two characters from an offset on.
-fn byte_at(digits: &[u8], text: &[u8], at: usize) -> Byte
-    requires { ⌜ now digits ≡ digitTable ⌝ }
-    requires { ⌜ at + 2 ≤ length (now text) ⌝ }
-    ensures { λ r. ⌜ ByteRead (now (text .entry)) at r ⌝ }
+// A frame's characters sixteen at a time, first 0 to 15, then 6 to 21: the compiler works on sixteen at once.
+fn read_digits(text: &[u8], from: usize) -> FrameDigits
+    requires { ⌜ from + 22 ≤ length (now text) ⌝ }
+    ensures { λ r. ⌜ DigitsRead (now (text .entry)) from r ⌝ }
 {
-    let high = digit(digits, text[at]);
-    let low = digit(digits, text[at + 1]);
-    Byte {
-        value: 16 * (high as u16) + (low as u16),
-        form: (16 <= high) | (16 <= low),
+    let mut digits = [0u8; 32];
+    let mut form = false;
+    let mut i: usize = 0;
+    while i < 16 {
+        let front = digit(text[from + i]);
+        let back = digit(text[from + (6 + i)]);
+        digits[i] = front;
+        digits[16 + i] = back;
+        form = form | (16 <= front) | (16 <= back);
+        i += 1;
     }
+    FrameDigits { digits, form }
+}
+
+// Where the digits of byte k stand.
+fn place_of(k: usize) -> usize
+    requires { ⌜ k < 11 ⌝ }
+    ensures { λ r. ⌜ r ≡ placeOf k ⌝ }
+    ensures { λ r. ⌜ r + 1 < 32 ⌝ }
+{
+    if k < 8 {
+        return 2 * k;
+    }
+    2 * k + 10
+}
+
+// The eleven bytes of these digits.
+fn values_of(digits: &[u8]) -> [u8; 11]
+    requires { ⌜ length (now digits) ≡ 32 ⌝ }
+    ensures { λ r. ⌜ r ≡ map (valueOf (now (digits .entry))) (range 0 11) ⌝ }
+{
+    let mut values = [0u8; 11];
+    let mut k: usize = 0;
+    while k < 11 {
+        let i = place_of(k);
+        let high = digits[i] as u16;
+        let low = digits[i + 1] as u16;
+        values[k] = ((16 * high + low) % 256) as u8;
+        k += 1;
+    }
+    values
 }
 
 // Frame f: its eleven bytes and its line feed looked at, the first ten stored.
-fn read_frame(digits: &[u8], text: &[u8], f: usize, out: &mut [u8]) -> Faults
-    requires { ⌜ FrameAsked (now digits) (now text) f (now out) ⌝ }
+fn read_frame(text: &[u8], f: usize, out: &mut [u8]) -> Faults
+    requires { ⌜ FrameAsked (now text) f (now out) ⌝ }
     ensures { λ r. ⌜ FrameRead (now (text .entry)) f (now (out .entry)) r (now (out .exit)) ⌝ }
 {
     let from = 23 * f;
     let to = 10 * f;
-    let mut form = false;
+    let read = read_digits(text, from);
+    let digits = read.digits;
+    let form = read.form;
+    let values = values_of(&digits);
     let mut total: u32 = 0;
     let mut k: usize = 0;
     while k < 10 {
-        let byte = byte_at(digits, text, from + 2 * k);
-        form = form | byte.form;
-        total += byte.value as u32;
-        out[to + k] = (byte.value % 256) as u8;
+        let value = values[k];
+        total += value as u32;
+        out[to + k] = value;
         k += 1;
     }
-    let last = byte_at(digits, text, from + 20);
-    total += last.value as u32;
+    total += values[10] as u32;
     let feed = text[from + 22];
     Faults {
-        form: form | last.form | (feed != 10),
+        form: form | (feed != 10),
         sum: total % 256 != 0,
     }
 }
@@ -63,13 +98,12 @@ fn read_frames(text: &[u8], n: usize, out: &mut [u8]) -> Lowest
     requires { ⌜ 10 * n ≤ length (now out) ⌝ }
     ensures { λ r. ⌜ FramesRead (now (text .entry)) n (now (out .entry)) r (now (out .exit)) ⌝ }
 {
-    let digits = digit_table();
     let mut form = n;
     let mut sum = n;
     let mut f = n;
     while 0 < f {
         f -= 1;
-        let faults = read_frame(&digits, text, f, out);
+        let faults = read_frame(text, f, out);
         if faults.form {
             form = f;
         }

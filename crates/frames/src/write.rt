@@ -1,12 +1,10 @@
 // Bytes and frames written into a lent buffer.
 use crate::characters::character;
-use crate::characters::character_table;
 ghost use mathlib.Core.Path.{_≡_};
 ghost use Prim.Native.Nat.{_+_, _*_, _≤_, _<_};
 ghost use lib.ListN.{length};
 ghost use Rattle.lists.specs.Sequences.{written};
-ghost use Rattle.frames.specs.Digit.{characterTable};
-ghost use Rattle.frames.specs.Frame.{byteText, frameText, textOf, size};
+ghost use Rattle.frames.specs.Frame.{byteText, frameText, tenAt, textOf, size};
 
 // Bytes as they are, from an offset on.
 pub fn put_bytes(out: &mut [u8], at: usize, bytes: &[u8])
@@ -22,45 +20,72 @@ pub fn put_bytes(out: &mut [u8], at: usize, bytes: &[u8])
 }
 
 // The two characters of a byte, from an offset on.
-fn put_byte(characters: &[u8], out: &mut [u8], at: usize, b: u8)
-    requires { ⌜ now characters ≡ characterTable ⌝ }
+fn put_byte(out: &mut [u8], at: usize, b: u8)
     requires { ⌜ at + 2 ≤ length (now out) ⌝ }
     ensures { λ _. ⌜ now (out .exit) ≡ written (now (out .entry)) at (byteText b) ⌝ }
 {
-    out[at] = character(characters, b / 16);
-    out[at + 1] = character(characters, b % 16);
+    out[at] = character(b / 16);
+    out[at + 1] = character(b % 16);
 }
 
-// Ten bytes as a frame, from an offset on.
+// Ten bytes as a frame, from an offset on. The loop goes by the slice's length, so that it is compiled into each caller, and
+// the bytes of a frame just made need not go through memory.
 pub fn put_frame(out: &mut [u8], at: usize, bytes: &[u8])
     requires { ⌜ at + 23 ≤ length (now out) ⌝ }
     requires { ⌜ length (now bytes) ≡ 10 ⌝ }
     ensures { λ _. ⌜ now (out .exit) ≡ written (now (out .entry)) at (frameText (now (bytes .entry))) ⌝ }
 {
-    let characters = character_table();
+    let n = bytes.len();
     let mut sum: u32 = 0;
     let mut k: usize = 0;
-    while k < 10 {
+    while k < n {
         let b = bytes[k];
-        put_byte(&characters, out, at + k * 2, b);
+        put_byte(out, at + k * 2, b);
         sum += b as u32;
         k += 1;
     }
-    put_byte(&characters, out, at + 20, ((256 - sum % 256) % 256) as u8);
+    put_byte(out, at + 20, ((256 - sum % 256) % 256) as u8);
     out[at + 22] = 10;
 }
 
-// The text of contents, from an offset on.
+// The ten bytes of frame f of contents.
+fn ten_at(bytes: &[u8], f: usize) -> [u8; 10]
+    requires { ⌜ 10 * f + 10 ≤ length (now bytes) ⌝ }
+    ensures { λ r. ⌜ r ≡ tenAt (now (bytes .entry)) f ⌝ }
+{
+    let mut ten = [0u8; 10];
+    let mut k: usize = 0;
+    while k < 10 {
+        ten[k] = bytes[10 * f + k];
+        k += 1;
+    }
+    ten
+}
+
+// Frame f of contents. All ten bytes are taken before a character is written, so that the compiler takes several at once.
+fn put_nth(out: &mut [u8], at: usize, bytes: &[u8], f: usize)
+    requires { ⌜ at + 23 ≤ length (now out) ⌝ }
+    requires { ⌜ 10 * f + 10 ≤ length (now bytes) ⌝ }
+    ensures { λ _. ⌜ now (out .exit) ≡ written (now (out .entry)) at (frameText (tenAt (now (bytes .entry)) f)) ⌝ }
+{
+    let ten = ten_at(bytes, f);
+    put_frame(out, at, &ten);
+}
+
+// The text of contents, from an offset on. One frame is put apart: a function that is called at two places is not compiled
+// into the loop, and so the loop is not turned into one over many frames at once, which would take five times as long.
 pub fn put_text(out: &mut [u8], at: usize, bytes: &[u8])
     requires { ⌜ at + 23 * size (now bytes) ≤ length (now out) ⌝ }
     ensures { λ _. ⌜ now (out .exit) ≡ written (now (out .entry)) at (textOf (now (bytes .entry))) ⌝ }
 {
     let n = bytes.len() / 10;
+    if n == 1 {
+        put_nth(out, at, bytes, 0);
+        return;
+    }
     let mut f: usize = 0;
     while f < n {
-        let start = f * 10;
-        let end = start + 10;
-        put_frame(out, at + f * 23, &bytes[start..end]);
+        put_nth(out, at + f * 23, bytes, f);
         f += 1;
     }
 }

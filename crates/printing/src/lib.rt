@@ -1,6 +1,5 @@
 // What the programs print: the frame that tells a refusal, and the line of a tick's code.
 use frames::character;
-use frames::character_table;
 use frames::put_frame;
 ghost use mathlib.Core.Path.{_≡_};
 ghost use Rattle.printing.specs.Lines.{codeLine, refusalLine};
@@ -30,8 +29,7 @@ pub fn refusal_line(number: u8, index: usize) -> [u8; 23]
 pub fn code_line(code: u8) -> [u8; 3]
     ensures { λ r. ⌜ r ≡ codeLine code ⌝ }
 {
-    let characters = character_table();
-    let high = character(&characters, code / 16);
-    let low = character(&characters, code % 16);
+    let high = character(code / 16);
+    let low = character(code % 16);
     [high, low, 10]
 }

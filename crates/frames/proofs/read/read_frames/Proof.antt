@@ -5,16 +5,15 @@ use Prim.Native.Nat.{_-_}
 use borrow.Author.Needs.{needs}
 use Rattle.lists.specs.Pick.{pick}
 use Rattle.lists.proofs.Tests.{yes-pick, no-pick}
-use Rattle.frames.specs.Digit.{digitTable}
 use Rattle.frames.proofs.ReadLoops.{Frames, frames-none, frames-turn, frames-all}
 use Rattle.frames.proofs.read.read_frames.Statement.{statement}
 use Rattle.frames.proofs.read.read_frames.Tie as tie
 
 abbrev Inv-loop : tie.InvT-loop
-Inv-loop text n out₀ digits form₀ sum₀ f₀ out form sum f = (digits ≡ digitTable) × Frames text out₀ out n f form sum
+Inv-loop text n out₀ form₀ sum₀ f₀ out form sum f = Frames text out₀ out n f form sum
 
 abbrev μ-loop : tie.MeasureT-loop
-μ-loop text n out₀ digits form₀ sum₀ f₀ out form sum f = f
+μ-loop text n out₀ form₀ sum₀ f₀ out form sum f = f
 
 -- ---- what holds at the stages
 abbrev At : (tie.InvT-loop → tie.MeasureT-loop → Type 0) → Type 0
@@ -25,22 +24,16 @@ abbrev read : At tie.Joined1 → At tie.After-read-frame
 read c = c .before .before .before
 
 abbrev turn : At tie.Joined1 → At tie.At-loop
-turn c = read c .before .before .before .before
+turn c = read c .before .before .before
 
 form-set : (c : At tie.Joined1) → c .if1 .form ≡ pick (read c .read-frame .result .form) (turn c .loop .f - 1) (turn c .loop .form)
 form-set c = ⊎-elim (λ w. w .1 ∙ sym (yes-pick _ _ _ (w .0 .taken))) (λ w. w .1 ∙ sym (no-pick _ _ _ (w .0 .left))) (c .if1 .came)
 
-digit-table-requires : tie.Need-digit-table-requires Inv-loop μ-loop
-digit-table-requires c κs = search needs
-
 loop-holds : tie.Need-loop-holds Inv-loop μ-loop
-loop-holds c = (c .digit-table .ensures, frames-none _ _ _)
+loop-holds c = frames-none _ _ _
 
 sub-f : tie.Need-sub-f Inv-loop μ-loop
 sub-f c = search needs
-
-slice-aggregate-read-frame : tie.Need-slice-aggregate-read-frame Inv-loop μ-loop
-slice-aggregate-read-frame c = search needs
 
 read-frame-requires : tie.Need-read-frame-requires Inv-loop μ-loop
 read-frame-requires c κs = search needs
@@ -51,11 +44,8 @@ loop-less c = search needs
 loop-again : tie.Need-loop-again Inv-loop μ-loop
 loop-again c =
     let faults = read (c .before) .read-frame in
-    let done = turn (c .before) .loop .inv in (
-      done .0,
-      frames-turn _ _ _ _ _ _ _ (done .1) _ _ _ _ (search needs) (search needs) (faults .ensures) (faults .kept .1 .1 .1 .0)
-          (form-set (c .before)) (sym (yes-pick _ _ _ (c .if2 .taken))),
-    )
+    frames-turn _ _ _ _ _ _ _ (turn (c .before) .loop .inv) _ _ _ _ (search needs) (search needs) (faults .ensures) (faults .kept .1 .1 .0)
+    (form-set (c .before)) (sym (yes-pick _ _ _ (c .if2 .taken)))
 
 loop-less-2 : tie.Need-loop-less-2 Inv-loop μ-loop
 loop-less-2 c = search needs
@@ -63,17 +53,14 @@ loop-less-2 c = search needs
 loop-again-2 : tie.Need-loop-again-2 Inv-loop μ-loop
 loop-again-2 c =
     let faults = read (c .before) .read-frame in
-    let done = turn (c .before) .loop .inv in (
-      done .0,
-      frames-turn _ _ _ _ _ _ _ (done .1) _ _ _ _ (search needs) (search needs) (faults .ensures) (faults .kept .1 .1 .1 .0)
-          (form-set (c .before)) (sym (no-pick _ _ _ (c .if2 .left))),
-    )
+    frames-turn _ _ _ _ _ _ _ (turn (c .before) .loop .inv) _ _ _ _ (search needs) (search needs) (faults .ensures) (faults .kept .1 .1 .0)
+    (form-set (c .before)) (sym (no-pick _ _ _ (c .if2 .left)))
 
 same-length : tie.Need-same-length Inv-loop μ-loop
 same-length c = search needs
 
 returns : tie.Need-returns Inv-loop μ-loop
-returns c = frames-all _ _ _ _ _ _ _ (c .before .loop .inv .1) (search needs)
+returns c = frames-all _ _ _ _ _ _ _ (c .before .loop .inv) (search needs)
 
 pub read-frames-spec : {M : Type 1} → statement M
 read-frames-spec =
@@ -81,10 +68,8 @@ read-frames-spec =
     (tie.spec
     Inv-loop
     μ-loop
-    digit-table-requires
     loop-holds
     sub-f
-    slice-aggregate-read-frame
     read-frame-requires
     loop-less
     loop-again

@@ -1,49 +1,38 @@
 -- `frames::write::put_frame` meets its contract: the characters of the bytes passed stand in the buffer, and the sum is theirs.
 use Prim.Native.Nat.{_-_, _<_}
-use mathlib.Core.Path.{_≡_}
 use native.Mathlib.Omega.{arith}
 use lib.ListN.{getD, length-set}
 use borrow.Author.Needs.{needs}
-use Rattle.frames.specs.Digit.{characterTable}
 use Rattle.frames.proofs.FrameLoops.{Digits, digits-none, digits-turn, digits-end}
 use Rattle.frames.proofs.write.put_frame.Statement.{statement}
 use Rattle.frames.proofs.write.put_frame.Tie as tie
 
 abbrev Inv-loop : tie.InvT-loop
-Inv-loop out₀ at bytes characters sum₀ k₀ out sum k = (characters ≡ characterTable) × Digits out₀ bytes out at sum k
+Inv-loop out₀ at bytes n sum₀ k₀ out sum k = Digits out₀ bytes out at sum k
 
 abbrev μ-loop : tie.MeasureT-loop
-μ-loop out₀ at bytes characters sum₀ k₀ out sum k = 10 - k
+μ-loop out₀ at bytes n sum₀ k₀ out sum k = n - k
 
 -- ---- what holds at the stages
 abbrev At : (tie.InvT-loop → tie.MeasureT-loop → Type 0) → Type 0
 At stage = stage Inv-loop μ-loop
 
 -- a byte is read, and put
-abbrev read : At tie.After-put-byte → At tie.After-shared-slice-known2
-read c = c .before .before .before
-
 abbrev turn : At tie.After-put-byte → At tie.At-loop
-turn c = read c .before .before
+turn c = c .before .before .before .before
 
 abbrev start : At tie.At-loop → At tie.Start
-start c = c .before .before .before .before
+start c = c .before .before .before
 
 small : (c : At tie.After-put-byte) → getD (start (turn c) .args .bytes .now) (turn c .loop .k) 0 < 256
-small c = omega (arith, read c .shared-slice-known2 .given (turn c .loop .k))
+small c = omega (arith, c .before .before .shared-slice-known2 .given (turn c .loop .k))
 
 -- ---- the needs
-character-table-requires : tie.Need-character-table-requires Inv-loop μ-loop
-character-table-requires c κs = search needs
-
 loop-holds : tie.Need-loop-holds Inv-loop μ-loop
-loop-holds c = (c .character-table .ensures, digits-none _ _ _)
+loop-holds c = digits-none _ _ _
 
 shared-slice-read-b : tie.Need-shared-slice-read-b Inv-loop μ-loop
 shared-slice-read-b c = search needs
-
-slice-aggregate-put-byte : tie.Need-slice-aggregate-put-byte Inv-loop μ-loop
-slice-aggregate-put-byte c = search needs
 
 mul-put-byte : tie.Need-mul-put-byte Inv-loop μ-loop
 mul-put-byte c = search needs
@@ -69,11 +58,7 @@ loop-less c = search needs
 loop-again : tie.Need-loop-again Inv-loop μ-loop
 loop-again c =
     let put = c .before .before in
-    let before = turn put .loop .inv in
-    (before .0, digits-turn _ _ _ _ _ _ _ (search needs) (before .1) (search needs) (small put) (put .put-byte .kept .1 .0) (put .put-byte .ensures))
-
-slice-aggregate-put-byte-2 : tie.Need-slice-aggregate-put-byte-2 Inv-loop μ-loop
-slice-aggregate-put-byte-2 c = search needs
+    digits-turn _ _ _ _ _ _ _ (search needs) (turn put .loop .inv) (search needs) (small put) (put .put-byte .kept .0) (put .put-byte .ensures)
 
 add-put-byte-2 : tie.Need-add-put-byte-2 Inv-loop μ-loop
 add-put-byte-2 c = search needs
@@ -91,16 +76,15 @@ add-out : tie.Need-add-out Inv-loop μ-loop
 add-out c = search needs
 
 slice-write-out : tie.Need-slice-write-out Inv-loop μ-loop
-slice-write-out c = omega (arith, c .before .before .put-byte2 .kept .1 .0)
+slice-write-out c = omega (arith, c .before .before .put-byte2 .kept .0)
 
 same-length : tie.Need-same-length Inv-loop μ-loop
-same-length c = simp length-set (omega (arith, c .before .before .put-byte2 .kept .1 .0))
+same-length c = simp length-set (omega (arith, c .before .before .put-byte2 .kept .0))
 
 returns : tie.Need-returns Inv-loop μ-loop
 returns c =
     let last = c .before .before in
-    let done = last .before .before .before .before .loop .inv .1 in
-    digits-end _ _ _ _ _ _ _ (search needs) done (search needs) (search needs) (last .put-byte2 .ensures)
+    digits-end _ _ _ _ _ _ _ (search needs) (last .before .before .before .loop .inv) (search needs) (search needs) (last .put-byte2 .ensures)
 
 pub put-frame-spec : {M : Type 1} → statement M
 put-frame-spec =
@@ -108,10 +92,8 @@ put-frame-spec =
     (tie.spec
     Inv-loop
     μ-loop
-    character-table-requires
     loop-holds
     shared-slice-read-b
-    slice-aggregate-put-byte
     mul-put-byte
     add-put-byte
     put-byte-requires
@@ -120,7 +102,6 @@ put-frame-spec =
     add-k
     loop-less
     loop-again
-    slice-aggregate-put-byte-2
     add-put-byte-2
     sub-put-byte
     cast-put-byte

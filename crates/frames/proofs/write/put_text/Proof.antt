@@ -1,11 +1,9 @@
 -- `frames::write::put_text` meets its contract: the frames passed stand in the buffer.
 use mathlib.Core.Path.{refl}
 use Prim.Native.Nat.{_-_}
-use native.Mathlib.Omega.{arith}
-use lib.ListN.{length-take, length-drop}
 use borrow.Author.Needs.{needs}
 use Rattle.lists.proofs.Fills.{Pieces, pieces-none}
-use Rattle.frames.proofs.TextLoops.{frameOf, text-turn, text-end}
+use Rattle.frames.proofs.TextLoops.{frameOf, text-turn, text-end, text-one}
 use Rattle.frames.proofs.write.put_text.Statement.{statement}
 use Rattle.frames.proofs.write.put_text.Tie as tie
 
@@ -15,32 +13,39 @@ Inv-loop out₀ at bytes n f₀ out f = Pieces (frameOf bytes) 23 out₀ out at 
 abbrev μ-loop : tie.MeasureT-loop
 μ-loop out₀ at bytes n f₀ out f = n - f
 
+-- ---- what holds at the stages
+abbrev At : (tie.InvT-loop → tie.MeasureT-loop → Type 0) → Type 0
+At stage = stage Inv-loop μ-loop
+
+abbrev turn : At tie.After-put-nth2 → At tie.At-loop
+turn c = c .before .before .before
+
+abbrev start : At tie.At-loop → At tie.Start
+start c = c .before .before .before .before
+
+-- ---- the needs
+put-nth-requires : tie.Need-put-nth-requires Inv-loop μ-loop
+put-nth-requires c κs = search needs
+
+same-length : tie.Need-same-length Inv-loop μ-loop
+same-length c = search needs
+
+returns : tie.Need-returns Inv-loop μ-loop
+returns c =
+    let put = c .before .before .put-nth in
+    text-one _ _ _ _ (search needs) (search needs) (put .kept .0) (put .ensures)
+
 loop-holds : tie.Need-loop-holds Inv-loop μ-loop
 loop-holds c = pieces-none _ _ _ _ _
 
-mul-start : tie.Need-mul-start Inv-loop μ-loop
-mul-start c = search needs
+mul-put-nth : tie.Need-mul-put-nth Inv-loop μ-loop
+mul-put-nth c = search needs
 
-add-end : tie.Need-add-end Inv-loop μ-loop
-add-end c = search needs
+add-put-nth : tie.Need-add-put-nth Inv-loop μ-loop
+add-put-nth c = search needs
 
-mul-put-frame : tie.Need-mul-put-frame Inv-loop μ-loop
-mul-put-frame c = search needs
-
-add-put-frame : tie.Need-add-put-frame Inv-loop μ-loop
-add-put-frame c = search needs
-
-sub-put-frame : tie.Need-sub-put-frame Inv-loop μ-loop
-sub-put-frame c = search needs
-
-part-put-frame-start : tie.Need-part-put-frame-start Inv-loop μ-loop
-part-put-frame-start c = search needs
-
-part-put-frame-end : tie.Need-part-put-frame-end Inv-loop μ-loop
-part-put-frame-end c = search needs
-
-put-frame-requires : tie.Need-put-frame-requires Inv-loop μ-loop
-put-frame-requires c κs = (omega arith, simp (length-take, length-drop) (omega arith))
+put-nth-requires-2 : tie.Need-put-nth-requires-2 Inv-loop μ-loop
+put-nth-requires-2 c κs = search needs
 
 add-f : tie.Need-add-f Inv-loop μ-loop
 add-f c = search needs
@@ -51,14 +56,14 @@ loop-less c = search needs
 loop-again : tie.Need-loop-again Inv-loop μ-loop
 loop-again c =
     let put = c .before .before in
-    let done = put .before .before .before .before .loop .inv in
-    text-turn _ _ _ _ _ _ done _ (search needs) refl (search needs) (put .put-frame .kept .0) (put .put-frame .ensures)
+    text-turn (start (turn put) .args .bytes .now) _ _ _ _ _ (turn put .loop .inv) _ (search needs) (search needs)
+    (put .put-nth2 .kept .0) (put .put-nth2 .ensures)
 
-same-length : tie.Need-same-length Inv-loop μ-loop
-same-length c = search needs
+same-length-2 : tie.Need-same-length-2 Inv-loop μ-loop
+same-length-2 c = search needs
 
-returns : tie.Need-returns Inv-loop μ-loop
-returns c = text-end _ _ _ _ _ _ (c .before .loop .inv) refl (search needs)
+returns-2 : tie.Need-returns-2 Inv-loop μ-loop
+returns-2 c = text-end _ _ _ _ _ _ (c .before .loop .inv) refl (search needs)
 
 pub put-text-spec : {M : Type 1} → statement M
 put-text-spec =
@@ -66,17 +71,15 @@ put-text-spec =
     (tie.spec
     Inv-loop
     μ-loop
+    put-nth-requires
+    same-length
+    returns
     loop-holds
-    mul-start
-    add-end
-    mul-put-frame
-    add-put-frame
-    sub-put-frame
-    part-put-frame-start
-    part-put-frame-end
-    put-frame-requires
+    mul-put-nth
+    add-put-nth
+    put-nth-requires-2
     add-f
     loop-less
     loop-again
-    same-length
-    returns)
+    same-length-2
+    returns-2)
