@@ -1,3 +1,4 @@
+pub mod NumberLaws
 pub mod PathSteps
 pub mod Settled
 pub mod PathCases

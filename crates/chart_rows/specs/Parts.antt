@@ -6,11 +6,15 @@ use lib.Dec.{eqb}
 use Rattle.lists.specs.Pick.{pick}
 use Rattle.bits.specs.Word.{bit}
 use Rattle.frames.specs.Frame.{size}
-use Rattle.charts.specs.Chart.{Chart, argument, next0, next1, taken}
+use Rattle.charts.specs.Chart.{Chart, argument, next0, next1, is, taken}
 use Rattle.walk.specs.Stops.{stops}
 use Rattle.image.specs.Image.{Row}
 use Rattle.chart_labels.specs.Labels.{numbered}
 use Rattle.chart_rows.specs.Rows.{paths, rowsOf}
+
+-- the number of the condition that a path tests at node v, or 16 where no path goes on from it so
+abbrev pub number : Chart → ℕ → ℕ
+number c v = pick (is c 3 v && not (stops c v)) (argument c v) 16
 
 -- whether a path comes at node v to a condition whose number it has met before
 abbrev pub known : Chart → ℕ → ℕ → Bool

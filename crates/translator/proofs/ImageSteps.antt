@@ -33,10 +33,9 @@ use Rattle.row_text.specs.Parts.{rowsText, nodeRowsText}
 use Rattle.translator.specs.Parts.{imageLent}
 use Rattle.chart_rows.specs.Parts.{nodeRows}
 use Rattle.label_text.specs.Parts.{headerText, entryText, fixedText, nodeLabelText, upTo}
-use Rattle.chart_labels.specs.Ready.{Ready, Charted}
 use Rattle.translator.specs.Ready.{Sizes}
 use Rattle.translator.proofs.LabelLaws.{length-labels, length-entries}
-use Rattle.chart_labels.proofs.LabelSteps.{label-own, labelled}
+use Rattle.chart_labels.proofs.LabelSteps.{label-own}
 use Rattle.chart_rows.proofs.RowSteps.{below-all}
 use Rattle.row_text.proofs.RowPuts.{rows-append}
 
@@ -267,8 +266,3 @@ module _ (c : Chart) (old : List ℕ) (total : ℕ) (counted : total ≡ min 102
         lent-done (when 10 (ltb 1024 (length (rows c)))) 1 (λ _. imageText (table c)) old allowed (omega arith)
         (23 * (3 + highest + own + total)) (omega arith) out
         (e ∙ written-front old (imageText (table c)))
-
-pub charted-local : (c : Chart) (labels : List ℕ) → Ready c
-    → labels ≡ written (replicate 256 0) 0 (map (label c) (range 0 (size c))) → Charted c labels
-charted-local c labels ready e = let n : length (replicate {A = ℕ} 256 0) ≡ 256 = refl in
-    record { ready = ready; labelled = labelled c (replicate 256 0) labels (omega (arith, ready .few)) e }

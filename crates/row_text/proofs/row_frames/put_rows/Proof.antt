@@ -23,7 +23,7 @@ put-node-requires : tie.Need-put-node-requires Inv-loop μ-loop
 put-node-requires c κs =
     let turn = c .before .before in
     let asked = start turn .pre in (
-      record { chart = asked .0; inside = search needs },
+      record { noted = asked .0; inside = search needs },
       appended-room _ _ _ _ _ _ _ (turn .loop .inv) (search needs) (asked .1),
     )
 

@@ -37,7 +37,7 @@ add-put-header c = search needs
 cast-put-header : tie.Need-cast-put-header
 cast-put-header c =
     let asked = c .before .before .before .before .pre in
-    let ready = asked .chart .ready in
+    let ready = asked .noted .chart .ready in
     omega (arith, few-numbered _ (ready-facts ready), ready .few, asked .sizes .owned)
 
 put-header-requires : tie.Need-put-header-requires
@@ -47,7 +47,7 @@ put-entries-requires : tie.Need-put-entries-requires
 put-entries-requires c κs =
     let put = c .before .before .before in
     let asked = start put .pre in
-    (record { chart = asked .chart; schemed = asked .sizes .schemed }, omega (arith, asked .room, put .put-header .kept .0))
+    (record { chart = asked .noted .chart; schemed = asked .sizes .schemed }, omega (arith, asked .room, put .put-header .kept .0))
 
 mul-fixed : tie.Need-mul-fixed
 mul-fixed c = search needs
@@ -65,7 +65,7 @@ put-labels-requires : tie.Need-put-labels-requires
 put-labels-requires c κs =
     let put = c .before .before .before in
     let asked = begun put .pre in
-    (asked .chart, omega (arith, labels-long (begun put .args .records .now), asked .sizes .owned, asked .room, long put))
+    (asked .noted .chart, omega (arith, labels-long (begun put .args .records .now), asked .sizes .owned, asked .room, long put))
 
 mul-put-rows : tie.Need-mul-put-rows
 mul-put-rows c = search needs
@@ -78,7 +78,7 @@ put-rows-requires c κs =
     let put = c .before .before .before in
     let here = fixed put in
     let asked = begun here .pre in (
-      asked .chart,
+      asked .noted,
       omega (
         arith,
         rows-long (begun here .args .records .now),

@@ -2,40 +2,40 @@
 use Prim.Native.Nat.{_+_, _≤_}
 use Rattle.chart_labels.proofs.ReadyLaws.{ready-facts}
 use Rattle.chart_labels.proofs.LabelSteps.{few-numbered}
-use Rattle.translator.proofs.ImageSteps.{image-many, image-short, image-fits, sizes, charted-local}
+use Rattle.translator.proofs.ImageSteps.{image-many, image-short, image-fits, sizes}
 use native.Mathlib.Omega.{arith}
 use borrow.Author.Needs.{needs}
 use Rattle.translator.proofs.table.write_image.Statement.{statement}
 use Rattle.translator.proofs.table.write_image.Tie as tie
 
 -- ---- the stages: the labels laid out, the rows counted, 1,024 at most
-abbrev start : tie.After-label-nodes → tie.Start
+abbrev start : tie.After-note-nodes → tie.Start
 start c = c .before .before .before .before
 
-abbrev laid : tie.After-count-rows → tie.After-label-nodes
+abbrev laid : tie.After-count-rows → tie.After-note-nodes
 laid c = c .before .before .before
 
-abbrev few : tie.Else1 → tie.After-label-nodes
+abbrev few : tie.Else1 → tie.After-note-nodes
 few c = laid (c .before)
 
 -- the sum of the sizes is far below 2^63
-small : (c : tie.Else1) → few c .label-nodes .result + 2 ≤ 256
+small : (c : tie.Else1) → few c .note-nodes .result + 2 ≤ 256
 small c =
     let ready = start (few c) .pre .0 in
-    omega (arith, few-numbered _ (ready-facts ready), ready .few, few c .label-nodes .ensures .0)
+    omega (arith, few-numbered _ (ready-facts ready), ready .few, few c .note-nodes .ensures .0)
 
 -- ---- the needs
-slice-aggregate-label-nodes : tie.Need-slice-aggregate-label-nodes
-slice-aggregate-label-nodes c = search needs
+slice-aggregate-note-nodes : tie.Need-slice-aggregate-note-nodes
+slice-aggregate-note-nodes c = search needs
 
-label-nodes-requires : tie.Need-label-nodes-requires
-label-nodes-requires c κs = search needs
+note-nodes-requires : tie.Need-note-nodes-requires
+note-nodes-requires c κs = search needs
 
 slice-aggregate-count-rows : tie.Need-slice-aggregate-count-rows
 slice-aggregate-count-rows c = search needs
 
 count-rows-requires : tie.Need-count-rows-requires
-count-rows-requires c κs = let made = c .before .before in charted-local _ _ (start made .pre .0) (made .label-nodes .ensures .1)
+count-rows-requires c κs = c .before .before .note-nodes .ensures .1
 
 refused-requires : tie.Need-refused-requires
 refused-requires c κs = search needs
@@ -63,7 +63,7 @@ returns-2 c =
     let here = c .before .before in
     rw (c .refused2 .ensures)
     (image-short _ _ _ (here .before .count-rows .ensures) (here .if1 .left) _ _ (start (few here) .pre .1)
-    (few here .label-nodes .ensures .0) (omega arith))
+    (few here .note-nodes .ensures .0) (omega arith))
 
 slice-aggregate-put-image : tie.Need-slice-aggregate-put-image
 slice-aggregate-put-image c = search needs
@@ -74,9 +74,9 @@ put-image-requires c κs =
     let here = fits .before in
     let a = start (few here) .args in
     let asked = start (few here) .pre in
-    let nodes = few here .label-nodes in
+    let nodes = few here .note-nodes in
     record {
-      chart = charted-local _ _ (asked .0) (nodes .ensures .1);
+      noted = nodes .ensures .1;
       sizes = sizes _ (a .out .now) _ (here .before .count-rows .ensures) (here .if1 .left) _ _ (asked .1) (nodes .ensures .0);
       few = here .if1 .left;
       room = fits .if2 .left;
@@ -91,14 +91,14 @@ returns-3 c =
     let fits = put .before .before .before in
     let here = fits .before in
     image-fits _ _ _ (here .before .count-rows .ensures) (here .if1 .left) _ _ (start (few here) .pre .1)
-    (few here .label-nodes .ensures .0) (fits .if2 .left) _ (put .put-image .ensures)
+    (few here .note-nodes .ensures .0) (fits .if2 .left) _ (put .put-image .ensures)
 
 pub write-image-spec : {M : Type 1} → statement M
 write-image-spec =
     tie.close
     (tie.spec
-    slice-aggregate-label-nodes
-    label-nodes-requires
+    slice-aggregate-note-nodes
+    note-nodes-requires
     slice-aggregate-count-rows
     count-rows-requires
     refused-requires
