@@ -3,3 +3,5 @@ pub mod PathSteps
 pub mod Settled
 pub mod PathCases
 pub mod RowSteps
+pub mod BoundLaws
+pub mod BoundSteps

@@ -10,7 +10,7 @@ use native.Mathlib.Omega.{arith}
 use lib.Dec.{eqb}
 use lib.ListN.{length, getD, set, length-set}
 use lib.Seq.{getD-set-same, getD-set-other}
-use borrow.Author.Tests.{eq-eqb, ne-eqb}
+use borrow.Author.Tests.{eqb-true, eq-eqb, ne-eqb}
 use Rattle.lists.proofs.Tests.{no-both, and-l, and-true, yes-pick, no-pick, cases}
 use Rattle.bits.specs.Word.{bit}
 use Rattle.frames.specs.Frame.{size, field}
@@ -42,6 +42,11 @@ module _ (c : Chart) (v : ℕ) where
   pub number-goes : kind c v ≡ 3 → stops c v ≡ false → number c v ≡ argument c v
   number-goes k s = yes-pick (is c 3 v && not (stops c v)) (argument c v) 16
       (and-true (is c 3 v) (not (stops c v)) (eq-eqb (kind c v) 3 k) (ap not s))
+
+  pub low-condition : (i : ℕ) → i ≡ number c v → i ≤ 15 → kind c v ≡ 3
+  low-condition i e h = ⊎-elim
+      (λ (g : (is c 3 v && not (stops c v)) ≡ true). eqb-true (kind c v) 3 (and-l (is c 3 v) (not (stops c v)) g))
+      (λ (g : (is c 3 v && not (stops c v)) ≡ false). absurd (omega (arith, number-none g))) (cases (is c 3 v && not (stops c v)))
 
 -- a condition stops where it has a label of its own
 module _ (c : Chart) (v own : ℕ) (e : own ≡ label c v) where

@@ -1,5 +1,5 @@
 -- What the functions on paths ask of their arguments: nodes that a path may come to, and its care mask and values there.
-use Prim.Native.Nat.{ℕ, _+_, _≤_, _<_}
+use Prim.Native.Nat.{ℕ, _+_, _^_, _≤_, _<_}
 use mathlib.Core.Path.{_≡_}
 use mathlib.Core.List.{List}
 use lib.Bits.{bitAnd}
@@ -7,7 +7,8 @@ use lib.ListN.{length, getD}
 use Rattle.frames.specs.Frame.{size}
 use Rattle.charts.specs.Chart.{Chart, kind}
 use Rattle.chart_labels.specs.Ready.{Charted}
-use Rattle.chart_rows.specs.Parts.{number}
+use Rattle.chart_rows.specs.Rows.{paths}
+use Rattle.chart_rows.specs.Parts.{number, untested}
 
 -- notes on the nodes of an accepted chart: the label of each, and from 256 on the number of the condition that a path tests there
 pub record Noted (c : Chart) (notes : List ℕ) : Type 0 where
@@ -40,3 +41,11 @@ pub record SidesAt (c : Chart) (notes : List ℕ) (care values v : ℕ) : Type 0
   pub inside : v < size c
   pub two : 3 ≤ kind c v
   pub within : bitAnd values care ≡ values
+
+-- a mask of the numbers that paths on from node v may test: they have at most that many values, so there are no more paths
+pub record Few (c : Chart) (v mask : ℕ) : Type 0 where
+  pub most : (l f care values : ℕ) → length (paths (size c) c l f care values v) ≤ 2 ^ untested mask care
+
+pub record Masked (c : Chart) (masks : List ℕ) : Type 0 where
+  pub long : size c ≤ length masks
+  pub few : (v : ℕ) → Entered c v → Few c v (getD masks v 0)

@@ -102,10 +102,10 @@ fn put_node(records: &[u8], notes: &[u8], v: usize, out: &mut [u8], at: usize) -
 }
 
 // The rows of all nodes.
-pub fn put_rows(records: &[u8], notes: &[u8], out: &mut [u8], at: usize)
+pub fn put_rows(records: &[u8], notes: &[u8], out: &mut [u8], at: usize) -> usize
     requires { ⌜ Noted (now records) (now notes) ⌝ }
     requires { ⌜ at + length (upTo (nodeRowsText (now records)) (size (now records))) ≤ length (now out) ⌝ }
-    ensures { λ _. ⌜ now (out .exit) ≡ written (now (out .entry)) at (upTo (nodeRowsText (now (records .entry))) (size (now (records .entry)))) ⌝ }
+    ensures { λ r. ⌜ Put (now (out .entry)) at (upTo (nodeRowsText (now (records .entry))) (size (now (records .entry)))) r (now (out .exit)) ⌝ }
 {
     let n = records.len() / 10;
     let mut place = at;
@@ -114,4 +114,5 @@ pub fn put_rows(records: &[u8], notes: &[u8], out: &mut [u8], at: usize)
         place = put_node(records, notes, v, out, place);
         v += 1;
     }
+    place
 }

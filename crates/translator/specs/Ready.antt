@@ -17,8 +17,8 @@ pub record Sizes (c : Chart) (highest own total : ℕ) : Type 0 where
   pub rowed : total ≡ length (rows c)
 
 -- a chart with the notes on its nodes and its sizes, and a buffer with room for its image
-pub record ImageRoom (c : Chart) (notes : List ℕ) (highest own total : ℕ) (out : List ℕ) : Type 0 where
+pub record ImageRoom (c : Chart) (notes : List ℕ) (highest own : ℕ) (out : List ℕ) : Type 0 where
   pub noted : Noted c notes
-  pub sizes : Sizes c highest own total
-  pub few : total ≤ 1024
-  pub room : 23 * (3 + highest + own + total) ≤ length out
+  pub sizes : Sizes c highest own (length (rows c))
+  pub few : length (rows c) ≤ 1024
+  pub room : 23 * (3 + highest + own + length (rows c)) ≤ length out
