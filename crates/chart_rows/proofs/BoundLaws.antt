@@ -209,7 +209,7 @@ masked-set c masks v x k l f = record { long = omega (arith, k .long, length-set
         (subst (Few c v) (sym (getD-set-same masks v x 0 (omega (arith, k .long)))) (f (subst (Entered c) (sym q) t)))
     go u t (no q) = subst (Few c u) (sym (getD-set-other masks v u x 0 (λ e. q (sym e)))) (k .few u t)
 
--- a loop from the last node on writes them
+-- loops over the nodes write them
 pub record Masking (c : Chart) (old masks : List ℕ) (v : ℕ) : Type 0 where
   pub within : v ≤ size c
   pub size : length masks ≡ length old
@@ -221,6 +221,14 @@ masking-on c old masks v t l x f = record {
   within = omega (arith, t .within);
   size = length-set masks (v - 1) x ∙ t .size;
   masked = masked-set c masks (v - 1) x (t .masked) (omega (arith, t .within)) f;
+}
+
+pub masking-up : (c : Chart) (old masks : List ℕ) (v : ℕ) → Masking c old masks v → v < size c → (x : ℕ) → (Entered c v → Few c v x)
+    → Masking c old (set masks v x) (v + 1)
+masking-up c old masks v t l x f = record {
+  within = omega arith;
+  size = length-set masks v x ∙ t .size;
+  masked = masked-set c masks v x (t .masked) l f;
 }
 
 -- ---- the mask of a node by those behind its arcs

@@ -22,8 +22,23 @@ fn mask_of(records: &[u8], notes: &[u8], masks: &[u16], v: usize) -> u16
     with_bit(low | high, i)
 }
 
-// The masks of all nodes, the last node first: where an arc leads back, all numbers count.
-fn mask_nodes(records: &[u8], notes: &[u8], masks: &mut [u16])
+// The masks of all nodes, the first node first: known where arcs lead back, all numbers where they lead on.
+fn mask_upward(records: &[u8], notes: &[u8], masks: &mut [u16])
+    requires { ⌜ Noted (now records) (now notes) ⌝ }
+    requires { ⌜ Masked (now records) (now masks) ⌝ }
+    ensures { λ _. ⌜ Masked (now (records .entry)) (now (masks .exit)) ⌝ }
+{
+    let n = records.len() / 10;
+    let mut v: usize = 0;
+    while v < n {
+        let mask = mask_of(records, notes, masks, v);
+        masks[v] = mask;
+        v += 1;
+    }
+}
+
+// The masks of all nodes once more, the last node first: where arcs lead on.
+fn mask_downward(records: &[u8], notes: &[u8], masks: &mut [u16])
     requires { ⌜ Noted (now records) (now notes) ⌝ }
     requires { ⌜ Masked (now records) (now masks) ⌝ }
     ensures { λ _. ⌜ Masked (now (records .entry)) (now (masks .exit)) ⌝ }
@@ -81,6 +96,7 @@ pub fn bound_rows(records: &[u8], notes: &[u8]) -> usize
     ensures { λ r. ⌜ length (rows (now (records .entry))) ≤ r ⌝ }
 {
     let mut masks = [65535u16; 256];
-    mask_nodes(records, notes, &mut masks);
+    mask_upward(records, notes, &mut masks);
+    mask_downward(records, notes, &mut masks);
     bound_nodes(records, notes, &masks)
 }

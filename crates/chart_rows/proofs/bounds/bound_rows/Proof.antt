@@ -5,11 +5,17 @@ use borrow.Author.Needs.{needs}
 use Rattle.chart_rows.proofs.bounds.bound_rows.Statement.{statement}
 use Rattle.chart_rows.proofs.bounds.bound_rows.Tie as tie
 
-slice-aggregate-mask-nodes : tie.Need-slice-aggregate-mask-nodes
-slice-aggregate-mask-nodes c = search needs
+slice-aggregate-mask-upward : tie.Need-slice-aggregate-mask-upward
+slice-aggregate-mask-upward c = search needs
 
-mask-nodes-requires : tie.Need-mask-nodes-requires
-mask-nodes-requires c κs = let asked = c .before .before .before .pre in (asked, masked-full _ (asked .chart .ready) _ refl)
+mask-upward-requires : tie.Need-mask-upward-requires
+mask-upward-requires c κs = let asked = c .before .before .before .pre in (asked, masked-full _ (asked .chart .ready) _ refl)
+
+slice-aggregate-mask-downward : tie.Need-slice-aggregate-mask-downward
+slice-aggregate-mask-downward c = search needs
+
+mask-downward-requires : tie.Need-mask-downward-requires
+mask-downward-requires c κs = search needs
 
 slice-aggregate-bound-nodes : tie.Need-slice-aggregate-bound-nodes
 slice-aggregate-bound-nodes c = search needs
@@ -24,8 +30,10 @@ pub bound-rows-spec : {M : Type 1} → statement M
 bound-rows-spec =
     tie.close
     (tie.spec
-    slice-aggregate-mask-nodes
-    mask-nodes-requires
+    slice-aggregate-mask-upward
+    mask-upward-requires
+    slice-aggregate-mask-downward
+    mask-downward-requires
     slice-aggregate-bound-nodes
     bound-nodes-requires
     returns)
