@@ -1,4 +1,7 @@
+pub mod NumberLaws
 pub mod PathSteps
 pub mod Settled
 pub mod PathCases
 pub mod RowSteps
+pub mod BoundLaws
+pub mod BoundSteps

@@ -1,72 +1,31 @@
--- The steps of the functions that follow paths, at plain values: where a path ends, which conditions it has met before,
--- how the paths from a new condition divide.
-use mathlib.Core.Path.{_≡_, refl, sym, _∙_, ap, ap₂, subst}
-use mathlib.Core.Logic.{⊎-elim}
-use mathlib.Core.Bool.{Bool, true, false, _&&_, not}
+-- The steps of the functions that follow paths, at plain values: how the paths from a stop and from a new condition are
+-- made up, and how many they are.
+use mathlib.Core.Path.{_≡_, sym, _∙_, ap, ap₂, subst}
+use mathlib.Core.Bool.{true, false, not}
 use mathlib.Core.List.{List, [], _∷_, _++_}
 use Prim.Native.Nat.{ℕ, _+_, _-_, _^_, _<_, min}
 use native.Mathlib.Omega.{arith}
 use lib.Bits.{bitAnd, bitOr}
-use lib.Dec.{eqb, leb}
-use lib.ListN.{length, getD, length-append}
-use borrow.Author.Tests.{leb-true, eqb-false, eq-eqb, ne-eqb, le-leb}
-use Rattle.lists.proofs.Tests.{no-both, and-false, yes-pick, no-pick, cases}
+use lib.Dec.{eqb}
+use lib.ListN.{length, length-append}
+use borrow.Author.Tests.{eqb-false}
+use Rattle.lists.proofs.Tests.{and-false}
 use Rattle.bits.specs.Word.{bit}
 use Rattle.bits.proofs.BitLaws.{add-is-or}
 use Rattle.bits.proofs.MaskLaws.{more-within-0, more-within-1, within-lacks}
 use Rattle.frames.specs.Frame.{size}
-use Rattle.charts.specs.Chart.{Chart, kind, argument, next0, next1, taken}
+use Rattle.charts.specs.Chart.{Chart, kind, argument, next0, next1}
 use Rattle.charts.proofs.Rank.{rank, rank-falls0, rank-falls1}
 use Rattle.walk.specs.Stops.{stops}
 use Rattle.image.specs.Image.{Row}
-use Rattle.walk.proofs.Follow.{goes-on, stops-other}
-use Rattle.chart_labels.specs.Labels.{numbered, label}
+use Rattle.walk.proofs.Follow.{goes-on}
 use Rattle.chart_rows.specs.Rows.{paths}
-use Rattle.chart_labels.specs.Ready.{Ready, OfKind}
-use Rattle.chart_rows.specs.Ready.{Entered, OnPath}
-use Rattle.chart_labels.proofs.ReadyLaws.{ready-sound, ready-facts}
-use Rattle.chart_labels.proofs.LabelSteps.{label-own, own-label}
+use Rattle.chart_labels.specs.Ready.{Ready}
+use Rattle.chart_rows.specs.Ready.{Entered}
+use Rattle.chart_labels.proofs.ReadyLaws.{ready-sound}
+use Rattle.chart_rows.proofs.NumberLaws.{small-number}
 use Rattle.chart_rows.proofs.PathSteps.{pathRow, entered0, entered1, at-stop, at-new}
 use Rattle.chart_rows.proofs.Settled.{Settled}
-
--- ---- where a path ends
-module _ {c : Chart} {labels : List ℕ} {v k : ℕ} (p : OnPath c labels v) (e : k ≡ kind c v) where
-  read : getD labels v 0 ≡ label c v
-  read = p .chart .labelled .at v (p .entered .inside)
-
-  pub ends-other : (k ≡ 3 → ⊥) → true ≡ stops c v
-  ends-other n = sym (stops-other c v (p .entered .noBegin) (λ q. n (e ∙ q)))
-
-  pub ends-condition : k ≡ 3 → leb 2 (getD labels v 0) ≡ stops c v
-  ends-condition three = go (stops c v) refl
-    where
-      plain : numbered c v ≡ stops c v
-      plain = ap (λ x. stops c v && not x) (ne-eqb (kind c v) 1 (λ q. omega arith)) ∙ unit (stops c v)
-        where
-          unit : (b : Bool) → (b && true) ≡ b
-          unit true = refl
-          unit false = refl
-
-      go : (s : Bool) → stops c v ≡ s → leb 2 (getD labels v 0) ≡ stops c v
-      go true s = le-leb 2 (getD labels v 0) (omega (arith, read, label-own c v (plain ∙ s))) ∙ sym s
-      go false s = ⊎-elim
-          (λ (y : leb 2 (getD labels v 0) ≡ true).
-          no-both (stops c v) (sym plain ∙ own-label c v (omega (arith, read, leb-true 2 (getD labels v 0) y)))
-          s)
-          (λ (y : leb 2 (getD labels v 0) ≡ false). y ∙ sym s) (cases (leb 2 (getD labels v 0)))
-
--- ---- conditions met before
-pub known-stop : (c : Chart) (v : ℕ) (b : Bool) → stops c v ≡ true → false ≡ (not (stops c v) && b)
-known-stop c v b s = sym (ap (λ x. not x && b) s)
-
-pub known-test : (c : Chart) (v : ℕ) (r b : Bool) → stops c v ≡ false → r ≡ b → r ≡ (not (stops c v) && b)
-known-test c v r b s e = e ∙ sym (ap (λ x. not x && b) s)
-
-pub small-number : {c : Chart} {v i : ℕ} → OfKind c 3 v → i ≡ argument c v → i < 16
-small-number {c} {v} node e = omega (arith, ready-facts (node .ready) .conditions v (node .inside) (node .kind))
-
-pub small-on-path : {c : Chart} {v i : ℕ} → Ready c → Entered c v → stops c v ≡ false → i ≡ argument c v → i < 16
-small-on-path {c} {v} ready t s e = small-number (record { ready = ready; inside = t .inside; kind = goes-on c v (t .noBegin) s }) e
 
 -- a new condition: where its two sides go on, with which mask and values
 pub record Fork (c : Chart) (care values v tested valued w0 w1 : ℕ) : Type 0 where
@@ -92,11 +51,11 @@ pub record New (c : Chart) (care values v u i : ℕ) : Type 0 where
   pub number : i ≡ argument c u
 
 module _ (c : Chart) (care values v u i : ℕ) (new : New c care values v u i) where
-  pub new-small : i < 16
-  new-small = small-on-path (new .ready) (new .settled .entered) (new .goes) (new .number)
-
   condition : kind c u ≡ 3
   condition = goes-on c u (new .settled .entered .noBegin) (new .goes)
+
+  pub new-small : i < 16
+  new-small = small-number (record { ready = new .ready; inside = new .settled .entered .inside; kind = condition }) (new .number)
 
   untested : bit care (argument c u) ≡ 1 → ⊥
   untested =
@@ -163,15 +122,3 @@ module _ (c : Chart) (care values v most : ℕ) where
       → (l f : ℕ) → low + high ≡ min most (length (P care values v l f))
   count-fork tested valued w0 w1 low high k a b l f =
       omega (arith, a l f, b l f, ap (λ (rs : List Row). length rs) (k .all l f) ∙ length-append (P tested values w0 l f) (P tested valued w1 l f))
-
--- ---- the arc of a condition
-module _ (c : Chart) (w v i b r : ℕ) (e : i ≡ argument c v) (eb : b ≡ bit w i) where
-  pub taken-zero : b ≡ 0 → r ≡ next0 c v → r ≡ taken c w v
-  taken-zero z q =
-      q ∙ sym (yes-pick (eqb (bit w (argument c v)) 0) (next0 c v) (next1 c v)
-      (eq-eqb (bit w (argument c v)) 0 (ap (bit w) (sym e) ∙ sym eb ∙ z)))
-
-  pub taken-one : (b ≡ 0 → ⊥) → r ≡ next1 c v → r ≡ taken c w v
-  taken-one n q =
-      q ∙ sym (no-pick (eqb (bit w (argument c v)) 0) (next0 c v) (next1 c v)
-      (ne-eqb (bit w (argument c v)) 0 (λ z. n (eb ∙ ap (bit w) e ∙ z))))

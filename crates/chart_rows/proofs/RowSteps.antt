@@ -22,20 +22,19 @@ use Rattle.walk.specs.Stops.{stops}
 use Rattle.image.specs.Image.{Row}
 use Rattle.chart_labels.specs.Labels.{numbered, label}
 use Rattle.chart_rows.specs.Rows.{paths, rowsOf, rows}
-use Rattle.chart_rows.specs.Ready.{Entered, SidesAt}
-use Rattle.chart_labels.specs.Ready.{AtNode}
+use Rattle.chart_rows.specs.Ready.{NotedAt, Entered, SidesAt}
 use Rattle.chart_rows.specs.Parts.{sides, nodeRows}
 use Rattle.chart_labels.proofs.ReadyLaws.{ready-facts}
 use Rattle.chart_labels.proofs.LabelSteps.{own-label, no-own-label}
 use Rattle.chart_rows.proofs.PathSteps.{entered0, entered1}
 
 -- ---- both arcs of a node
-module _ {c : Chart} {labels : List ℕ} {care values v : ℕ} (s : SidesAt c labels care values v) where
+module _ {c : Chart} {notes : List ℕ} {care values v : ℕ} (s : SidesAt c notes care values v) where
   pub side-entered0 : {w : ℕ} → w ≡ next0 c v → Entered c w
-  side-entered0 e = subst (Entered c) (sym e) (entered0 c (s .chart .ready) v (s .inside) (λ q. omega (arith, s .two)))
+  side-entered0 e = subst (Entered c) (sym e) (entered0 c (s .noted .chart .ready) v (s .inside) (λ q. omega (arith, s .two)))
 
   pub side-entered1 : {w : ℕ} → w ≡ next1 c v → Entered c w
-  side-entered1 e = subst (Entered c) (sym e) (entered1 c (s .chart .ready) v (s .inside) (s .two))
+  side-entered1 e = subst (Entered c) (sym e) (entered1 c (s .noted .chart .ready) v (s .inside) (s .two))
 
 pub count-sides : (c : Chart) (v care values most w0 w1 low high : ℕ) → w0 ≡ next0 c v → w1 ≡ next1 c v
     → ((l f : ℕ) → low ≡ min most (length (paths (size c) c l f care 0 w0)))
@@ -91,27 +90,27 @@ module _ (c : Chart) (v k most r : ℕ) (ek : k ≡ kind c v) (own : nodeRows c 
       (rows-other c v k ek h ∙ ap (paths (size c) c (label c v) 2 0 0) (sym e)) (q (label c v) 2)
 
 -- ---- a node without a label of its own, and one with it
-module _ {c : Chart} {labels : List ℕ} {v : ℕ} (node : AtNode c labels v) where
-  read : getD labels v 0 ≡ label c v
-  read = node .chart .labelled .at v (node .inside)
+module _ {c : Chart} {notes : List ℕ} {v : ℕ} (node : NotedAt c notes v) where
+  read : getD notes v 0 ≡ label c v
+  read = node .noted .chart .labelled .at v (node .inside)
 
-  own-number : 2 ≤ getD labels v 0 → numbered c v ≡ true
+  own-number : 2 ≤ getD notes v 0 → numbered c v ≡ true
   own-number h = own-label c v (omega (arith, read))
 
-  pub no-rows : getD labels v 0 < 2 → nodeRows c v ≡ []
+  pub no-rows : getD notes v 0 < 2 → nodeRows c v ≡ []
   no-rows h = no-pick (numbered c v) (rowsOf c v) [] (no-own-label c v (omega (arith, read)))
 
-  pub own-rows : 2 ≤ getD labels v 0 → nodeRows c v ≡ rowsOf c v
+  pub own-rows : 2 ≤ getD notes v 0 → nodeRows c v ≡ rowsOf c v
   own-rows h = yes-pick (numbered c v) (rowsOf c v) [] (own-number h)
 
-  pub other-entered : 2 ≤ getD labels v 0 → {w : ℕ} → w ≡ next0 c v → Entered c w
+  pub other-entered : 2 ≤ getD notes v 0 → {w : ℕ} → w ≡ next0 c v → Entered c w
   other-entered h e =
-      subst (Entered c) (sym e) (entered0 c (node .chart .ready) v (node .inside)
+      subst (Entered c) (sym e) (entered0 c (node .noted .chart .ready) v (node .inside)
       (eqb-false (kind c v) 1 (not-true (is c 1 v) (and-r (stops c v) (not (is c 1 v)) (own-number h)))))
 
   -- the kind after a condition's is a function's
   pub function-kind : {k : ℕ} → k ≡ kind c v → 3 ≤ k → (k ≡ 3 → ⊥) → k ≡ 4
-  function-kind e h n = omega (arith, ready-facts (node .chart .ready) .kinds v (node .inside))
+  function-kind e h n = omega (arith, ready-facts (node .noted .chart .ready) .kinds v (node .inside))
 
 pub count-nothing : (c : Chart) (v most : ℕ) → nodeRows c v ≡ [] → 0 ≡ min most (length (nodeRows c v))
 count-nothing c v most e = omega (arith, ap (λ (rs : List Row). length rs) e)

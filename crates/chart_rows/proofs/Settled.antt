@@ -31,11 +31,11 @@ module _ (c : Chart) (care values v : ℕ) where
 
 -- a condition that was met before is passed along an arc, to a node of lower rank
 module _ (c : Chart) (care v : ℕ) (t : Entered c v) (k : known c care v ≡ true) where
-  goes : stops c v ≡ false
-  goes = not-true (stops c v) (and-l (not (stops c v)) (eqb (bit care (argument c v)) 1) k)
+  pub known-goes : stops c v ≡ false
+  known-goes = not-true (stops c v) (and-l (not (stops c v)) (eqb (bit care (argument c v)) 1) k)
 
-  pub known-condition : kind c v ≡ 3
-  known-condition = goes-on c v (t .noBegin) goes
+  known-condition : kind c v ≡ 3
+  known-condition = goes-on c v (t .noBegin) known-goes
 
   module _ (ready : Ready c) (values : ℕ) where
     pub known-falls : (w : ℕ) → w ≡ taken c values v → rank c w < rank c v
@@ -46,7 +46,7 @@ module _ (c : Chart) (care v : ℕ) (t : Entered c v) (k : known c care v ≡ tr
 
     known-paths : (l f : ℕ) → paths (size c) c l f care values v ≡ paths (size c) c l f care values (taken c values v)
     known-paths l f =
-        at-known c ready l f care values v t goes
+        at-known c ready l f care values v t known-goes
         (eqb-true (bit care (argument c v)) 1 (and-r (not (stops c v)) (eqb (bit care (argument c v)) 1) k))
 
 -- ---- what holds of the node: it is a stop or a new condition, and the paths on from it are the same

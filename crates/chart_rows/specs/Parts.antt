@@ -4,13 +4,22 @@ use mathlib.Core.Bool.{Bool, true, false, _&&_, not}
 use mathlib.Core.List.{List, [], _++_}
 use lib.Dec.{eqb}
 use Rattle.lists.specs.Pick.{pick}
+use Rattle.lists.specs.Numbers.{count}
 use Rattle.bits.specs.Word.{bit}
 use Rattle.frames.specs.Frame.{size}
-use Rattle.charts.specs.Chart.{Chart, argument, next0, next1, taken}
+use Rattle.charts.specs.Chart.{Chart, argument, next0, next1, is, taken}
 use Rattle.walk.specs.Stops.{stops}
 use Rattle.image.specs.Image.{Row}
 use Rattle.chart_labels.specs.Labels.{numbered}
 use Rattle.chart_rows.specs.Rows.{paths, rowsOf}
+
+-- the number of the condition that a path tests at node v, or 16 where no path goes on from it so
+abbrev pub number : Chart → ℕ → ℕ
+number c v = pick (is c 3 v && not (stops c v)) (argument c v) 16
+
+-- how many numbers of a mask a path with this care mask has not tested
+abbrev pub untested : ℕ → ℕ → ℕ
+untested mask care = count (λ i. eqb (bit mask i) 1 && eqb (bit care i) 0) 0 16
 
 -- whether a path comes at node v to a condition whose number it has met before
 abbrev pub known : Chart → ℕ → ℕ → Bool

@@ -6,27 +6,19 @@ ghost use mathlib.Core.Path.{_≡_};
 ghost use Prim.Native.Nat.{ℕ, min};
 ghost use lib.ListN.{length};
 ghost use Rattle.chart_rows.specs.Rows.{rows};
-ghost use Rattle.chart_labels.specs.Ready.{Charted, AtNode};
-ghost use Rattle.chart_rows.specs.Ready.{SidesAt};
+ghost use Rattle.chart_rows.specs.Ready.{Noted, NotedAt, SidesAt};
 ghost use Rattle.chart_rows.specs.Parts.{sides, nodeRows};
 
 // How many paths go on from the two arcs of a node.
-fn count_sides(
-    records: &[u8],
-    labels: &[u8],
-    v: usize,
-    care: u16,
-    values: u16,
-    most: usize,
-) -> usize
-    requires { ⌜ SidesAt (now records) (now labels) care values v ⌝ }
+fn count_sides(records: &[u8], notes: &[u8], v: usize, care: u16, values: u16, most: usize) -> usize
+    requires { ⌜ SidesAt (now records) (now notes) care values v ⌝ }
     ensures { λ r. ⌜ ((l f g : ℕ) → r ≡ min most (length (sides (now (records .entry)) l f g care values v))) ⌝ }
 {
-    let low = count_paths(records, labels, field(records, v, 3), care, 0, most);
+    let low = count_paths(records, notes, field(records, v, 3), care, 0, most);
     low
         + count_paths(
             records,
-            labels,
+            notes,
             field(records, v, 4),
             care,
             values,
@@ -35,33 +27,33 @@ fn count_sides(
 }
 
 // How many rows a node has: none where it has no label of its own.
-fn count_node(records: &[u8], labels: &[u8], v: usize, most: usize) -> usize
-    requires { ⌜ AtNode (now records) (now labels) v ⌝ }
+fn count_node(records: &[u8], notes: &[u8], v: usize, most: usize) -> usize
+    requires { ⌜ NotedAt (now records) (now notes) v ⌝ }
     ensures { λ r. ⌜ r ≡ min most (length (nodeRows (now (records .entry)) v)) ⌝ }
 {
-    if labels[v] < 2 {
+    if notes[v] < 2 {
         return 0;
     }
     match field(records, v, 0) {
-        0..=2 => count_paths(records, labels, field(records, v, 3), 0, 0, most),
+        0..=2 => count_paths(records, notes, field(records, v, 3), 0, 0, most),
         3 => {
             let own = with_bit(0, field(records, v, 2));
-            count_sides(records, labels, v, own, own, most)
+            count_sides(records, notes, v, own, own, most)
         }
-        _ => count_sides(records, labels, v, 0, 0, most),
+        _ => count_sides(records, notes, v, 0, 0, most),
     }
 }
 
 // How many rows there are in all.
-pub fn count_rows(records: &[u8], labels: &[u8], most: usize) -> usize
-    requires { ⌜ Charted (now records) (now labels) ⌝ }
+pub fn count_rows(records: &[u8], notes: &[u8], most: usize) -> usize
+    requires { ⌜ Noted (now records) (now notes) ⌝ }
     ensures { λ r. ⌜ r ≡ min most (length (rows (now (records .entry)))) ⌝ }
 {
     let n = records.len() / 10;
     let mut total: usize = 0;
     let mut v: usize = 0;
     while v < n {
-        let more = count_node(records, labels, v, most - total);
+        let more = count_node(records, notes, v, most - total);
         total += more;
         v += 1;
     }

@@ -96,3 +96,8 @@ module _ (piece : ℕ → List ℕ) where
 
     pub appended-done : n ≤ v → out ≡ written out₀ at (upTo piece n)
     appended-done h = let e : v ≡ n = omega (arith, t .within) in t .buffer ∙ ap (λ (k : ℕ). written out₀ at (upTo piece k)) e
+
+    pub appended-put : n ≤ v → Put out₀ at (upTo piece n) place out
+    appended-put h =
+        let e : v ≡ n = omega (arith, t .within) in
+        record { ends = t .here ∙ ap (λ (k : ℕ). at + length (upTo piece k)) e; holds = appended-done h }

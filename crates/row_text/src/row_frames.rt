@@ -1,6 +1,5 @@
 // The rows of all labels, written as frames. Functions that return a number return the offset after what they wrote.
 use bits::with_bit;
-use chart_rows::ends_path;
 use chart_rows::settle;
 use charts::field;
 use frames::put_frame;
@@ -12,8 +11,7 @@ ghost use Rattle.frames.specs.Frame.{size, frameText};
 ghost use Rattle.image.specs.Image.{rowFrame};
 ghost use Rattle.chart_labels.specs.Labels.{label};
 ghost use Rattle.chart_rows.specs.Rows.{paths};
-ghost use Rattle.chart_labels.specs.Ready.{Charted, AtNode};
-ghost use Rattle.chart_rows.specs.Ready.{PathAt, SidesAt};
+ghost use Rattle.chart_rows.specs.Ready.{Noted, NotedAt, PathAt, SidesAt};
 ghost use Rattle.row_text.specs.Parts.{rowOf, rowsText, nodeRowsText};
 ghost use Rattle.chart_rows.specs.Parts.{sides};
 ghost use Rattle.label_text.specs.Parts.{upTo, Put};
@@ -33,7 +31,7 @@ fn put_row(out: &mut [u8], at: usize, from: u8, care: u16, values: u16, bit: u8,
 // The paths on from a node, the 0 side first.
 fn put_paths(
     records: &[u8],
-    labels: &[u8],
+    notes: &[u8],
     node: u8,
     care: u16,
     values: u16,
@@ -42,29 +40,28 @@ fn put_paths(
     out: &mut [u8],
     at: usize,
 ) -> usize
-    requires { ⌜ PathAt (now records) (now labels) care values node ⌝ }
+    requires { ⌜ PathAt (now records) (now notes) care values node ⌝ }
     requires { ⌜ at + length (rowsText (paths (size (now records)) (now records) from bit care values node)) ≤ length (now out) ⌝ }
     ensures { λ r. ⌜ Put (now (out .entry)) at (rowsText (paths (size (now (records .entry))) (now (records .entry)) from bit care values node)) r (now (out .exit)) ⌝ }
 {
-    let end = settle(records, labels, node, care, values);
-    let v = end as usize;
-    if ends_path(records, labels, end) {
-        put_row(out, at, from, care, values, bit, labels[v]);
+    let v = settle(records, notes, node, care, values) as usize;
+    let i = notes[256 + v];
+    if i > 15 {
+        put_row(out, at, from, care, values, bit, notes[v]);
         return at + 23;
     }
-    let i = field(records, v, 2);
     let tested = with_bit(care, i);
     let valued = with_bit(values, i);
     let next0 = field(records, v, 3);
     let next1 = field(records, v, 4);
-    let mid = put_paths(records, labels, next0, tested, values, from, bit, out, at);
-    put_paths(records, labels, next1, tested, valued, from, bit, out, mid)
+    let mid = put_paths(records, notes, next0, tested, values, from, bit, out, at);
+    put_paths(records, notes, next1, tested, valued, from, bit, out, mid)
 }
 
 // The paths on from the two arcs of a node.
 fn put_sides(
     records: &[u8],
-    labels: &[u8],
+    notes: &[u8],
     v: usize,
     care: u16,
     values: u16,
@@ -73,58 +70,49 @@ fn put_sides(
     out: &mut [u8],
     at: usize,
 ) -> usize
-    requires { ⌜ SidesAt (now records) (now labels) care values v ⌝ }
+    requires { ⌜ SidesAt (now records) (now notes) care values v ⌝ }
     requires { ⌜ at + length (rowsText (sides (now records) (label (now records) v) first second care values v)) ≤ length (now out) ⌝ }
     ensures { λ r. ⌜ Put (now (out .entry)) at (rowsText (sides (now (records .entry)) (label (now (records .entry)) v) first second care values v)) r (now (out .exit)) ⌝ }
 {
-    let from = labels[v];
+    let from = notes[v];
     let next0 = field(records, v, 3);
     let next1 = field(records, v, 4);
-    let mid = put_paths(records, labels, next0, care, 0, from, first, out, at);
-    put_paths(records, labels, next1, care, values, from, second, out, mid)
+    let mid = put_paths(records, notes, next0, care, 0, from, first, out, at);
+    put_paths(records, notes, next1, care, values, from, second, out, mid)
 }
 
 // The rows of a node: none where it has no label of its own.
-fn put_node(records: &[u8], labels: &[u8], v: usize, out: &mut [u8], at: usize) -> usize
-    requires { ⌜ AtNode (now records) (now labels) v ⌝ }
+fn put_node(records: &[u8], notes: &[u8], v: usize, out: &mut [u8], at: usize) -> usize
+    requires { ⌜ NotedAt (now records) (now notes) v ⌝ }
     requires { ⌜ at + length (nodeRowsText (now records) v) ≤ length (now out) ⌝ }
     ensures { λ r. ⌜ Put (now (out .entry)) at (nodeRowsText (now (records .entry)) v) r (now (out .exit)) ⌝ }
 {
-    let from = labels[v];
+    let from = notes[v];
     if from < 2 {
         return at;
     }
     match field(records, v, 0) {
-        0..=2 => put_paths(
-            records,
-            labels,
-            field(records, v, 3),
-            0,
-            0,
-            from,
-            2,
-            out,
-            at,
-        ),
+        0..=2 => put_paths(records, notes, field(records, v, 3), 0, 0, from, 2, out, at),
         3 => {
             let own = with_bit(0, field(records, v, 2));
-            put_sides(records, labels, v, own, own, 2, 2, out, at)
+            put_sides(records, notes, v, own, own, 2, 2, out, at)
         }
-        _ => put_sides(records, labels, v, 0, 0, 0, 1, out, at),
+        _ => put_sides(records, notes, v, 0, 0, 0, 1, out, at),
     }
 }
 
 // The rows of all nodes.
-pub fn put_rows(records: &[u8], labels: &[u8], out: &mut [u8], at: usize)
-    requires { ⌜ Charted (now records) (now labels) ⌝ }
+pub fn put_rows(records: &[u8], notes: &[u8], out: &mut [u8], at: usize) -> usize
+    requires { ⌜ Noted (now records) (now notes) ⌝ }
     requires { ⌜ at + length (upTo (nodeRowsText (now records)) (size (now records))) ≤ length (now out) ⌝ }
-    ensures { λ _. ⌜ now (out .exit) ≡ written (now (out .entry)) at (upTo (nodeRowsText (now (records .entry))) (size (now (records .entry)))) ⌝ }
+    ensures { λ r. ⌜ Put (now (out .entry)) at (upTo (nodeRowsText (now (records .entry))) (size (now (records .entry)))) r (now (out .exit)) ⌝ }
 {
     let n = records.len() / 10;
     let mut place = at;
     let mut v: usize = 0;
     while v < n {
-        place = put_node(records, labels, v, out, place);
+        place = put_node(records, notes, v, out, place);
         v += 1;
     }
+    place
 }

@@ -1,13 +1,15 @@
 -- The text of a chart's table in the parts that the functions write, and how long each part is.
-use mathlib.Core.Path.{_≡_, refl, sym, _∙_, ap, ap₂}
+use mathlib.Core.Path.{_≡_, refl, sym, _∙_, ap, ap₂, subst}
 use mathlib.Core.Bool.{Bool, true, false}
 use mathlib.Core.List.{List, [], _∷_, _++_, map, append-assoc}
-use Prim.Native.Nat.{ℕ, zero, suc, _+_, _*_, _/_, _%_, _-_, _≤_, _<_, min}
+use Prim.Native.Nat.{ℕ, zero, suc, _+_, _*_, _/_, _%_, _-_, _≤_, _<_}
 use native.Mathlib.Nat.{zero-add, mul-suc}
 use native.Mathlib.Numerals.{add-one}
+use native.Mathlib.Decide.{decLt}
 use native.Mathlib.Omega.{arith}
 use lib.Dec.{ltb}
-use lib.ListN.{length, replicate, length-append}
+use lib.ListN.{length, take, drop, length-append, length-take}
+use lib.Seq.{drop-at}
 use borrow.Author.Tests.{lt-ltb, le-ltb}
 use Rattle.lists.specs.Pick.{pick}
 use Rattle.lists.specs.Numbers.{range, count}
@@ -30,13 +32,12 @@ use Rattle.chart_labels.specs.Labels.{numbered, label, entry, homeLabel, return
 use Rattle.chart_rows.specs.Rows.{rows}
 use Rattle.translator.specs.Table.{table}
 use Rattle.row_text.specs.Parts.{rowsText, nodeRowsText}
-use Rattle.translator.specs.Parts.{imageLent}
+use Rattle.translator.specs.Parts.{sizeRefusal, imageLent}
 use Rattle.chart_rows.specs.Parts.{nodeRows}
-use Rattle.label_text.specs.Parts.{headerText, entryText, fixedText, nodeLabelText, upTo}
-use Rattle.chart_labels.specs.Ready.{Ready, Charted}
+use Rattle.label_text.specs.Parts.{headerText, entryText, fixedText, nodeLabelText, upTo, Put}
 use Rattle.translator.specs.Ready.{Sizes}
 use Rattle.translator.proofs.LabelLaws.{length-labels, length-entries}
-use Rattle.chart_labels.proofs.LabelSteps.{label-own, labelled}
+use Rattle.chart_labels.proofs.LabelSteps.{label-own}
 use Rattle.chart_rows.proofs.RowSteps.{below-all}
 use Rattle.row_text.proofs.RowPuts.{rows-append}
 
@@ -182,22 +183,31 @@ fixed-long =
     length-append (frameText (labelFrame 0 homeLabel)) (frameText (labelFrame 1 returnLabel))
     ∙ omega (arith, length-frame (labelFrame 0 homeLabel) refl, length-frame (labelFrame 1 returnLabel) refl)
 
--- five texts, each written where the one before ends
+-- a text at the front of a buffer, written after the one behind it
+before : (out a b : List ℕ) → length a + length b ≤ length out → written (written out (length a) b) 0 a ≡ written out 0 (a ++ b)
+before out a b room =
+    let d : drop (length a) (written out (length a) b) ≡ b ++ drop (length a + length b) out =
+    unfold written in drop-at (take (length a) out) (b ++ drop (length a + length b) out) (length a) (simp length-take (omega arith)) in
+    let n : length a + length b ≡ length (a ++ b) = sym (length-append a b) in
+    written-front (written out (length a) b) a ∙ ap (λ (x : List ℕ). a ++ x) d
+    ∙ sym (append-assoc a b (drop (length a + length b) out))
+    ∙ ap (λ (k : ℕ). (a ++ b) ++ drop k out) n ∙ sym (written-front out (a ++ b))
+
+-- four texts, each written where the one before ends, and then the one before them all
 chain : (out o₁ o₂ o₃ o₄ o₅ a b d e f : List ℕ) (p q r s : ℕ) → p ≡ length a → q ≡ p + length b → r ≡ q + length d
     → s ≡ r + length e → s + length f ≤ length out
-    → o₁ ≡ written out 0 a → o₂ ≡ written o₁ p b → o₃ ≡ written o₂ q d → o₄ ≡ written o₃ r e
-    → o₅ ≡ written o₄ s f → o₅ ≡ written out 0 (a ++ (b ++ (d ++ (e ++ f))))
+    → o₁ ≡ written out p b → o₂ ≡ written o₁ q d → o₃ ≡ written o₂ r e → o₄ ≡ written o₃ s f
+    → o₅ ≡ written o₄ 0 a → o₅ ≡ written out 0 (a ++ (b ++ (d ++ (e ++ f))))
 chain out o₁ o₂ o₃ o₄ o₅ a b d e f p q r s ep eq er es room e₁ e₂ e₃ e₄ e₅ =
-    let n₂ : length (a ++ b) ≡ length a + length b = length-append a b in
-    let n₃ : length ((a ++ b) ++ d) ≡ length (a ++ b) + length d = length-append (a ++ b) d in
-    let n₄ : length (((a ++ b) ++ d) ++ e) ≡ length ((a ++ b) ++ d) + length e = length-append ((a ++ b) ++ d) e in
-    let w₂ : o₂ ≡ written out 0 (a ++ b) = written-more out 0 a b o₁ o₂ p (omega arith) (omega arith) e₁ e₂ in
-    let w₃ : o₃ ≡ written out 0 ((a ++ b) ++ d) = written-more out 0 (a ++ b) d o₂ o₃ q (omega arith) (omega arith) w₂ e₃ in
-    let w₄ : o₄ ≡ written out 0 (((a ++ b) ++ d) ++ e) = written-more out 0 ((a ++ b) ++ d) e o₃ o₄ r (omega arith) (omega arith) w₃ e₄ in
-    let w₅ : o₅ ≡ written out 0 ((((a ++ b) ++ d) ++ e) ++ f) =
-    written-more out 0 (((a ++ b) ++ d) ++ e) f o₄ o₅ s (omega arith) (omega arith) w₄ e₅ in
-    let g : (((a ++ b) ++ d) ++ e) ++ f ≡ a ++ (b ++ (d ++ (e ++ f))) = simp append-assoc in
-    w₅ ∙ ap (written out 0) g
+    let n₂ : length (b ++ d) ≡ length b + length d = length-append b d in
+    let n₃ : length ((b ++ d) ++ e) ≡ length (b ++ d) + length e = length-append (b ++ d) e in
+    let n₄ : length (((b ++ d) ++ e) ++ f) ≡ length ((b ++ d) ++ e) + length f = length-append ((b ++ d) ++ e) f in
+    let w₂ : o₂ ≡ written out p (b ++ d) = written-more out p b d o₁ o₂ q eq (omega arith) e₁ e₂ in
+    let w₃ : o₃ ≡ written out p ((b ++ d) ++ e) = written-more out p (b ++ d) e o₂ o₃ r (omega arith) (omega arith) w₂ e₃ in
+    let w₄ : o₄ ≡ written out p (((b ++ d) ++ e) ++ f) = written-more out p ((b ++ d) ++ e) f o₃ o₄ s (omega arith) (omega arith) w₃ e₄ in
+    let g : ((b ++ d) ++ e) ++ f ≡ b ++ (d ++ (e ++ f)) = simp append-assoc in
+    e₅ ∙ ap (λ (o : List ℕ). written o 0 a) (w₄ ∙ ap (λ (k : ℕ). written out k (((b ++ d) ++ e) ++ f)) ep)
+    ∙ before out a (((b ++ d) ++ e) ++ f) (omega arith) ∙ ap (λ (x : List ℕ). written out 0 (a ++ x)) g
 
 module _ (c : Chart) (highest own n : ℕ) (s : Sizes c highest own n) where
   pub image-long : length (imageText (table c)) ≡ 23 * (3 + highest + own + n)
@@ -219,56 +229,98 @@ module _ (c : Chart) (highest own n : ℕ) (s : Sizes c highest own n) where
         s .rowed,
       )
 
-  -- the parts, each written where the one before ends
-  pub image-done : (out o₁ o₂ o₃ o₄ o₅ : List ℕ) → 23 * (3 + highest + own + n) ≤ length out
-      → o₁ ≡ written out 0 (headerText highest (own + 1) n) → o₂ ≡ written o₁ 23 (upTo (entryText c) highest)
-      → o₃ ≡ written o₂ (23 + 23 * highest) fixedText
-      → o₄ ≡ written o₃ (23 + 23 * highest + 46) (upTo (nodeLabelText c) (size c))
-      → o₅ ≡ written o₄ (23 + 23 * highest + 46 + 23 * own) (upTo (nodeRowsText c) (size c))
-      → o₅ ≡ written out 0 (imageText (table c))
-  image-done out o₁ o₂ o₃ o₄ o₅ room e₁ e₂ e₃ e₄ e₅ =
-      let a : length (headerText highest (own + 1) n) ≡ 23 =
-      length-frame (15 ∷ highest ∷ (own + 1) ∷ n / 256 ∷ n % 256 ∷ 0 ∷ 0 ∷ 0 ∷ 0 ∷ 0 ∷ []) refl in
-      let b : length (upTo (entryText c) highest) ≡ 23 * highest = entries-long c highest in
-      let d : length (upTo (nodeLabelText c) (size c)) ≡ 23 * own = labels-long c ∙ ap (λ (k : ℕ). 23 * k) (sym (s .owned)) in
-      let e : length (upTo (nodeRowsText c) (size c)) ≡ 23 * n = rows-long c ∙ ap (λ (k : ℕ). 23 * k) (sym (s .rowed)) in
-      chain out o₁ o₂ o₃ o₄ o₅ (headerText highest (own + 1) n) (upTo (entryText c) highest) fixedText
-      (upTo (nodeLabelText c) (size c)) (upTo (nodeRowsText c) (size c))
-      23 (23 + 23 * highest) (23 + 23 * highest + 46) (23 + 23 * highest + 46 + 23 * own)
-      (omega arith) (omega arith) (omega (arith, fixed-long)) (omega arith) (omega (arith, fixed-long)) e₁ e₂ e₃ e₄ e₅
-      ∙ ap (written out 0) (sym (image-parts c highest own n (s .schemed) (s .owned) (s .rowed)))
+  -- the parts, the header last; so many rows as their text has frames
+  pub rows-put : (row end : ℕ) → end ≡ row + length (upTo (nodeRowsText c) (size c)) → (end - row) / 23 ≡ n
+  rows-put row end e = omega (arith, rows-long c, s .rowed)
+
+  module _ (out o₁ o₂ o₃ o₄ o₅ : List ℕ) (end m : ℕ) (room : 23 * (3 + highest + own + n) ≤ length out) (em : m ≡ n) where
+    pub image-put : o₁ ≡ written out 23 (upTo (entryText c) highest) → o₂ ≡ written o₁ (23 + 23 * highest) fixedText
+        → o₃ ≡ written o₂ (23 + 23 * highest + 46) (upTo (nodeLabelText c) (size c))
+        → Put o₃ (23 + 23 * highest + 46 + 23 * own) (upTo (nodeRowsText c) (size c)) end o₄
+        → o₅ ≡ written o₄ 0 (headerText highest (own + 1) m) → Put out 0 (imageText (table c)) end o₅
+    image-put e₁ e₂ e₃ put e₅ =
+        let a : length (headerText highest (own + 1) n) ≡ 23 =
+        length-frame (15 ∷ highest ∷ (own + 1) ∷ n / 256 ∷ n % 256 ∷ 0 ∷ 0 ∷ 0 ∷ 0 ∷ 0 ∷ []) refl in
+        let b : length (upTo (entryText c) highest) ≡ 23 * highest = entries-long c highest in
+        let d : length (upTo (nodeLabelText c) (size c)) ≡ 23 * own = labels-long c ∙ ap (λ (k : ℕ). 23 * k) (sym (s .owned)) in
+        let e : length (upTo (nodeRowsText c) (size c)) ≡ 23 * n = rows-long c ∙ ap (λ (k : ℕ). 23 * k) (sym (s .rowed)) in
+        record {
+          ends = omega (arith, put .ends, image-long);
+          holds =
+              chain out o₁ o₂ o₃ o₄ o₅ (headerText highest (own + 1) n) (upTo (entryText c) highest) fixedText
+              (upTo (nodeLabelText c) (size c)) (upTo (nodeRowsText c) (size c))
+              23 (23 + 23 * highest) (23 + 23 * highest + 46) (23 + 23 * highest + 46 + 23 * own)
+              (omega arith) (omega arith) (omega (arith, fixed-long)) (omega arith) (omega (arith, fixed-long)) e₁ e₂ e₃ (put .holds)
+              (e₅ ∙ ap (λ (k : ℕ). written o₄ 0 (headerText highest (own + 1) k)) em)
+              ∙ ap (written out 0) (sym (image-parts c highest own n (s .schemed) (s .owned) (s .rowed)));
+        }
 
 -- ---- 10 and 16
-module _ (c : Chart) (old : List ℕ) (total : ℕ) (counted : total ≡ min 1025 (length (rows c))) where
-  pub image-many : 1024 < total → Lends (imageLent c old) (Refused 10 0 0) old
-  image-many h =
-      lent-refused (when 10 (ltb 1024 (length (rows c)))) 1 (λ _. imageText (table c)) old 10 0
-      (when-holds 10 (ltb 1024 (length (rows c))) (lt-ltb 1024 (length (rows c)) (omega arith))) (Refused 10 0 0) refl
+module _ (c : Chart) (before room : ℕ) where
+  abbrev many : Bool
+  many = ltb 1024 (length (rows c))
 
-  pub image-few : total ≤ 1024 → total ≡ length (rows c)
-  image-few h = omega arith
+  abbrev short : Bool
+  short = ltb room (23 * (before + length (rows c)))
 
-  module _ (few : total ≤ 1024) (highest own : ℕ) (eh : highest ≡ schemes c) (eo : own ≡ count (numbered c) 0 (size c)) where
-    pub sizes : Sizes c highest own total
-    sizes = record { schemed = eh; owned = eo; rowed = image-few few }
+  pub refusal-rows : 1024 < length (rows c) → 10 ≡ sizeRefusal c before room
+  refusal-rows h = sym (yes-pick many 10 (pick short 16 0) (lt-ltb 1024 (length (rows c)) h))
 
-    allowed : when 10 (ltb 1024 (length (rows c))) ≡ fine
-    allowed = when-fails 10 (ltb 1024 (length (rows c))) (le-ltb 1024 (length (rows c)) (omega arith))
+  module _ (few : length (rows c) ≤ 1024) where
+    rest : sizeRefusal c before room ≡ pick short 16 0
+    rest = no-pick many 10 (pick short 16 0) (le-ltb 1024 (length (rows c)) few)
 
-    pub image-short : length old < 23 * (3 + highest + own + total) → Lends (imageLent c old) (Refused 16 0 0) old
-    image-short h =
-        lent-short (when 10 (ltb 1024 (length (rows c)))) 1 (λ _. imageText (table c)) old allowed
-        (omega (arith, image-long c highest own total sizes))
+    pub refusal-room : room < 23 * (before + length (rows c)) → 16 ≡ sizeRefusal c before room
+    refusal-room h = sym (rest ∙ yes-pick short 16 0 (lt-ltb room (23 * (before + length (rows c))) h))
 
-    pub image-fits : 23 * (3 + highest + own + total) ≤ length old → (out : List ℕ) → out ≡ written old 0 (imageText (table c))
-        → Lends (imageLent c old) (Done (23 * (3 + highest + own + total))) out
-    image-fits h out e =
-        let n : length (imageText (table c)) ≡ 23 * (3 + highest + own + total) = image-long c highest own total sizes in
-        lent-done (when 10 (ltb 1024 (length (rows c)))) 1 (λ _. imageText (table c)) old allowed (omega arith)
-        (23 * (3 + highest + own + total)) (omega arith) out
-        (e ∙ written-front old (imageText (table c)))
+    pub refusal-none : 23 * (before + length (rows c)) ≤ room → 0 ≡ sizeRefusal c before room
+    refusal-none h = sym (rest ∙ no-pick short 16 0 (le-ltb room (23 * (before + length (rows c))) h))
 
-pub charted-local : (c : Chart) (labels : List ℕ) → Ready c
-    → labels ≡ written (replicate 256 0) 0 (map (label c) (range 0 (size c))) → Charted c labels
-charted-local c labels ready e = let n : length (replicate {A = ℕ} 256 0) ≡ 256 = refl in
-    record { ready = ready; labelled = labelled c (replicate 256 0) labels (omega (arith, ready .few)) e }
+module _ (c : Chart) (old : List ℕ) (highest own number : ℕ) (eh : highest ≡ schemes c) (eo : own ≡ count (numbered c) 0 (size c))
+    (e : number ≡ sizeRefusal c (3 + highest + own) (length old)) where
+  sizes : Sizes c highest own (length (rows c))
+  sizes = record { schemed = eh; owned = eo; rowed = refl }
+
+  allowed : length (rows c) ≤ 1024 → when 10 (ltb 1024 (length (rows c))) ≡ fine
+  allowed few = when-fails 10 (ltb 1024 (length (rows c))) (le-ltb 1024 (length (rows c)) few)
+
+  pub image-refused : (number ≡ 0 → ⊥) → Lends (imageLent c old) (Refused number 0 0) old
+  image-refused n = go (decLt 1024 (length (rows c))) (decLt (length old) (23 * (3 + highest + own + length (rows c))))
+    where
+      same : (k : ℕ) → k ≡ number → Lends (imageLent c old) (Refused k 0 0) old → Lends (imageLent c old) (Refused number 0 0) old
+      same k q l = subst (λ (x : ℕ). Lends (imageLent c old) (Refused x 0 0) old) q l
+
+      go : Dec (1024 < length (rows c)) → Dec (length old < 23 * (3 + highest + own + length (rows c)))
+          → Lends (imageLent c old) (Refused number 0 0) old
+      go (yes h) d =
+          same 10 (refusal-rows c (3 + highest + own) (length old) h ∙ sym e)
+          (lent-refused (when 10 (ltb 1024 (length (rows c)))) 1 (λ _. imageText (table c)) old 10 0
+          (when-holds 10 (ltb 1024 (length (rows c))) (lt-ltb 1024 (length (rows c)) h)) (Refused 10 0 0) refl)
+      go (no h) (yes d) =
+          let few : length (rows c) ≤ 1024 = omega arith in
+          same 16 (refusal-room c (3 + highest + own) (length old) few d ∙ sym e)
+          (lent-short (when 10 (ltb 1024 (length (rows c)))) 1 (λ _. imageText (table c)) old (allowed few)
+          (omega (arith, image-long c highest own (length (rows c)) sizes)))
+      go (no h) (no d) = absurd (n (e ∙ sym (refusal-none c (3 + highest + own) (length old) (omega arith) (omega arith))))
+
+  module _ (none : number ≡ 0) where
+    pub image-few : length (rows c) ≤ 1024
+    image-few = go (decLt 1024 (length (rows c)))
+      where
+        go : Dec (1024 < length (rows c)) → length (rows c) ≤ 1024
+        go (yes h) = absurd (omega (arith, refusal-rows c (3 + highest + own) (length old) h))
+        go (no h) = omega arith
+
+    pub image-room : 23 * (3 + highest + own + length (rows c)) ≤ length old
+    image-room = go (decLt (length old) (23 * (3 + highest + own + length (rows c))))
+      where
+        go : Dec (length old < 23 * (3 + highest + own + length (rows c))) → 23 * (3 + highest + own + length (rows c)) ≤ length old
+        go (yes h) = absurd (omega (arith, refusal-room c (3 + highest + own) (length old) image-few h))
+        go (no h) = omega arith
+
+    pub image-fits : (out : List ℕ) (n : ℕ) → Put old 0 (imageText (table c)) n out → Lends (imageLent c old) (Done n) out
+    image-fits out n put =
+        let l : length (imageText (table c)) ≡ 23 * (3 + highest + own + length (rows c)) =
+        image-long c highest own (length (rows c)) sizes in
+        lent-done (when 10 (ltb 1024 (length (rows c)))) 1 (λ _. imageText (table c)) old (allowed image-few) (omega (arith, image-room))
+        n (omega (arith, put .ends)) out (put .holds ∙ written-front old (imageText (table c)))

@@ -1,14 +1,19 @@
 -- The image of an accepted chart, as the functions behind the entry point leave it.
-use Prim.Native.Nat.{ℕ}
+use Prim.Native.Nat.{ℕ, _+_, _*_}
 use mathlib.Core.List.{List}
 use lib.Dec.{ltb}
 use lib.ListN.{length}
+use Rattle.lists.specs.Pick.{pick}
 use Rattle.frames.specs.Verdict.{when}
 use Rattle.frames.specs.Answer.{Lent, lent}
 use Rattle.charts.specs.Chart.{Chart}
 use Rattle.image.specs.Image.{imageText}
 use Rattle.chart_rows.specs.Rows.{rows}
 use Rattle.translator.specs.Table.{table}
+
+-- the number of the refusal for a chart with so many frames before its rows and room for so many characters, or 0
+abbrev pub sizeRefusal : Chart → ℕ → ℕ → ℕ
+sizeRefusal c before room = pick (ltb 1024 (length (rows c))) 10 (pick (ltb room (23 * (before + length (rows c)))) 16 0)
 
 -- what the functions leave in the buffer and answer: 10 and 16 are still to be tried
 abbrev pub imageLent : Chart → List ℕ → Lent

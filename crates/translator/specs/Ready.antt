@@ -7,8 +7,8 @@ use Rattle.lists.specs.Numbers.{count}
 use Rattle.frames.specs.Frame.{size}
 use Rattle.charts.specs.Chart.{Chart, schemes}
 use Rattle.chart_labels.specs.Labels.{numbered}
-use Rattle.chart_labels.specs.Ready.{Charted}
 use Rattle.chart_rows.specs.Rows.{rows}
+use Rattle.chart_rows.specs.Ready.{Noted}
 
 -- the numbers of schemes, of nodes with a label of their own, and of rows
 pub record Sizes (c : Chart) (highest own total : ℕ) : Type 0 where
@@ -16,9 +16,9 @@ pub record Sizes (c : Chart) (highest own total : ℕ) : Type 0 where
   pub owned : own ≡ count (numbered c) 0 (size c)
   pub rowed : total ≡ length (rows c)
 
--- a chart with its labels and sizes, and a buffer with room for its image
-pub record ImageRoom (c : Chart) (labels : List ℕ) (highest own total : ℕ) (out : List ℕ) : Type 0 where
-  pub chart : Charted c labels
-  pub sizes : Sizes c highest own total
-  pub few : total ≤ 1024
-  pub room : 23 * (3 + highest + own + total) ≤ length out
+-- a chart with the notes on its nodes and its sizes, and a buffer with room for its image
+pub record ImageRoom (c : Chart) (notes : List ℕ) (highest own : ℕ) (out : List ℕ) : Type 0 where
+  pub noted : Noted c notes
+  pub sizes : Sizes c highest own (length (rows c))
+  pub few : length (rows c) ≤ 1024
+  pub room : 23 * (3 + highest + own + length (rows c)) ≤ length out

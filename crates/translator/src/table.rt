@@ -1,6 +1,7 @@
 // The image of an accepted chart: 10 and 16 are settled before anything is written.
-use chart_labels::label_nodes;
+use chart_rows::bound_rows;
 use chart_rows::count_rows;
+use chart_rows::note_nodes;
 use frames::Answer;
 use frames::refused;
 use label_text::put_entries;
@@ -9,27 +10,55 @@ use label_text::put_header;
 use label_text::put_labels;
 use row_text::put_rows;
 ghost use mathlib.Core.Path.{_≡_};
-ghost use Rattle.lists.specs.Sequences.{written};
+ghost use Prim.Native.Nat.{_≤_};
 ghost use Rattle.frames.specs.Answer.{Lends};
 ghost use Rattle.charts.specs.Chart.{schemes};
 ghost use Rattle.image.specs.Image.{imageText};
+ghost use Rattle.chart_rows.specs.Rows.{rows};
+ghost use Rattle.chart_rows.specs.Ready.{Noted};
+ghost use Rattle.label_text.specs.Parts.{Put};
 ghost use Rattle.translator.specs.Table.{table};
 ghost use Rattle.chart_labels.specs.Ready.{Ready};
 ghost use Rattle.translator.specs.Ready.{ImageRoom};
-ghost use Rattle.translator.specs.Parts.{imageLent};
+ghost use Rattle.translator.specs.Parts.{sizeRefusal, imageLent};
 
-// `own` nodes have a label of their own, and there are `total` rows.
-fn put_image(records: &[u8], labels: &[u8], highest: u8, own: usize, total: usize, out: &mut [u8])
-    requires { ⌜ ImageRoom (now records) (now labels) highest own total (now out) ⌝ }
-    ensures { λ _. ⌜ now (out .exit) ≡ written (now (out .entry)) 0 (imageText (table (now (records .entry)))) ⌝ }
+// 10, or 16 where there is no room for so many frames before the rows and for the rows, or 0. Where a bound on the rows
+// excludes both, the paths are not walked to count them.
+fn size_refusal(records: &[u8], notes: &[u8], before: usize, room: usize) -> u8
+    requires { ⌜ Noted (now records) (now notes) ⌝ }
+    requires { ⌜ before ≤ 1024 ⌝ }
+    ensures { λ r. ⌜ r ≡ sizeRefusal (now (records .entry)) before room ⌝ }
 {
-    put_header(out, highest, (own + 1) as u8, total);
-    put_entries(records, labels, highest, out, 23);
+    let bound = bound_rows(records, notes);
+    if bound <= 1024 {
+        if 23 * (before + bound) <= room {
+            return 0;
+        }
+    }
+    let total = count_rows(records, notes, 1025);
+    if total > 1024 {
+        return 10;
+    }
+    if room < 23 * (before + total) {
+        return 16;
+    }
+    0
+}
+
+// `own` nodes have a label of their own. The header comes last: it has the number of rows.
+fn put_image(records: &[u8], notes: &[u8], highest: u8, own: usize, out: &mut [u8]) -> usize
+    requires { ⌜ ImageRoom (now records) (now notes) highest own (now out) ⌝ }
+    ensures { λ r. ⌜ Put (now (out .entry)) 0 (imageText (table (now (records .entry)))) r (now (out .exit)) ⌝ }
+{
+    put_entries(records, notes, highest, out, 23);
     let fixed = 23 + 23 * (highest as usize);
     put_fixed(out, fixed);
     let first = fixed + 46;
-    put_labels(records, labels, out, first);
-    put_rows(records, labels, out, first + 23 * own);
+    put_labels(records, notes, out, first);
+    let row = first + 23 * own;
+    let end = put_rows(records, notes, out, row);
+    put_header(out, highest, (own + 1) as u8, (end - row) / 23);
+    end
 }
 
 pub fn write_image(records: &[u8], highest: u8, out: &mut [u8]) -> Answer
@@ -37,16 +66,11 @@ pub fn write_image(records: &[u8], highest: u8, out: &mut [u8]) -> Answer
     requires { ⌜ highest ≡ schemes (now records) ⌝ }
     ensures { λ r. ⌜ Lends (imageLent (now (records .entry)) (now (out .entry))) r (now (out .exit)) ⌝ }
 {
-    let mut labels = [0u8; 256];
-    let own = label_nodes(records, &mut labels);
-    let total = count_rows(records, &labels, 1025);
-    if total > 1024 {
-        return refused(10, 0);
+    let mut notes = [0u8; 512];
+    let own = note_nodes(records, &mut notes);
+    let number = size_refusal(records, &notes, 3 + highest as usize + own, out.len());
+    if number != 0 {
+        return refused(number, 0);
     }
-    let need = 23 * (3 + highest as usize + own + total);
-    if out.len() < need {
-        return refused(16, 0);
-    }
-    put_image(records, &labels, highest, own, total, out);
-    Answer::Done(need)
+    Answer::Done(put_image(records, &notes, highest, own, out))
 }

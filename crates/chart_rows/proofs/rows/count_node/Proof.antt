@@ -3,7 +3,7 @@ use mathlib.Core.Path.{_≡_, refl, sym, _∙_}
 use lib.Bits.{and-self}
 use Rattle.chart_rows.specs.Rows.{rowsOf}
 use Rattle.chart_rows.specs.Parts.{nodeRows}
-use Rattle.chart_rows.proofs.PathCases.{small-number}
+use Rattle.chart_rows.proofs.NumberLaws.{small-number}
 use Rattle.chart_rows.proofs.RowSteps.{no-rows, own-rows, own-mask, other-entered, function-kind}
 use Rattle.chart_rows.proofs.RowSteps.{count-nothing, count-function, count-condition, count-other}
 use native.Mathlib.Omega.{arith}
@@ -36,7 +36,7 @@ with-bit-requires c κs =
     let kind = c .before .before in
     let node = start kind .pre in
     small-number (record {
-      ready = node .chart .ready;
+      ready = node .noted .chart .ready;
       inside = node .inside;
       kind = sym (kind .field .ensures) ∙ c .before .match .keys1;
     }) (c .field2 .ensures)
@@ -46,7 +46,7 @@ count-sides-requires c κs =
     let kind = c .before .before .before in
     let node = start kind .pre in
     record {
-      chart = node .chart;
+      noted = node .noted;
       inside = node .inside;
       two = omega (arith, kind .field .ensures, c .before .before .match .keys1);
       within = and-self _;
@@ -59,13 +59,13 @@ count-paths-requires : tie.Need-count-paths-requires
 count-paths-requires c κs =
     let kind = c .before .before .before in
     let node = start kind .pre in
-    record { chart = node .chart; entered = other-entered node (kind .before .if1 .left) (c .field3 .ensures); within = refl }
+    record { noted = node .noted; entered = other-entered node (kind .before .if1 .left) (c .field3 .ensures); within = refl }
 
 count-sides-requires-2 : tie.Need-count-sides-requires-2
 count-sides-requires-2 c κs =
     let kind = c .before .before in
     let node = start kind .pre in
-    record { chart = node .chart; inside = node .inside; two = omega (arith, kind .field .ensures, c .if2 .left); within = refl }
+    record { noted = node .noted; inside = node .inside; two = omega (arith, kind .field .ensures, c .if2 .left); within = refl }
 
 returns-2 : tie.Need-returns-2
 returns-2 c =

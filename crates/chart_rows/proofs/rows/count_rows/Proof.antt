@@ -20,7 +20,7 @@ sub-count-node : tie.Need-sub-count-node Inv-loop μ-loop
 sub-count-node c = search needs
 
 count-node-requires : tie.Need-count-node-requires Inv-loop μ-loop
-count-node-requires c κs = record { chart = c .before .before .before .before .pre; inside = search needs }
+count-node-requires c κs = record { noted = c .before .before .before .before .pre; inside = search needs }
 
 add-total : tie.Need-add-total Inv-loop μ-loop
 add-total c = omega (arith, c .count-node .ensures, c .before .before .before .before .before .good .1 .1)

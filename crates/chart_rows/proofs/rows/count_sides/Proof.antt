@@ -20,7 +20,7 @@ field-requires c κs = search needs
 count-paths-requires : tie.Need-count-paths-requires
 count-paths-requires c κs =
     let asked = c .before .before .before .pre in
-    record { chart = asked .chart; entered = side-entered0 asked (c .field .ensures); within = refl }
+    record { noted = asked .noted; entered = side-entered0 asked (c .field .ensures); within = refl }
 
 field-requires-2 : tie.Need-field-requires-2
 field-requires-2 c κs = search needs
@@ -31,7 +31,7 @@ sub-count-paths c = omega (arith, c .before .count-paths .ensures 0 0)
 count-paths-requires-2 : tie.Need-count-paths-requires-2
 count-paths-requires-2 c κs =
     let asked = first (c .before) .pre in
-    record { chart = asked .chart; entered = side-entered1 asked (c .field2 .ensures); within = asked .within }
+    record { noted = asked .noted; entered = side-entered1 asked (c .field2 .ensures); within = asked .within }
 
 add-result : tie.Need-add-result
 add-result c =

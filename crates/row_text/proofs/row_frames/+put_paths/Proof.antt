@@ -1,13 +1,15 @@
 -- `row_text::put_paths`: a stop is one row, a new condition has the rows of its two sides; the measure is the node's rank.
 use mathlib.Core.Bool.{true}
-use mathlib.Core.Path.{_≡_, sym, _∙_}
-use lib.ListN.{length}
+use mathlib.Core.Path.{_≡_}
+use lib.ListN.{length, getD}
 use Rattle.frames.specs.Frame.{size}
 use Rattle.charts.proofs.Rank.{rank}
 use Rattle.walk.specs.Stops.{stops}
 use Rattle.chart_rows.specs.Rows.{paths}
 use Rattle.row_text.specs.Parts.{rowsText}
 use Rattle.label_text.specs.Parts.{Put}
+use Rattle.chart_rows.specs.Parts.{number}
+use Rattle.chart_rows.proofs.NumberLaws.{high-stops, low-goes, low-number}
 use Rattle.chart_rows.proofs.Settled.{Settled, is-settled}
 use Rattle.chart_rows.proofs.PathCases.{New, Fork, new-small, fork}
 use Rattle.label_text.proofs.Puts.{Parted, put-length, both-first, both-second, both-done}
@@ -22,7 +24,6 @@ use Rattle.row_text.proofs.row_frames.put_paths.Kinds as kinds
 use Rattle.row_text.proofs.row_frames.+put_paths.Lts-put_paths as lts
 use Rattle.bits.proofs.with_bit.Reads as with-bit-reads
 use Rattle.charts.proofs.field.Reads as field-reads
-use Rattle.chart_rows.proofs.ends_path.Reads as ends-path-reads
 use Rattle.chart_rows.proofs.settle.Reads as settle-reads
 use Rattle.row_text.proofs.row_frames.put_row.Reads as put-row-reads
 use Rattle.row_text.proofs.row_frames.+put_paths.{statement}
@@ -39,14 +40,12 @@ module _ (t : ℕ) where
   claims = (
     settle-reads.Asked,
     settle-reads.Learnt,
-    ends-path-reads.Asked,
-    ends-path-reads.Learnt,
     put-row-reads.Asked,
     put-row-reads.Learnt,
-    field-reads.Asked,
-    field-reads.Learnt,
     with-bit-reads.Asked,
     with-bit-reads.Learnt,
+    field-reads.Asked,
+    field-reads.Learnt,
     and 3 kinds.ps (falls 3 kinds.ps _<_ measure t) reads.Pre,
     reads.Post,
   )
@@ -61,46 +60,56 @@ module _ (t : ℕ) where
 
   arrived : (c : At lts.After-settle) → let a = start c .args in
       Settled (a .records .now) (a .care) (a .values) (a .node) (c .settle .result)
-  arrived c = is-settled _ (start c .pre .1 .0 .chart .ready) _ _ _ _ (start c .pre .1 .0 .entered) (c .settle .ensures)
+  arrived c = is-settled _ (start c .pre .1 .0 .noted .chart .ready) _ _ _ _ (start c .pre .1 .0 .entered) (c .settle .ensures)
+
+  noted : (c : At lts.After-settle) → let a = start c .args in
+      getD (a .notes .now) (256 + c .settle .result) 0 ≡ number (a .records .now) (c .settle .result)
+  noted c = start c .pre .1 .0 .noted .numbers _ (arrived c .entered .inside)
 
   stopped : (c : At lts.Then1) → let here = c .before .before in stops (start here .args .records .now) (here .settle .result) ≡ true
-  stopped c = sym (c .before .ends-path .ensures) ∙ c .if1 .taken
+  stopped c =
+      let here = c .before .before in
+      high-stops _ (start here .pre .1 .0 .noted .chart .ready) _ _ (arrived here .entered) (noted here) (c .if1 .taken)
 
   room : (c : At lts.Then1) → let a = start (c .before .before) .args in a .at + 23 ≤ length (a .out .now)
   room c =
       let here = c .before .before in
       let asked = start here .pre .1 in
-      leaf-room _ _ (asked .0 .chart) _ _ _ _ (arrived here) (stopped c) _ _ _ _ (asked .1)
+      leaf-room _ _ (asked .0 .noted .chart) _ _ _ _ (arrived here) (stopped c) _ _ _ _ (asked .1)
 
-  abbrev begun : At lts.After-field → At lts.Start
-  begun c = start (c .before .before .before)
+  abbrev here : At lts.Else1 → At lts.After-settle
+  here c = c .before .before
 
-  new : (c : At lts.After-field) → let a = begun c .args in
-      New (a .records .now) (a .care) (a .values) (a .node) (c .before .before .before .settle .result) (c .field .result)
-  new c = record {
-    ready = begun c .pre .1 .0 .chart .ready;
-    settled = arrived (c .before .before .before);
-    goes = sym (c .before .before .ends-path .ensures) ∙ c .before .if1 .left;
-    within = begun c .pre .1 .0 .within;
-    number = c .field .ensures;
-  }
+  new : (c : At lts.Else1) → let a = start (here c) .args in let u = here c .settle .result in
+      New (a .records .now) (a .care) (a .values) (a .node) u (getD (a .notes .now) (256 + u) 0)
+  new c =
+      let asked = start (here c) .pre .1 .0 in
+      let ready = asked .noted .chart .ready in
+      let there = arrived (here c) in
+      record {
+        ready = ready;
+        settled = there;
+        goes = low-goes _ ready _ _ (there .entered) (noted (here c)) (c .if1 .left);
+        within = asked .within;
+        number = low-number _ ready _ _ (there .entered) (noted (here c)) (c .if1 .left);
+      }
 
-  abbrev forking : At lts.After-field3 → At lts.Start
-  forking c = begun (c .before .before .before .before)
+  abbrev forking : At lts.After-field2 → At lts.Start
+  forking c = start (here (c .before .before .before .before))
 
-  forked : (c : At lts.After-field3) → let valued = c .before .before in let a = forking c .args in
+  forked : (c : At lts.After-field2) → let valued = c .before .before in let a = forking c .args in
       Fork (a .records .now) (a .care) (a .values) (a .node) (valued .before .with-bit .result) (valued .with-bit2 .result)
-      (c .before .field2 .result) (c .field3 .result)
+      (c .before .field .result) (c .field2 .result)
   forked c =
       let valued = c .before .before in
       fork _ _ _ _ _ _ (new (valued .before .before)) _ _ (valued .before .with-bit .ensures) (valued .with-bit2 .ensures) _ _
-      (c .before .field2 .ensures) (c .field3 .ensures)
+      (c .before .field .ensures) (c .field2 .ensures)
 
-  divided : (c : At lts.After-field3) → let valued = c .before .before in let a = forking c .args in
+  divided : (c : At lts.After-field2) → let valued = c .before .before in let a = forking c .args in
       let n = size (a .records .now) in let tested = valued .before .with-bit .result in
       Parted (rowsText (paths n (a .records .now) (a .from) (a .bit) (a .care) (a .values) (a .node)))
-      (rowsText (paths n (a .records .now) (a .from) (a .bit) tested (a .values) (c .before .field2 .result)))
-      (rowsText (paths n (a .records .now) (a .from) (a .bit) tested (valued .with-bit2 .result) (c .field3 .result)))
+      (rowsText (paths n (a .records .now) (a .from) (a .bit) tested (a .values) (c .before .field .result)))
+      (rowsText (paths n (a .records .now) (a .from) (a .bit) tested (valued .with-bit2 .result) (c .field2 .result)))
   divided c = fork-text _ _ _ _ _ _ _ _ (forked c) (forking c .args .from) (forking c .args .bit)
 
   both : (c : At lts.After-put-paths2) → let first = c .before .before .before .before in let a = forking (first .before .before) .args in
@@ -117,24 +126,29 @@ module _ (t : ℕ) where
       let stop = c .before .before .before .before .before in
       let here = stop .before .before in
       let asked = start here .pre .1 in
-      leaf-done _ _ (asked .0 .chart) _ _ _ _ (arrived here) (stopped stop) _ _ _ _ _ (c .before .before .put-row .ensures)
+      leaf-done _ _ (asked .0 .noted .chart) _ _ _ _ (arrived here) (stopped stop) _ _ _ _ _ (c .before .before .put-row .ensures)
 
   returns-2 : At lts.Need-returns-2
   returns-2 c = both (c .before .before)
 
   settle-requires : At lts.Need-settle-requires
-  settle-requires c κs = let asked = c .before .before .before .pre .1 .0 in record { chart = asked .chart; entered = asked .entered }
+  settle-requires c κs = let asked = c .before .before .before .pre .1 .0 in record { noted = asked .noted; entered = asked .entered }
 
   cast-v : At lts.Need-cast-v
   cast-v c = search needs
 
-  ends-path-requires : At lts.Need-ends-path-requires
-  ends-path-requires c κs = record { chart = start c .pre .1 .0 .chart; entered = arrived c .entered }
+  add-i : At lts.Need-add-i
+  add-i c = search needs
+
+  shared-slice-read-i : At lts.Need-shared-slice-read-i
+  shared-slice-read-i c =
+      let noted = start (c .before) .pre .1 .0 .noted in
+      omega (arith, arrived (c .before) .entered .inside, noted .long, noted .chart .ready .few)
 
   shared-slice-read-put-row : At lts.Need-shared-slice-read-put-row
   shared-slice-read-put-row c =
       let here = c .before .before .before .before in
-      omega (arith, arrived here .entered .inside, start here .pre .1 .0 .chart .labelled .long)
+      omega (arith, arrived here .entered .inside, start here .pre .1 .0 .noted .chart .labelled .long)
 
   put-row-requires : At lts.Need-put-row-requires
   put-row-requires c κs = room (c .before .before)
@@ -145,20 +159,17 @@ module _ (t : ℕ) where
   same-length : At lts.Need-same-length
   same-length c = c .before .before .put-row .kept .0
 
-  field-requires : At lts.Need-field-requires
-  field-requires c κs = let l = arrived (c .before .before) .entered .inside in search needs
-
   with-bit-requires : At lts.Need-with-bit-requires
   with-bit-requires c κs = new-small _ _ _ _ _ _ (new c)
 
   with-bit-requires-2 : At lts.Need-with-bit-requires-2
   with-bit-requires-2 c κs = new-small _ _ _ _ _ _ (new (c .before))
 
-  field-requires-2 : At lts.Need-field-requires-2
-  field-requires-2 c κs = let l = new (c .before .before) .settled .entered .inside in search needs
+  field-requires : At lts.Need-field-requires
+  field-requires c κs = let l = new (c .before .before) .settled .entered .inside in search needs
 
-  field-requires-3 : At lts.Need-field-requires-3
-  field-requires-3 c κs = let l = new (c .before .before .before) .settled .entered .inside in search needs
+  field-requires-2 : At lts.Need-field-requires-2
+  field-requires-2 c κs = let l = new (c .before .before .before) .settled .entered .inside in search needs
 
   put-paths-requires : At lts.Need-put-paths-requires
   put-paths-requires c κs =
@@ -167,7 +178,7 @@ module _ (t : ℕ) where
       let pre = forking fork .pre in (
         omega (arith, k .falls0, pre .0),
         (
-          record { chart = pre .1 .0 .chart; entered = k .entered0; within = k .within0 },
+          record { noted = pre .1 .0 .noted; entered = k .entered0; within = k .within0 },
           both-first (divided fork) _ _ (pre .1 .1),
         ),
       )
@@ -180,7 +191,7 @@ module _ (t : ℕ) where
       let pre = forking fork .pre in (
         omega (arith, k .falls1, pre .0),
         (
-          record { chart = pre .1 .0 .chart; entered = k .entered1; within = k .within1 },
+          record { noted = pre .1 .0 .noted; entered = k .entered1; within = k .within1 },
           both-second (divided fork) (pre .1 .1) (first .put-paths .ensures),
         ),
       )
@@ -197,17 +208,17 @@ pub +put-paths-spec : {M : Type 1} → statement M
     reads.Post
     (settle-requires t)
     (cast-v t)
-    (ends-path-requires t)
+    (add-i t)
+    (shared-slice-read-i t)
     (shared-slice-read-put-row t)
     (put-row-requires t)
     (add-result t)
     (same-length t)
     (returns t)
-    (field-requires t)
     (with-bit-requires t)
     (with-bit-requires-2 t)
+    (field-requires t)
     (field-requires-2 t)
-    (field-requires-3 t)
     (put-paths-requires t)
     (put-paths-requires-2 t)
     (same-length-2 t)

@@ -7,7 +7,7 @@ use Rattle.chart_labels.specs.Labels.{label}
 use Rattle.chart_rows.specs.Rows.{paths, rowsOf}
 use Rattle.row_text.specs.Parts.{rowsText, nodeRowsText}
 use Rattle.chart_rows.specs.Parts.{sides, nodeRows}
-use Rattle.chart_rows.proofs.PathCases.{small-number}
+use Rattle.chart_rows.proofs.NumberLaws.{small-number}
 use Rattle.chart_rows.proofs.RowSteps.{no-rows, own-rows, own-mask, other-entered, function-kind}
 use Rattle.label_text.proofs.Puts.{nothing-put, room-as, done-as}
 use Rattle.row_text.proofs.RowPuts.{node-none, node-function, node-condition, node-other}
@@ -36,13 +36,13 @@ condition c =
 
 other : (c : tie.After-field3) → let a = begun (c .before .before .before) .args in
     nodeRowsText (a .records .now) (a .v)
-    ≡ rowsText (paths (size (a .records .now)) (a .records .now) (getD (a .labels .now) (a .v) 0) 2 0 0 (c .field3 .result))
+    ≡ rowsText (paths (size (a .records .now)) (a .records .now) (getD (a .notes .now) (a .v) 0) 2 0 0 (c .field3 .result))
 other c =
     let kind = c .before .before .before in
     let a = begun kind .args in
     let node = begun kind .pre .0 in
     node-other (a .records .now) (a .v) _ (kind .field .ensures) (own kind) (c .before .if2 .taken) _ _
-    (node .chart .labelled .at (a .v) (node .inside)) (c .field3 .ensures)
+    (node .noted .chart .labelled .at (a .v) (node .inside)) (c .field3 .ensures)
 
 function : (c : tie.Else2) → let a = begun (c .before .before) .args in
     nodeRowsText (a .records .now) (a .v) ≡ rowsText (sides (a .records .now) (label (a .records .now) (a .v)) 0 1 0 0 (a .v))
@@ -72,7 +72,7 @@ with-bit-requires c κs =
     let kind = c .before .before in
     let node = begun kind .pre .0 in
     small-number (record {
-      ready = node .chart .ready;
+      ready = node .noted .chart .ready;
       inside = node .inside;
       kind = sym (kind .field .ensures) ∙ c .before .match .keys1;
     }) (c .field2 .ensures)
@@ -82,7 +82,7 @@ put-sides-requires c κs =
     let arm = c .before .before .before in
     let asked = begun (arm .before) .pre in (
       record {
-        chart = asked .0 .chart;
+        noted = asked .0 .noted;
         inside = asked .0 .inside;
         two = omega (arith, arm .before .field .ensures, arm .match .keys1);
         within = and-self _;
@@ -99,7 +99,7 @@ put-paths-requires c κs =
     let kind = arm .before .before in
     let asked = begun kind .pre in (
       record {
-        chart = asked .0 .chart;
+        noted = asked .0 .noted;
         entered = other-entered (asked .0) (kind .before .if1 .left) (c .before .field3 .ensures);
         within = refl;
       },
@@ -112,7 +112,7 @@ put-sides-requires-2 c κs =
     let kind = arm .before .before in
     let asked = begun kind .pre in (
       record {
-        chart = asked .0 .chart;
+        noted = asked .0 .noted;
         inside = asked .0 .inside;
         two = omega (arith, kind .field .ensures, arm .if2 .left);
         within = refl;

@@ -1,7 +1,7 @@
 -- `row_text::put_rows`: the rows of the nodes before v stand in the buffer.
 use Prim.Native.Nat.{_-_}
 use Rattle.row_text.specs.Parts.{nodeRowsText}
-use Rattle.label_text.proofs.Puts.{Appended, appended-start, appended-room, appended-on, appended-done}
+use Rattle.label_text.proofs.Puts.{Appended, appended-start, appended-room, appended-on, appended-put}
 use borrow.Author.Needs.{needs}
 use Rattle.row_text.proofs.row_frames.put_rows.Statement.{statement}
 use Rattle.row_text.proofs.row_frames.put_rows.Tie as tie
@@ -23,7 +23,7 @@ put-node-requires : tie.Need-put-node-requires Inv-loop μ-loop
 put-node-requires c κs =
     let turn = c .before .before in
     let asked = start turn .pre in (
-      record { chart = asked .0; inside = search needs },
+      record { noted = asked .0; inside = search needs },
       appended-room _ _ _ _ _ _ _ (turn .loop .inv) (search needs) (asked .1),
     )
 
@@ -43,7 +43,7 @@ same-length : tie.Need-same-length Inv-loop μ-loop
 same-length c = c .before .loop .inv .size
 
 returns : tie.Need-returns Inv-loop μ-loop
-returns c = appended-done _ _ _ _ _ _ _ (c .before .loop .inv) (search needs)
+returns c = appended-put _ _ _ _ _ _ _ (c .before .loop .inv) (search needs)
 
 pub put-rows-spec : {M : Type 1} → statement M
 put-rows-spec =

@@ -24,7 +24,7 @@ abbrev first : tie.After-put-paths2 → tie.After-put-paths
 first c = c .before .before .before .before
 
 -- the rows of the two sides, from the label as the code reads it
-sided : (c : tie.After-field2) → let a = start c .args in let from = getD (a .labels .now) (a .v) 0 in
+sided : (c : tie.After-field2) → let a = start c .args in let from = getD (a .notes .now) (a .v) 0 in
     let n = size (a .records .now) in
     Parted
     (rowsText (sides (a .records .now) (label (a .records .now) (a .v)) (a .first) (a .second) (a .care) (a .values) (a .v)))
@@ -34,7 +34,7 @@ sided c =
     let a = start c .args in
     let node = start c .pre .0 in
     sides-text (a .records .now) (a .v) (a .first) (a .second) (a .care) (a .values) _ _ _
-    (node .chart .labelled .at (a .v) (node .inside)) (c .before .field .ensures) (c .field2 .ensures)
+    (node .noted .chart .labelled .at (a .v) (node .inside)) (c .before .field .ensures) (c .field2 .ensures)
 
 -- ---- the needs
 shared-slice-read-from : tie.Need-shared-slice-read-from
@@ -50,7 +50,7 @@ put-paths-requires : tie.Need-put-paths-requires
 put-paths-requires c κs =
     let arcs = c .before in
     let asked = start arcs .pre in (
-      record { chart = asked .0 .chart; entered = side-entered0 (asked .0) (arcs .before .field .ensures); within = refl },
+      record { noted = asked .0 .noted; entered = side-entered0 (asked .0) (arcs .before .field .ensures); within = refl },
       both-first (sided arcs) _ _ (asked .1),
     )
 
@@ -60,7 +60,7 @@ put-paths-requires-2 c κs =
     let arcs = read low in
     let asked = start arcs .pre in (
       record {
-        chart = asked .0 .chart;
+        noted = asked .0 .noted;
         entered = side-entered1 (asked .0) (arcs .field2 .ensures);
         within = asked .0 .within;
       },
