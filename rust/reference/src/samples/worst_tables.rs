@@ -18,7 +18,7 @@ fn whole_table_rows() -> Vec<Frame> {
     let mut frames = vec![[15, 16, 255, 4, 0, 0, 0, 0, 0, 0]];
     frames.extend((1..=16).map(|scheme| [16, scheme, 0, DECIDES, 0, 0, 0, 0, 0, 0]));
     frames.extend((0..=255u8).map(|label| {
-        let note = if label % 2 == 0 { 0 } else { 0xFF };
+        let note = if label % 2 == 0 { 0xFF } else { 0 };
         match label {
             CALLS => [note, note, FUNCTION_CALL, 1, 1, 0, 0, 0, 0, 0],
             GOES_ON => [note, note, PLAIN, DECIDES, 1, 0, 0, 0, 0, 0],
