@@ -8,12 +8,11 @@ use lib.ListN.{take}
 use borrow.Author.Tests.{ne-eqb}
 use Rattle.lists.proofs.Tests.{no-pick}
 use Rattle.frames.specs.Frame.{contents}
-use Rattle.frames.specs.Verdict.{Verdict, fine, refused, when}
+use Rattle.frames.specs.Verdict.{Verdict, fine, refused}
 use Rattle.frames.specs.Answer.{refusal, success}
 use Rattle.frames.proofs.Refuses.{Refuses, next-refuses, when-refuses}
 use Rattle.image.specs.Decode.{decoded}
 use Rattle.image.specs.Check.{imageVerdict}
-use Rattle.tables.specs.Prepare.{prepare}
 use Rattle.state.specs.declared.State.{State}
 use Rattle.state.specs.State.{unfit}
 use Rattle.state.specs.Bytes.{stateOf, bytesOf}
@@ -25,7 +24,7 @@ use Rattle.ticks.proofs.Normal.{Normal, tick-normal}
 use Rattle.machine.proofs.Held.{run-held, tick-held}
 use Rattle.machine.proofs.OneTick as one
 use Rattle.machine.proofs.Live.{Prepared, live-run-is, live-tick-is}
-use Rattle.fairleadow.specs.Calls.{LendsC, runFor, RunsC, tickFor, AdvancesC}
+use Rattle.fairleadow.specs.Calls.{RunsC, tickFor, AdvancesC}
 use Rattle.agreement.specs.Agreement.{Asked, told}
 use Rattle.agreement.specs.Calls.{oneWord}
 use Rattle.agreement.specs.ForC.{ToldC, toldC, toldTickC, TableOfC, prepared, CallC, ran, ranLive, ticked, tickedLive}

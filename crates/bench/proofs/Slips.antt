@@ -17,8 +17,10 @@ use Rattle.translator.specs.Table.{table}
 use Rattle.translator.specs.Entry.{translateVerdict, translate}
 use Rattle.state.specs.declared.State.{State}
 use Rattle.state.specs.State.{labelAt, placeAt, freshState}
-use Rattle.ticks.specs.Tick.{Ticked, ticked, stopped, moved, rowOf, tick}
-use Rattle.rows.specs.Rows.{Found, firstRow}
+use Rattle.ticks.specs.Tick.{Ticked, ticked, stopped, rowOf, tick}
+use Rattle.ticks.specs.Parts.{topOf}
+use Rattle.ticks.specs.Functions.{returned}
+use Rattle.rows.specs.Rows.{firstRow}
 use Rattle.agreement.specs.Agreement.{Translator, Agreement, Translates}
 use Rattle.bench.specs.Bench.{lines, imageP, words, boreWords}
 use Rattle.bench.proofs.Computing.{translating, running}
@@ -26,12 +28,9 @@ use Rattle.bench.proofs.Tables.{imageHome, imageFunction, imageChoice, 
 use Rattle.bench.proofs.Instances.{at-home, at-deep, at-shallow, at-function, at-choice, at-bore}
 use Rattle.bench.proofs.Variants.{Step, ticksBy, runBy, codeAt, maskAt}
 
--- the label at the top, its tick kind, and the label beneath it
-abbrev top : State → ℕ
-top s = placeAt s (s .depth - 1)
-
+-- the tick kind of the label at the top, and the label beneath it
 abbrev kindOf : Image → State → ℕ
-kindOf i s = labelAt i (top s) .kind
+kindOf i s = labelAt i (topOf s) .kind
 
 abbrev beneath : State → ℕ
 beneath s = placeAt s (s .depth - 2)
@@ -52,9 +51,6 @@ abbrev remember : ℕ → Bool → Ticked → Ticked
 remember k x (ticked m c t) = ticked m c (record { size = t .size; depth = t .depth; places = t .places; bits = set (t .bits) k x })
 remember k x (stopped n) = stopped n
 
-abbrev returnBy : Image → State → Found → Ticked
-returnBy i s row = moved 0 3 s (s .depth - 2) (s .depth - 1) (set (s .places) (s .depth - 1) 0) (s .bits) row
-
 abbrev isCallKind : ℕ → Bool
 isCallKind zero = false
 isCallKind (suc k) = leb k 1
@@ -62,8 +58,8 @@ isCallKind (suc k) = leb k 1
 -- ---- the result bit read at the call
 abbrev pub readsAtCall : Step
 readsAtCall i s w = pick (eqb (kindOf i s) 3)
-    (returnBy i s (firstRow (beneath s) w (pick (getD (s .bits) 15 false) 1 0) (i .rows)))
-    (pick (eqb (kindOf i s) 2) (remember 15 (resultOf (labelAt i (top s) .called) (s .bits)) (tick i s w)) (tick i s w))
+    (returned s (firstRow (beneath s) w (pick (getD (s .bits) 15 false) 1 0) (i .rows)))
+    (pick (eqb (kindOf i s) 2) (remember 15 (resultOf (labelAt i (topOf s) .called) (s .bits)) (tick i s w)) (tick i s w))
 
 pub reads-at-call-fails : Agreement translate freshState (runBy readsAtCall) → ⊥
 unfolding running ticksBy imageFunction
@@ -72,7 +68,7 @@ reads-at-call-fails claim = let z : _≡_ {A = ℕ} 4 0 = ap (codeAt 4) (at-func
 -- ---- after a return the choice by the call's word
 abbrev pub choosesByCall : Step
 choosesByCall i s w = pick (eqb (kindOf i s) 3)
-    (returnBy i s (rowOf i (s .bits) (beneath s) (pick (getD (s .bits) 15 false) 1 0)))
+    (returned s (rowOf i (s .bits) (beneath s) (pick (getD (s .bits) 15 false) 1 0)))
     (pick (isCallKind (kindOf i s)) (remember 15 (eqb (bit w 0) 1) (tick i s w)) (tick i s w))
 
 pub chooses-by-call-fails : Agreement translate freshState (runBy choosesByCall) → ⊥
@@ -84,7 +80,7 @@ abbrev keptBit : State → Label → Bool
 keptBit s x = resultOf (x .called) (withResult (x .result) (x .owner) (s .bits))
 
 abbrev pub keepsBit : Step
-keepsBit i s w = let x = labelAt i (top s) in pick (isCallKind (x .kind)) (remember (x .called - 1) (keptBit s x) (tick i s w)) (tick i s w)
+keepsBit i s w = let x = labelAt i (topOf s) in pick (isCallKind (x .kind)) (remember (x .called - 1) (keptBit s x) (tick i s w)) (tick i s w)
 
 pub keeps-bit-fails : Agreement translate freshState (runBy keepsBit) → ⊥
 unfolding running ticksBy imageBore boreWords

@@ -49,7 +49,7 @@ pub record LiveCases : Type 0 where
   -- a table that is cut off, or counts no scheme
   pub cut : ticking (take 119 tableP) (stateOf 1 (2 ∷ [])) 0 .reply ≡ refusal 11 0 0
   pub counts : ticking (damaged 0 1 0) (stateOf 1 (2 ∷ [])) 0 .reply ≡ refusal 11 0 0
-  -- rows of label 3 that are noted to begin behind the table
+  -- rows of label 2 that are noted to end behind the table, where those of label 3 then begin
   pub behind : ticking (damaged 5 1 255) (stateOf 2 (2 ∷ 3 ∷ [])) 0 .reply ≡ refusal 18 0 0
   -- a scheme called that the table does not have: entry 1 is taken, and the code names none
   pub called : ticking (damaged 5 3 200) (stateOf 1 (2 ∷ [])) 0 .code ≡ 16

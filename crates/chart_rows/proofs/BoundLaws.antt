@@ -3,7 +3,7 @@
 use mathlib.Core.Path.{_≡_, refl, sym, _∙_, ap, subst}
 use mathlib.Core.Logic.{_⊎_, inl, inr, ⊎-elim}
 use mathlib.Core.Bool.{Bool, true, false, _&&_}
-use mathlib.Core.List.{List, [], _∷_, _++_}
+use mathlib.Core.List.{List, _++_}
 use Prim.Native.Nat.{ℕ, zero, suc, _+_, _-_, _*_, _/_, _%_, _^_, _≤_, _<_, max}
 use native.Mathlib.Nat.{pow-suc, div-one}
 use native.Mathlib.Decide.{ℕ-discrete}
@@ -20,7 +20,7 @@ use borrow.Author.Tests.{eqb-true, eq-eqb, ne-eqb}
 use Rattle.lists.specs.Pick.{pick}
 use Rattle.lists.specs.Numbers.{count}
 use Rattle.lists.proofs.Counts.{count-suc, count-within, count-less}
-use Rattle.lists.proofs.Tests.{and-l, and-r, and-true, yes-pick, no-pick, cases}
+use Rattle.lists.proofs.Tests.{and-l, and-r, and-true, yes-pick, no-pick}
 use Rattle.bits.specs.Word.{bit}
 use Rattle.bits.proofs.BitLaws.{bit-or, bit-pow-same, bit-add-same, bit-add-other, bit-cases}
 use Rattle.frames.specs.Frame.{size}
@@ -34,7 +34,7 @@ use Rattle.chart_labels.proofs.ReadyLaws.{ready-sound}
 use Rattle.chart_rows.specs.Rows.{paths}
 use Rattle.chart_rows.specs.Parts.{number, untested}
 use Rattle.chart_rows.specs.Ready.{NotedAt, Entered, Few, Masked}
-use Rattle.chart_rows.proofs.PathSteps.{pathRow, entered0, entered1, at-stop, at-known, at-new}
+use Rattle.chart_rows.proofs.PathSteps.{entered0, entered1, at-stop, at-known, at-new}
 use Rattle.chart_rows.proofs.NumberLaws.{small-number, high-stops, low-condition, low-goes, low-number}
 
 -- ---- the numbers of a mask that are untested

@@ -1,7 +1,6 @@
 -- The steps of the functions that bound the rows of nodes, at plain values.
-use mathlib.Core.Path.{_≡_, refl, sym, _∙_, ap, subst}
-use mathlib.Core.Logic.{⊎-elim}
-use mathlib.Core.List.{List, [], _++_}
+use mathlib.Core.Path.{_≡_, sym, _∙_, ap, subst}
+use mathlib.Core.List.{List}
 use Prim.Native.Nat.{ℕ, _+_, _*_, _^_, _≤_, _<_}
 use native.Mathlib.Decide.{ℕ-discrete}
 use native.Mathlib.Omega.{arith}
@@ -11,9 +10,9 @@ use Rattle.frames.specs.Frame.{size}
 use Rattle.charts.specs.Chart.{Chart, kind, argument, next0, next1}
 use Rattle.image.specs.Image.{Row}
 use Rattle.chart_labels.specs.Labels.{label}
-use Rattle.chart_rows.specs.Rows.{paths, rowsOf, rows}
+use Rattle.chart_rows.specs.Rows.{paths, rows}
 use Rattle.chart_rows.specs.Parts.{untested, sides, nodeRows}
-use Rattle.chart_rows.specs.Ready.{NotedAt, Entered, Few, Masked}
+use Rattle.chart_rows.specs.Ready.{NotedAt, Entered, Masked}
 use Rattle.chart_rows.proofs.PathSteps.{entered1}
 use Rattle.chart_rows.proofs.RowSteps.{rows-function, rows-condition, rows-other, no-rows, own-rows, other-entered, function-kind}
 use Rattle.chart_rows.proofs.RowSteps.{rowsBelow, below-more, below-all}

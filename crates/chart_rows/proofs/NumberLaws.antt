@@ -1,10 +1,10 @@
 -- The numbers of the conditions that paths test, at plain values: which nodes have one, what a word's bit at it tells, and how
 -- a loop writes them behind the labels.
-use mathlib.Core.Path.{_≡_, refl, sym, _∙_, ap, subst}
+use mathlib.Core.Path.{_≡_, refl, sym, _∙_, ap}
 use mathlib.Core.Logic.{⊎-elim}
 use mathlib.Core.Bool.{Bool, true, false, _&&_, not}
 use mathlib.Core.List.{List}
-use Prim.Native.Nat.{ℕ, _+_, _/_, _^_, _≤_, _<_}
+use Prim.Native.Nat.{ℕ, _+_, _≤_, _<_}
 use native.Mathlib.Decide.{ℕ-discrete}
 use native.Mathlib.Omega.{arith}
 use lib.Dec.{eqb}
@@ -14,7 +14,7 @@ use borrow.Author.Tests.{eqb-true, eq-eqb, ne-eqb}
 use Rattle.lists.proofs.Tests.{no-both, and-l, and-true, yes-pick, no-pick, cases}
 use Rattle.bits.specs.Word.{bit}
 use Rattle.frames.specs.Frame.{size, field}
-use Rattle.charts.specs.Chart.{Chart, kind, argument, next0, next1, is, taken}
+use Rattle.charts.specs.Chart.{Chart, kind, argument, is, taken}
 use Rattle.walk.specs.Stops.{stops}
 use Rattle.walk.proofs.Follow.{goes-on, takes-0, takes-1}
 use Rattle.chart_labels.specs.Labels.{numbered, label}

@@ -12,10 +12,10 @@ use Rattle.lists.specs.Numbers.{lowest, highest, any}
 use Rattle.lists.proofs.Tests.{cases, yes-pick, no-pick}
 use Rattle.lists.proofs.Searches.{lowest-here, lowest-on, lowest-over, Searching, searching-first, searching-found, searching-next, searching-over, highest-next}
 use Rattle.frames.specs.Frame.{size}
-use Rattle.charts.specs.Chart.{Chart, scheme, schemes}
-use Rattle.charts.specs.Check.{badField, badScheme, badArc, badCall}
+use Rattle.charts.specs.Chart.{Chart, scheme}
+use Rattle.charts.specs.Check.{badField, badScheme}
 use Rattle.charts.specs.Counts.{countsTo, notOne}
-use Rattle.charts.specs.Found.{CountsFound, FieldsFound, LowestFound}
+use Rattle.charts.specs.Found.{CountsFound, FieldsFound}
 use Rattle.charts.specs.declared.Counted.{Counted}
 use Rattle.charts.proofs.Nodes.{field-scheme}
 use Rattle.charts.proofs.SchemeCounts.{counts-start, counts-long, bad-counts}

@@ -7,7 +7,7 @@ use lib.Dec.{eqb}
 use borrow.Author.Tests.{eq-eqb, ne-eqb}
 use Rattle.lists.specs.Pick.{pick}
 use Rattle.lists.proofs.Tests.{yes-pick, no-pick}
-use Rattle.frames.specs.Answer.{Reply, number, reply, Lent, Lends}
+use Rattle.frames.specs.Answer.{Reply, number, reply}
 use Rattle.frames.specs.declared.Answer.{Answer}
 use Rattle.runs.specs.declared.TickReport.{TickReport}
 use Rattle.runs.specs.Run.{Run}

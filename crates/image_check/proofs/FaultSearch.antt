@@ -8,7 +8,7 @@ use native.Mathlib.Omega.{arith}
 use Rattle.lists.specs.Numbers.{lowest}
 use Rattle.lists.proofs.Searches.{lowest-here, lowest-on, lowest-over, lowest-start}
 use Rattle.frames.specs.Frame.{size}
-use Rattle.image.specs.Decode.{schemeCount, labelsFrom, rowsFrom, labelIn, rowIn}
+use Rattle.image.specs.Decode.{labelsFrom, rowsFrom, labelIn, rowIn}
 use Rattle.image.specs.Check.{Position, entryAt, labelAt, rowAt, positionOf, strayFrame, stray, badEntry, badLabel, badRow, badFrame, badContent}
 use Rattle.image_check.specs.Parts.{faulty}
 use Rattle.image.proofs.Accepted.{position-of-entry, position-of-label, position-of-row}

@@ -1,5 +1,5 @@
 -- A run or a tick on an image, or live on a table, by the run on the table that it makes; and by value, by what the bytes then hold.
-use mathlib.Core.Path.{_≡_, refl, sym, _∙_, ap, ap₂, subst}
+use mathlib.Core.Path.{_≡_, refl, sym, _∙_, ap, subst}
 use mathlib.Core.Bool.{Bool, true, false}
 use mathlib.Core.List.{List, [], _∷_}
 use Prim.Native.Nat.{ℕ, _*_, _≤_}
@@ -9,7 +9,7 @@ use lib.ListN.{length, take, length-take}
 use borrow.Author.Tests.{ne-eqb}
 use Rattle.lists.proofs.Tests.{no-pick}
 use Rattle.frames.specs.Frame.{contents, frameCount}
-use Rattle.frames.specs.Verdict.{Verdict, fine, refused, next, when}
+use Rattle.frames.specs.Verdict.{Verdict, fine, refused}
 use Rattle.frames.specs.Answer.{refusal, reply, judged}
 use Rattle.frames.specs.declared.Answer.{Answer}
 use Rattle.frames.specs.declared.Answer.the-variants.{Done, Refused}
@@ -27,16 +27,13 @@ use Rattle.tables.proofs.PrepareCases.{frames-few, made-front, made-length}
 use Rattle.tables.proofs.PreparedImage.{noted-whole, prepared-image}
 use Rattle.tables.proofs.Front.{end-holds, front-image, front-whole}
 use Rattle.state.specs.declared.State.{State}
-use Rattle.state.specs.declared.Answered.{Answered}
-use Rattle.state.specs.State.{unfit}
 use Rattle.state.specs.Bytes.{stateOf, bytesOf}
 use Rattle.state.proofs.ResultBytes.{state-back}
 use Rattle.runs.specs.declared.TickReport.{TickReport}
-use Rattle.machine.specs.declared.Reported.{Reported}
-use Rattle.runs.specs.Run.{Run, Runs, ticks, noRoom, runVerdict, runOn, run}
+use Rattle.runs.specs.Run.{Run, Runs, ticks, runVerdict, runOn, run}
 use Rattle.runs.specs.Advance.{Advance, Advances, advanced, advance}
 use Rattle.machine.specs.Live.{liveVerdict, liveRun, liveTick}
-use Rattle.runs.specs.InPlace.{ifTicked, RunsOn, AdvancesOn}
+use Rattle.runs.specs.InPlace.{RunsOn, AdvancesOn}
 use Rattle.runs.specs.Parts.{tableRun}
 use Rattle.runs.proofs.RunCases.{keptBy, kept-runs}
 use Rattle.machine.proofs.Held.{run-held, tick-held}

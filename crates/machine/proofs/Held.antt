@@ -1,6 +1,6 @@
 -- What the fifty bytes hold after a run or a tick in place is the state that it hands back.
 use Prim.Native.Nat.{ℕ}
-use mathlib.Core.Path.{_≡_, refl, sym, ap, _∙_}
+use mathlib.Core.Path.{_≡_, refl, ap, _∙_}
 use mathlib.Core.Bool.{Bool, true, false}
 use mathlib.Core.List.{List, [], _∷_}
 use lib.Dec.{eqb}
@@ -14,7 +14,7 @@ use Rattle.state.specs.declared.State.{State}
 use Rattle.state.specs.Bytes.{stateOf, bytesOf}
 use Rattle.state.proofs.ResultBytes.{state-back, held-places, held-bits}
 use Rattle.ticks.specs.Tick.{Ticked, ticked, stopped, tick}
-use Rattle.runs.specs.Run.{Ran, Run, then, ticks, runOn}
+use Rattle.runs.specs.Run.{Ran, then, ticks, runOn}
 use Rattle.runs.specs.Advance.{Advance, advanced}
 use Rattle.runs.specs.InPlace.{leaves, bytesAfter, ifTicked}
 use Rattle.ticks.proofs.Normal.{Same, Normal, tick-normal}

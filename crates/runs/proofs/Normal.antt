@@ -1,6 +1,6 @@
 -- What any number of ticks keeps, on any image and from any state, and the numbers that end them.
 use Prim.Native.Nat.{ℕ, _≤_}
-use mathlib.Core.Path.{_≡_, refl, _∙_}
+use mathlib.Core.Path.{refl, _∙_}
 use mathlib.Core.List.{List, [], _∷_}
 use Rattle.frames.specs.Verdict.{Verdict, fine, refused}
 use Rattle.image.specs.Image.{Image}

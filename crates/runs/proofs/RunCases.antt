@@ -1,13 +1,12 @@
 -- The answers of a run and of one tick on a table, by what their parts give.
 use mathlib.Core.Path.{_≡_, refl, sym, _∙_, ap, ap₂, subst}
-use mathlib.Core.Bool.{Bool, true, false, _&&_}
+use mathlib.Core.Bool.{Bool, true, false}
 use mathlib.Core.List.{List, [], _∷_}
 use Prim.Native.Nat.{ℕ, zero, suc, _≤_, _<_}
 use native.Mathlib.Omega.{arith}
 use lib.Dec.{leb, ltb, eqb}
 use lib.ListN.{length, getD}
 use borrow.Author.Tests.{lt-ltb, le-ltb, lt-leb, le-leb, ltb-false, ne-eqb}
-use Rattle.lists.specs.Pick.{pick}
 use Rattle.lists.specs.Sequences.{over}
 use Rattle.lists.proofs.Tests.{or-l, or-r, yes-pick, no-pick, and-no, and-true}
 use Rattle.frames.specs.Verdict.{Verdict, fine, refused, next, when}
@@ -19,11 +18,10 @@ use Rattle.state.specs.declared.State.{State}
 use Rattle.state.specs.State.{badDepth, unfit}
 use Rattle.state.specs.Bytes.{stateOf, bytesOf}
 use Rattle.runs.specs.declared.Ended.{Ended}
-use Rattle.runs.specs.declared.TickReport.{TickReport}
 use Rattle.ticks.specs.Tick.{Ticked, ticked, stopped, tick}
 use Rattle.runs.specs.Run.{Ran, Run, then, ticks, noRoom, runOn}
 use Rattle.runs.specs.Advance.{Advance, advanced}
-use Rattle.runs.specs.InPlace.{leaves, bytesAfter, ifTicked, RunsOn, AdvancesOn}
+use Rattle.runs.specs.InPlace.{leaves, bytesAfter, RunsOn, AdvancesOn}
 use Rattle.ticks.specs.Parts.{Stands}
 use Rattle.runs.specs.Parts.{verdictOf, Room, Ends, tableRun}
 use Rattle.ticks.proofs.Normal.{Normal, tick-normal}

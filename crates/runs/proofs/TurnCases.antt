@@ -1,5 +1,5 @@
 -- The loop of ticks, turn by turn.
-use mathlib.Core.Path.{_≡_, refl, sym, _∙_, ap, ap₂, subst}
+use mathlib.Core.Path.{_≡_, refl, sym, _∙_, ap, subst}
 use mathlib.Core.List.{List, [], _∷_, _++_, append-nil}
 use Prim.Native.Nat.{ℕ, zero, suc, _+_, _≤_, _<_}
 use native.Mathlib.Nat.{zero-add}
@@ -20,7 +20,7 @@ use Rattle.runs.specs.Run.{Ran, then, ticks}
 use Rattle.ticks.specs.Parts.{Stands, after, stepOf, Steps}
 use Rattle.runs.specs.Parts.{verdictOf, Room, Ends}
 use Rattle.ticks.proofs.Normal.{Normal, tick-normal}
-use Rattle.ticks.proofs.Depths.{Deep, deep-fine}
+use Rattle.ticks.proofs.Depths.{deep-fine}
 use Rattle.ticks.proofs.TickCases.{Kept, tick-deep}
 
 -- ---- a tick by what the function that makes it answers

@@ -18,9 +18,6 @@ abbrev pub filledAt : State → ℕ → Bool
 filledAt s k = not (eqb (placeAt s k) 0)
 
 module _ (s : State) (k l : ℕ) (place : l ≡ placeAt s k) where
-  pub filled-here : (l ≡ 0 → ⊥) → filledAt s k ≡ true
-  filled-here n = ap not (ne-eqb (placeAt s k) 0 (λ e. n (place ∙ e)))
-
   pub filled-none : l ≡ 0 → filledAt s k ≡ false
   filled-none e = ap not (eq-eqb (placeAt s k) 0 (sym place ∙ e))
 

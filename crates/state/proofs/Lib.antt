@@ -5,4 +5,4 @@ pub mod TidyTurns
 pub mod Fitness
 pub mod FitCases
 pub mod AboveCases
-pub mod ClimbCases
+pub mod UpwardCases

@@ -1,18 +1,17 @@
 -- Only the bytes of the frames that the header counts say which image a table holds: bytes behind them are no part of it.
 use Prim.Native.Nat.{ℕ, zero, suc, _+_, _*_, _-_, _≤_, _<_, min}
-use mathlib.Core.Bool.{Bool, true, false, _||_}
+use mathlib.Core.Bool.{Bool, false, _||_}
 use mathlib.Core.Path.{_≡_, refl, sym, _∙_, ap, ap₂}
-use mathlib.Core.Logic.{_⊎_, inl, inr}
 use mathlib.Core.List.{List, map}
 use native.Mathlib.Omega.{arith}
 use lib.Dec.{ltb, eqb}
 use lib.ListN.{length, getD, length-take}
 use lib.Seq.{getD-take}
-use borrow.Author.Tests.{ltb-true, ltb-false, le-ltb}
+use borrow.Author.Tests.{ltb-false, le-ltb}
 use Rattle.lists.specs.Pick.{pick}
 use Rattle.lists.specs.Numbers.{range}
 use Rattle.lists.specs.Sequences.{concatMap}
-use Rattle.lists.proofs.Tests.{or-l, or-r, yes-pick, no-pick, cases}
+use Rattle.lists.proofs.Tests.{or-l, or-r, no-pick}
 use Rattle.frames.specs.Frame.{size, field, pairAt, quadAt}
 use Rattle.image.specs.Image.{Label, noLabel}
 use Rattle.image.specs.Decode.{schemeCount, lastLabel, rowCount, labelsFrom, entryIn}

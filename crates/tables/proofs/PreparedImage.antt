@@ -1,8 +1,7 @@
 -- The table that is prepared from an accepted image holds the very image that the text does.
-use Prim.Native.Nat.{ℕ, zero, suc, _+_, _*_, _-_, _%_, _≤_, _<_, min}
+use Prim.Native.Nat.{ℕ, zero, suc, _+_, _*_, _-_, _%_, _≤_, _<_}
 use mathlib.Core.Bool.{Bool, false, _||_}
 use mathlib.Core.Path.{_≡_, sym, _∙_, ap, ap₂}
-use mathlib.Core.Logic.{_⊎_, inl, inr}
 use mathlib.Core.List.{List, map}
 use native.Mathlib.Nat.{zero-add}
 use native.Mathlib.Decide.{ℕ-discrete, decLt}
@@ -10,11 +9,11 @@ use native.Mathlib.Omega.{arith}
 use lib.Dec.{ltb, eqb}
 use lib.ListN.{length, take, drop, getD, length-append, length-take, List·getD-append}
 use lib.Seq.{getD-take}
-use borrow.Author.Tests.{lt-ltb, le-ltb, eq-eqb, ne-eqb}
+use borrow.Author.Tests.{le-ltb, eq-eqb, ne-eqb}
 use Rattle.lists.specs.Pick.{pick}
 use Rattle.lists.specs.Numbers.{range}
-use Rattle.lists.specs.Sequences.{concatMap, over}
-use Rattle.lists.proofs.Tests.{or-none, yes-pick, no-pick, split}
+use Rattle.lists.specs.Sequences.{concatMap}
+use Rattle.lists.proofs.Tests.{or-none, yes-pick, no-pick}
 use Rattle.frames.specs.Frame.{size, field, pairAt, contents}
 use Rattle.frames.specs.Verdict.{fine}
 use Rattle.frames.specs.Answer.{success}

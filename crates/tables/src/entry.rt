@@ -1,4 +1,4 @@
-// An image prepared once for all its ticks: checked, decoded, and where the rows of each label begin noted in its frame.
+// An image prepared once for all its ticks: checked, decoded, and where the rows of each label end noted in its frame.
 use super::LARGEST;
 use crate::noting::note_rows;
 use frames::Answer;

@@ -1,13 +1,13 @@
 -- A depth of 1 to Σ, with Σ of 1 to 32: what passes the first test of refusal 15.
-use Prim.Native.Nat.{ℕ, _≤_}
-use mathlib.Core.Bool.{Bool, true, false, _||_}
+use Prim.Native.Nat.{_≤_}
+use mathlib.Core.Bool.{Bool, false, _||_}
 use mathlib.Core.Path.{_≡_}
 use native.Mathlib.Omega.{arith}
 use lib.Dec.{ltb, eqb}
 use borrow.Author.Tests.{ne-eqb, le-ltb, eqb-false, ltb-false}
 use Rattle.lists.proofs.Tests.{or-l, or-r}
 use Rattle.state.specs.declared.State.{State}
-use Rattle.state.specs.State.{badSize, badDepth}
+use Rattle.state.specs.State.{badDepth}
 
 pub record Deep (s : State) : Type 0 where
   pub some : 1 ≤ s .depth

@@ -15,7 +15,7 @@ use Rattle.lists.proofs.Tests.{split, yes-pick, no-pick}
 use Rattle.bits.specs.Results.{Results, resultOf, withResult, cleared}
 use Rattle.image.specs.Image.{Image, Label, noLabel, homeLabel, returnLabel}
 use Rattle.image.specs.Decode.{schemeCount, lastLabel}
-use Rattle.tables.specs.Table.{Whole, labelOf, entryOf, tableImage}
+use Rattle.tables.specs.Table.{labelOf, entryOf, tableImage}
 use Rattle.tables.specs.Labels.{asLabel, Numbered}
 use Rattle.tables.specs.declared.Label as declared
 use Rattle.ticks.specs.declared.Stepped.{Stepped}
@@ -28,8 +28,8 @@ use Rattle.state.specs.declared.State.{State}
 use Rattle.state.specs.State.{labelAt, entryAt, placeAt}
 use Rattle.state.specs.Bytes.{stateOf, withDepth, withPlace, afterResult}
 use Rattle.ticks.specs.Tick.{rowOf, Ticked, ticked, stopped, moved, pushed, tickBy, tick}
-use Rattle.ticks.specs.Parts.{Stands, topOf, topKind, TopHome, TopReturn, TopNumbered, TopCalls, TopPlain, beneath, bitOf, after, stepOf, Steps}
-use Rattle.ticks.proofs.Depths.{Deep, deep-told, deep-fine}
+use Rattle.ticks.specs.Parts.{Stands, topOf, TopHome, TopReturn, TopNumbered, TopCalls, TopPlain, beneath, bitOf, after, stepOf, Steps}
+use Rattle.ticks.proofs.Depths.{Deep, deep-told}
 
 -- ---- what is answered and left, by what the tick is
 module _ (b before : List ℕ) (w : ℕ) where

@@ -14,7 +14,6 @@ ghost use Prim.Native.Nat.{_≤_};
 ghost use Rattle.frames.specs.Answer.{Lends};
 ghost use Rattle.charts.specs.Chart.{schemes};
 ghost use Rattle.image.specs.Image.{imageText};
-ghost use Rattle.chart_rows.specs.Rows.{rows};
 ghost use Rattle.chart_rows.specs.Ready.{Noted};
 ghost use Rattle.label_text.specs.Parts.{Put};
 ghost use Rattle.translator.specs.Table.{table};

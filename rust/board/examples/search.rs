@@ -1,7 +1,8 @@
 //! A search for inputs that keep an entry point busy for longer than those of the samples: from the worst of them, and from
-//! inputs drawn, small changes are tried one after the other, and those are kept that take more cycles on the emulated board.
+//! inputs drawn, small changes are tried one after the other, and those are kept that take no fewer cycles on the emulated
+//! board.
 //! The seeds of the changes follow each other, so that a search is the same each time, and what it kept is printed as a row
-//! for rust/reference/src/samples/found.rs. controller/count/search runs it: SEED CASES [ENTRY POINTS...].
+//! for rust/reference/src/samples/found.rs. controller/count/count search runs it: SEED CHANGES [ENTRY POINT...].
 
 use std::env;
 
@@ -20,7 +21,7 @@ const KNOWN: usize = 3;
 const DRAWN_STARTS: u64 = 3;
 
 /// What a search came to.
-struct Climbed {
+struct Searched {
     first: u64,
     best: u64,
     kept: Vec<u64>,
@@ -39,7 +40,7 @@ impl Search<'_> {
     }
 
     /// Changes are tried by the seeds in turn, and kept where the call then takes no less.
-    fn climb(&mut self, start: Start, seeds: std::ops::Range<u64>) -> Climbed {
+    fn search_from(&mut self, start: Start, seeds: std::ops::Range<u64>) -> Searched {
         let mut at = start.input(self.entry);
         let first = self.cycles(&at);
         let (mut best, mut kept) = (first, Vec::new());
@@ -55,11 +56,11 @@ impl Search<'_> {
                 kept.push(seed);
             }
         }
-        Climbed { first, best, kept }
+        Searched { first, best, kept }
     }
 
     /// The changes without those that are not needed for the count.
-    fn pruned(&mut self, start: Start, best: u64, mut kept: Vec<u64>) -> Vec<u64> {
+    fn without_needless(&mut self, start: Start, best: u64, mut kept: Vec<u64>) -> Vec<u64> {
         for at in (0..kept.len()).rev() {
             let mut fewer = kept.clone();
             fewer.remove(at);
@@ -92,10 +93,10 @@ impl Search<'_> {
         let mut starts: Vec<Start> = known.iter().take(KNOWN).map(|(_, name)| Start::Known(name)).collect();
         starts.extend((0..DRAWN_STARTS).map(|k| self.drawn(seed + k * DRAWN..seed + (k + 1) * DRAWN)));
         for start in starts {
-            let Climbed { first, best, kept } = self.climb(start, seed..seed + cases);
+            let Searched { first, best, kept } = self.search_from(start, seed..seed + cases);
             println!("  {start:?}: {first} cycles, after {cases} changes {best}");
             if best > before {
-                let kept = self.pruned(start, best, kept);
+                let kept = self.without_needless(start, best, kept);
                 println!("    (EntryPoint::{:?}, Start::{start:?}, &{kept:?}),", self.entry);
             }
         }
@@ -105,7 +106,7 @@ impl Search<'_> {
 fn main() {
     let words: Vec<String> = env::args().skip(1).collect();
     let number = |at: usize, otherwise| match words.get(at) {
-        Some(word) => word.parse().expect("SEED and CASES are numbers"),
+        Some(word) => word.parse().expect("SEED and CHANGES are numbers"),
         None => otherwise,
     };
     let (seed, cases) = (number(0, 1), number(1, 4_000));

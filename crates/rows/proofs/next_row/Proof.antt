@@ -1,5 +1,4 @@
 -- `rows::next_row` meets its contract: the first matching row among the frames of the label's own rows, or none.
-use borrow.Author.Needs.{needs}
 use Rattle.rows.proofs.TableRows.{next-is}
 use Rattle.rows.proofs.SearchCases.{end-within}
 use Rattle.rows.proofs.next_row.Statement.{statement}

@@ -1,4 +1,4 @@
-//! What a search found (controller/count/search): where it began, and the seeds of the changes that it kept, one after the
+//! What a search found (controller/count/count search): where it began, and the seeds of the changes that it kept, one after the
 //! other.
 
 use super::worst::known;

@@ -1,9 +1,6 @@
 -- `chart_rows::mask_downward`: each node's mask goes into its place, and the others stay.
-use mathlib.Core.Path.{_≡_, refl, _∙_}
-use Prim.Native.Nat.{_≤_}
-use lib.ListN.{length, length-set}
+use mathlib.Core.Path.{refl}
 use Rattle.frames.specs.Frame.{size}
-use Rattle.chart_rows.specs.Ready.{Masked}
 use Rattle.chart_rows.proofs.BoundLaws.{Masking, masking-on}
 use native.Mathlib.Omega.{arith}
 use borrow.Author.Needs.{needs}

@@ -1,6 +1,5 @@
 -- `chart_rows::mask_of`: no number at a stop; at a condition its own and those behind its two arcs.
 use Rattle.chart_rows.proofs.BoundLaws.{mask-stop, mask-side0, mask-side1, mask-goes}
-use native.Mathlib.Omega.{arith}
 use borrow.Author.Needs.{needs}
 use Rattle.chart_rows.proofs.bounds.mask_of.Statement.{statement}
 use Rattle.chart_rows.proofs.bounds.mask_of.Tie as tie

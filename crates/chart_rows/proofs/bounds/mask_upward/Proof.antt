@@ -1,9 +1,7 @@
 -- `chart_rows::mask_upward`: each node's mask goes into its place, and the others stay.
-use mathlib.Core.Path.{_≡_, refl, _∙_}
+use mathlib.Core.Path.{refl}
 use Prim.Native.Nat.{_-_}
-use lib.ListN.{length, length-set}
 use Rattle.frames.specs.Frame.{size}
-use Rattle.chart_rows.specs.Ready.{Masked}
 use Rattle.chart_rows.proofs.BoundLaws.{Masking, masking-up}
 use native.Mathlib.Omega.{arith}
 use borrow.Author.Needs.{needs}

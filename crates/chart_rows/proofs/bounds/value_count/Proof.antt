@@ -1,7 +1,6 @@
 -- `chart_rows::value_count`: two values for each number.
-use mathlib.Core.Path.{_≡_, sym, _∙_}
 use Prim.Native.Nat.{_+_, _*_, _^_, _%_, _≤_, _<_}
-use lib.Count.{ones, ones-le}
+use lib.Count.{ones-le}
 use Rattle.chart_rows.proofs.BoundLaws.{count-values}
 use native.Mathlib.Omega.{arith}
 use Rattle.chart_rows.proofs.bounds.value_count.Statement.{statement}

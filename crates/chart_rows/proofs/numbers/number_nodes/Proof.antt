@@ -3,7 +3,6 @@ use Prim.Native.Nat.{_-_}
 use mathlib.Core.Path.{refl}
 use Rattle.chart_rows.proofs.NumberLaws.{Numbering, numbering-start, numbering-on, numbering-done}
 use borrow.Author.Needs.{needs}
-use native.Mathlib.Omega.{arith}
 use Rattle.chart_rows.proofs.numbers.number_nodes.Statement.{statement}
 use Rattle.chart_rows.proofs.numbers.number_nodes.Tie as tie
 

@@ -1,7 +1,6 @@
 -- `charts::counts::count_node` meets its contract: a node of the kind counts for its scheme alone.
-use mathlib.Core.Path.{_≡_}
 use native.Mathlib.Omega.{arith}
-use Prim.Native.Nat.{_≤_, _<_}
+use Prim.Native.Nat.{_<_}
 use lib.ListN.{length}
 use Rattle.charts.proofs.SchemeCounts.{counts-long, counts-low, counts-pass, counts-more}
 use borrow.Author.Needs.{needs}

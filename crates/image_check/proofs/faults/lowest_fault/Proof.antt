@@ -1,7 +1,6 @@
 -- `image_check::faults::lowest_fault` meets its contract: the parts in turn, each search goes on where the one before ended.
 use mathlib.Core.Path.{_≡_, _∙_}
 use Prim.Native.Nat.{_-_}
-use native.Mathlib.Omega.{arith}
 use Rattle.lists.specs.Numbers.{lowest}
 use Rattle.frames.specs.Frame.{size}
 use Rattle.image_check.specs.Parts.{faulty}

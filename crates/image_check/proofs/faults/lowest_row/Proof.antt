@@ -1,5 +1,4 @@
 -- `image_check::faults::lowest_row` meets its contract: the loop keeps what is left to search.
-use native.Mathlib.Omega.{arith}
 use Prim.Native.Nat.{_-_}
 use Rattle.image_check.specs.Parts.{faulty}
 use Rattle.image_check.proofs.FaultSearch.{Looking, looking-first, looking-found, looking-next, looking-over, first-holds, second-tells, row-tests}

@@ -1,6 +1,6 @@
 -- `runs::runs::run_table` meets its contract: 15 and 16 in turn, then what the ticks leave.
 use borrow.Author.Needs.{needs}
-use mathlib.Core.Path.{refl, sym, _∙_}
+use mathlib.Core.Path.{sym, _∙_}
 use Rattle.runs.proofs.RunCases.{room-enough, unfit-answer, short-answer, ran-answer, done-replied, stopped-replied, fits-stands}
 use Rattle.runs.proofs.runs.run_table.Statement.{statement}
 use Rattle.runs.proofs.runs.run_table.Tie as tie

@@ -1,6 +1,5 @@
 -- `runs::runs::tick_all` meets its contract: the ticks done so far and those to come are the ticks of all words.
 use borrow.Author.Needs.{needs}
-use mathlib.Core.Path.{refl, sym, _∙_}
 use Prim.Native.Nat.{_-_}
 use native.Mathlib.Omega.{arith}
 use lib.ListN.{length}

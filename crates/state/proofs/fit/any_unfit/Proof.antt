@@ -4,13 +4,13 @@ use mathlib.Core.Path.{sym}
 use native.Mathlib.Omega.{arith}
 use Rattle.tables.specs.Table.{tableImage}
 use Rattle.state.specs.Bytes.{stateOf}
-use Rattle.state.proofs.ClimbCases.{Climbed, climbed-first, climbed-all, climb-high, climb-stray, climb-top, climb-next}
+use Rattle.state.proofs.UpwardCases.{Passed, passed-first, passed-all, pass-high, pass-stray, pass-top, pass-next}
 use borrow.Author.Needs.{needs}
 use Rattle.state.proofs.fit.any_unfit.Statement.{statement}
 use Rattle.state.proofs.fit.any_unfit.Tie as tie
 
 abbrev Inv-loop : tie.InvT-loop
-Inv-loop table bytes last depth scheme₀ k₀ scheme k = Climbed (tableImage table) (stateOf bytes) scheme k
+Inv-loop table bytes last depth scheme₀ k₀ scheme k = Passed (tableImage table) (stateOf bytes) scheme k
 
 abbrev μ-loop : tie.MeasureT-loop
 μ-loop table bytes last depth scheme₀ k₀ scheme k = depth - k
@@ -42,7 +42,7 @@ cast-depth : At tie.Need-cast-depth
 cast-depth c = search needs
 
 loop-holds : At tie.Need-loop-holds
-loop-holds c = climbed-first _ _
+loop-holds c = passed-first _ _
 
 place-of-requires : At tie.Need-place-of-requires
 place-of-requires c κs = search needs
@@ -51,7 +51,7 @@ returns : At tie.Need-returns
 returns c =
     let p = c .before in
     let t = turn p in
-    climb-high _ _ _ _ _ _ _ (t .loop .inv) (deep t .depth-of .ensures) (search needs) (p .place-of .ensures) (deep t .before .last-label .ensures)
+    pass-high _ _ _ _ _ _ _ (t .loop .inv) (deep t .depth-of .ensures) (search needs) (p .place-of .ensures) (deep t .before .last-label .ensures)
     (c .if1 .taken)
 
 label-of-requires : At tie.Need-label-of-requires
@@ -65,7 +65,7 @@ returns-2 c =
     let a = c .before in
     let p = place a in
     let t = turn p in
-    climb-stray _ _ _ _ _ _ _ (t .loop .inv) (deep t .depth-of .ensures) (search needs) (p .place-of .ensures) (deep t .before .last-label .ensures)
+    pass-stray _ _ _ _ _ _ _ (t .loop .inv) (deep t .depth-of .ensures) (search needs) (p .place-of .ensures) (deep t .before .last-label .ensures)
     (search needs) _ (a .before .label-of .ensures) _ (a .is-astray .ensures) (c .if2 .taken)
 
 add-k : At tie.Need-add-k
@@ -80,7 +80,7 @@ returns-3 c =
     let a = n .before .before in
     let p = place a in
     let t = turn p in
-    climb-top _ _ _ _ _ _ _ (t .loop .inv) (deep t .depth-of .ensures) (search needs) (p .place-of .ensures) (deep t .before .last-label .ensures)
+    pass-top _ _ _ _ _ _ _ (t .loop .inv) (deep t .depth-of .ensures) (search needs) (p .place-of .ensures) (deep t .before .last-label .ensures)
     (search needs) _ (a .before .label-of .ensures) _ (a .is-astray .ensures) (n .before .if2 .left) _ (n .calls-none .ensures) (c .if3 .taken)
 
 loop-less : At tie.Need-loop-less
@@ -92,13 +92,13 @@ loop-again c =
     let a = n .before .before in
     let p = place a in
     let t = turn p in
-    climb-next _ _ _ _ _ _ _ (t .loop .inv) (deep t .depth-of .ensures) (search needs) (p .place-of .ensures) (deep t .before .last-label .ensures)
+    pass-next _ _ _ _ _ _ _ (t .loop .inv) (deep t .depth-of .ensures) (search needs) (p .place-of .ensures) (deep t .before .last-label .ensures)
     (search needs) _ (a .before .label-of .ensures) _ (a .is-astray .ensures) (n .before .if2 .left) _ (n .calls-none .ensures) (c .if3 .left)
 
 returns-4 : At tie.Need-returns-4
 returns-4 c =
     let t = c .before in
-    sym (climbed-all _ _ _ _ (t .loop .inv) (omega (arith, deep t .depth-of .ensures, c .loop-test .left)) (start t .pre .some))
+    sym (passed-all _ _ _ _ (t .loop .inv) (omega (arith, deep t .depth-of .ensures, c .loop-test .left)) (start t .pre .some))
 
 pub any-unfit-spec : {M : Type 1} → statement M
 any-unfit-spec =

@@ -1,9 +1,8 @@
 -- `translator::write_image`: 10 or 16, else the whole image.
-use mathlib.Core.Path.{_≡_, refl}
+use mathlib.Core.Path.{refl}
 use Prim.Native.Nat.{_+_, _≤_}
 use Rattle.chart_labels.proofs.ReadyLaws.{ready-facts}
 use Rattle.chart_labels.proofs.LabelSteps.{few-numbered}
-use Rattle.translator.specs.Parts.{sizeRefusal}
 use Rattle.translator.proofs.ImageSteps.{image-refused, image-few, image-room, image-fits}
 use native.Mathlib.Omega.{arith}
 use borrow.Author.Needs.{needs}

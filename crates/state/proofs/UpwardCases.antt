@@ -62,7 +62,7 @@ module _ (i : Image) (s : State) where
       (ap (λ (t : Bool). t && (eqb (placeAt s (k + 1)) 1 || eqb (atPlace (k + 1) .owner) (atPlace k .called))) e)
 
   -- ---- what is known when place k is reached, and once its label was found to belong there
-  pub record Climbed (scheme k : ℕ) : Type 0 where
+  pub record Passed (scheme k : ℕ) : Type 0 where
     pub inside : k ≤ s .depth
     pub first : k ≡ 0 → scheme ≡ 1
     pub lower : (j : ℕ) → j + 1 < k → unfitPlace i s j ≡ false
@@ -75,8 +75,8 @@ module _ (i : Image) (s : State) where
     pub lower : (j : ℕ) → j < k → unfitPlace i s j ≡ false
     pub bottom : atPlace 0 .owner ≡ 1
 
-  pub climbed-first : Climbed 1 0
-  climbed-first = record {
+  pub passed-first : Passed 1 0
+  passed-first = record {
     inside = omega arith;
     first = λ _. refl;
     lower = λ j h. absurd (omega arith);
@@ -86,7 +86,7 @@ module _ (i : Image) (s : State) where
     bottom = λ h. absurd (omega arith);
   }
 
-  module _ (scheme k : ℕ) (c : Climbed scheme k) (here : k < s .depth) where
+  module _ (scheme k : ℕ) (c : Passed scheme k) (here : k < s .depth) where
     abbrev over : ℕ → Bool
     over j = eqb (placeAt s (j + 1)) 1 || eqb (atPlace (j + 1) .owner) (atPlace j .called)
 
@@ -149,8 +149,8 @@ module _ (i : Image) (s : State) where
           each j (inl a) b = y .lower j a
           each j (inr a) b = let e : k ≡ j = omega arith in ap (unfitPlace i s) (sym e) ∙ place-top k h g
 
-      pub climbed-next : isCall (atPlace k) ≡ true → Climbed (atPlace k .called) (k + 1)
-      climbed-next e = record {
+      pub passed-next : isCall (atPlace k) ≡ true → Passed (atPlace k .called) (k + 1)
+      passed-next e = record {
         inside = omega arith;
         first = λ z. absurd (omega arith);
         lower = λ j h. y .lower j (omega arith);
@@ -160,8 +160,8 @@ module _ (i : Image) (s : State) where
         bottom = λ _. y .bottom;
       }
 
-  pub climbed-all : (scheme k : ℕ) → Climbed scheme k → s .depth ≤ k → 1 ≤ s .depth → total ≡ false
-  climbed-all scheme k c h m =
+  pub passed-all : (scheme k : ℕ) → Passed scheme k → s .depth ≤ k → 1 ≤ s .depth → total ≡ false
+  passed-all scheme k c h m =
       or-none (any (unfitPlace i s) 0 (s .depth)) (unfitBottom i s)
       (any-none (unfitPlace i s) 0 (s .depth) (λ j b. each (0 + j) (split (0 + j + 1) k) (omega arith)))
       (ap not (eq-eqb (atPlace 0 .owner) 1 (c .bottom (omega arith))))
@@ -175,13 +175,13 @@ flip : (x u : Bool) → u ≡ not x → x ≡ not u
 flip true u e = sym (ap not e)
 flip false u e = sym (ap not e)
 
-module _ (b : List ℕ) (s : State) (scheme k l depth last : ℕ) (c : Climbed (tableImage b) s scheme k) (deep : depth ≡ s .depth) (here : k < depth)
+module _ (b : List ℕ) (s : State) (scheme k l depth last : ℕ) (c : Passed (tableImage b) s scheme k) (deep : depth ≡ s .depth) (here : k < depth)
     (place : l ≡ placeAt s k) (most : last ≡ lastLabel b) where
   within : k < s .depth
   within = omega arith
 
-  pub climb-high : last < l → true ≡ total (tableImage b) s
-  climb-high h = sym (place-high (tableImage b) s k within (omega (arith, labels-count b)))
+  pub pass-high : last < l → true ≡ total (tableImage b) s
+  pass-high h = sym (place-high (tableImage b) s k within (omega (arith, labels-count b)))
 
   module _ (low : l ≤ last) (z : declared.Label) (read : asLabel z ≡ labelOf b l) (t : Bool) (e : t ≡ astray (z .owner) scheme l k) where
     label-is : atPlace (tableImage b) s k ≡ asLabel z
@@ -193,8 +193,8 @@ module _ (b : List ℕ) (s : State) (scheme k l depth last : ℕ) (c : Climbed (
     held : placeAt s k < length (tableImage b .labels)
     held = omega (arith, labels-count b)
 
-    pub climb-stray : t ≡ true → true ≡ total (tableImage b) s
-    climb-stray q =
+    pub pass-stray : t ≡ true → true ≡ total (tableImage b) s
+    pass-stray q =
         sym (stray (tableImage b) s scheme k c within
         (λ o. eqb-false (z .owner) scheme (flip (eqb (z .owner) scheme) true (sym apart)) (sym owner-is ∙ o))
         (go (or-cases (not (eqb l 1)) (eqb k 0) (and-r (not (eqb (z .owner) scheme)) (not (eqb l 1) || eqb k 0) (sym e ∙ q)))))
@@ -225,14 +225,14 @@ module _ (b : List ℕ) (s : State) (scheme k l depth last : ℕ) (c : Climbed (
         call-is : isCall (atPlace (tableImage b) s k) ≡ not u
         call-is = ap isCall label-is ∙ flip (eqb (z .kind) 1 || eqb (z .kind) 2) u f
 
-        pub climb-top : u ≡ true → ltb (k + 1) depth ≡ total (tableImage b) s
-        climb-top q = go (split (k + 1) depth)
+        pub pass-top : u ≡ true → ltb (k + 1) depth ≡ total (tableImage b) s
+        pass-top q = go (split (k + 1) depth)
           where
             go : (k + 1 < depth) ⊎ (depth ≤ k + 1) → ltb (k + 1) depth ≡ total (tableImage b) s
             go (inl h) = lt-ltb (k + 1) depth h ∙ sym (place-idle (tableImage b) s k (omega arith) (call-is ∙ ap not q))
             go (inr h) = le-ltb (k + 1) depth h ∙ sym (top-fits (tableImage b) s scheme k c within belongs held (omega arith))
 
-        pub climb-next : u ≡ false → Climbed (tableImage b) s (z .called) (k + 1)
-        climb-next q =
-            subst (λ (h : ℕ). Climbed (tableImage b) s h (k + 1)) (ap (λ (x : Label). x .called) label-is)
-            (climbed-next (tableImage b) s scheme k c within belongs held (call-is ∙ ap not q))
+        pub pass-next : u ≡ false → Passed (tableImage b) s (z .called) (k + 1)
+        pass-next q =
+            subst (λ (h : ℕ). Passed (tableImage b) s h (k + 1)) (ap (λ (x : Label). x .called) label-is)
+            (passed-next (tableImage b) s scheme k c within belongs held (call-is ∙ ap not q))
