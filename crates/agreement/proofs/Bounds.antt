@@ -51,41 +51,41 @@ bound-part n (t ∷ ts) us h = go (bound-part n ts us) (isFullCall n t) refl
 -- the position after the words, or the first one on the way that calls at a full stack
 unfoldable pub stand : Chart → ℕ → List ℕ → Position → Position
 stand c n [] x = x
-stand c n (w ∷ ws) x = elim (isFullCall n (tickAt c x)) [ true ↦ x | false ↦ stand c n ws (move c w x) ]
+stand c n (w ∷ ws) x = elim (isFullCall n (tickAt n c x)) [ true ↦ x | false ↦ stand c n ws (move n c w x) ]
 
 module _ (c : Chart) (n : ℕ) where
   module _ (w : ℕ) (ws : List ℕ) (x : Position) where
-    pub stand-stop : isFullCall n (tickAt c x) ≡ true → stand c n (w ∷ ws) x ≡ x
+    pub stand-stop : isFullCall n (tickAt n c x) ≡ true → stand c n (w ∷ ws) x ≡ x
     unfolding stand
     stand-stop e = rw (e, stand)
 
-    pub stand-go : isFullCall n (tickAt c x) ≡ false → stand c n (w ∷ ws) x ≡ stand c n ws (move c w x)
+    pub stand-go : isFullCall n (tickAt n c x) ≡ false → stand c n (w ∷ ws) x ≡ stand c n ws (move n c w x)
     unfolding stand
     stand-go e = rw (e, stand)
 
-  pub stand-full : (ws : List ℕ) (x : Position) → bound n (trace c ws x) ≡ length ws → stand c n ws x ≡ reached c ws x
+  pub stand-full : (ws : List ℕ) (x : Position) → bound n (trace n c ws x) ≡ length ws → stand c n ws x ≡ reached n c ws x
   unfolding trace reached stand
   stand-full [] x h = refl
-  stand-full (w ∷ ws) x h = go (stand-full ws (move c w x)) (isFullCall n (tickAt c x)) refl
+  stand-full (w ∷ ws) x h = go (stand-full ws (move n c w x)) (isFullCall n (tickAt n c x)) refl
     where
-      go : (bound n (trace c ws (move c w x)) ≡ length ws → stand c n ws (move c w x) ≡ reached c ws (move c w x))
-          → (r : Bool) → isFullCall n (tickAt c x) ≡ r → stand c n (w ∷ ws) x ≡ reached c ws (move c w x)
-      go ih true e = absurd (omega (arith, bound-stop n (tickAt c x) (trace c ws (move c w x)) e))
-      go ih false e = stand-go w ws x e ∙ ih (omega (arith, bound-go n (tickAt c x) (trace c ws (move c w x)) e))
+      go : (bound n (trace n c ws (move n c w x)) ≡ length ws → stand c n ws (move n c w x) ≡ reached n c ws (move n c w x))
+          → (r : Bool) → isFullCall n (tickAt n c x) ≡ r → stand c n (w ∷ ws) x ≡ reached n c ws (move n c w x)
+      go ih true e = absurd (omega (arith, bound-stop n (tickAt n c x) (trace n c ws (move n c w x)) e))
+      go ih false e = stand-go w ws x e ∙ ih (omega (arith, bound-go n (tickAt n c x) (trace n c ws (move n c w x)) e))
 
-  pub stand-part : (ws : List ℕ) (x : Position) → bound n (trace c ws x) < length ws → isFullCall n (tickAt c (stand c n ws x)) ≡ true
+  pub stand-part : (ws : List ℕ) (x : Position) → bound n (trace n c ws x) < length ws → isFullCall n (tickAt n c (stand c n ws x)) ≡ true
   unfolding trace
   stand-part [] x h = absurd (omega arith)
-  stand-part (w ∷ ws) x h = go (stand-part ws (move c w x)) (isFullCall n (tickAt c x)) refl
+  stand-part (w ∷ ws) x h = go (stand-part ws (move n c w x)) (isFullCall n (tickAt n c x)) refl
     where
-      go : (bound n (trace c ws (move c w x)) < length ws → isFullCall n (tickAt c (stand c n ws (move c w x))) ≡ true)
-          → (r : Bool) → isFullCall n (tickAt c x) ≡ r → isFullCall n (tickAt c (stand c n (w ∷ ws) x)) ≡ true
-      go ih true e = ap (λ (y : Position). isFullCall n (tickAt c y)) (stand-stop w ws x e) ∙ e
-      go ih false e = ap (λ (y : Position). isFullCall n (tickAt c y)) (stand-go w ws x e)
-          ∙ ih (omega (arith, bound-go n (tickAt c x) (trace c ws (move c w x)) e))
+      go : (bound n (trace n c ws (move n c w x)) < length ws → isFullCall n (tickAt n c (stand c n ws (move n c w x))) ≡ true)
+          → (r : Bool) → isFullCall n (tickAt n c x) ≡ r → isFullCall n (tickAt n c (stand c n (w ∷ ws) x)) ≡ true
+      go ih true e = ap (λ (y : Position). isFullCall n (tickAt n c y)) (stand-stop w ws x e) ∙ e
+      go ih false e = ap (λ (y : Position). isFullCall n (tickAt n c y)) (stand-go w ws x e)
+          ∙ ih (omega (arith, bound-go n (tickAt n c x) (trace n c ws (move n c w x)) e))
 
   -- from there on no tick is made
-  pub bound-here : (ws : List ℕ) (x : Position) → isFullCall n (tickAt c x) ≡ true → bound n (trace c ws x) ≡ 0
+  pub bound-here : (ws : List ℕ) (x : Position) → isFullCall n (tickAt n c x) ≡ true → bound n (trace n c ws x) ≡ 0
   unfolding trace bound
   bound-here [] x e = refl
-  bound-here (w ∷ ws) x e = bound-stop n (tickAt c x) (trace c ws (move c w x)) e
+  bound-here (w ∷ ws) x e = bound-stop n (tickAt n c x) (trace n c ws (move n c w x)) e

@@ -73,7 +73,7 @@ fresh-is n l h =
     (record { reply = success 0; state = fresh n }) .state)
     (size-good n l h)
 
-home-is : (c : Chart) → Facts c → (n : ℕ) → fresh n ≡ stateOf c n (atHome c)
+home-is : (c : Chart) → Facts c → (n : ℕ) → fresh n ≡ stateOf c n (atHome c noResults)
 unfolding below
 home-is c facts n = let e = facts .ends 1 (omega arith) (facts .first) in
     ap (λ (k : ℕ). record { size = n; depth = 1; places = k ∷ replicate 31 0; bits = noResults }) (sym (label-home c (end c 1) (e .1) (e .2)))
@@ -94,9 +94,9 @@ module _ (c : Chart) (facts : Facts c) (tableFacts : TableFacts c) (text : List 
       go ih true e = chain-short text (table c) passes decodes (stateOf c n x) a rest f e
           ∙ ap (λ (l : List Told). refusedShort a ∷ l) (ih x s f)
           ∙ sym (all-short _ _ 0 a rest e)
-          ∙ sym (ap (λ (js : List ℕ). let ts = trace c js x in expectedAll (bound n ts) ts 0 (a ∷ rest)) (joined-short a rest e))
+          ∙ sym (ap (λ (js : List ℕ). let ts = trace n c js x in expectedAll (bound n ts) ts 0 (a ∷ rest)) (joined-short a rest e))
       go ih false e =
-          let ts : List Tick = trace c (a .words) x in
+          let ts : List Tick = trace n c (a .words) x in
           let b : ℕ = bound n ts in
           let y : Position = stand c n (a .words) x in
           let made : ticks (table c) (stateOf c n x) (a .words) ≡ ranFrom c n (a .words) x = ticks-are c n facts n≤ tableFacts (a .words) x s in
@@ -111,12 +111,12 @@ module _ (c : Chart) (facts : Facts c) (tableFacts : TableFacts c) (text : List 
           (replied-by (ltb b (length (a .words))) (length (map (λ (t : Tick). t .code) (take b ts))))
           (ih y (stand-stands c n facts (a .words) x s) kept)
           ∙ joins c n a rest x e
-          ∙ sym (ap (λ (js : List ℕ). let us = trace c js x in expectedAll (bound n us) us 0 (a ∷ rest)) (joined-long a rest e))
+          ∙ sym (ap (λ (js : List ℕ). let us = trace n c js x in expectedAll (bound n us) us 0 (a ∷ rest)) (joined-long a rest e))
 
   pub runs-agree : 1 ≤ n → (asked : List Asked)
-      → let ts = walk c (joined asked) in chain run text (freshState n .state) asked ≡ expectedAll (bound n ts) ts 0 asked
+      → let ts = walk n c (joined asked) in chain run text (freshState n .state) asked ≡ expectedAll (bound n ts) ts 0 asked
   runs-agree l asked =
-      let at-home : fresh n ≡ stateOf c n (atHome c) = home-is c facts n in
+      let at-home : fresh n ≡ stateOf c n (atHome c noResults) = home-is c facts n in
       ap (λ (s : State). chain run text s asked) (fresh-is n l n≤ ∙ at-home)
-      ∙ chain-is asked (atHome c) (record { low = l; good = home-good c facts }) (subst (Fits (table c)) at-home (fresh-fits (table c) sound n l n≤))
-      ∙ sym (ap (λ (ts : List Tick). expectedAll (bound n ts) ts 0 asked) (walk-trace c facts (joined asked)))
+      ∙ chain-is asked (atHome c noResults) (record { low = l; good = home-good c facts noResults }) (subst (Fits (table c)) at-home (fresh-fits (table c) sound n l n≤))
+      ∙ sym (ap (λ (ts : List Tick). expectedAll (bound n ts) ts 0 asked) (walk-trace n c (joined asked)))

@@ -44,23 +44,23 @@ first b B ts us a l e q =
 module _ (c : Chart) (n : ℕ) where
   -- what the trace of the joined words from x on lets expect
   abbrev pub Due : Position → List Asked → List Told
-  Due x asked = let ts = trace c (joined asked) x in expectedAll (bound n ts) ts 0 asked
+  Due x asked = let ts = trace n c (joined asked) x in expectedAll (bound n ts) ts 0 asked
 
   module _ (a : Asked) (rest : List Asked) (x : Position) where
     abbrev mine : List Tick
-    mine = trace c (a .words) x
+    mine = trace n c (a .words) x
 
     abbrev Joins : Type 0
     Joins = short a ≡ false → firstTold (bound n mine) mine a ∷ Due (stand c n (a .words) x) rest
-        ≡ (let ts = trace c (a .words ++ joined rest) x in expectedAll (bound n ts) ts 0 (a ∷ rest))
+        ≡ (let ts = trace n c (a .words ++ joined rest) x in expectedAll (bound n ts) ts 0 (a ∷ rest))
 
     -- the bound is not in this run
     joins-full : bound n mine ≡ length (a .words) → Joins
     joins-full h e =
         let ws : List ℕ = a .words in
-        let us : List Tick = trace c (joined rest) (stand c n ws x) in
+        let us : List Tick = trace n c (joined rest) (stand c n ws x) in
         let B : ℕ = length mine + bound n us in
-        let l : length mine ≡ length ws = trace-length c ws x in
+        let l : length mine ≡ length ws = trace-length n c ws x in
         let z : length mine + 0 ≡ 0 + length ws = omega arith in
         ap₂ (λ (t : Told) (ts : List Told). t ∷ ts)
         (first (bound n mine) B mine us a (bound-le n mine) (omega arith)
@@ -69,16 +69,16 @@ module _ (c : Chart) (n : ℕ) where
         ∙ sym (all-long B (mine ++ us) 0 a rest e)
         ∙ sym (ap (λ (k : ℕ). expectedAll k (mine ++ us) 0 (a ∷ rest)) (bound-full n mine us (h ∙ sym l)))
         ∙ sym (ap (λ (ts : List Tick). expectedAll (bound n ts) ts 0 (a ∷ rest))
-        (trace-append c ws (joined rest) x ∙ ap (λ (y : Position). mine ++ trace c (joined rest) y) (sym (stand-full c n ws x h))))
+        (trace-append n c ws (joined rest) x ∙ ap (λ (y : Position). mine ++ trace n c (joined rest) y) (sym (stand-full c n ws x h))))
 
     -- the bound is in this run, and no later one makes a tick
     joins-part : bound n mine < length (a .words) → Joins
     joins-part h e =
         let ws : List ℕ = a .words in
-        let us : List Tick = trace c (joined rest) (reached c ws x) in
-        let vs : List Tick = trace c (joined rest) (stand c n ws x) in
+        let us : List Tick = trace n c (joined rest) (reached n c ws x) in
+        let vs : List Tick = trace n c (joined rest) (stand c n ws x) in
         let b : ℕ = bound n mine in
-        let l : length mine ≡ length ws = trace-length c ws x in
+        let l : length mine ≡ length ws = trace-length n c ws x in
         let z : bound n vs ≡ 0 = bound-here c n (joined rest) (stand c n ws x) (stand-part c n ws x h) in
         ap₂ (λ (t : Told) (ts : List Told). t ∷ ts)
         (first b b mine us a (bound-le n mine) (omega arith)
@@ -86,12 +86,12 @@ module _ (c : Chart) (n : ℕ) where
         (halted (bound n vs) vs 0 b (mine ++ us) (0 + length ws) rest (omega arith) (omega arith))
         ∙ sym (all-long b (mine ++ us) 0 a rest e)
         ∙ sym (ap (λ (k : ℕ). expectedAll k (mine ++ us) 0 (a ∷ rest)) (bound-part n mine us (omega arith)))
-        ∙ sym (ap (λ (ts : List Tick). expectedAll (bound n ts) ts 0 (a ∷ rest)) (trace-append c ws (joined rest) x))
+        ∙ sym (ap (λ (ts : List Tick). expectedAll (bound n ts) ts 0 (a ∷ rest)) (trace-append n c ws (joined rest) x))
 
     pub joins : Joins
     joins e = go (ltb (bound n mine) (length (a .words))) refl
       where
         go : (t : Bool) → ltb (bound n mine) (length (a .words)) ≡ t → firstTold (bound n mine) mine a ∷ Due (stand c n (a .words) x) rest
-            ≡ (let ts = trace c (a .words ++ joined rest) x in expectedAll (bound n ts) ts 0 (a ∷ rest))
+            ≡ (let ts = trace n c (a .words ++ joined rest) x in expectedAll (bound n ts) ts 0 (a ∷ rest))
         go true t = joins-part (ltb-true (bound n mine) (length (a .words)) t) e
-        go false t = joins-full (omega (arith, ltb-false (bound n mine) (length (a .words)) t, bound-le n mine, trace-length c (a .words) x)) e
+        go false t = joins-full (omega (arith, ltb-false (bound n mine) (length (a .words)) t, bound-le n mine, trace-length n c (a .words) x)) e

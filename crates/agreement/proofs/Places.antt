@@ -1,7 +1,7 @@
 -- The state of the machine at a position of the walk: the labels of the callers in the places, the bottom first, then the label of
 -- the node, then zeros.
 use Prim.Native.Nat.{ℕ, suc, _+_, _-_, _<_}
-use mathlib.Core.Path.{_≡_, ap, _∙_, sym}
+use mathlib.Core.Path.{_≡_, refl, ap, _∙_, sym}
 use mathlib.Core.List.{List, [], _∷_}
 use lib.ListN.{length, getD, set, replicate}
 use native.Mathlib.Omega.{arith}
@@ -27,7 +27,17 @@ stateOf c n x = record {
   bits = x .results;
 }
 
+-- the node at the bottom
+abbrev pub bottomOf : ℕ → List ℕ → ℕ
+bottomOf v [] = v
+bottomOf v (k ∷ ks) = bottomOf k ks
+
 module _ (c : Chart) where
+  pub get-bottom : (v : ℕ) (ks ls : List ℕ) → getD (below c ks (label c v ∷ ls)) 0 0 ≡ label c (bottomOf v ks)
+  unfolding below
+  get-bottom v [] ls = refl
+  get-bottom v (k ∷ ks) ls = get-bottom k ks (label c v ∷ ls)
+
   pub below-get : (ks ls : List ℕ) (i : ℕ) → getD (below c ks ls) (length ks + i) 0 ≡ getD ls i 0
   unfolding below
   below-get [] ls i = ap (λ (j : ℕ). getD ls j 0) (omega arith)

@@ -81,6 +81,92 @@ module _ (c : Chart) (n : ℕ) (n≤ : n ≤ 32) where
       ∙ ap (λ (o : ℕ). ticked m code (record { size = n; depth = o; places = below c ks (label c u ∷ zerosOver ks); bits = d })) q
 
   module _ (facts : Facts c) (tableFacts : TableFacts c) where
+    -- ---- whether a full stack is dropped
+    -- the scheme of the bottom, under a node that calls
+    bottom-scheme : (g : ℕ) (v : ℕ) (ks : List ℕ) → v < size c → numbered c v ≡ true → Under c g (scheme c v) ks
+        → (bottomOf v ks < size c) × (numbered c (bottomOf v ks) ≡ true) × (scheme c (bottomOf v ks) ≡ g)
+    bottom-scheme g v [] l e under = (l, e, under)
+    bottom-scheme g v (k ∷ ks) l e (caller, under) =
+        bottom-scheme g k ks (caller .inside) (is-numbered c k tableFacts (caller-stop c (scheme c v) k caller) (no-end (caller .calls))) under
+      where
+        no-end : (kind c k ≡ 2) ⊎ (kind c k ≡ 4) → kind c k ≡ 1 → ⊥
+        no-end (inl e) q = omega arith
+        no-end (inr e) q = omega arith
+
+    abbrev kept : State → Bool
+    kept s = eqb (table c .handler) 0 || ofHandler (table c) (placeAt s 0)
+
+    keeps : (f : Bool) (o l : ℕ) → 2 ≤ l → labelAt (table c) l .owner ≡ bottom c f → (f ≡ true → handler c ≡ 0 → ⊥) → o ≡ n
+        → (eqb (table c .handler) 0 || ofHandler (table c) l) ≡ not (drops n c f o)
+    unfolding table
+    keeps true o l two own handled e =
+        or-true-r (eqb (handler c) 0) (ofHandler (table c) l)
+        (and-true (not (eqb (handler c) 0)) (eqb l 1 || eqb (labelAt (table c) l .owner) (handler c))
+        (ap not (ne-eqb (handler c) 0 (handled refl)))
+        (or-true-r (eqb l 1) (eqb (labelAt (table c) l .owner) (handler c)) (eq-eqb (labelAt (table c) l .owner) (handler c) own)))
+    keeps false o l two own handled e = go (eqb (handler c) 0) refl
+      where
+        go : (t : Bool) → eqb (handler c) 0 ≡ t
+            → (t || (not t && (eqb l 1 || eqb (labelAt (table c) l .owner) (handler c)))) ≡ not (not t && eqb o n)
+        go true z = refl
+        go false z =
+            let h : 2 ≤ handler c = facts .handled (eqb-false (handler c) 0 z) .0 in
+            or-none (eqb l 1) (eqb (labelAt (table c) l .owner) (handler c)) (ne-eqb l 1 (λ q. omega arith))
+            (ne-eqb (labelAt (table c) l .owner) (handler c) (λ q. omega (arith, own)))
+            ∙ sym (ap not (eq-eqb o n e))
+
+    module _ (v : ℕ) (ks : List ℕ) (b : Results) (f : Bool) (g : Good c (at v ks b f)) (call : (kind c v ≡ 2) ⊎ (kind c v ≡ 4)) where
+      no-end : (kind c v ≡ 2) ⊎ (kind c v ≡ 4) → kind c v ≡ 1 → ⊥
+      no-end (inl e) q = omega arith
+      no-end (inr e) q = omega arith
+
+      full-kept : suc (length ks) ≡ n → kept (state v ks b f) ≡ not (drops n c f (suc (length ks)))
+      full-kept e =
+          let u : ℕ = bottomOf v ks in
+          let under = bottom-scheme (bottom c f) v ks (g .top .inside) (is-numbered c v tableFacts (g .top) (no-end call)) (g .under) in
+          let holds = tableFacts .numbers u (under .0) (under .1) in
+          ap (λ (l : ℕ). eqb (table c .handler) 0 || ofHandler (table c) l) (get-bottom c v ks (zerosOver ks))
+          ∙ keeps f (suc (length ks)) (label c u) (holds .0) (ap (λ (x : Label). x .owner) (holds .2) ∙ under .2) (g .handled) e
+
+      -- a call: the entry is put above the top; at a full stack the places are dropped, or it is refused
+      module _ (m j h : ℕ) (d : Results) (low : 16 ≤ j + h) (other : j + h ≡ 96 → ⊥) (some : 1 ≤ h) (most : h ≤ schemes c) where
+        abbrev Goal : Bool → Bool → Type 0
+        Goal full t = pushed (table c) (state v ks b f) m (j + h) h d full
+            ≡ answer n (one m (pick t 96 (j + h)) (suc (length ks))) (stateOf c n (called c v ks h d f t))
+
+        at-full : (t : Bool) → drops n c f (suc (length ks)) ≡ t → suc (length ks) ≡ n → kept (state v ks b f) ≡ not t → Goal true t
+        unfolding table below
+        at-full true q e k =
+            let l = facts .handled (drop-handler n c f (suc (length ks)) q) in
+            no-pick (kept (state v ks b f)) (stopped 17) _ k
+            ∙ ap (λ (u : ℕ). ticked m 96 (record { size = n; depth = 1; places = u ∷ replicate 31 0; bits = cleared (handler c) d }))
+            (tableFacts .entries (handler c) (omega (arith, l)) (l .1))
+        at-full false q e k =
+            yes-pick (kept (state v ks b f)) (stopped 17) _ k
+            ∙ sym (yes-pick (isFullCall n (one m (j + h) (suc (length ks)))) (stopped 17) _
+            (and-true (leb 16 (j + h) && not (eqb (j + h) 96)) (eqb (suc (length ks)) n)
+            (and-true (leb 16 (j + h)) (not (eqb (j + h) 96)) (le-leb 16 (j + h) low) (ap not (ne-eqb (j + h) 96 other)))
+            (eq-eqb (suc (length ks)) n e)))
+
+        room : (t : Bool) → drops n c f (suc (length ks)) ≡ t → suc (length ks) < n → Goal false t
+        room true q e = absurd (let z : suc (length ks) ≡ n =
+            eqb-true (suc (length ks)) n (and-r (not f && not (eqb (handler c) 0)) (eqb (suc (length ks)) n) q) in omega arith)
+        room false q e =
+            ap (λ (ps : List ℕ). ticked m (j + h) (record { size = n; depth = suc (suc (length ks)); places = ps; bits = cleared h d }))
+            (ap (λ (l : ℕ). set (below c ks (label c v ∷ zerosOver ks)) (suc (length ks)) l) (tableFacts .entries h some most)
+            ∙ set-push c v ks (label c (start c h)) (omega arith))
+            ∙ sym (no-pick (isFullCall n (one m (j + h) (suc (length ks)))) (stopped 17) _
+            (and-no (leb 16 (j + h) && not (eqb (j + h) 96)) (eqb (suc (length ks)) n) (ne-eqb (suc (length ks)) n (λ z. omega arith))))
+
+        to-push : length ks < n → Goal (leb n (suc (length ks))) (drops n c f (suc (length ks)))
+        to-push deep = go (leb n (suc (length ks))) refl
+          where
+            go : (t : Bool) → leb n (suc (length ks)) ≡ t → Goal t (drops n c f (suc (length ks)))
+            go true t =
+                let e : suc (length ks) ≡ n = omega (arith, leb-true n (suc (length ks)) t) in
+                at-full (drops n c f (suc (length ks))) refl e (full-kept e)
+            go false t = room (drops n c f (suc (length ks))) refl (leb-false n (suc (length ks)) t)
+
     -- the row that a caller takes when its call has ended
     resumed-row : (h k w : ℕ) (b : Results) → Caller c h k → rowOf (table c) b (label c k) w ≡ found (label c (resumed c k w b))
     unfolding table

@@ -43,7 +43,7 @@ module _ (c : Chart) (v : ℕ) where
   label-back e s = label-end e ∙ ap (λ (t : Bool). pick t 0 1) (ne-eqb (scheme c v) 1 s)
 
   module _ (facts : TableFacts c) {h : ℕ} (stop : StopOf c h v) where
-    is-numbered : (kind c v ≡ 1 → ⊥) → numbered c v ≡ true
+    pub is-numbered : (kind c v ≡ 1 → ⊥) → numbered c v ≡ true
     is-numbered e = rw (stop .stopping, ne-eqb (kind c v) 1 e)
 
     of-node : (kind c v ≡ 1 → ⊥) → labelAt (table c) (label c v) ≡ labelOf c v

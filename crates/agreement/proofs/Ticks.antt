@@ -1,22 +1,23 @@
 -- Many ticks of the machine are those of the trace up to its bound.
 use Prim.Native.Nat.{ℕ, suc, _+_, _≤_, _<_}
-use mathlib.Core.Bool.{Bool, true, false, _&&_}
+use mathlib.Core.Bool.{Bool, true, false, _&&_, not}
 use mathlib.Core.Path.{_≡_, refl, ap, _∙_, sym, subst}
 use mathlib.Core.List.{List, [], _∷_, map}
 use lib.Dec.{leb, ltb, eqb, leb·suc-suc}
 use lib.ListN.{length, take}
 use native.Mathlib.Omega.{arith}
-use borrow.Author.Tests.{eqb-false, lt-ltb, le-leb}
+use borrow.Author.Tests.{eqb-false, ne-eqb, lt-ltb, le-leb}
 use Rattle.lists.specs.Pick.{pick}
-use Rattle.lists.proofs.Tests.{and-false}
+use Rattle.lists.proofs.Tests.{and-true, and-false}
 use Rattle.bits.specs.Results.{Results}
+use Rattle.frames.specs.Frame.{size}
 use Rattle.frames.specs.Verdict.{Verdict, fine, refused}
 use Rattle.charts.specs.Chart.{Chart, argument}
 use Rattle.walk.specs.Stops.{Stop}
 use Rattle.walk.specs.Walk.{Tick}
 use Rattle.walk.proofs.Facts.{Facts}
 use Rattle.walk.proofs.Views.{View, a-plain, a-call, a-function, a-home, a-back, a-begin, a-condition}
-use Rattle.walk.proofs.Trace.{Position, tickOf, returned, movedBy, tickAt, move, trace, Good, view-of, moves}
+use Rattle.walk.proofs.Trace.{Position, tickOf, returned, called, movedBy, dropsAt, tickAt, move, trace, Good, view-of, moves}
 use Rattle.translator.specs.Table.{table}
 use Rattle.state.specs.declared.State.{State}
 use Rattle.ticks.specs.Tick.{ticked, stopped}
@@ -94,18 +95,18 @@ module _ (c : Chart) (n : ℕ) where
     pub good : Good c x
 
   module _ (facts : Facts c) where
-    moves-on : (w : ℕ) (x : Position) → Stands x → isFullCall n (tickAt c x) ≡ false → Stands (move c w x)
+    moves-on : (w : ℕ) (x : Position) → Stands x → isFullCall n (tickAt n c x) ≡ false → Stands (move n c w x)
     moves-on w x s e = record {
-      low = deep-by (x .node) (x .callers) (x .results) w (s .low) (view-of c facts x (s .good)) e;
-      good = moves c facts w x (s .good);
+      low = deep-by facts (x .node) (x .callers) (x .results) (x .first) w (s .good .top .inside) (s .low) (dropsAt n c x) (view-of c facts x (s .good)) e;
+      good = moves c facts n w x (s .good);
     }
 
     pub stand-stands : (ws : List ℕ) (x : Position) → Stands x → Stands (stand c n ws x)
     unfolding stand
     stand-stands [] x s = s
-    stand-stands (w ∷ ws) x s = go (stand-stands ws (move c w x)) (isFullCall n (tickAt c x)) refl
+    stand-stands (w ∷ ws) x s = go (stand-stands ws (move n c w x)) (isFullCall n (tickAt n c x)) refl
       where
-        go : (Stands (move c w x) → Stands (stand c n ws (move c w x))) → (r : Bool) → isFullCall n (tickAt c x) ≡ r → Stands (stand c n (w ∷ ws) x)
+        go : (Stands (move n c w x) → Stands (stand c n ws (move n c w x))) → (r : Bool) → isFullCall n (tickAt n c x) ≡ r → Stands (stand c n (w ∷ ws) x)
         go ih true e = subst Stands (sym (stand-stop c n w ws x e)) s
         go ih false e = subst Stands (sym (stand-go c n w ws x e)) (ih (moves-on w x s e))
 
@@ -114,9 +115,9 @@ module _ (c : Chart) (n : ℕ) where
     ticks-are n≤ tableFacts [] x s = refl
     ticks-are n≤ tableFacts (w ∷ ws) x s =
         ap (then (stateOf c n x) (λ t. ticks (table c) t ws)) (tick-is c n n≤ facts tableFacts w x (s .low) (s .good))
-        ∙ go (ticks-are n≤ tableFacts ws (move c w x)) (isFullCall n (tickAt c x)) refl
+        ∙ go (ticks-are n≤ tableFacts ws (move n c w x)) (isFullCall n (tickAt n c x)) refl
       where
-        go : (Stands (move c w x) → ticks (table c) (stateOf c n (move c w x)) ws ≡ ranFrom c n ws (move c w x))
-            → (r : Bool) → isFullCall n (tickAt c x) ≡ r → first w ws x ≡ ranFrom c n (w ∷ ws) x
+        go : (Stands (move n c w x) → ticks (table c) (stateOf c n (move n c w x)) ws ≡ ranFrom c n ws (move n c w x))
+            → (r : Bool) → isFullCall n (tickAt n c x) ≡ r → first w ws x ≡ ranFrom c n (w ∷ ws) x
         go ih true e = first-stops w ws x e
         go ih false e = first-goes w ws x e (ih (moves-on w x s e))

@@ -1,6 +1,6 @@
 -- Demand 3: what a whole list of runs hands back, against what the walk of the joined words gives.
 use Prim.Native.Nat.{ℕ, suc, _+_, _-_, _≤_, min}
-use mathlib.Core.Bool.{Bool, true, false, _&&_}
+use mathlib.Core.Bool.{Bool, true, false, _&&_, not}
 use mathlib.Core.Path.{_≡_}
 use mathlib.Core.List.{List, [], _∷_, map}
 use lib.Dec.{leb, ltb, eqb}
@@ -9,7 +9,7 @@ use Rattle.lists.specs.Pick.{pick}
 use Rattle.lists.specs.Sequences.{concatMap, over}
 use Rattle.frames.specs.Frame.{contents}
 use Rattle.frames.specs.Answer.{Reply, success, refusal, Lent}
-use Rattle.walk.specs.Walk.{Tick, walk}
+use Rattle.walk.specs.Walk.{Tick, isDrop, walk}
 use Rattle.translator.specs.Entry.{translate}
 use Rattle.state.specs.declared.State.{State}
 use Rattle.state.specs.State.{Made}
@@ -54,9 +54,9 @@ short a = noRoom (a .words) (a .masks) (a .codes)
 abbrev pub joined : List Asked → List ℕ
 joined = concatMap (λ a. pick (short a) [] (a .words))
 
--- a call, of an operation or of a function, that finds n schemes open
+-- a call, of an operation or of a function, that finds n schemes open and is made: with a handler, one that finds it first of them
 abbrev pub isFullCall : ℕ → Tick → Bool
-isFullCall n t = leb 16 (t .code) && eqb (t .opened) n
+isFullCall n t = leb 16 (t .code) && not (isDrop t) && eqb (t .opened) n
 
 -- how many ticks come before the first of these
 unfoldable pub bound : ℕ → List Tick → ℕ
@@ -92,7 +92,7 @@ unfoldable pub Agreement : Translator → Maker → Runner → Type 0
 Agreement translator fresh run =
     (text out : List ℕ) (n : ℕ) → translator text out .reply ≡ success n
     → (size : ℕ) → 1 ≤ size → size ≤ 32 → (asked : List Asked)
-    → let ticks = walk (contents text) (joined asked) in
+    → let ticks = walk size (contents text) (joined asked) in
     chain run (take n (translator text out .buffer)) (fresh size .state) asked ≡ expectedAll (bound size ticks) ticks 0 asked
 
 -- ---- demand 2, of the translator: it is the definition's, answer and buffer

@@ -58,4 +58,4 @@ Delivered =
     (text before after : List ℕ) (answer : Answer) → Lends (translate text before) answer after → (n : ℕ) → reply answer ≡ success n
     → (size : ℕ) → 1 ≤ size → size ≤ 32 → (made : Answered) → Makes (freshState size) made
     → (asked : List Asked) (tolds : List Told) → Calls (take n after) (made .state) asked tolds
-    → let ticks = walk (contents text) (joined asked) in tolds ≡ expectedAll (bound size ticks) ticks 0 asked
+    → let ticks = walk size (contents text) (joined asked) in tolds ≡ expectedAll (bound size ticks) ticks 0 asked

@@ -64,4 +64,4 @@ DeliveredC =
     (text before after : List ℕ) (at n : ℕ) → LendsC (translate text before) 0 at n after
     → (size : ℕ) → 1 ≤ size → size ≤ 32 → (returned at made : ℕ) (bytes : List ℕ) → MakesC (freshState size) returned at made bytes
     → (asked : List Asked) (tolds : List ToldC) → CallsC (take n after) bytes asked tolds
-    → let ticks = walk (contents text) (joined asked) in tolds ≡ map toldC (expectedAll (bound size ticks) ticks 0 asked)
+    → let ticks = walk size (contents text) (joined asked) in tolds ≡ map toldC (expectedAll (bound size ticks) ticks 0 asked)

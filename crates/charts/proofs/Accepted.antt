@@ -13,13 +13,14 @@ use Rattle.frames.specs.Check.{badLength, textVerdict}
 use Rattle.frames.proofs.Verdicts.{next-first, next-rest, when-fine, at-lowest-fine}
 use Rattle.frames.proofs.Contents.{Length, length-told, Clean, text-told, any-contents-length, contents-bytes}
 use Rattle.charts.specs.Chart.{Chart, schemes}
-use Rattle.charts.specs.Check.{badField, badScheme, badArc, badCall, onCircle, cutOff, chartVerdict}
+use Rattle.charts.specs.Check.{badField, badScheme, badMarks, badArc, badCall, onCircle, cutOff, chartVerdict}
 use Rattle.charts.specs.Entry.{readVerdict, writeVerdict}
 
--- refusals 4 to 9 find nothing
+-- refusals 4 to 9 and 19 find nothing
 pub record Sound (c : Chart) : Type 0 where
   pub goodField : (v : ℕ) → v < size c → badField c v ≡ false
   pub goodScheme : (h : ℕ) → 1 ≤ h → h ≤ schemes c → badScheme c h ≡ false
+  pub goodMarks : badMarks c ≡ false
   pub goodArc : (v : ℕ) → v < size c → badArc c v ≡ false
   pub goodCall : (v : ℕ) → v < size c → badCall c v ≡ false
   pub noCircle : (v : ℕ) → v < size c → onCircle c v ≡ false
@@ -32,16 +33,19 @@ pub record Accepted (c : Chart) : Type 0 where
   pub few : size c ≤ 256
   pub sound : Sound c
 
-nexts : (a b d e f g : Verdict) → next a (λ _. next b (λ _. next d (λ _. next e (λ _. next f (λ _. g))))) ≡ fine
-    → (a ≡ fine) × (b ≡ fine) × (d ≡ fine) × (e ≡ fine) × (f ≡ fine) × (g ≡ fine)
-nexts a b d e f g q =
-    let qb : next b (λ _. next d (λ _. next e (λ _. next f (λ _. g)))) ≡ fine =
-    next-rest a (λ _. next b (λ _. next d (λ _. next e (λ _. next f (λ _. g))))) q in
-    let qd : next d (λ _. next e (λ _. next f (λ _. g))) ≡ fine = next-rest b (λ _. next d (λ _. next e (λ _. next f (λ _. g)))) qb in
+nexts : (a b m d e f g : Verdict) → next a (λ _. next b (λ _. next m (λ _. next d (λ _. next e (λ _. next f (λ _. g)))))) ≡ fine
+    → (a ≡ fine) × (b ≡ fine) × (m ≡ fine) × (d ≡ fine) × (e ≡ fine) × (f ≡ fine) × (g ≡ fine)
+nexts a b m d e f g q =
+    let qb : next b (λ _. next m (λ _. next d (λ _. next e (λ _. next f (λ _. g))))) ≡ fine =
+    next-rest a (λ _. next b (λ _. next m (λ _. next d (λ _. next e (λ _. next f (λ _. g)))))) q in
+    let qm : next m (λ _. next d (λ _. next e (λ _. next f (λ _. g)))) ≡ fine =
+    next-rest b (λ _. next m (λ _. next d (λ _. next e (λ _. next f (λ _. g))))) qb in
+    let qd : next d (λ _. next e (λ _. next f (λ _. g))) ≡ fine = next-rest m (λ _. next d (λ _. next e (λ _. next f (λ _. g)))) qm in
     let qe : next e (λ _. next f (λ _. g)) ≡ fine = next-rest d (λ _. next e (λ _. next f (λ _. g))) qd in
     let qf : next f (λ _. g) ≡ fine = next-rest e (λ _. next f (λ _. g)) qe in (
-      next-first a (λ _. next b (λ _. next d (λ _. next e (λ _. next f (λ _. g))))) q,
-      next-first b (λ _. next d (λ _. next e (λ _. next f (λ _. g)))) qb,
+      next-first a (λ _. next b (λ _. next m (λ _. next d (λ _. next e (λ _. next f (λ _. g)))))) q,
+      next-first b (λ _. next m (λ _. next d (λ _. next e (λ _. next f (λ _. g))))) qb,
+      next-first m (λ _. next d (λ _. next e (λ _. next f (λ _. g)))) qm,
       next-first d (λ _. next e (λ _. next f (λ _. g))) qd,
       next-first e (λ _. next f (λ _. g)) qe,
       next-first f (λ _. g) qf,
@@ -51,16 +55,17 @@ nexts a b d e f g q =
 pub sound : (c : Chart) → chartVerdict c ≡ fine → Sound c
 unfolding chartVerdict
 sound c e =
-    let q = nexts (atLowest 4 (badField c) (size c)) (when 5 (any (badScheme c) 1 (schemes c)))
+    let q = nexts (atLowest 4 (badField c) (size c)) (when 5 (any (badScheme c) 1 (schemes c))) (when 19 (badMarks c))
     (atLowest 6 (badArc c) (size c)) (atLowest 7 (badCall c) (size c))
     (atLowest 8 (onCircle c) (size c)) (atLowest 9 (cutOff c) (size c)) e in
     record {
       goodField = at-lowest-fine 4 (badField c) (size c) (q .0);
       goodScheme = λ h l m. any-false (badScheme c) 1 (schemes c) (when-fine 5 (any (badScheme c) 1 (schemes c)) (q .1)) h l (omega arith);
-      goodArc = at-lowest-fine 6 (badArc c) (size c) (q .2);
-      goodCall = at-lowest-fine 7 (badCall c) (size c) (q .3);
-      noCircle = at-lowest-fine 8 (onCircle c) (size c) (q .4);
-      joined = at-lowest-fine 9 (cutOff c) (size c) (q .5);
+      goodMarks = when-fine 19 (badMarks c) (q .2);
+      goodArc = at-lowest-fine 6 (badArc c) (size c) (q .3);
+      goodCall = at-lowest-fine 7 (badCall c) (size c) (q .4);
+      noCircle = at-lowest-fine 8 (onCircle c) (size c) (q .5);
+      joined = at-lowest-fine 9 (cutOff c) (size c) (q .6);
     }
 
 -- ---- by the reader: the chart of an accepted text, whose bytes are bytes

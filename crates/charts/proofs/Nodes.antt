@@ -7,13 +7,14 @@ use native.Mathlib.Decide.{decLe, ℕ-discrete}
 use native.Mathlib.Omega.{arith}
 use lib.Dec.{leb, ltb, eqb}
 use borrow.Author.Tests.{ltb-false, leb-false, eqb-true, eqb-false, eq-eqb, ne-eqb}
-use Rattle.lists.specs.Numbers.{lowest, count}
+use Rattle.lists.specs.Pick.{pick}
+use Rattle.lists.specs.Numbers.{lowest, any, count}
 use Rattle.lists.proofs.Tests.{no-both, or-l, or-r, or-true-l, or-true-r, and-l, and-r, and-true, and-false, not-false}
-use Rattle.lists.proofs.Searches.{lowest-hit, highest-ge, highest-le, some-cons, some-both}
+use Rattle.lists.proofs.Searches.{lowest-hit, highest-ge, highest-le, highest-of, any-false, some-cons, some-both}
 use Rattle.lists.proofs.Counts.{count-lowest, count-one}
 use Rattle.graph.specs.Reach.{member}
 use Rattle.frames.specs.Frame.{size}
-use Rattle.charts.specs.Chart.{Chart, kind, scheme, argument, next0, next1, result, is, isOf, schemes, nodeOf, begin, end}
+use Rattle.charts.specs.Chart.{Chart, kind, scheme, argument, next0, next1, result, is, isOf, isMarked, handler, schemes, nodeOf, begin, end}
 use Rattle.charts.specs.Check.{filledFrom, badUse, badField, arcs, badEnd}
 use Rattle.charts.proofs.Accepted.{Sound}
 
@@ -158,6 +159,25 @@ module _ (c : Chart) (a : Sound c) where
 
   pub ends : (h : ℕ) → 1 ≤ h → h ≤ schemes c → TheNode c 1 h (end c h)
   ends h l m = the-node 1 h (ones h l m .1)
+
+  -- ---- the handler: 19
+  marked-deep : (v : ℕ) → v < size c → isMarked c v ≡ true → 2 ≤ scheme c v
+  marked-deep v l e =
+      let p : ℕ → Bool = λ u. isMarked c u && eqb (scheme c u) 1 in
+      let f : (isMarked c v && eqb (scheme c v) 1) ≡ false =
+      any-false p 0 (size c) (or-l (any p 0 (size c)) (ltb 1 (count (isMarked c) 0 (size c))) (a .goodMarks)) v (omega arith) (omega arith) in
+      let n : scheme c v ≡ 1 → ⊥ = eqb-false (scheme c v) 1 (and-false (isMarked c v) (eqb (scheme c v) 1) f e) in
+      omega (arith, owned v l)
+
+  pub handled : (handler c ≡ 0 → ⊥) → (2 ≤ handler c) × (handler c ≤ schemes c)
+  unfolding handler
+  handled = highest-of (λ (h : ℕ). (h ≡ 0 → ⊥) → (2 ≤ h) × (h ≤ schemes c)) (λ v. pick (isMarked c v) (scheme c v) 0) 0 (size c)
+      (λ n. absurd (n refl)) (λ v x y. go v (omega arith) (isMarked c v) refl)
+    where
+      go : (v : ℕ) → v < size c → (t : Bool) → isMarked c v ≡ t
+          → (pick t (scheme c v) 0 ≡ 0 → ⊥) → (2 ≤ pick t (scheme c v) 0) × (pick t (scheme c v) 0 ≤ schemes c)
+      go v l true e n = (marked-deep v l e, owned v l .1)
+      go v l false e n = absurd (n refl)
 
   -- ---- arcs: 6
   pub arc-end : (v u : ℕ) → v < size c → member u (arcs c v) ≡ true → Target c (scheme c v) u

@@ -17,7 +17,7 @@ kind c v = field c v 0
 abbrev pub scheme : Chart → ℕ → ℕ
 scheme c v = field c v 1
 
--- the scheme that an operation or a function calls, the number of a condition
+-- the scheme that an operation or a function calls, the number of a condition, the mark of a Begin
 abbrev pub argument : Chart → ℕ → ℕ
 argument c v = field c v 2
 
@@ -50,7 +50,14 @@ schemes c = highest (scheme c) 0 (size c)
 abbrev pub isOf : Chart → ℕ → ℕ → ℕ → Bool
 isOf c k h v = is c k v && eqb (scheme c v) h
 
--- the lowest such node: a scheme's Begin and its End
+-- the Begin of a handler, the scheme that is performed when the stack is full; its scheme, 0 where no Begin is marked
+abbrev pub isMarked : Chart → ℕ → Bool
+isMarked c v = is c 0 v && eqb (argument c v) 1
+
+unfoldable pub handler : Chart → ℕ
+handler c = highest (λ v. pick (isMarked c v) (scheme c v) 0) 0 (size c)
+
+-- the lowest node of kind k in scheme h: a scheme's Begin and its End
 unfoldable pub nodeOf : Chart → ℕ → ℕ → ℕ
 nodeOf c k h = lowest (isOf c k h) 0 (size c)
 

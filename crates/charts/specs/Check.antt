@@ -1,4 +1,4 @@
--- Why a chart is refused: refusals 4 to 9.
+-- Why a chart is refused: refusals 4 to 9 and 19.
 use Prim.Native.Nat.{ℕ, zero, suc, _-_}
 use mathlib.Core.Bool.{Bool, true, _&&_, _||_, not}
 use mathlib.Core.List.{List, [], _∷_}
@@ -9,15 +9,15 @@ use Rattle.lists.specs.Sequences.{some}
 use Rattle.graph.specs.Reach.{marked, joinedFrom}
 use Rattle.frames.specs.Frame.{size, field}
 use Rattle.frames.specs.Verdict.{Verdict, next, when, atLowest}
-use Rattle.charts.specs.Chart.{Chart, kind, scheme, argument, next0, next1, result, is, isOf, schemes, begin}
+use Rattle.charts.specs.Chart.{Chart, kind, scheme, argument, next0, next1, result, is, isOf, isMarked, schemes, begin}
 
 -- 4. A byte of i to 9 is not 0.
 abbrev pub filledFrom : Chart → ℕ → ℕ → Bool
 filledFrom c v i = any (λ k. not (eqb (field c v k) 0)) i (10 - i)
 
--- By the kind: a byte that it has no use for is not 0, or a condition's number or an operation's result is too large.
+-- By the kind: a byte that it has no use for is not 0, or a Begin's mark, a condition's number or an operation's result is too large.
 abbrev pub badUse : Chart → ℕ → ℕ → Bool
-badUse c v zero = not (eqb (argument c v) 0) || filledFrom c v 4
+badUse c v zero = ltb 1 (argument c v) || filledFrom c v 4
 badUse c v (suc zero) = filledFrom c v 2
 badUse c v (suc (suc zero)) = not (eqb (next1 c v) 0) || ltb 2 (result c v)
 badUse c v (suc (suc (suc zero))) = ltb 15 (argument c v) || filledFrom c v 5
@@ -30,6 +30,10 @@ badField c v = eqb (scheme c v) 0 || ltb 16 (scheme c v) || badUse c v (kind c v
 -- 5. Scheme h has not exactly one Begin and one End.
 abbrev pub badScheme : Chart → ℕ → Bool
 badScheme c h = not (eqb (count (isOf c 0 h) 0 (size c)) 1 && eqb (count (isOf c 1 h) 0 (size c)) 1)
+
+-- 19. A mark on scheme 1, or a second mark.
+abbrev pub badMarks : Chart → Bool
+badMarks c = any (λ v. isMarked c v && eqb (scheme c v) 1) 0 (size c) || ltb 1 (count (isMarked c) 0 (size c))
 
 -- 6. The nodes that the arcs of a node lead to; one that is no node, of another scheme or a Begin.
 abbrev pub arcs : Chart → ℕ → List ℕ
@@ -61,6 +65,7 @@ unfoldable pub chartVerdict : Chart → Verdict
 chartVerdict c =
     next (atLowest 4 (badField c) (size c)) λ _.
     next (when 5 (any (badScheme c) 1 (schemes c))) λ _.
+    next (when 19 (badMarks c)) λ _.
     next (atLowest 6 (badArc c) (size c)) λ _.
     next (atLowest 7 (badCall c) (size c)) λ _.
     next (atLowest 8 (onCircle c) (size c)) λ _.

@@ -9,14 +9,14 @@ use Rattle.frames.specs.Answer.{Lent, lent}
 use Rattle.charts.specs.Chart.{Chart}
 use Rattle.charts.specs.Check.{chartVerdict}
 
--- 1 to 9, and 16
+-- 1 to 9, 19 after 5, and 16
 unfoldable pub readVerdict : List ℕ → Verdict
 readVerdict t = next (textVerdict 5888 t) λ _. chartVerdict (contents t)
 
 unfoldable pub readChart : List ℕ → List ℕ → Lent
 readChart t old = lent (readVerdict t) 10 (λ _. contents t) old
 
--- 1, 4 to 9, and 16
+-- 1, 4 to 9, 19 after 5, and 16
 unfoldable pub writeVerdict : Chart → Verdict
 writeVerdict c = next (when 1 (badLength 10 2560 (length c))) λ _. chartVerdict c
 

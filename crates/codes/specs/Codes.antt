@@ -4,7 +4,7 @@ use mathlib.Core.Bool.{Bool, _&&_}
 use lib.Dec.{leb, eqb}
 use Rattle.lists.specs.Pick.{pick}
 use Rattle.codes.specs.declared.Meaning.{Meaning}
-use Rattle.codes.specs.declared.Meaning.the-variants.{Plain, OperationCall, FunctionCall, Return, Home, Unknown}
+use Rattle.codes.specs.declared.Meaning.the-variants.{Plain, OperationCall, FunctionCall, Return, Home, Drop, Unknown}
 
 -- ---- a tick by its kind and the scheme called: its code, and what it is
 abbrev pub codeOf : ℕ → ℕ → ℕ
@@ -30,15 +30,16 @@ unfoldable pub meaningOf : ℕ → Meaning
 meaningOf code =
     pick (eqb code 0) Plain (pick (eqb code 3) Return (pick (eqb code 4) Home
     (pick (callAbove 16 code) (OperationCall (code - 16))
-    (pick (callAbove 64 code) (FunctionCall (code - 64)) Unknown))))
+    (pick (callAbove 64 code) (FunctionCall (code - 64)) (pick (eqb code 96) Drop Unknown)))))
 
--- its tick kind, 255 for a code that no tick has, and the scheme called, 0 for none
+-- its tick kind, 5 for a call that dropped all open schemes, 255 for a code that no tick has, and the scheme called, 0 for none
 abbrev pub kindOf : Meaning → ℕ
 kindOf Plain = 0
 kindOf (OperationCall h) = 1
 kindOf (FunctionCall h) = 2
 kindOf Return = 3
 kindOf Home = 4
+kindOf Drop = 5
 kindOf Unknown = 255
 
 abbrev pub calledOf : Meaning → ℕ
@@ -47,4 +48,5 @@ calledOf (OperationCall h) = h
 calledOf (FunctionCall h) = h
 calledOf Return = 0
 calledOf Home = 0
+calledOf Drop = 0
 calledOf Unknown = 0

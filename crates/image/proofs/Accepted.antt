@@ -17,8 +17,8 @@ use Rattle.frames.specs.Check.{textVerdict}
 use Rattle.frames.proofs.Verdicts.{next-first, next-rest, when-fine, at-lowest-fine}
 use Rattle.frames.proofs.Contents.{text-told, contents-bytes}
 use Rattle.image.specs.Image.{Label, Row}
-use Rattle.image.specs.Decode.{schemeCount, lastLabel, rowCount, labelsFrom, rowsFrom, entryIn, labelIn, rowIn, decoded}
-use Rattle.image.specs.Check.{filled, badCounts, badHeader, entryAt, labelAt, rowAt, positionOf, falls, strayFrame, stray, within}
+use Rattle.image.specs.Decode.{schemeCount, lastLabel, rowCount, handlerIn, labelsFrom, rowsFrom, entryIn, labelIn, rowIn, decoded}
+use Rattle.image.specs.Check.{filled, badHandler, badCounts, badHeader, entryAt, labelAt, rowAt, positionOf, falls, strayFrame, stray, within}
 use Rattle.image.specs.Check.{isLabel, badEntry, badCalled, badLabel, badBit, badRow, badFrame, badContent, tableVerdict, imageVerdict}
 use Rattle.image.proofs.Sound.{noLabel, noRow, nthLabel, nthRow, endOf, Reaches, SoundLabel, SoundRow, Sound}
 
@@ -182,6 +182,7 @@ pub record Counted (b : List ℕ) : Type 0 where
   pub most : schemeCount b ≤ 16
   pub two : 1 ≤ lastLabel b
   pub few : rowCount b ≤ 1024
+  pub handled : (handlerIn b ≡ 0 → ⊥) → (2 ≤ handlerIn b) × (handlerIn b ≤ schemeCount b)
   pub all : size b ≡ rowsFrom b + rowCount b
 
 module _ (b : List ℕ) (ok : tableVerdict b ≡ fine) where
@@ -210,7 +211,12 @@ module _ (b : List ℕ) (ok : tableVerdict b ≡ fine) where
       let i : Bool = ltb 16 (schemeCount b) in
       let m : Bool = eqb (lastLabel b) 0 in
       let r : Bool = ltb 1024 (rowCount b) in
-      let e : badCounts b ≡ false = or-r (k || filled b 0 5 5) (badCounts b) (or-l (k || filled b 0 5 5 || badCounts b) n header-good) in
+      let z : Bool = filled b 0 6 4 in
+      let a : (k || z || badHandler b || badCounts b) ≡ false = or-l (k || z || badHandler b || badCounts b) n header-good in
+      let e : badCounts b ≡ false = or-r (k || z || badHandler b) (badCounts b) a in
+      let x : Bool = ltb (handlerIn b) 2 in
+      let y : Bool = ltb (schemeCount b) (handlerIn b) in
+      let g : (not (eqb (handlerIn b) 0) && (x || y)) ≡ false = or-r (k || z) (badHandler b) (or-l (k || z || badHandler b) (badCounts b) a) in
       let e₁ : (h || i || m) ≡ false = or-l (h || i || m) r e in
       let e₂ : (h || i) ≡ false = or-l (h || i) m e₁ in
       record {
@@ -218,8 +224,11 @@ module _ (b : List ℕ) (ok : tableVerdict b ≡ fine) where
         most = ltb-false 16 (schemeCount b) (or-r h i e₂);
         two = omega (arith, eqb-false (lastLabel b) 0 (or-r (h || i) m e₁));
         few = ltb-false 1024 (rowCount b) (or-r (h || i || m) r e);
+        handled = λ o.
+            let f : (x || y) ≡ false = and-false (not (eqb (handlerIn b) 0)) (x || y) g (ap not (ne-eqb (handlerIn b) 0 o)) in
+            (ltb-false (handlerIn b) 2 (or-l x y f), ltb-false (schemeCount b) (handlerIn b) (or-r x y f));
         all = eqb-true (size b) (rowsFrom b + rowCount b)
-            (not-false (eqb (size b) (rowsFrom b + rowCount b)) (or-r (k || filled b 0 5 5 || badCounts b) n header-good));
+            (not-false (eqb (size b) (rowsFrom b + rowCount b)) (or-r (k || z || badHandler b || badCounts b) n header-good));
       }
 
   entry-good : (h : ℕ) → 1 ≤ h → h ≤ schemeCount b → Reaches (decoded b) h (entryIn b h)
@@ -257,6 +266,11 @@ module _ (b : List ℕ) (ok : tableVerdict b ≡ fine) where
     other-good (suc zero) h m = absurd (omega arith)
     other-good (suc (suc l)) h m = label-told b l (labelIn b (suc (suc l))) (mask-small (suc (suc l))) (label-good (suc (suc l)) m)
 
+    handled : length (decoded b .entries) ≡ schemeCount b
+        → (decoded b .handler ≡ 0 → ⊥) → (2 ≤ decoded b .handler) × (decoded b .handler ≤ length (decoded b .entries))
+    unfolding decoded
+    handled e o = let r = counted .handled o in (r .0, omega arith)
+
     pub accepted-sound : Sound (decoded b)
     accepted-sound =
         let n : length (decoded b .entries) ≡ schemeCount b = entries-count b in
@@ -268,6 +282,7 @@ module _ (b : List ℕ) (ok : tableVerdict b ≡ fine) where
           two = omega (arith, counted .two);
           last = omega (arith, bytes 2);
           few = omega (arith, counted .few);
+          handled = handled n;
           starts = λ h l. subst (λ (e : ℕ). Reaches (decoded b) (suc h) e) (sym (entry-read b h (omega arith)))
               (entry-good (suc h) (omega arith) (omega arith));
           home = label-read b 0 (omega arith) ∙ label-as 4 1 (labelIn b 0) (not-false (isLabel 4 1 (labelIn b 0)) (label-good 0 (omega arith)));

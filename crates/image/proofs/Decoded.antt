@@ -8,7 +8,7 @@ use Rattle.lists.specs.Numbers.{range}
 use Rattle.lists.proofs.Ranges.{map-count}
 use Rattle.frames.specs.Frame.{field, pairAt, quadAt, contents}
 use Rattle.image.specs.Image.{Image, Label, Row, labelFrame, rowFrame, imageText}
-use Rattle.image.specs.Decode.{schemeCount, lastLabel, rowCount, labelsFrom, rowsFrom, entryIn, labelIn, rowIn, decoded}
+use Rattle.image.specs.Decode.{schemeCount, lastLabel, rowCount, handlerIn, labelsFrom, rowsFrom, entryIn, labelIn, rowIn, decoded}
 use Rattle.image.proofs.Sound.{noLabel, noRow, nthLabel, nthRow, Sound}
 use Rattle.image.proofs.Written.{Reads, image-reads}
 
@@ -21,6 +21,9 @@ module _ (i : Image) (b : List ℕ) (S : Sound i) (R : Reads i b) where
 
   pub rows-is : rowCount b ≡ length (i .rows)
   rows-is = omega (arith, R .head 3 (omega arith), R .head 4 (omega arith))
+
+  pub handler-is : handlerIn b ≡ i .handler
+  handler-is = R .head 5 (omega arith)
 
   label-at : (l k : ℕ) → l < length (i .labels) → k < 10 → field b (labelsFrom b + l) k ≡ getD (labelFrame l (nthLabel i l)) k 0
   label-at l k h m = ap (λ (f : ℕ). field b f k) (omega (arith, schemes-is)) ∙ R .label l k h m
@@ -60,7 +63,7 @@ module _ (i : Image) (b : List ℕ) (S : Sound i) (R : Reads i b) where
       map-count (labelIn b) noLabel (i .labels) 0 (lastLabel b + 1) (omega (arith, last-is, S .two)) (λ l h. ap (labelIn b) (omega arith) ∙ label-is l h) in
       let r : map (rowIn b) (range 0 (rowCount b)) ≡ i .rows =
       map-count (rowIn b) noRow (i .rows) 0 (rowCount b) rows-is (λ k h. ap (rowIn b) (omega arith) ∙ row-is k h) in
-      λ j. record { entries = e j; labels = l j; rows = r j }
+      λ j. record { handler = handler-is j; entries = e j; labels = l j; rows = r j }
 
 pub image-decoded : (i : Image) → Sound i → decoded (contents (imageText i)) ≡ i
 image-decoded i S = decoded-is i (contents (imageText i)) S (image-reads i S)

@@ -17,13 +17,13 @@ use Rattle.frames.specs.Frame.{size, field, pair, contents}
 use Rattle.frames.specs.Verdict.{Verdict, fine, next, when, atLowest}
 use Rattle.frames.proofs.Verdicts.{at-none}
 use Rattle.image.specs.Image.{Image, Label, Row, imageText}
-use Rattle.image.specs.Decode.{schemeCount, lastLabel, rowCount, rowsFrom, labelIn, rowIn}
-use Rattle.image.specs.Check.{filled, badCounts, badHeader, entryAt, labelAt, rowAt, positionOf, falls, strayFrame, stray}
+use Rattle.image.specs.Decode.{schemeCount, lastLabel, rowCount, handlerIn, rowsFrom, labelIn, rowIn}
+use Rattle.image.specs.Check.{filled, badHandler, badCounts, badHeader, entryAt, labelAt, rowAt, positionOf, falls, strayFrame, stray}
 use Rattle.image.specs.Check.{within, badEntry, badCalled, badLabel, badBit, badRow, badFrame, badContent, tableVerdict, imageVerdict}
 use Rattle.image.proofs.Sound.{nthLabel, nthRow, endOf, Reaches, SoundLabel, SoundRow, Sound}
 use Rattle.image.proofs.Written.{Reads, image-reads, image-text-fine}
 use Rattle.image.proofs.Accepted.{position-of-entry, position-of-label, position-of-row}
-use Rattle.image.proofs.Decoded.{schemes-is, last-is, rows-is, label-is, row-is}
+use Rattle.image.proofs.Decoded.{schemes-is, last-is, rows-is, handler-is, label-is, row-is}
 
 not-eq : (a b : ℕ) → a ≡ b → not (eqb a b) ≡ false
 not-eq a b e = ap not (eq-eqb a b e)
@@ -69,13 +69,24 @@ module _ (i : Image) (b : List ℕ) (S : Sound i) (R : Reads i b) where
       (ne-eqb (lastLabel b) 0 (λ z. omega (arith, m-is, S .two))))
       (le-ltb 1024 (rowCount b) (omega (arith, rows-is i b S R, S .few)))
 
+  handler-fine : badHandler b ≡ false
+  handler-fine = go (i .handler) (handler-is i b S R) (S .handled)
+    where
+      go : (h : ℕ) → handlerIn b ≡ h → ((h ≡ 0 → ⊥) → (2 ≤ h) × (h ≤ length (i .entries))) → badHandler b ≡ false
+      go zero e f = rw e
+      go (suc h) e f = let r : (2 ≤ suc h) × (suc h ≤ length (i .entries)) = f (λ z. omega arith) in
+          ap₂ _&&_ (ap not (ne-eqb (handlerIn b) 0 (λ z. omega arith)))
+          (or-none (ltb (handlerIn b) 2) (ltb (schemeCount b) (handlerIn b))
+          (le-ltb (handlerIn b) 2 (omega arith)) (le-ltb (schemeCount b) (handlerIn b) (omega (arith, h-is))))
+
   header-fine : badHeader b ≡ false
   unfolding badHeader
   header-fine =
-      ap₂ _||_ (ap₂ _||_ (ap₂ _||_
+      ap₂ _||_ (ap₂ _||_ (ap₂ _||_ (ap₂ _||_
       (not-eq (field b 0 0) 15 (R .head 0 (omega arith)))
-      (empty b 0 5 5 (λ k h. R .head (5 + k) (omega arith)
-      ∙ zeros (15 ∷ length (i .entries) ∷ (length (i .labels) - 1) ∷ pair (length (i .rows))) 5 k h)))
+      (empty b 0 6 4 (λ k h. R .head (6 + k) (omega arith)
+      ∙ zeros (15 ∷ length (i .entries) ∷ (length (i .labels) - 1) ∷ pair (length (i .rows)) ++ (i .handler ∷ [])) 4 k h)))
+      handler-fine)
       counts-fine)
       (not-eq (size b) (rowsFrom b + rowCount b) (omega (arith, R .count, h-is, m-is, rows-is i b S R, S .two)))
 

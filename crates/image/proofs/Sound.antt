@@ -53,6 +53,7 @@ pub record Sound (i : Image) : Type 0 where
   pub two : 2 ≤ length (i .labels)
   pub last : length (i .labels) ≤ 256
   pub few : length (i .rows) ≤ 1024
+  pub handled : (i .handler ≡ 0 → ⊥) → (2 ≤ i .handler) × (i .handler ≤ length (i .entries))
   pub starts : (h : ℕ) → h < length (i .entries) → Reaches i (suc h) (getD (i .entries) h 0)
   pub home : nthLabel i 0 ≡ homeLabel
   pub back : nthLabel i 1 ≡ returnLabel

@@ -71,6 +71,13 @@ called-small n x h L = go (x .kind) refl
     go zero e = omega (arith, L .plain e)
     go (suc k) e = omega (arith, L .calls (λ z. omega arith))
 
+handler-small : (i : Image) → Sound i → i .handler < 256
+handler-small i S = go (i .handler) refl
+  where
+    go : (h : ℕ) → i .handler ≡ h → i .handler < 256
+    go zero e = omega arith
+    go (suc h) e = omega (arith, S .handled (λ z. omega arith), S .most)
+
 label-small : (i : Image) → Sound i → (l : ℕ) → l < length (i .labels) → All (λ x. x < 256) (labelFrame l (nthLabel i l))
 label-small i S zero h = subst (λ (x : Label). All (λ y. y < 256) (labelFrame 0 x)) (sym (S .home)) (omega arith)
 label-small i S (suc zero) h = subst (λ (x : Label). All (λ y. y < 256) (labelFrame 1 x)) (sym (S .back)) (omega arith)
@@ -103,7 +110,7 @@ module _ (i : Image) (S : Sound i) where
   pub image-frames : All Frame (imageFrames i)
   unfolding imageFrames
   image-frames = (
-    frame-by (headerFrame i) refl (omega (arith, S .most, S .last, S .few)),
+    frame-by (headerFrame i) refl (omega (arith, S .most, S .last, S .few, handler-small i S)),
     all-append Frame (es i) (ls i ++ rs i) entry-frames (all-append Frame (ls i) (rs i) label-frames row-frames),
   )
 

@@ -10,7 +10,7 @@ use Rattle.frames.specs.Frame.{size, field, contents}
 use Rattle.frames.specs.Verdict.{Verdict, next, when, atLowest}
 use Rattle.frames.specs.Check.{textVerdict}
 use Rattle.image.specs.Image.{Label, Row}
-use Rattle.image.specs.Decode.{schemeCount, lastLabel, rowCount, labelsFrom, rowsFrom, entryIn, labelIn, rowIn}
+use Rattle.image.specs.Decode.{schemeCount, lastLabel, rowCount, handlerIn, labelsFrom, rowsFrom, entryIn, labelIn, rowIn}
 
 -- n bytes of frame f from k on are not all 0
 abbrev pub filled : List ℕ → ℕ → ℕ → ℕ → Bool
@@ -20,8 +20,12 @@ filled b f k n = any (λ j. not (eqb (field b f j) 0)) k n
 abbrev pub badCounts : List ℕ → Bool
 badCounts b = eqb (schemeCount b) 0 || ltb 16 (schemeCount b) || eqb (lastLabel b) 0 || ltb 1024 (rowCount b)
 
+-- the handler is 0 or a scheme of 2 to H
+abbrev pub badHandler : List ℕ → Bool
+badHandler b = not (eqb (handlerIn b) 0) && (ltb (handlerIn b) 2 || ltb (schemeCount b) (handlerIn b))
+
 unfoldable pub badHeader : List ℕ → Bool
-badHeader b = not (eqb (field b 0 0) 15) || filled b 0 5 5 || badCounts b || not (eqb (size b) (rowsFrom b + rowCount b))
+badHeader b = not (eqb (field b 0 0) 15) || filled b 0 6 4 || badHandler b || badCounts b || not (eqb (size b) (rowsFrom b + rowCount b))
 
 -- a frame of an image by its position: header, the entry of a scheme, a label, a row
 pub data Position : Type 0 where

@@ -5,7 +5,7 @@ use Rattle.lists.specs.Numbers.{range}
 use Rattle.frames.specs.Frame.{field, pairAt, quadAt}
 use Rattle.image.specs.Image.{Image, Label, Row}
 
--- H, M and the row count of the header
+-- H, M, the row count and the handler's scheme of the header
 abbrev pub schemeCount : List ℕ → ℕ
 schemeCount b = field b 0 1
 
@@ -14,6 +14,9 @@ lastLabel b = field b 0 2
 
 abbrev pub rowCount : List ℕ → ℕ
 rowCount b = pairAt b 0 3
+
+abbrev pub handlerIn : List ℕ → ℕ
+handlerIn b = field b 0 5
 
 -- the frames of entries start at 1, those of labels and of rows where the ones before end
 abbrev pub labelsFrom : List ℕ → ℕ
@@ -33,6 +36,7 @@ rowIn b k = let f = rowsFrom b + k in record { from = field b f 1; care = pairAt
 
 unfoldable pub decoded : List ℕ → Image
 decoded b = record {
+  handler = handlerIn b;
   entries = map (entryIn b) (range 1 (schemeCount b));
   labels = map (labelIn b) (range 0 (lastLabel b + 1));
   rows = map (rowIn b) (range 0 (rowCount b));

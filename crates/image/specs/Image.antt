@@ -32,14 +32,16 @@ pub record Row : Type 0 where
   pub bit : ℕ
   pub next : ℕ
 
+-- handler: the scheme that is performed when the stack is full, 0 for none
 pub record Image : Type 0 where
+  pub handler : ℕ
   pub entries : List ℕ
   pub labels : List Label
   pub rows : List Row
 
 -- ---- its frames, ten bytes each
 abbrev pub headerFrame : Image → List ℕ
-headerFrame i = 15 ∷ length (i .entries) ∷ (length (i .labels) - 1) ∷ pair (length (i .rows)) ++ replicate 5 0
+headerFrame i = 15 ∷ length (i .entries) ∷ (length (i .labels) - 1) ∷ pair (length (i .rows)) ++ (i .handler ∷ replicate 4 0)
 
 abbrev pub entryFrame : ℕ → ℕ → List ℕ
 entryFrame h l = 16 ∷ h ∷ l ∷ replicate 7 0

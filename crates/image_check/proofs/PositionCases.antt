@@ -14,8 +14,8 @@ use Rattle.image.specs.Check.{Position, header, entryAt, labelAt, rowAt, filled
 use Rattle.image.proofs.Cases.{equal}
 use Rattle.image_check.specs.Parts.{kindOf}
 
-all-false : (x y z n : Bool) → x ≡ false → y ≡ false → z ≡ false → n ≡ (x || y || z || n)
-all-false x y z n p q r = rw (p, q, r)
+all-false : (x y z u n : Bool) → x ≡ false → y ≡ false → z ≡ false → u ≡ false → n ≡ (x || y || z || u || n)
+all-false x y z u n p q r t = rw (p, q, r, t)
 
 -- ---- 11
 module _ (b : List ℕ) where
@@ -23,20 +23,28 @@ module _ (b : List ℕ) where
   unfolding badHeader
   header-kind h = simp (ne-eqb (field b 0 0) 15 h)
 
-  pub header-filled : field b 0 0 ≡ 15 → filled b 0 5 5 ≡ true → true ≡ badHeader b
+  pub header-filled : field b 0 0 ≡ 15 → filled b 0 6 4 ≡ true → true ≡ badHeader b
   unfolding badHeader
   header-filled k h = simp (eq-eqb (field b 0 0) 15 k, h)
 
-  pub header-counts : field b 0 0 ≡ 15 → filled b 0 5 5 ≡ false → badCounts b ≡ true → true ≡ badHeader b
+  pub header-handler : badHandler b ≡ true → true ≡ badHeader b
   unfolding badHeader
-  header-counts k f h =
-      sym (or-true-l _ (not (eqb (size b) (rowsFrom b + rowCount b))) (or-true-r (not (eqb (field b 0 0) 15) || filled b 0 5 5) (badCounts b) h))
+  header-handler h =
+      sym (or-true-l _ (not (eqb (size b) (rowsFrom b + rowCount b)))
+      (or-true-l _ (badCounts b) (or-true-r (not (eqb (field b 0 0) 15) || filled b 0 6 4) (badHandler b) h)))
 
-  pub header-frames : field b 0 0 ≡ 15 → filled b 0 5 5 ≡ false → badCounts b ≡ false → not (eqb (size b) (rowsFrom b + rowCount b)) ≡ badHeader b
+  pub header-counts : badCounts b ≡ true → true ≡ badHeader b
   unfolding badHeader
-  header-frames k f h =
-      all-false (not (eqb (field b 0 0) 15)) (filled b 0 5 5) (badCounts b) (not (eqb (size b) (rowsFrom b + rowCount b)))
-      (equal (field b 0 0) 15 k) f h
+  header-counts h =
+      sym (or-true-l _ (not (eqb (size b) (rowsFrom b + rowCount b)))
+      (or-true-r (not (eqb (field b 0 0) 15) || filled b 0 6 4 || badHandler b) (badCounts b) h))
+
+  pub header-frames : field b 0 0 ≡ 15 → filled b 0 6 4 ≡ false → badHandler b ≡ false → badCounts b ≡ false
+      → not (eqb (size b) (rowsFrom b + rowCount b)) ≡ badHeader b
+  unfolding badHeader
+  header-frames k f h e =
+      all-false (not (eqb (field b 0 0) 15)) (filled b 0 6 4) (badHandler b) (badCounts b) (not (eqb (size b) (rowsFrom b + rowCount b)))
+      (equal (field b 0 0) 15 k) f h e
 
 -- ---- a frame by its position
 abbrev placed : Bool → Bool → Bool → List ℕ → ℕ → Position

@@ -21,7 +21,7 @@ unfolding badHeader
 header-size b e =
     eqb-true (size b) (rowsFrom b + rowCount b)
     (not-false (eqb (size b) (rowsFrom b + rowCount b))
-    (or-r (not (eqb (field b 0 0) 15) || filled b 0 5 5 || badCounts b) (not (eqb (size b) (rowsFrom b + rowCount b))) e))
+    (or-r (not (eqb (field b 0 0) 15) || filled b 0 6 4 || badHandler b || badCounts b) (not (eqb (size b) (rowsFrom b + rowCount b))) e))
 
 module _ (b : List ℕ) where
   pub table-header : badHeader b ≡ true → refusal 11 0 0 ≡ judged (tableVerdict b) 0

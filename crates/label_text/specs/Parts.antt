@@ -12,8 +12,8 @@ use Rattle.image.specs.Image.{entryFrame, labelFrame}
 use Rattle.chart_labels.specs.Labels.{numbered, label, entry, homeLabel, returnLabel, labelOf}
 
 -- the frames of image parts: the header, entry k + 1, labels 0 and 1, the label of node v
-abbrev pub headerText : ℕ → ℕ → ℕ → List ℕ
-headerText highest last n = frameText (15 ∷ highest ∷ last ∷ pair n ++ replicate 5 0)
+abbrev pub headerText : ℕ → ℕ → ℕ → ℕ → List ℕ
+headerText highest last n handler = frameText (15 ∷ highest ∷ last ∷ pair n ++ (handler ∷ replicate 4 0))
 
 abbrev pub entryText : Chart → ℕ → List ℕ
 entryText c k = frameText (entryFrame (k + 1) (entry c (k + 1)))

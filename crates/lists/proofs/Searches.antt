@@ -1,5 +1,5 @@
 -- Laws of the lowest number that passes a test, of whether any does, and of the highest value; of an element that passes.
-use mathlib.Core.Path.{_≡_, refl, sym, _∙_, ap, ap₂}
+use mathlib.Core.Path.{_≡_, refl, sym, _∙_, ap, ap₂, subst}
 use mathlib.Core.Logic.{_⊎_, ⊎-elim}
 use mathlib.Core.Bool.{Bool, true, false, _||_}
 use mathlib.Core.List.{List, [], _∷_}
@@ -77,6 +77,17 @@ highest-ge f i (suc n) k a b =
     ⊎-elim (λ (q : i ≡ k). let z : f i ≡ f k = ap f q in omega arith)
     (λ (q : i < k). omega (arith, highest-ge f (suc i) n k q (omega arith)))
     (eq-or-lt-of-le a)
+
+-- the highest value is one of the values, or 0
+pub highest-of : (P : ℕ → Type 0) (f : ℕ → ℕ) (i n : ℕ) → P 0 → ((k : ℕ) → i ≤ k → k < i + n → P (f k)) → P (highest f i n)
+unfolding highest
+highest-of P f i zero z h = z
+highest-of P f i (suc n) z h =
+    let rest : ℕ = highest f (suc i) n in
+    ⊎-elim (λ (a : f i ≡ max (f i) rest). subst P a (h i (omega arith) (omega arith)))
+    (λ (a : f i < max (f i) rest). subst P (let e : rest ≡ max (f i) rest = omega arith in e)
+    (highest-of P f (suc i) n z (λ k a b. h k (omega arith) (omega arith))))
+    (eq-or-lt-of-le (let l : f i ≤ max (f i) rest = omega arith in l))
 
 pub highest-le : (f : ℕ → ℕ) (m i n : ℕ) → ((k : ℕ) → i ≤ k → k < i + n → f k ≤ m) → highest f i n ≤ m
 unfolding highest

@@ -26,7 +26,7 @@ pub record Fits (i : Image) (s : State) : Type 0 where
   pub most : s .depth ≤ s .size
   pub labels : (k : ℕ) → k < s .depth → placeAt s k < length (i .labels)
   pub carries : (k : ℕ) → k + 1 < s .depth → Carries i (placeAt s k) (placeAt s (k + 1))
-  pub bottom : labelAt i (placeAt s 0) .owner ≡ 1
+  pub bottom : Bottom i (placeAt s 0)
   pub above : (k : ℕ) → s .depth ≤ k → k < 32 → placeAt s k ≡ 0
 
 -- a chain of four tests of which none holds
@@ -59,6 +59,18 @@ module _ (i : Image) where
         go (inl p) = inl (eqb-true above 1 p)
         go (inr p) = inr (eqb-true (labelAt i above .owner) (labelAt i l .called) p)
 
+  module _ (l : ℕ) where
+    bottom-good : Bottom i l → badBottom i l ≡ false
+    bottom-good (inl e) = ap not (or-true-l _ (ofHandler i l) (eq-eqb (labelAt i l .owner) 1 e))
+    bottom-good (inr e) = ap not (or-true-r (eqb (labelAt i l .owner) 1) (ofHandler i l) e)
+
+    bottom-told : badBottom i l ≡ false → Bottom i l
+    bottom-told e = go (or-cases (eqb (labelAt i l .owner) 1) (ofHandler i l) (not-false _ e))
+      where
+        go : (eqb (labelAt i l .owner) 1 ≡ true) ⊎ (ofHandler i l ≡ true) → Bottom i l
+        go (inl p) = inl (eqb-true (labelAt i l .owner) 1 p)
+        go (inr p) = inr p
+
   module _ (s : State) where
     -- place k may not carry the one above it; place k is not 0
     abbrev strays : ℕ → Bool
@@ -90,7 +102,7 @@ module _ (i : Image) where
     fits f = rw (
       fits-depth f,
       any-none (unfitPlace i s) 0 (s .depth) (λ k l. fits-place f (0 + k) (omega arith)),
-      eq-eqb (labelAt i (placeAt s 0) .owner) 1 (f .bottom),
+      bottom-good (placeAt s 0) (f .bottom),
       any-none filledAt (s .depth) (32 - s .depth) (λ k l. ap not (eq-eqb (placeAt s (s .depth + k)) 0 (f .above (s .depth + k) (omega arith) (omega arith)))),
     )
 
@@ -98,7 +110,7 @@ module _ (i : Image) where
     unfolding unfit
     unfits w e =
         let none =
-        none-of (badDepth s) (any (unfitPlace i s) 0 (s .depth)) (not (eqb (labelAt i (placeAt s 0) .owner) 1))
+        none-of (badDepth s) (any (unfitPlace i s) 0 (s .depth)) (badBottom i (placeAt s 0))
         (any filledAt (s .depth) (32 - s .depth)) e in
         let sizes = none-of (eqb (s .size) 0) (ltb 32 (s .size)) (eqb (s .depth) 0) (ltb (s .size) (s .depth)) (none .0) in
         let some : s .depth ≡ 0 → ⊥ = eqb-false (s .depth) 0 (sizes .2) in
@@ -110,7 +122,7 @@ module _ (i : Image) where
           labels = λ k l. leb-false (length (i .labels)) (placeAt s k) (place (none .1) k l .0);
           carries = λ k l. does-carry (placeAt s k) (placeAt s (k + 1))
               (not-false _ (and-false (ltb (k + 1) (s .depth)) _ (place (none .1) k (omega arith) .1) (lt-ltb (k + 1) (s .depth) l)));
-          bottom = eqb-true (labelAt i (placeAt s 0) .owner) 1 (not-false _ (none .2));
+          bottom = bottom-told (placeAt s 0) (none .2);
           above = λ k l m. eqb-true (placeAt s k) 0 (not-false _ (any-false filledAt (s .depth) (32 - s .depth) (none .3) k l (omega arith)));
         }
       where

@@ -6,7 +6,7 @@ use lib.Dec.{eqb}
 use Rattle.image.specs.Image.{Image}
 use Rattle.tables.specs.Table.{Whole}
 use Rattle.state.specs.declared.State.{State}
-use Rattle.state.specs.State.{labelAt, placeAt}
+use Rattle.state.specs.State.{placeAt, badBottom}
 
 -- a table, and 1 to 32 places in use
 pub record Deep (b : List ℕ) (s : State) : Type 0 where
@@ -16,7 +16,7 @@ pub record Deep (b : List ℕ) (s : State) : Type 0 where
 
 -- the part of 15 that speaks of the bottom's owner
 abbrev pub unfitBottom : Image → State → Bool
-unfitBottom i s = not (eqb (labelAt i (placeAt s 0) .owner) 1)
+unfitBottom i s = badBottom i (placeAt s 0)
 
 -- label l of that owner may not stand at place k, where one of that scheme is called
 abbrev pub astray : ℕ → ℕ → ℕ → ℕ → Bool

@@ -62,11 +62,19 @@ abbrev pub unfitPlace : Image → State → ℕ → Bool
 unfitPlace i s k =
     leb (length (i .labels)) (placeAt s k) || (ltb (k + 1) (s .depth) && not (mayCarry i (placeAt s k) (placeAt s (k + 1))))
 
+-- a label of the handler, as it stands at the bottom: one that the handler owns, or label 1
+abbrev pub ofHandler : Image → ℕ → Bool
+ofHandler i l = not (eqb (i .handler) 0) && (eqb l 1 || eqb (labelAt i l .owner) (i .handler))
+
+-- the bottom is of scheme 1 or of the handler
+abbrev pub badBottom : Image → ℕ → Bool
+badBottom i l = not (eqb (labelAt i l .owner) 1 || ofHandler i l)
+
 -- the depth is 1 to Σ
 abbrev pub badDepth : State → Bool
 badDepth s = badSize (s .size) || eqb (s .depth) 0 || ltb (s .size) (s .depth)
 
 unfoldable pub unfit : Image → State → Bool
 unfit i s =
-    badDepth s || any (unfitPlace i s) 0 (s .depth) || not (eqb (labelAt i (placeAt s 0) .owner) 1)
+    badDepth s || any (unfitPlace i s) 0 (s .depth) || badBottom i (placeAt s 0)
     || any (λ k. not (eqb (placeAt s k) 0)) (s .depth) (32 - s .depth)

@@ -10,16 +10,16 @@ use Rattle.lists.specs.Numbers.{range}
 use Rattle.lists.specs.Sequences.{concatMap}
 use Rattle.frames.specs.Frame.{size, field, pairAt}
 use Rattle.image.specs.Image.{Image, Label, Row, noLabel, homeLabel, returnLabel}
-use Rattle.image.specs.Decode.{schemeCount, lastLabel, rowCount, labelsFrom, rowsFrom, entryIn, labelIn}
-use Rattle.image.specs.Check.{badCounts}
+use Rattle.image.specs.Decode.{schemeCount, lastLabel, rowCount, handlerIn, labelsFrom, rowsFrom, entryIn, labelIn}
+use Rattle.image.specs.Check.{badCounts, badHandler}
 
 -- how many frames the header counts; bytes behind them are no part of the table
 abbrev pub tableEnd : List ℕ → ℕ
 tableEnd b = rowsFrom b + rowCount b
 
--- 11: counts outside their values, or fewer frames than they say
+-- 11: counts or a handler outside their values, or fewer frames than counted
 abbrev pub badTable : List ℕ → Bool
-badTable b = badCounts b || ltb (size b) (tableEnd b)
+badTable b = badCounts b || badHandler b || ltb (size b) (tableEnd b)
 
 -- labels 0 and 1 are the same in every image; of any other label a kind above 2 counts as 0, and a called scheme above H as none
 abbrev pub labelOn : List ℕ → ℕ → Label
@@ -62,6 +62,7 @@ rowsOn b l = let f = firstOn b l in map (rowOn b l) (range f (endOn b l - f))
 
 unfoldable pub tableImage : List ℕ → Image
 tableImage b = record {
+  handler = handlerIn b;
   entries = map (entryIn b) (range 1 (schemeCount b));
   labels = map (labelOn b) (range 0 (lastLabel b + 1));
   rows = concatMap (rowsOn b) (range 2 (lastLabel b - 1));
@@ -74,6 +75,7 @@ front b = take (10 * tableEnd b) b
 
 pub record Whole (b : List ℕ) : Type 0 where
   pub counts : badCounts b ≡ false
+  pub handler : badHandler b ≡ false
   pub alone : length b ≡ 10 * tableEnd b
 
 -- the entry of scheme h, which counts as 1 where it is 0

@@ -1,16 +1,16 @@
 -- On a sound image a tick keeps a fitting state fitting, however it ends.
 use Prim.Native.Nat.{ℕ, zero, suc, _+_, _-_, _≤_, _<_}
-use mathlib.Core.Bool.{Bool, true, false, _&&_}
+use mathlib.Core.Bool.{Bool, true, false, _&&_, _||_, not}
 use mathlib.Core.Path.{_≡_, refl, ap, _∙_, sym, subst}
 use mathlib.Core.Logic.{_⊎_, inl, inr}
 use mathlib.Core.List.{List, [], _∷_}
 use lib.Dec.{leb, eqb}
-use lib.ListN.{length, getD, set, length-set, getD-replicate}
+use lib.ListN.{length, getD, set, replicate, length-set, getD-replicate}
 use lib.Seq.{getD-set-same, getD-set-other}
 use native.Mathlib.Omega.{arith}
-use borrow.Author.Tests.{eqb-true, ne-eqb, leb-false}
+use borrow.Author.Tests.{eqb-true, eqb-false, eq-eqb, ne-eqb, leb-true, leb-false}
 use Rattle.lists.specs.Pick.{pick}
-use Rattle.lists.proofs.Tests.{or-cases, and-l, split}
+use Rattle.lists.proofs.Tests.{or-cases, or-true-l, or-true-r, and-l, and-r, and-true, not-true, split}
 use Rattle.bits.specs.Results.{Results, withResult, cleared}
 use Rattle.frames.specs.Frame.{contents}
 use Rattle.frames.specs.Verdict.{fine}
@@ -101,6 +101,36 @@ module _ (i : Image) (sound : Sound i) where
       go (inl e) = e
       go (inr e) = ap (λ (l : ℕ). labelAt i l .owner) e ∙ ap (λ (x : Label). x .owner) (sound .home)
 
+  -- ---- the bottom: what scheme 1 leads to, and what the handler leads to
+  handler-deep : (l : ℕ) → ofHandler i l ≡ true → (2 ≤ i .handler) × (i .handler ≤ length (i .entries))
+  handler-deep l e =
+      let o : Bool = eqb l 1 || eqb (labelAt i l .owner) (i .handler) in
+      sound .handled (eqb-false (i .handler) 0 (not-true (eqb (i .handler) 0) (and-l (not (eqb (i .handler) 0)) o e)))
+
+  handler-own : (l : ℕ) → ofHandler i l ≡ true → (l ≡ 1 → ⊥) → labelAt i l .owner ≡ i .handler
+  handler-own l e n =
+      let x : Bool = eqb l 1 in
+      let y : Bool = eqb (labelAt i l .owner) (i .handler) in
+      go (or-cases x y (and-r (not (eqb (i .handler) 0)) (x || y) e))
+    where
+      go : (eqb l 1 ≡ true) ⊎ (eqb (labelAt i l .owner) (i .handler) ≡ true) → labelAt i l .owner ≡ i .handler
+      go (inl p) = absurd (n (eqb-true l 1 p))
+      go (inr p) = eqb-true (labelAt i l .owner) (i .handler) p
+
+  -- a label that the handler leads to
+  handler-leads : (u : ℕ) → 2 ≤ i .handler → Reaches i (i .handler) u → ofHandler i u ≡ true
+  handler-leads u l r =
+      and-true (not (eqb (i .handler) 0)) (eqb u 1 || eqb (labelAt i u .owner) (i .handler))
+      (ap not (ne-eqb (i .handler) 0 (λ z. omega arith))) (go (reaches-over (i .handler) u l r))
+    where
+      go : (u ≡ 1) ⊎ (labelAt i u .owner ≡ i .handler) → (eqb u 1 || eqb (labelAt i u .owner) (i .handler)) ≡ true
+      go (inl e) = or-true-l (eqb u 1) _ (eq-eqb u 1 e)
+      go (inr e) = or-true-r (eqb u 1) (eqb (labelAt i u .owner) (i .handler)) (eq-eqb (labelAt i u .owner) (i .handler) e)
+
+  bottom-leads : (l u : ℕ) → (l ≡ 1 → ⊥) → Bottom i l → Reaches i (labelAt i l .owner) u → Bottom i u
+  bottom-leads l u n (inl e) r = inl (reaches-first u (subst (λ (h : ℕ). Reaches i h u) e r))
+  bottom-leads l u n (inr e) r = inr (handler-leads u (handler-deep l e .0) (subst (λ (h : ℕ). Reaches i h u) (handler-own l e n) r))
+
   -- ---- the top replaced, a label put above it, the top dropped
   abbrev replaced : State → ℕ → Results → State
   replaced s u b = record { size = s .size; depth = s .depth; places = set (s .places) (s .depth - 1) u; bits = b }
@@ -148,11 +178,11 @@ module _ (i : Image) (sound : Sound i) where
       carries k l (inr p) = let q : k + 1 ≡ s .depth - 1 = omega arith in
           rw (other k (λ z. omega arith), q, same) (under k q (subst (λ (j : ℕ). Carries i (placeAt s k) (placeAt s j)) q (f .carries k l)))
 
-      bottom : (0 < s .depth - 1) ⊎ (s .depth - 1 ≤ 0) → labelAt i (placeAt t 0) .owner ≡ 1
-      bottom (inl p) = ap (λ (x : ℕ). labelAt i x .owner) (other 0 (λ q. omega arith)) ∙ f .bottom
+      bottom : (0 < s .depth - 1) ⊎ (s .depth - 1 ≤ 0) → Bottom i (placeAt t 0)
+      bottom (inl p) = subst (Bottom i) (sym (other 0 (λ q. omega arith))) (f .bottom)
       bottom (inr p) = let q : s .depth - 1 ≡ 0 = omega arith in
-          ap (λ (x : ℕ). labelAt i x .owner) (ap (placeAt t) (sym q) ∙ same)
-          ∙ reaches-first u (subst (λ (h : ℕ). Reaches i h u) (ap (λ (j : ℕ). labelAt i (placeAt s j) .owner) q ∙ f .bottom) r)
+          subst (Bottom i) (sym (ap (placeAt t) (sym q) ∙ same))
+          (bottom-leads (placeAt s (s .depth - 1)) u ne (subst (λ (j : ℕ). Bottom i (placeAt s j)) (sym q) (f .bottom)) r)
 
   abbrev above : State → ℕ → Results → State
   above s u b = record { size = s .size; depth = suc (s .depth); places = set (s .places) (s .depth) u; bits = b }
@@ -166,7 +196,7 @@ module _ (i : Image) (sound : Sound i) where
     most = room;
     labels = λ k l. labels k (split k (s .depth)) l;
     carries = λ k l. carries k (split (k + 1) (s .depth)) l;
-    bottom = ap (λ (x : ℕ). labelAt i x .owner) (other 0 (λ q. omega (arith, f .some))) ∙ f .bottom;
+    bottom = subst (Bottom i) (sym (other 0 (λ q. omega (arith, f .some)))) (f .bottom);
     above = λ k l m. other k (λ p. omega arith) ∙ f .above k (omega arith) m;
   }
     where
@@ -202,7 +232,7 @@ module _ (i : Image) (sound : Sound i) where
     most = omega (arith, f .most);
     labels = λ k l. subst (λ (x : ℕ). x < length (i .labels)) (sym (other k (λ q. omega arith))) (f .labels k (omega arith));
     carries = λ k l. rw (other k (λ q. omega arith), other (k + 1) (λ q. omega arith)) (f .carries k (omega arith));
-    bottom = ap (λ (x : ℕ). labelAt i x .owner) (other 0 (λ q. omega arith)) ∙ f .bottom;
+    bottom = subst (Bottom i) (sym (other 0 (λ q. omega arith))) (f .bottom);
     above = λ k l m. zero-at k m (split k (s .depth)) l;
   }
     where
@@ -216,6 +246,26 @@ module _ (i : Image) (sound : Sound i) where
       zero-at k m (inl p) l = let q : k ≡ s .depth - 1 = omega arith in
           ap (placeAt t) q ∙ getD-set-same (s .places) (s .depth - 1) 0 0 (omega (arith, f .whole, f .most, f .small))
       zero-at k m (inr p) l = other k (λ q. omega arith) ∙ f .above k p m
+
+  -- one label at the bottom, and nothing above it
+  abbrev alone : State → ℕ → Results → State
+  alone s u b = record { size = s .size; depth = 1; places = u ∷ replicate 31 0; bits = b }
+
+  alone-fits : (s : State) (u : ℕ) (b : Results) → Fits i s → u < length (i .labels) → Bottom i u → Fits i (alone s u b)
+  alone-fits s u b f low o = record {
+    whole = refl;
+    small = f .small;
+    some = omega arith;
+    most = omega (arith, f .some, f .most);
+    labels = λ k l. subst (λ (j : ℕ). placeAt (alone s u b) j < length (i .labels)) (let z : 0 ≡ k = omega arith in z) low;
+    carries = λ k l. absurd (omega arith);
+    bottom = o;
+    above = zero-at;
+  }
+    where
+      zero-at : (k : ℕ) → 1 ≤ k → k < 32 → placeAt (alone s u b) k ≡ 0
+      zero-at zero l m = absurd (omega arith)
+      zero-at (suc k) l m = getD-replicate 31 k 0 0 (omega arith)
 
   -- ---- one tick
   abbrev pub Keeps : Ticked → Type 0
@@ -239,6 +289,22 @@ module _ (i : Image) (sound : Sound i) where
     plain-keeps w b e = moved-keeps _ 0 s _ _ (s .places) b (rowOf i b top w)
         (λ u q. replaced-fits s u b f (not-return top top-low (λ p. omega arith)) (row-leads top w _ u q))
 
+    full-keeps : (m : ℕ) (b : Results) → Keeps (full i s m b)
+    full-keeps m b = go (eqb (i .handler) 0) refl (ofHandler i (placeAt s 0))
+      where
+        h : ℕ
+        h = i .handler
+
+        go : (t : Bool) → eqb (i .handler) 0 ≡ t → (r : Bool)
+            → Keeps (pick (t || r) (stopped 17) (ticked m 96 (alone s (entryAt i (i .handler)) (cleared (i .handler) b))))
+        go true e r = tt
+        go false e true = tt
+        go false e false =
+            let range : (2 ≤ h) × (h ≤ length (i .entries)) = sound .handled (eqb-false (i .handler) 0 e) in
+            let q : suc (h - 1) ≡ h = omega arith in
+            let enters : Reaches i h (entryAt i h) = subst (λ (g : ℕ). Reaches i g (entryAt i h)) q (sound .starts (h - 1) (omega arith)) in
+            alone-fits s (entryAt i h) (cleared h b) f (enters .inside) (inr (handler-leads (entryAt i h) (range .0) enters))
+
     call-keeps : (m code : ℕ) (b : Results) → isCall (labelAt i top) ≡ true
         → Keeps (pushed i s m code (labelAt i top .called) b (leb (s .size) (s .depth)))
     call-keeps m code b e = go (leb (s .size) (s .depth)) refl
@@ -254,19 +320,13 @@ module _ (i : Image) (sound : Sound i) where
             subst (λ (g : ℕ). Reaches i g (entryAt i h)) q (sound .starts (h - 1) (omega (arith, range)))
 
         go : (t : Bool) → leb (s .size) (s .depth) ≡ t → Keeps (pushed i s m code (labelAt i top .called) b t)
-        go true q = tt
+        go true q = full-keeps m b
         go false q = above-fits s (entryAt i h) (cleared h b) f (leb-false (s .size) (s .depth) q) (enters .inside)
             (record { call = e; over = reaches-over h (entryAt i h) (range .0) enters })
 
-    return-keeps : (m w : ℕ) (b : Results) → labelAt i top .kind ≡ 3
-        → Keeps (moved m 3 s (s .depth - 2) (s .depth - 1) (set (s .places) (s .depth - 1) 0) b (rowOf i b (placeAt s (s .depth - 2)) w))
-    return-keeps m w b e = go (sort top top-low)
+    return-keeps : (m w : ℕ) (b : Results) → labelAt i top .kind ≡ 3 → Keeps (popped i s w m b (leb (s .depth) 1))
+    return-keeps m w b e = go (leb (s .depth) 1) refl
       where
-        deep : labelAt i top .owner ≡ 0 → (1 < s .depth) ⊎ (s .depth ≤ 1) → 2 ≤ s .depth
-        deep o (inl p) = p
-        deep o (inr p) = let q : s .depth - 1 ≡ 0 = omega arith in
-            let z : labelAt i top .owner ≡ 1 = ap (λ (j : ℕ). labelAt i (placeAt s j) .owner) q ∙ f .bottom in absurd (omega arith)
-
         back : 2 ≤ s .depth → (u : ℕ) → Reaches i (labelAt i (placeAt s (s .depth - 2)) .owner) u
             → Fits i (record { size = s .size; depth = s .depth - 1; places = set (set (s .places) (s .depth - 1) 0) (s .depth - 2) u; bits = b })
         back two u r =
@@ -279,11 +339,30 @@ module _ (i : Image) (sound : Sound i) where
             (λ q. not-return (placeAt s (s .depth - 2)) (f .labels (s .depth - 2) (omega arith)) (λ p. omega arith) (sym same ∙ q))
             (subst (λ (l : ℕ). Reaches i (labelAt i l .owner) u) (sym same) r))
 
-        go : Sort top → Keeps (moved m 3 s (s .depth - 2) (s .depth - 1) (set (s .places) (s .depth - 1) 0) b (rowOf i b (placeAt s (s .depth - 2)) w))
-        go (first z q o) = absurd (omega arith)
-        go (second z q o) = moved-keeps m 3 s _ _ (set (s .places) (s .depth - 1) 0) b (rowOf i b (placeAt s (s .depth - 2)) w)
-            (λ u p. back (deep o (split 1 (s .depth))) u (row-leads (placeAt s (s .depth - 2)) w _ u p))
-        go (other z q) = absurd (omega arith)
+        -- the handler's return at depth 1 puts label 0 at the bottom
+        other : (k : ℕ) → (k ≡ 0 → ⊥) → getD (set (s .places) 0 0) k 0 ≡ placeAt s k
+        other k n = getD-set-other (s .places) 0 k 0 0 n
+
+        same : getD (set (s .places) 0 0) 0 0 ≡ 0
+        same = getD-set-same (s .places) 0 0 0 (omega (arith, f .whole))
+
+        last : s .depth ≤ 1 → Fits i (record { size = s .size; depth = 1; places = set (s .places) 0 0; bits = b })
+        last one = record {
+          whole = length-set (s .places) 0 0 ∙ f .whole;
+          small = f .small;
+          some = omega arith;
+          most = omega (arith, f .some, f .most);
+          labels = λ k l. subst (λ (x : ℕ). x < length (i .labels))
+              (sym (ap (λ (j : ℕ). getD (set (s .places) 0 0) j 0) (let z : k ≡ 0 = omega arith in z) ∙ same)) (omega (arith, sound .two));
+          carries = λ k l. absurd (omega arith);
+          bottom = inl (ap (λ (l : ℕ). labelAt i l .owner) same ∙ ap (λ (x : Label). x .owner) (sound .home));
+          above = λ k l m. other k (λ z. omega arith) ∙ f .above k (omega (arith, f .some)) m;
+        }
+
+        go : (t : Bool) → leb (s .depth) 1 ≡ t → Keeps (popped i s w m b t)
+        go true q = last (leb-true (s .depth) 1 q)
+        go false q = moved-keeps m 3 s _ _ (set (s .places) (s .depth - 1) 0) b (rowOf i b (placeAt s (s .depth - 2)) w)
+            (λ u p. back (leb-false (s .depth) 1 q) u (row-leads (placeAt s (s .depth - 2)) w _ u p))
 
     home-keeps : (b : Results) → 4 ≤ labelAt i top .kind → Fits i (replaced s (entryAt i 1) b)
     home-keeps b e = go (sort top top-low)
@@ -320,7 +399,7 @@ module _ (i : Image) (sound : Sound i) where
     most = l;
     labels = λ k m. subst (λ (x : ℕ). x < length (i .labels)) (sym (zero-at k (omega arith))) (omega (arith, sound .two));
     carries = λ k m. absurd (omega arith);
-    bottom = ap (λ (x : Label). x .owner) (sound .home);
+    bottom = inl (ap (λ (x : Label). x .owner) (sound .home));
     above = λ k m j. zero-at k j;
   }
     where

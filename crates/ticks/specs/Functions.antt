@@ -4,8 +4,9 @@ use Prim.Native.Nat.{ℕ, suc, _-_}
 use mathlib.Core.Bool.{Bool, true, false, _&&_}
 use mathlib.Core.Path.{_≡_}
 use mathlib.Core.List.{List}
-use lib.Dec.{eqb}
+use lib.Dec.{leb, eqb}
 use lib.ListN.{length, set}
+use Rattle.lists.specs.Pick.{pick}
 use Rattle.bits.specs.Results.{resultOf}
 use Rattle.frames.specs.Frame.{contents}
 use Rattle.frames.specs.Verdict.{fine}
@@ -18,11 +19,15 @@ use Rattle.state.specs.State.{labelAt, isCall, unfit}
 use Rattle.ticks.specs.Tick.{Ticked, ticked, moved, tick}
 use Rattle.ticks.specs.Parts.{topOf}
 
--- a finished call, of an operation or of a function, leaves the bit of the scheme called 0
+-- the tick on s drops all open schemes or is refused: it is made at a call that finds the stack full
+abbrev pub findsFull : Image → State → Bool
+findsFull i s = isCall (labelAt i (topOf s)) && leb (s .size) (s .depth)
+
+-- a call that is made, of an operation or of a function, leaves the bit of the scheme called 0; one that drops leaves that of the handler 0
 unfoldable pub CallClears : Type 0
 CallClears =
     (i : Image) (s : State) → let x = labelAt i (topOf s) in isCall x ≡ true → (w m code : ℕ) (t : State) → tick i s w ≡ ticked m code t
-    → resultOf (x .called) (t .bits) ≡ false
+    → resultOf (pick (findsFull i s) (i .handler) (x .called)) (t .bits) ≡ false
 
 -- the tick on s writes 1 to the bit of scheme h: it is made at a label of owner h with result 2
 abbrev pub writesOne : Image → ℕ → State → Bool
@@ -32,22 +37,22 @@ writesOne i h s = eqb (labelAt i (topOf s) .owner) h && eqb (labelAt i (topOf s)
 abbrev pub returnsAt : Image → ℕ → State → Bool
 returnsAt i d s = eqb (labelAt i (topOf s) .kind) 3 && eqb (s .depth) d
 
--- finished ticks lead from one state to another; none is a return at depth d, and none writes 1 to the bit of scheme h
+-- finished ticks lead from one state to another; none is a drop or a return at depth d, and none writes 1 to the bit of scheme h
 pub data Unwritten (i : Image) (h d : ℕ) : State → State → Type 0 where
   none : {s : State} → Unwritten i h d s s
-  more : (w : ℕ) {s t u : State} {m code : ℕ} → tick i s w ≡ ticked m code t → returnsAt i d s ≡ false → writesOne i h s ≡ false
-      → Unwritten i h d t u → Unwritten i h d s u
+  more : (w : ℕ) {s t u : State} {m code : ℕ} → tick i s w ≡ ticked m code t → findsFull i s ≡ false → returnsAt i d s ≡ false
+      → writesOne i h s ≡ false → Unwritten i h d t u → Unwritten i h d s u
 
 -- a return: the top is dropped, and the label beneath goes where its row leads, or there is none
 abbrev pub returned : State → Found → Ticked
 returned s row = moved 0 3 s (s .depth - 2) (s .depth - 1) (set (s .places) (s .depth - 1) 0) (s .bits) row
 
--- For every accepted image and every state that fits it with a function call's label at the top: after the finished call, and ticks that write
--- no 1 to the bit of the scheme called, the call's own return goes by the label's first matching row for bit 0.
+-- For every accepted image and every state that fits it with a function call's label at the top: after the call that is made, and
+-- ticks that drop nothing and write no 1 to the bit of the scheme called, the call's own return goes by the label's first matching row for bit 0.
 unfoldable pub ZeroRow : Type 0
 ZeroRow =
     (text : List ℕ) → imageVerdict text ≡ fine → (s : State) → length (s .places) ≡ 32
     → let i = decoded (contents text) in unfit i s ≡ false
     → let x = labelAt i (topOf s) in x .kind ≡ 2
-    → (w m code : ℕ) (t u : State) → tick i s w ≡ ticked m code t → Unwritten i (x .called) (suc (s .depth)) t u
+    → (w m code : ℕ) (t u : State) → tick i s w ≡ ticked m code t → findsFull i s ≡ false → Unwritten i (x .called) (suc (s .depth)) t u
     → returnsAt i (suc (s .depth)) u ≡ true → (v : ℕ) → tick i u v ≡ returned u (firstRow (topOf s) v 0 (i .rows))

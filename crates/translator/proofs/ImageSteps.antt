@@ -26,7 +26,7 @@ use Rattle.frames.specs.declared.Answer.the-variants.{Done, Refused}
 use Rattle.frames.proofs.FrameLoops.{length-frame}
 use Rattle.frames.proofs.Chains.{when-holds, when-fails}
 use Rattle.frames.proofs.Lent.{lent-refused, lent-short, lent-done}
-use Rattle.charts.specs.Chart.{Chart, schemes}
+use Rattle.charts.specs.Chart.{Chart, handler, schemes}
 use Rattle.image.specs.Image.{Row, entryFrame, labelFrame, rowFrame, imageFrames, imageText}
 use Rattle.chart_labels.specs.Labels.{numbered, label, entry, homeLabel, returnLabel, labelOf, numberedNodes}
 use Rattle.chart_rows.specs.Rows.{rows}
@@ -121,16 +121,16 @@ module _ (c : Chart) where
   -- ---- the whole
   abbrev pub parts : ℕ → ℕ → ℕ → List ℕ
   parts highest last n =
-      headerText highest last n
+      headerText highest last n (handler c)
       ++ (upTo (entryText c) highest ++ (fixedText ++ (upTo (nodeLabelText c) (size c) ++ upTo (nodeRowsText c) (size c))))
 
   pub image-parts : (highest own n : ℕ) → highest ≡ schemes c → own ≡ count (numbered c) 0 (size c) → n ≡ length (rows c)
       → imageText (table c) ≡ parts highest (own + 1) n
   unfolding imageText imageFrames table
   image-parts highest own n eh eo en =
-      let h : headerText (length (table c .entries)) (length (table c .labels) - 1) (length (table c .rows)) ≡ headerText highest (own + 1) n =
-      ap (λ (k : ℕ). headerText k (length (table c .labels) - 1) (length (table c .rows))) (length-entries c ∙ sym eh)
-      ∙ ap₂ (λ (k m : ℕ). headerText highest k m) (omega (arith, length-labels c)) (sym en) in
+      let h : headerText (length (table c .entries)) (length (table c .labels) - 1) (length (table c .rows)) (handler c) ≡ headerText highest (own + 1) n (handler c) =
+      ap (λ (k : ℕ). headerText k (length (table c .labels) - 1) (length (table c .rows)) (handler c)) (length-entries c ∙ sym eh)
+      ∙ ap₂ (λ (k m : ℕ). headerText highest k m (handler c)) (omega (arith, length-labels c)) (sym en) in
       concat-cons frameText _ _
       ∙ ap₂ (λ (x y : List ℕ). x ++ y) h
       (concat-append frameText (mapFrom entryFrame 1 (map (entry c) (range 1 (schemes c)))) _
@@ -213,11 +213,11 @@ module _ (c : Chart) (highest own n : ℕ) (s : Sizes c highest own n) where
   pub image-long : length (imageText (table c)) ≡ 23 * (3 + highest + own + n)
   image-long =
       ap (λ (x : List ℕ). length x) (image-parts c highest own n (s .schemed) (s .owned) (s .rowed))
-      ∙ length-append (headerText highest (own + 1) n)
+      ∙ length-append (headerText highest (own + 1) n (handler c))
       (upTo (entryText c) highest ++ (fixedText ++ (upTo (nodeLabelText c) (size c) ++ upTo (nodeRowsText c) (size c))))
       ∙ omega (
         arith,
-        length-frame (15 ∷ highest ∷ (own + 1) ∷ n / 256 ∷ n % 256 ∷ 0 ∷ 0 ∷ 0 ∷ 0 ∷ 0 ∷ []) refl,
+        length-frame (15 ∷ highest ∷ (own + 1) ∷ n / 256 ∷ n % 256 ∷ handler c ∷ 0 ∷ 0 ∷ 0 ∷ 0 ∷ []) refl,
         length-append (upTo (entryText c) highest) (fixedText ++ (upTo (nodeLabelText c) (size c) ++ upTo (nodeRowsText c) (size c))),
         length-append fixedText (upTo (nodeLabelText c) (size c) ++ upTo (nodeRowsText c) (size c)),
         length-append (upTo (nodeLabelText c) (size c)) (upTo (nodeRowsText c) (size c)),

@@ -105,6 +105,10 @@ module _ (c : Chart) (F : Facts c) where
       subst (SoundLabel (schemes c)) (sym e) (label-sound v (g .0))
 
   -- ---- the whole table
+  table-handled : (table c .handler ≡ 0 → ⊥) → (2 ≤ table c .handler) × (table c .handler ≤ length (table c .entries))
+  unfolding table
+  table-handled n = let r = F .handled n in (r .0, omega (arith, length-entries c))
+
   module _ (few : length (rows c) ≤ 1024) where
     pub table-sound : Sound (table c)
     table-sound = record {
@@ -113,6 +117,7 @@ module _ (c : Chart) (F : Facts c) where
       two = labels-two c;
       last = labels-few c F;
       few = subst (λ (rs : List Row). length rs ≤ 1024) (sym (rows-are c)) few;
+      handled = table-handled;
       starts = λ h l.
           let m : h < schemes c = omega (arith, length-entries c) in
           let s : StopOf c (suc h) (start c (suc h)) = F .starts (suc h) (omega arith) m in

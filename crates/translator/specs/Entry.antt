@@ -11,7 +11,7 @@ use Rattle.image.specs.Image.{imageText}
 use Rattle.chart_rows.specs.Rows.{rows}
 use Rattle.translator.specs.Table.{table}
 
--- 1 to 10, and 16
+-- 1 to 10, 19 after 5, and 16
 unfoldable pub translateVerdict : List ℕ → Verdict
 translateVerdict t = next (readVerdict t) λ _. when 10 (ltb 1024 (length (rows (contents t))))
 

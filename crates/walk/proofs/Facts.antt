@@ -4,7 +4,7 @@ use mathlib.Core.Bool.{true}
 use mathlib.Core.Path.{_≡_}
 use lib.ListN.{length, getD}
 use Rattle.frames.specs.Frame.{size}
-use Rattle.charts.specs.Chart.{Chart, kind, scheme, argument, next0, next1, result, schemes, begin, end}
+use Rattle.charts.specs.Chart.{Chart, kind, scheme, argument, next0, next1, result, handler, schemes, begin, end}
 pub use Rattle.charts.proofs.Nodes.{Target}
 use Rattle.walk.specs.Stops.{stops, start, byArc, byWord}
 
@@ -29,6 +29,8 @@ pub record Facts (c : Chart) : Type 0 where
   pub owned : (v : ℕ) → v < size c → (1 ≤ scheme c v) × (scheme c v ≤ schemes c)
   pub begins : (h : ℕ) → 1 ≤ h → h ≤ schemes c → (begin c h < size c) × (kind c (begin c h) ≡ 0) × (scheme c (begin c h) ≡ h)
   pub ends : (h : ℕ) → 1 ≤ h → h ≤ schemes c → (end c h < size c) × (kind c (end c h) ≡ 1) × (scheme c (end c h) ≡ h)
+  -- the handler, where there is one: refusal 19
+  pub handled : (handler c ≡ 0 → ⊥) → (2 ≤ handler c) × (handler c ≤ schemes c)
   -- arcs and calls: refusals 6 and 7
   pub arc0 : (v : ℕ) → v < size c → (kind c v ≡ 1 → ⊥) → Target c (scheme c v) (next0 c v)
   pub arc1 : (v : ℕ) → v < size c → 3 ≤ kind c v → Target c (scheme c v) (next1 c v)

@@ -8,7 +8,7 @@ use Rattle.frames.specs.Verdict.{fine}
 use Rattle.charts.specs.Chart.{Chart}
 use Rattle.charts.specs.Entry.{readVerdict}
 use Rattle.charts.proofs.Accepted.{Accepted, Sound, accepted, accepted-bytes}
-use Rattle.charts.proofs.Nodes.{kinds, owned, schemes-most, schemes-first, conditions, results, TheNode, begins, ends, arc0, arc1, calls, functions}
+use Rattle.charts.proofs.Nodes.{kinds, owned, schemes-most, schemes-first, conditions, results, TheNode, begins, ends, handled, arc0, arc1, calls, functions}
 use Rattle.walk.proofs.Facts.{Facts}
 use Rattle.walk.proofs.Follow.{follows, tests, starts}
 
@@ -28,6 +28,7 @@ facts-of c a bytes =
       owned = owned c s;
       begins = λ h l m. let b : TheNode c 0 h _ = begins c s h l m in (b .inside, b .kinded, b .same);
       ends = λ h l m. let b : TheNode c 1 h _ = ends c s h l m in (b .inside, b .kinded, b .same);
+      handled = handled c s;
       arc0 = arc0 c s;
       arc1 = arc1 c s;
       calls = calls c s;

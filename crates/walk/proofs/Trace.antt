@@ -94,29 +94,50 @@ pub record Caller (c : Chart) (h k : ℕ) : Type 0 where
   pub deep : 2 ≤ h
   pub stopping : stops c k ≡ true
 
--- each caller called the scheme above it, and the last one is of scheme 1
-abbrev pub Under : Chart → ℕ → List ℕ → Type 0
-Under c h [] = h ≡ 1
-Under c h (k ∷ ks) = Caller c h k × Under c (scheme c k) ks
+-- each caller called the scheme above it, and the last one is of scheme g
+abbrev pub Under : Chart → ℕ → ℕ → List ℕ → Type 0
+Under c g h [] = h ≡ g
+Under c g h (k ∷ ks) = Caller c h k × Under c g (scheme c k) ks
+
+-- the first open scheme
+abbrev pub bottom : Chart → Bool → ℕ
+bottom c f = pick f (handler c) 1
 
 pub record Good (c : Chart) (x : Position) : Type 0 where
   pub top : StopOf c (scheme c (x .node)) (x .node)
-  pub under : Under c (scheme c (x .node)) (x .callers)
+  pub under : Under c (bottom c (x .first)) (scheme c (x .node)) (x .callers)
+  pub handled : x .first ≡ true → handler c ≡ 0 → ⊥
 
-good : (c : Chart) (h u : ℕ) (ks : List ℕ) (b : Results) → StopOf c h u → Under c h ks → Good c (at u ks b)
-good c h u ks b s under = record {
+good : (c : Chart) (h u : ℕ) (ks : List ℕ) (b : Results) (f : Bool) → StopOf c h u → Under c (bottom c f) h ks → (f ≡ true → handler c ≡ 0 → ⊥)
+    → Good c (at u ks b f)
+good c h u ks b f s under handled = record {
   top = record { inside = s .inside; same = refl; stopping = s .stopping };
-  under = subst (λ (g : ℕ). Under c g ks) (sym (s .same)) under;
+  under = subst (λ (g : ℕ). Under c (bottom c f) g ks) (sym (s .same)) under;
+  handled = handled;
 }
 
 -- a caller is itself a stop
 pub caller-stop : (c : Chart) (h k : ℕ) → Caller c h k → StopOf c (scheme c k) k
 caller-stop c h k caller = record { inside = caller .inside; same = refl; stopping = caller .stopping }
 
--- a node that calls waits for the scheme called
-pub calling : (c : Chart) (v : ℕ) (ks : List ℕ) (b : Results) → Good c (at v ks b) → (kind c v ≡ 2) ⊎ (kind c v ≡ 4) → 2 ≤ argument c v
-    → Under c (argument c v) (v ∷ ks)
-calling c v ks b g e l = (record { inside = g .top .inside; calls = e; called = refl; deep = l; stopping = g .top .stopping }, g .under)
+-- where a walk begins
+abbrev pub atHome : Chart → Results → Position
+atHome c b = at (end c 1) [] b false
+
+pub home-good : (c : Chart) → Facts c → (b : Results) → Good c (atHome c b)
+home-good c facts b = let e = facts .ends 1 (omega arith) (facts .first) in
+    good c 1 (end c 1) [] b false (record { inside = e .0; same = e .2; stopping = end-stops c (end c 1) (e .1) }) refl (λ q. no-both false q refl)
+
+pub handling-good : (c : Chart) → Facts c → (b : Results) → (handler c ≡ 0 → ⊥) → Good c (handling c b)
+handling-good c facts b n = let l = facts .handled n in
+    good c (handler c) (start c (handler c)) [] b true (facts .starts (handler c) (omega (arith, l)) (l .1)) refl (λ q. n)
+
+-- a drop tells that there is a handler
+pub drop-handler : (n : ℕ) (c : Chart) (f : Bool) (o : ℕ) → drops n c f o ≡ true → handler c ≡ 0 → ⊥
+drop-handler n c f o e =
+    let p : Bool = not f in
+    let q : Bool = not (eqb (handler c) 0) in
+    eqb-false (handler c) 0 (not-true (eqb (handler c) 0) (and-r p q (and-l (p && q) (eqb o n) e)))
 
 module _ (c : Chart) (facts : Facts c) where
   arc-to : (v w : ℕ) → v < size c → (kind c v ≡ 1 → ⊥) → StopOf c (scheme c v) (byArc c w (next0 c v))
@@ -134,56 +155,59 @@ module _ (c : Chart) (facts : Facts c) where
       go (inr e) = rw (stop-function c k e) (function-to k w (resultOf (argument c k) b) (caller .inside) e)
 
   -- a good position stays good: below a caller, in a called scheme, and after any move
-  pub resumed-good : (h k w : ℕ) (ks : List ℕ) (b : Results) → Under c h (k ∷ ks) → Good c (at (resumed c k w b) ks b)
-  resumed-good h k w ks b under = good c (scheme c k) (resumed c k w b) ks b (resumes-to h k w b (under .0)) (under .1)
+  resumed-good : (h k w : ℕ) (ks : List ℕ) (b : Results) (f : Bool) → Under c (bottom c f) h (k ∷ ks) → (f ≡ true → handler c ≡ 0 → ⊥)
+      → Good c (at (resumed c k w b) ks b f)
+  resumed-good h k w ks b f under = good c (scheme c k) (resumed c k w b) ks b f (resumes-to h k w b (under .0)) (under .1)
 
-  called-good : (v : ℕ) (ks : List ℕ) (b d : Results) → Good c (at v ks b) → (kind c v ≡ 2) ⊎ (kind c v ≡ 4)
-      → (2 ≤ argument c v) × (argument c v ≤ schemes c) → Good c (at (start c (argument c v)) (v ∷ ks) d)
-  called-good v ks b d g e l =
-      good c (argument c v) (start c (argument c v)) (v ∷ ks) d (facts .starts (argument c v) (omega arith) (l .1)) (calling c v ks b g e (l .0))
+  module _ (v : ℕ) (ks : List ℕ) (b : Results) (f : Bool) (g : Good c (at v ks b f)) where
+    called-good : (d : Results) → (kind c v ≡ 2) ⊎ (kind c v ≡ 4)
+        → (2 ≤ argument c v) × (argument c v ≤ schemes c) → (t : Bool) → (t ≡ true → handler c ≡ 0 → ⊥) → Good c (called c v ks (argument c v) d f t)
+    called-good d e l true n = handling-good c facts (cleared (handler c) d) (n refl)
+    called-good d e l false n =
+        good c (argument c v) (start c (argument c v)) (v ∷ ks) (cleared (argument c v) d) f (facts .starts (argument c v) (omega arith) (l .1))
+        (record { inside = g .top .inside; calls = e; called = refl; deep = l .0; stopping = g .top .stopping }, g .under) (g .handled)
 
-  returned-good : (v : ℕ) (ks : List ℕ) (b : Results) (w : ℕ) → Good c (at v ks b) → (scheme c v ≡ 1 → ⊥) → Good c (returned c ks w b)
-  returned-good v [] b w g s = absurd (s (g .under))
-  returned-good v (k ∷ ks) b w g s = resumed-good (scheme c v) k w ks b (g .under)
+    returned-good : (w : ℕ) → Good c (returned c ks w b f)
+    returned-good w = go ks (g .under)
+      where
+        go : (ks : List ℕ) → Under c (bottom c f) (scheme c v) ks → Good c (returned c ks w b f)
+        go [] u = home-good c facts b
+        go (k ∷ ks) u = resumed-good (scheme c v) k w ks b f u (g .handled)
 
-  pub moved-good : (v : ℕ) (ks : List ℕ) (b : Results) (w : ℕ) → Good c (at v ks b) → {s : Stop} → View c v s → Good c (movedBy c v ks w b s)
-  moved-good v ks b w g (a-plain e a) = good c (scheme c v) _ ks _ (arc-to v w (g .top .inside) (λ p. omega arith)) (g .under)
-  moved-good v ks b w g (a-call e a) = called-good v ks b _ g (inl e) (facts .calls v (g .top .inside) e a)
-  moved-good v ks b w g (a-function e) = called-good v ks b _ g (inr e) (facts .functions v (g .top .inside) e)
-  moved-good v ks b w g (a-home e s) =
-      good c 1 (start c 1) ks b (facts .starts 1 (omega arith) (facts .first)) (subst (λ (h : ℕ). Under c h ks) s (g .under))
-  moved-good v ks b w g (a-back e s) = returned-good v ks b w g s
-  moved-good v ks b w g (a-begin e) =
-      let t : Target c (scheme c v) (next0 c v) = facts .arc0 v (g .top .inside) (λ p. omega arith) in
-      good c (scheme c (next0 c v)) _ ks b (facts .tests (next0 c v) w (t .inside) (begin-leads c v e (g .top .stopping)))
-      (subst (λ (h : ℕ). Under c h ks) (sym (t .same)) (g .under))
-  moved-good v ks b w g (a-condition e) = good c (scheme c v) _ ks b (facts .tests v w (g .top .inside) e) (g .under)
+    -- only scheme 1 has a home, and it is the first open scheme where its own End is met
+    at-first : scheme c v ≡ 1 → Under c (bottom c f) 1 ks
+    at-first s = subst (λ (h : ℕ). Under c (bottom c f) h ks) s (g .under)
+
+    moved-good : (d : Bool) → (d ≡ true → handler c ≡ 0 → ⊥) → (w : ℕ) → {s : Stop} → View c v s → Good c (movedBy c d v ks w b f s)
+    moved-good d n w (a-plain e a) = good c (scheme c v) _ ks _ f (arc-to v w (g .top .inside) (λ p. omega arith)) (g .under) (g .handled)
+    moved-good d n w (a-call e a) = called-good _ (inl e) (facts .calls v (g .top .inside) e a) d n
+    moved-good d n w (a-function e) = called-good b (inr e) (facts .functions v (g .top .inside) e) d n
+    moved-good d n w (a-home e s) = good c 1 (start c 1) ks b f (facts .starts 1 (omega arith) (facts .first)) (at-first s) (g .handled)
+    moved-good d n w (a-back e s) = returned-good w
+    moved-good d n w (a-begin e) =
+        let t : Target c (scheme c v) (next0 c v) = facts .arc0 v (g .top .inside) (λ p. omega arith) in
+        good c (scheme c (next0 c v)) _ ks b f (facts .tests (next0 c v) w (t .inside) (begin-leads c v e (g .top .stopping)))
+        (subst (λ (h : ℕ). Under c (bottom c f) h ks) (sym (t .same)) (g .under)) (g .handled)
+    moved-good d n w (a-condition e) = good c (scheme c v) _ ks b f (facts .tests v w (g .top .inside) e) (g .under) (g .handled)
 
   pub view-of : (x : Position) → Good c x → View c (x .node) (stopAt c (x .node))
   view-of x g = view c (x .node) (facts .kinds (x .node) (g .top .inside))
 
-  pub moves : (w : ℕ) (x : Position) → Good c x → Good c (move c w x)
-  moves w x g = moved-good (x .node) (x .callers) (x .results) w g (view-of x g)
-
--- where a walk begins
-abbrev pub atHome : Chart → Position
-atHome c = at (end c 1) [] noResults
-
-pub home-good : (c : Chart) → Facts c → Good c (atHome c)
-home-good c facts = let e = facts .ends 1 (omega arith) (facts .first) in
-    good c 1 (end c 1) [] noResults (record { inside = e .0; same = e .2; stopping = end-stops c (end c 1) (e .1) }) refl
+  pub moves : (n w : ℕ) (x : Position) → Good c x → Good c (move n c w x)
+  moves n w x g = moved-good (x .node) (x .callers) (x .results) (x .first) g (dropsAt n c x)
+      (drop-handler n c (x .first) (suc (length (x .callers)))) w (view-of x g)
 
 -- ---- the trace of joined words
-unfoldable pub reached : Chart → List ℕ → Position → Position
-reached c [] x = x
-reached c (w ∷ ws) x = reached c ws (move c w x)
+unfoldable pub reached : ℕ → Chart → List ℕ → Position → Position
+reached n c [] x = x
+reached n c (w ∷ ws) x = reached n c ws (move n c w x)
 
-pub trace-length : (c : Chart) (ws : List ℕ) (x : Position) → length (trace c ws x) ≡ length ws
+pub trace-length : (n : ℕ) (c : Chart) (ws : List ℕ) (x : Position) → length (trace n c ws x) ≡ length ws
 unfolding trace
-trace-length c [] x = refl
-trace-length c (w ∷ ws) x = ap suc (trace-length c ws (move c w x))
+trace-length n c [] x = refl
+trace-length n c (w ∷ ws) x = ap suc (trace-length n c ws (move n c w x))
 
-pub trace-append : (c : Chart) (ws us : List ℕ) (x : Position) → trace c (ws ++ us) x ≡ trace c ws x ++ trace c us (reached c ws x)
+pub trace-append : (n : ℕ) (c : Chart) (ws us : List ℕ) (x : Position) → trace n c (ws ++ us) x ≡ trace n c ws x ++ trace n c us (reached n c ws x)
 unfolding trace reached
-trace-append c [] us x = refl
-trace-append c (w ∷ ws) us x = ap (λ (ts : List Tick). tickAt c x ∷ ts) (trace-append c ws us (move c w x))
+trace-append n c [] us x = refl
+trace-append n c (w ∷ ws) us x = ap (λ (ts : List Tick). tickAt n c x ∷ ts) (trace-append n c ws us (move n c w x))

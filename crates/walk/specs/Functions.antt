@@ -11,7 +11,7 @@ use Rattle.frames.specs.Verdict.{fine}
 use Rattle.charts.specs.Chart.{Chart, kind, scheme, argument, next0, result, is}
 use Rattle.charts.specs.Entry.{readVerdict}
 use Rattle.walk.specs.Stops.{byArc}
-use Rattle.walk.specs.Walk.{Tick, walk}
+use Rattle.walk.specs.Walk.{Tick, isDrop, walk}
 
 -- a tick that writes 1 to the bit of scheme h: an operation of h with result 2 makes it
 abbrev pub writesOne : Chart → ℕ → Tick → Bool
@@ -21,17 +21,20 @@ writesOne c h t = is c 2 (t .node) && (eqb (scheme c (t .node)) h && eqb (result
 abbrev pub returnsTo : ℕ → Tick → Bool
 returnsTo o t = eqb (t .code) 3 && eqb (t .opened) (suc o)
 
--- a function's call, the first such return after it, which is its own, and ticks between that write no 1 to the bit of the scheme called
+-- a function's call, the first such return after it, which is its own where no drop comes between, and ticks between that write no 1 to the
+-- bit of the scheme called
 pub record Unwritten (c : Chart) (call : Tick) (between : List Tick) (back : Tick) : Type 0 where
   pub function : kind c (call .node) ≡ 4
+  pub made : isDrop call ≡ false
+  pub kept : some isDrop between ≡ false
   pub inside : some (returnsTo (call .opened)) between ≡ false
   pub own : returnsTo (call .opened) back ≡ true
   pub unwritten : some (writesOne c (argument c (call .node))) between ≡ false
 
--- for every accepted chart and all words: the tick after the return is made where the 0 arc leads by the return's word
+-- for every accepted chart, every number of places and all words: the tick after the return is made where the 0 arc leads by the return's word
 unfoldable pub ZeroArc : Type 0
 ZeroArc =
-    (text : List ℕ) → readVerdict text ≡ fine → (words : List ℕ) (before between rest : List Tick) (call back next : Tick)
+    (text : List ℕ) → readVerdict text ≡ fine → (places : ℕ) (words : List ℕ) (before between rest : List Tick) (call back next : Tick)
     → let c = contents text in
-    walk c words ≡ before ++ (call ∷ (between ++ (back ∷ (next ∷ rest)))) → Unwritten c call between back
+    walk places c words ≡ before ++ (call ∷ (between ++ (back ∷ (next ∷ rest)))) → Unwritten c call between back
     → next .node ≡ byArc c (getD words (length before + suc (length between)) 0) (next0 c (call .node))
