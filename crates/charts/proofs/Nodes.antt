@@ -9,12 +9,12 @@ use lib.Dec.{leb, ltb, eqb}
 use borrow.Author.Tests.{ltb-false, leb-false, eqb-true, eqb-false, eq-eqb, ne-eqb}
 use Rattle.lists.specs.Pick.{pick}
 use Rattle.lists.specs.Numbers.{lowest, any, count}
-use Rattle.lists.proofs.Tests.{no-both, or-l, or-r, or-true-l, or-true-r, and-l, and-r, and-true, and-false, not-false}
+use Rattle.lists.proofs.Tests.{no-both, or-l, or-r, or-true-l, or-true-r, and-l, and-r, and-true, and-false, not-false, yes-pick}
 use Rattle.lists.proofs.Searches.{lowest-hit, highest-ge, highest-le, highest-of, any-false, some-cons, some-both}
 use Rattle.lists.proofs.Counts.{count-lowest, count-one}
 use Rattle.graph.specs.Reach.{member}
 use Rattle.frames.specs.Frame.{size}
-use Rattle.charts.specs.Chart.{Chart, kind, scheme, argument, next0, next1, result, is, isOf, isMarked, handler, schemes, nodeOf, begin, end}
+use Rattle.charts.specs.Chart.{Chart, kind, scheme, argument, next0, next1, result, is, isOf, marksHandler, handlerAt, handler, schemes, nodeOf, begin, end}
 use Rattle.charts.specs.Check.{filledFrom, badUse, badField, arcs, badEnd}
 use Rattle.charts.proofs.Accepted.{Sound}
 
@@ -161,20 +161,20 @@ module _ (c : Chart) (a : Sound c) where
   ends h l m = the-node 1 h (ones h l m .1)
 
   -- ---- the handler: 19
-  marked-deep : (v : ℕ) → v < size c → isMarked c v ≡ true → 2 ≤ scheme c v
+  marked-deep : (v : ℕ) → v < size c → marksHandler c v ≡ true → 2 ≤ scheme c v
   marked-deep v l e =
-      let p : ℕ → Bool = λ u. isMarked c u && eqb (scheme c u) 1 in
-      let f : (isMarked c v && eqb (scheme c v) 1) ≡ false =
-      any-false p 0 (size c) (or-l (any p 0 (size c)) (ltb 1 (count (isMarked c) 0 (size c))) (a .goodMarks)) v (omega arith) (omega arith) in
-      let n : scheme c v ≡ 1 → ⊥ = eqb-false (scheme c v) 1 (and-false (isMarked c v) (eqb (scheme c v) 1) f e) in
-      omega (arith, owned v l)
+      let p : ℕ → Bool = λ u. eqb (handlerAt c u) 1 in
+      let f : p v ≡ false =
+      any-false p 0 (size c) (or-l (any p 0 (size c)) (ltb 1 (count (marksHandler c) 0 (size c))) (a .goodMarks)) v (omega arith) (omega arith) in
+      let n : handlerAt c v ≡ 1 → ⊥ = eqb-false (handlerAt c v) 1 f in
+      omega (arith, owned v l, yes-pick (marksHandler c v) (scheme c v) 0 e)
 
   pub handled : (handler c ≡ 0 → ⊥) → (2 ≤ handler c) × (handler c ≤ schemes c)
   unfolding handler
-  handled = highest-of (λ (h : ℕ). (h ≡ 0 → ⊥) → (2 ≤ h) × (h ≤ schemes c)) (λ v. pick (isMarked c v) (scheme c v) 0) 0 (size c)
-      (λ n. absurd (n refl)) (λ v x y. go v (omega arith) (isMarked c v) refl)
+  handled = highest-of (λ (h : ℕ). (h ≡ 0 → ⊥) → (2 ≤ h) × (h ≤ schemes c)) (handlerAt c) 0 (size c)
+      (λ n. absurd (n refl)) (λ v x y. go v (omega arith) (marksHandler c v) refl)
     where
-      go : (v : ℕ) → v < size c → (t : Bool) → isMarked c v ≡ t
+      go : (v : ℕ) → v < size c → (t : Bool) → marksHandler c v ≡ t
           → (pick t (scheme c v) 0 ≡ 0 → ⊥) → (2 ≤ pick t (scheme c v) 0) × (pick t (scheme c v) 0 ≤ schemes c)
       go v l true e n = (marked-deep v l e, owned v l .1)
       go v l false e n = absurd (n refl)

@@ -50,12 +50,17 @@ schemes c = highest (scheme c) 0 (size c)
 abbrev pub isOf : Chart → ℕ → ℕ → ℕ → Bool
 isOf c k h v = is c k v && eqb (scheme c v) h
 
--- the Begin of a handler, the scheme that is performed when the stack is full; its scheme, 0 where no Begin is marked
-abbrev pub isMarked : Chart → ℕ → Bool
-isMarked c v = is c 0 v && eqb (argument c v) 1
+-- a Begin with byte 2 equal to 1 marks its scheme as the handler, which is performed when the stack is full
+abbrev pub marksHandler : Chart → ℕ → Bool
+marksHandler c v = is c 0 v && eqb (argument c v) 1
 
+-- the scheme that node v marks, or 0
+abbrev pub handlerAt : Chart → ℕ → ℕ
+handlerAt c v = pick (marksHandler c v) (scheme c v) 0
+
+-- the handler, 0 where no scheme is marked
 unfoldable pub handler : Chart → ℕ
-handler c = highest (λ v. pick (isMarked c v) (scheme c v) 0) 0 (size c)
+handler c = highest (handlerAt c) 0 (size c)
 
 -- the lowest node of kind k in scheme h: a scheme's Begin and its End
 unfoldable pub nodeOf : Chart → ℕ → ℕ → ℕ

@@ -9,7 +9,7 @@ use Rattle.lists.specs.Sequences.{some}
 use Rattle.graph.specs.Reach.{marked, joinedFrom}
 use Rattle.frames.specs.Frame.{size, field}
 use Rattle.frames.specs.Verdict.{Verdict, next, when, atLowest}
-use Rattle.charts.specs.Chart.{Chart, kind, scheme, argument, next0, next1, result, is, isOf, isMarked, schemes, begin}
+use Rattle.charts.specs.Chart.{Chart, kind, scheme, argument, next0, next1, result, is, isOf, marksHandler, handlerAt, schemes, begin}
 
 -- 4. A byte of i to 9 is not 0.
 abbrev pub filledFrom : Chart → ℕ → ℕ → Bool
@@ -33,7 +33,7 @@ badScheme c h = not (eqb (count (isOf c 0 h) 0 (size c)) 1 && eqb (count (isOf c
 
 -- 19. A mark on scheme 1, or a second mark.
 abbrev pub badMarks : Chart → Bool
-badMarks c = any (λ v. isMarked c v && eqb (scheme c v) 1) 0 (size c) || ltb 1 (count (isMarked c) 0 (size c))
+badMarks c = any (λ v. eqb (handlerAt c v) 1) 0 (size c) || ltb 1 (count (marksHandler c) 0 (size c))
 
 -- 6. The nodes that the arcs of a node lead to; one that is no node, of another scheme or a Begin.
 abbrev pub arcs : Chart → ℕ → List ℕ

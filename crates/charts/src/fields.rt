@@ -30,12 +30,12 @@ fn filled_from(records: &[u8], v: usize, i: usize) -> bool
     false
 }
 
-// A Begin uses byte 3 alone.
+// A Begin uses byte 3, and byte 2 for its mark, 0 or 1.
 fn bad_begin(records: &[u8], v: usize) -> bool
     requires { ⌜ 10 * v + 10 ≤ length (now records) ⌝ }
     ensures { λ r. ⌜ r ≡ badUse (now (records .entry)) v 0 ⌝ }
 {
-    if field(records, v, 2) != 0 {
+    if 1 < field(records, v, 2) {
         return true;
     }
     filled_from(records, v, 4)

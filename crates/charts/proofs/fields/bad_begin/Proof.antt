@@ -1,5 +1,5 @@
 -- `charts::fields::bad_begin` meets its contract: byte 2, then the bytes from 4 on.
-use borrow.Author.Tests.{eq-eqb, ne-eqb}
+use borrow.Author.Tests.{lt-ltb, le-ltb}
 use borrow.Author.Needs.{needs}
 use Rattle.charts.proofs.fields.bad_begin.Statement.{statement}
 use Rattle.charts.proofs.fields.bad_begin.Tie as tie
@@ -8,13 +8,13 @@ field-requires : tie.Need-field-requires
 field-requires c κs = search needs
 
 returns : tie.Need-returns
-returns c = simp (← c .before .field .ensures, ne-eqb _ _ (c .if1 .taken))
+returns c = simp (← c .before .field .ensures, lt-ltb _ _ (c .if1 .taken))
 
 filled-from-requires : tie.Need-filled-from-requires
 filled-from-requires c κs = search needs
 
 returns-2 : tie.Need-returns-2
-returns-2 c = simp (c .filled-from .ensures, ← c .before .before .field .ensures, eq-eqb _ _ (c .before .if1 .left))
+returns-2 c = simp (c .filled-from .ensures, ← c .before .before .field .ensures, le-ltb _ _ (c .before .if1 .left))
 
 pub bad-begin-spec : {M : Type 1} → statement M
 bad-begin-spec = tie.close (tie.spec field-requires returns filled-from-requires returns-2)
