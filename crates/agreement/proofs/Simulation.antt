@@ -1,34 +1,36 @@
 -- One tick of the machine on the table of a chart is one tick of the walk, but for a call at a full stack, which stops it with 17.
 use Prim.Native.Nat.{ℕ, suc, _+_, _-_, _≤_, _<_}
-use mathlib.Core.Bool.{Bool, true, false}
+use mathlib.Core.Bool.{Bool, true, false, _&&_, _||_, not}
 use mathlib.Core.Path.{_≡_, refl, ap, _∙_, sym}
 use mathlib.Core.Logic.{_⊎_, inl, inr}
 use mathlib.Core.List.{List, [], _∷_}
 use lib.Dec.{leb, eqb}
-use lib.ListN.{length, set}
+use lib.ListN.{length, set, replicate}
 use native.Mathlib.Omega.{arith}
-use borrow.Author.Tests.{eq-eqb, ne-eqb, le-leb, leb-true, leb-false}
+use borrow.Author.Tests.{eqb-true, eqb-false, eq-eqb, ne-eqb, le-leb, lt-leb, leb-true, leb-false}
 use Rattle.lists.specs.Pick.{pick}
-use Rattle.lists.proofs.Tests.{and-no}
+use Rattle.lists.proofs.Tests.{and-no, and-r, and-true, or-true-r, or-none, yes-pick, no-pick}
+use Rattle.frames.specs.Frame.{size}
 use Rattle.bits.specs.Results.{Results, resultOf, withResult, cleared}
-use Rattle.charts.specs.Chart.{Chart, kind, scheme, argument, next0, mask}
+use Rattle.charts.specs.Chart.{Chart, kind, scheme, argument, next0, mask, handler, schemes, end}
 use Rattle.walk.specs.Stops.{start, byArc, byWord, Stop}
-use Rattle.walk.specs.Walk.{Tick}
+use Rattle.walk.specs.Walk.{Tick, drops}
 use Rattle.walk.proofs.Facts.{Facts}
 use Rattle.walk.proofs.Views.{View, a-plain, a-call, a-function, a-home, a-back, a-begin, a-condition, stop-call, stop-function}
-use Rattle.walk.proofs.Trace.{Position, at, one, tickOf, resumedBy, resumed, returned, movedBy, tickAt, move, Caller, Good, caller-stop, view-of}
+use Rattle.walk.proofs.Trace.{Position, at, one, tickOf, resumedBy, resumed, returned, called, movedBy, tickAt, move}
+use Rattle.walk.proofs.Trace.{Caller, Under, bottom, Good, caller-stop, drop-handler, view-of}
 use Rattle.image.specs.Image.{Image, Label}
-use Rattle.translator.specs.Labels.{label}
+use Rattle.translator.specs.Labels.{numbered, label}
 use Rattle.translator.specs.Rows.{rows}
 use Rattle.translator.specs.Table.{table}
 use Rattle.state.specs.declared.State.{State}
-use Rattle.state.specs.State.{labelAt, entryAt, placeAt}
-use Rattle.ticks.specs.Tick.{rowOf, Ticked, ticked, stopped, moved, pushed, tickBy, tick}
+use Rattle.state.specs.State.{labelAt, placeAt, ofHandler}
+use Rattle.ticks.specs.Tick.{rowOf, Ticked, ticked, stopped, moved, pushed, popped, tickBy, tick}
 use Rattle.rows.specs.Rows.{Found, found, firstRow}
 use Rattle.agreement.specs.Agreement.{isFullCall}
 use Rattle.agreement.proofs.TableFacts.{TableFacts}
-use Rattle.agreement.proofs.StopLabels.{heldBy, held}
-use Rattle.agreement.proofs.Places.{below, zerosOver, stateOf, get-top, get-under, set-top, set-push, set-drop}
+use Rattle.agreement.proofs.StopLabels.{label-home, is-numbered, heldBy, held}
+use Rattle.agreement.proofs.Places.{below, zerosOver, stateOf, bottomOf, get-bottom, get-top, get-under, set-top, set-push, set-drop}
 
 -- what the machine answers for a tick of the walk that leads to state s
 abbrev pub answer : ℕ → Tick → State → Ticked
@@ -43,37 +45,23 @@ tick-at i s w l x e f =
     ∙ ap (λ (y : Label). tickBy i s w l y (withResult (y .result) (y .owner) (s .bits)) (y .kind)) f
 
 module _ (c : Chart) (n : ℕ) (n≤ : n ≤ 32) where
-  abbrev state : ℕ → List ℕ → Results → State
-  state v ks b = stateOf c n (at v ks b)
+  abbrev state : ℕ → List ℕ → Results → Bool → State
+  state v ks b f = stateOf c n (at v ks b f)
 
   -- ---- what each kind of tick makes of the state of a position
-  to-top : (m code v u : ℕ) (ks : List ℕ) (b d : Results) (f : Found) → f ≡ found (label c u)
-      → let s = state v ks b in moved m code s (s .depth - 1) (s .depth) (s .places) d f ≡ ticked m code (state u ks d)
-  to-top m code v u ks b d f e =
-      let s = state v ks b in
+  to-top : (m code v u : ℕ) (ks : List ℕ) (b d : Results) (f : Bool) (r : Found) → r ≡ found (label c u)
+      → let s = state v ks b f in moved m code s (s .depth - 1) (s .depth) (s .places) d r ≡ ticked m code (state u ks d f)
+  to-top m code v u ks b d f r e =
+      let s = state v ks b f in
       ap (moved m code s (s .depth - 1) (s .depth) (s .places) d) e
       ∙ ap (λ (ps : List ℕ). ticked m code (record { size = n; depth = suc (length ks); places = ps; bits = d }))
       (set-top c ks (label c v) (zerosOver ks) (label c u))
 
-  to-push : (m code h v u : ℕ) (ks : List ℕ) (b d : Results) → 16 ≤ code → length ks < n → entryAt (table c) h ≡ label c u
-      → pushed (table c) (state v ks b) m code h d (leb n (suc (length ks))) ≡ answer n (one v m code (suc (length ks))) (state u (v ∷ ks) (cleared h d))
-  to-push m code h v u ks b d l low e = go (leb n (suc (length ks))) refl
-    where
-      go : (t : Bool) → leb n (suc (length ks)) ≡ t
-          → pushed (table c) (state v ks b) m code h d t ≡ answer n (one v m code (suc (length ks))) (state u (v ∷ ks) (cleared h d))
-      go true t = rw (le-leb 16 code l, eq-eqb (suc (length ks)) n (omega (arith, leb-true n (suc (length ks)) t)))
-      go false t =
-          ap (λ (ps : List ℕ). ticked m code (record { size = n; depth = suc (suc (length ks)); places = ps; bits = cleared h d }))
-          (ap (λ (j : ℕ). set (below c ks (label c v ∷ zerosOver ks)) (suc (length ks)) j) e
-          ∙ set-push c v ks (label c u) (omega (arith, leb-false n (suc (length ks)) t)))
-          ∙ sym (ap (λ (r : Bool). pick r (stopped 17) (ticked m code (state u (v ∷ ks) (cleared h d))))
-          (and-no (leb 16 code) (eqb (suc (length ks)) n) (ne-eqb (suc (length ks)) n (λ q. omega (arith, leb-false n (suc (length ks)) t)))))
-
-  to-under : (m code v u k : ℕ) (ks : List ℕ) (b d : Results) (f : Found) → length ks < 31 → f ≡ found (label c u)
-      → let s = state v (k ∷ ks) b in
-      moved m code s (s .depth - 2) (s .depth - 1) (set (s .places) (s .depth - 1) 0) d f ≡ ticked m code (state u ks d)
-  to-under m code v u k ks b d f l e =
-      let s = state v (k ∷ ks) b in
+  to-under : (m code v u k : ℕ) (ks : List ℕ) (b d : Results) (f : Bool) (r : Found) → length ks < 31 → r ≡ found (label c u)
+      → let s = state v (k ∷ ks) b f in
+      moved m code s (s .depth - 2) (s .depth - 1) (set (s .places) (s .depth - 1) 0) d r ≡ ticked m code (state u ks d f)
+  to-under m code v u k ks b d f r l e =
+      let s = state v (k ∷ ks) b f in
       let q : suc (suc (length ks)) - 1 ≡ suc (length ks) = omega arith in
       ap (moved m code s (s .depth - 2) (s .depth - 1) (set (s .places) (s .depth - 1) 0) d) e
       ∙ ap (λ (ps : List ℕ). ticked m code (record { size = n; depth = s .depth - 1; places = ps; bits = d }))
@@ -132,7 +120,7 @@ module _ (c : Chart) (n : ℕ) (n≤ : n ≤ 32) where
       module _ (m j h : ℕ) (d : Results) (low : 16 ≤ j + h) (other : j + h ≡ 96 → ⊥) (some : 1 ≤ h) (most : h ≤ schemes c) where
         abbrev Goal : Bool → Bool → Type 0
         Goal full t = pushed (table c) (state v ks b f) m (j + h) h d full
-            ≡ answer n (one m (pick t 96 (j + h)) (suc (length ks))) (stateOf c n (called c v ks h d f t))
+            ≡ answer n (one v m (pick t 96 (j + h)) (suc (length ks))) (stateOf c n (called c v ks h d f t))
 
         at-full : (t : Bool) → drops n c f (suc (length ks)) ≡ t → suc (length ks) ≡ n → kept (state v ks b f) ≡ not t → Goal true t
         unfolding table below
@@ -143,7 +131,7 @@ module _ (c : Chart) (n : ℕ) (n≤ : n ≤ 32) where
             (tableFacts .entries (handler c) (omega (arith, l)) (l .1))
         at-full false q e k =
             yes-pick (kept (state v ks b f)) (stopped 17) _ k
-            ∙ sym (yes-pick (isFullCall n (one m (j + h) (suc (length ks)))) (stopped 17) _
+            ∙ sym (yes-pick (isFullCall n (one v m (j + h) (suc (length ks)))) (stopped 17) _
             (and-true (leb 16 (j + h) && not (eqb (j + h) 96)) (eqb (suc (length ks)) n)
             (and-true (leb 16 (j + h)) (not (eqb (j + h) 96)) (le-leb 16 (j + h) low) (ap not (ne-eqb (j + h) 96 other)))
             (eq-eqb (suc (length ks)) n e)))
@@ -155,7 +143,7 @@ module _ (c : Chart) (n : ℕ) (n≤ : n ≤ 32) where
             ap (λ (ps : List ℕ). ticked m (j + h) (record { size = n; depth = suc (suc (length ks)); places = ps; bits = cleared h d }))
             (ap (λ (l : ℕ). set (below c ks (label c v ∷ zerosOver ks)) (suc (length ks)) l) (tableFacts .entries h some most)
             ∙ set-push c v ks (label c (start c h)) (omega arith))
-            ∙ sym (no-pick (isFullCall n (one m (j + h) (suc (length ks)))) (stopped 17) _
+            ∙ sym (no-pick (isFullCall n (one v m (j + h) (suc (length ks)))) (stopped 17) _
             (and-no (leb 16 (j + h) && not (eqb (j + h) 96)) (eqb (suc (length ks)) n) (ne-eqb (suc (length ks)) n (λ z. omega arith))))
 
         to-push : length ks < n → Goal (leb n (suc (length ks))) (drops n c f (suc (length ks)))
@@ -180,38 +168,39 @@ module _ (c : Chart) (n : ℕ) (n≤ : n ≤ 32) where
             ∙ tableFacts .rowFunction k w (resultOf (argument c k) b) (caller .inside) e
             ∙ ap (λ (s : Stop). found (label c (resumedBy c k w b s))) (sym (stop-function c k e))
 
-    tick-back : (v : ℕ) (ks : List ℕ) (b : Results) (w : ℕ) → length ks < n → Good c (at v ks b) → (scheme c v ≡ 1 → ⊥)
-        → let s = state v ks b in
-        moved 0 3 s (s .depth - 2) (s .depth - 1) (set (s .places) (s .depth - 1) 0) b (rowOf (table c) b (placeAt s (s .depth - 2)) w)
-        ≡ ticked 0 3 (stateOf c n (returned c ks w b))
-    tick-back v [] b w low g s = absurd (s (g .under))
-    tick-back v (k ∷ ks) b w low g s = to-under 0 3 v (resumed c k w b) k ks b b _ (omega arith)
+    tick-back : (v : ℕ) (ks : List ℕ) (b : Results) (f : Bool) (w : ℕ) → length ks < n → Good c (at v ks b f)
+        → let s = state v ks b f in popped (table c) s w 0 b (leb (s .depth) 1) ≡ ticked 0 3 (stateOf c n (returned c ks w b f))
+    unfolding below
+    tick-back v [] b f w low g =
+        let e = facts .ends 1 (omega arith) (facts .first) in
+        ap (λ (l : ℕ). ticked 0 3 (record { size = n; depth = 1; places = l ∷ replicate 31 0; bits = b })) (sym (label-home c (end c 1) (e .1) (e .2)))
+    tick-back v (k ∷ ks) b f w low g =
+        ap (popped (table c) (state v (k ∷ ks) b f) w 0 b) (lt-leb (suc (suc (length ks))) 1 (omega arith))
+        ∙ to-under 0 3 v (resumed c k w b) k ks b b f _ (omega arith)
         (ap (λ (l : ℕ). rowOf (table c) b l w) (get-under c k ks (label c v) (zerosOver (k ∷ ks))) ∙ resumed-row (scheme c v) k w b (g .under .0))
 
     -- with the label that the table holds for the stop
-    tick-by : (v : ℕ) (ks : List ℕ) (b : Results) (w : ℕ) → length ks < n → Good c (at v ks b) → {s : Stop} → View c v s
-        → let x = heldBy c v s in
-        tickBy (table c) (state v ks b) w (label c v) x (withResult (x .result) (x .owner) b) (x .kind)
-        ≡ answer n (tickOf (suc (length ks)) v s) (stateOf c n (movedBy c v ks w b s))
+    tick-by : (v : ℕ) (ks : List ℕ) (b : Results) (f : Bool) (w : ℕ) → length ks < n → Good c (at v ks b f) → {s : Stop} → View c v s
+        → let x = heldBy c v s in let t = drops n c f (suc (length ks)) in
+        tickBy (table c) (state v ks b f) w (label c v) x (withResult (x .result) (x .owner) b) (x .kind)
+        ≡ answer n (tickOf t (suc (length ks)) v s) (stateOf c n (movedBy c t v ks w b f s))
     unfolding table
-    tick-by v ks b w low g (a-plain e a) =
-        to-top (mask c v) 0 v (byArc c w (next0 c v)) ks b _ _ (tableFacts .rowPlain v w _ (g .top .inside) e)
-    tick-by v ks b w low g (a-call e a) = let l = facts .calls v (g .top .inside) e a in
-        to-push (mask c v) (16 + argument c v) (argument c v) v (start c (argument c v)) ks b _ (omega arith) low
-        (tableFacts .entries (argument c v) (omega (arith, l)) (l .1))
-    tick-by v ks b w low g (a-function e) = let l = facts .functions v (g .top .inside) e in
-        to-push 0 (64 + argument c v) (argument c v) v (start c (argument c v)) ks b b (omega arith) low
-        (tableFacts .entries (argument c v) (omega (arith, l)) (l .1))
-    tick-by v ks b w low g (a-home e s) = to-top 0 4 v (start c 1) ks b b _ (ap found (tableFacts .entries 1 (omega arith) (facts .first)))
-    tick-by v ks b w low g (a-back e s) = tick-back v ks b w low g s
-    tick-by v ks b w low g (a-begin e) =
-        to-top 0 0 v (byWord c w (next0 c v)) ks b b _ (tableFacts .rowBegin v w _ (g .top .inside) e (g .top .stopping))
-    tick-by v ks b w low g (a-condition e) =
-        to-top 0 0 v (byWord c w v) ks b b _ (tableFacts .rowCondition v w _ (g .top .inside) e (g .top .stopping))
+    tick-by v ks b f w low g (a-plain e a) =
+        to-top (mask c v) 0 v (byArc c w (next0 c v)) ks b _ f _ (tableFacts .rowPlain v w _ (g .top .inside) e)
+    tick-by v ks b f w low g (a-call e a) = let l = facts .calls v (g .top .inside) e a in
+        to-push v ks b f g (inl e) (mask c v) 16 (argument c v) _ (omega arith) (λ q. omega (arith, facts .most)) (omega arith) (l .1) low
+    tick-by v ks b f w low g (a-function e) = let l = facts .functions v (g .top .inside) e in
+        to-push v ks b f g (inr e) 0 64 (argument c v) b (omega arith) (λ q. omega (arith, facts .most)) (omega arith) (l .1) low
+    tick-by v ks b f w low g (a-home e s) = to-top 0 4 v (start c 1) ks b b f _ (ap found (tableFacts .entries 1 (omega arith) (facts .first)))
+    tick-by v ks b f w low g (a-back e s) = tick-back v ks b f w low g
+    tick-by v ks b f w low g (a-begin e) =
+        to-top 0 0 v (byWord c w (next0 c v)) ks b b f _ (tableFacts .rowBegin v w _ (g .top .inside) e (g .top .stopping))
+    tick-by v ks b f w low g (a-condition e) =
+        to-top 0 0 v (byWord c w v) ks b b f _ (tableFacts .rowCondition v w _ (g .top .inside) e (g .top .stopping))
 
     pub tick-is : (w : ℕ) (x : Position) → length (x .callers) < n → Good c x
-        → tick (table c) (stateOf c n x) w ≡ answer n (tickAt c x) (stateOf c n (move c w x))
+        → tick (table c) (stateOf c n x) w ≡ answer n (tickAt n c x) (stateOf c n (move n c w x))
     tick-is w x low g = let v = view-of c facts x g in
         tick-at (table c) (stateOf c n x) w (label c (x .node)) _ (get-top c (x .callers) (label c (x .node)) (zerosOver (x .callers)))
         (held c (x .node) tableFacts (g .top) v)
-        ∙ tick-by (x .node) (x .callers) (x .results) w low g v
+        ∙ tick-by (x .node) (x .callers) (x .results) (x .first) w low g v

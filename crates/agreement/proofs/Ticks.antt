@@ -39,53 +39,60 @@ ranBy c n b ts y m = record {
 
 -- what is run of all the words, from x on
 abbrev pub ranFrom : Chart → ℕ → List ℕ → Position → Ran
-ranFrom c n ws x = ranBy c n (bound n (trace c ws x)) (trace c ws x) (stand c n ws x) (length ws)
+ranFrom c n ws x = ranBy c n (bound n (trace n c ws x)) (trace n c ws x) (stand c n ws x) (length ws)
 
 abbrev ran : List ℕ → List ℕ → State → Verdict → Ran
 ran ms ks s v = record { masks = ms; codes = ks; state = s; verdict = v }
 
 module _ (c : Chart) (n : ℕ) where
   -- ---- a tick that is no call at a full stack leaves room for the node's label
-  deeper : (code k : ℕ) → 16 ≤ code → k < n → (leb 16 code && eqb (suc k) n) ≡ false → suc k < n
-  deeper code k l low q =
-      let e : suc k ≡ n → ⊥ = eqb-false (suc k) n (and-false (leb 16 code) (eqb (suc k) n) q (le-leb 16 code l)) in omega arith
+  deep-back : (ks : List ℕ) (w : ℕ) (b : Results) (f : Bool) → length ks < n → length (returned c ks w b f .callers) < n
+  deep-back [] w b f low = low
+  deep-back (k ∷ ks) w b f low = omega arith
 
-  deep-back : (ks : List ℕ) (w : ℕ) (b : Results) → length ks < n → length (returned c ks w b .callers) < n
-  deep-back [] w b low = low
-  deep-back (k ∷ ks) w b low = omega arith
+  deep-call : (v : ℕ) (ks : List ℕ) (h code : ℕ) (d : Results) (f : Bool) → length ks < n → 16 ≤ code → (code ≡ 96 → ⊥) → (t : Bool)
+      → (leb 16 (pick t 96 code) && not (eqb (pick t 96 code) 96) && eqb (suc (length ks)) n) ≡ false → length (called c v ks h d f t .callers) < n
+  deep-call v ks h code d f low l other true q = omega arith
+  deep-call v ks h code d f low l other false q =
+      let e : suc (length ks) ≡ n → ⊥ = eqb-false (suc (length ks)) n
+      (and-false (leb 16 code && not (eqb code 96)) (eqb (suc (length ks)) n) q
+      (and-true (leb 16 code) (not (eqb code 96)) (le-leb 16 code l) (ap not (ne-eqb code 96 other)))) in
+      omega arith
 
-  deep-by : (v : ℕ) (ks : List ℕ) (b : Results) (w : ℕ) → length ks < n → {s : Stop} → View c v s
-      → isFullCall n (tickOf (suc (length ks)) v s) ≡ false → length (movedBy c v ks w b s .callers) < n
-  deep-by v ks b w low (a-plain e a) q = low
-  deep-by v ks b w low (a-call e a) q = deeper (16 + argument c v) (length ks) (omega arith) low q
-  deep-by v ks b w low (a-function e) q = deeper (64 + argument c v) (length ks) (omega arith) low q
-  deep-by v ks b w low (a-home e s) q = low
-  deep-by v ks b w low (a-back e s) q = deep-back ks w b low
-  deep-by v ks b w low (a-begin e) q = low
-  deep-by v ks b w low (a-condition e) q = low
+  deep-by : Facts c → (v : ℕ) (ks : List ℕ) (b : Results) (f : Bool) (w : ℕ) → v < size c → length ks < n → (t : Bool) → {s : Stop} → View c v s
+      → isFullCall n (tickOf t (suc (length ks)) v s) ≡ false → length (movedBy c t v ks w b f s .callers) < n
+  deep-by facts v ks b f w i low t (a-plain e a) q = low
+  deep-by facts v ks b f w i low t (a-call e a) q =
+      deep-call v ks (argument c v) (16 + argument c v) _ f low (omega arith) (λ z. omega (arith, facts .calls v i e a, facts .most)) t q
+  deep-by facts v ks b f w i low t (a-function e) q =
+      deep-call v ks (argument c v) (64 + argument c v) b f low (omega arith) (λ z. omega (arith, facts .functions v i e, facts .most)) t q
+  deep-by facts v ks b f w i low t (a-home e s) q = low
+  deep-by facts v ks b f w i low t (a-back e s) q = deep-back ks w b f low
+  deep-by facts v ks b f w i low t (a-begin e) q = low
+  deep-by facts v ks b f w i low t (a-condition e) q = low
 
   -- ---- the first tick, and then the others
   abbrev first : ℕ → List ℕ → Position → Ran
-  first w ws x = then (stateOf c n x) (λ s. ticks (table c) s ws) (answer n (tickAt c x) (stateOf c n (move c w x)))
+  first w ws x = then (stateOf c n x) (λ s. ticks (table c) s ws) (answer n (tickAt n c x) (stateOf c n (move n c w x)))
 
-  first-stops : (w : ℕ) (ws : List ℕ) (x : Position) → isFullCall n (tickAt c x) ≡ true → first w ws x ≡ ranFrom c n (w ∷ ws) x
+  first-stops : (w : ℕ) (ws : List ℕ) (x : Position) → isFullCall n (tickAt n c x) ≡ true → first w ws x ≡ ranFrom c n (w ∷ ws) x
   unfolding trace
   first-stops w ws x e =
-      let t = tickAt c x in let ts = trace c ws (move c w x) in
-      ap (λ (r : Bool). then (stateOf c n x) (λ s. ticks (table c) s ws) (pick r (stopped 17) (ticked (t .mask) (t .code) (stateOf c n (move c w x))))) e
+      let t = tickAt n c x in let ts = trace n c ws (move n c w x) in
+      ap (λ (r : Bool). then (stateOf c n x) (λ s. ticks (table c) s ws) (pick r (stopped 17) (ticked (t .mask) (t .code) (stateOf c n (move n c w x))))) e
       ∙ ap (λ (r : Bool). ran [] [] (stateOf c n x) (pick r (refused 17 0) fine)) (sym (lt-ltb 0 (suc (length ws)) (omega arith)))
       ∙ ap (λ (y : Position). ranBy c n 0 (t ∷ ts) y (suc (length ws))) (sym (stand-stop c n w ws x e))
       ∙ ap (λ (b : ℕ). ranBy c n b (t ∷ ts) (stand c n (w ∷ ws) x) (suc (length ws))) (sym (bound-stop n t ts e))
 
-  first-goes : (w : ℕ) (ws : List ℕ) (x : Position) → isFullCall n (tickAt c x) ≡ false
-      → ticks (table c) (stateOf c n (move c w x)) ws ≡ ranFrom c n ws (move c w x) → first w ws x ≡ ranFrom c n (w ∷ ws) x
+  first-goes : (w : ℕ) (ws : List ℕ) (x : Position) → isFullCall n (tickAt n c x) ≡ false
+      → ticks (table c) (stateOf c n (move n c w x)) ws ≡ ranFrom c n ws (move n c w x) → first w ws x ≡ ranFrom c n (w ∷ ws) x
   unfolding trace
   first-goes w ws x e ih =
-      let t = tickAt c x in let ts = trace c ws (move c w x) in let b = bound n ts in
-      ap (λ (r : Bool). then (stateOf c n x) (λ s. ticks (table c) s ws) (pick r (stopped 17) (ticked (t .mask) (t .code) (stateOf c n (move c w x))))) e
+      let t = tickAt n c x in let ts = trace n c ws (move n c w x) in let b = bound n ts in
+      ap (λ (r : Bool). then (stateOf c n x) (λ s. ticks (table c) s ws) (pick r (stopped 17) (ticked (t .mask) (t .code) (stateOf c n (move n c w x))))) e
       ∙ ap (λ (r : Ran). ran (t .mask ∷ r .masks) (t .code ∷ r .codes) (r .state) (r .verdict)) ih
       ∙ ap (λ (r : Bool). ran (map (λ (u : Tick). u .mask) (take (suc b) (t ∷ ts))) (map (λ (u : Tick). u .code) (take (suc b) (t ∷ ts)))
-      (stateOf c n (stand c n ws (move c w x))) (pick r (refused 17 0) fine)) (sym (leb·suc-suc (suc b) (length ws)))
+      (stateOf c n (stand c n ws (move n c w x))) (pick r (refused 17 0) fine)) (sym (leb·suc-suc (suc b) (length ws)))
       ∙ ap (λ (y : Position). ranBy c n (suc b) (t ∷ ts) y (suc (length ws))) (sym (stand-go c n w ws x e))
       ∙ ap (λ (k : ℕ). ranBy c n k (t ∷ ts) (stand c n (w ∷ ws) x) (suc (length ws))) (sym (bound-go n t ts e))
 
