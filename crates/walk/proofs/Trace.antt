@@ -1,31 +1,35 @@
 -- The walk without recursion: positions of a node, its unfinished callers and the result bits, each word a move to the next one.
 use Prim.Native.Nat.{ℕ, suc, _+_, _≤_, _<_}
-use mathlib.Core.Bool.{Bool, true, false}
+use mathlib.Core.Bool.{Bool, true, false, _&&_, not}
 use mathlib.Core.Path.{_≡_, refl, ap, sym, subst}
 use mathlib.Core.Logic.{_⊎_, inl, inr}
 use mathlib.Core.List.{List, [], _∷_, _++_}
 use lib.ListN.{length}
+use lib.Dec.{eqb}
+use borrow.Author.Tests.{eqb-false}
 use native.Mathlib.Omega.{arith}
 use Rattle.lists.specs.Pick.{pick}
-use Rattle.bits.specs.Results.{Results, noResults, resultOf, withResult, cleared}
+use Rattle.lists.proofs.Tests.{no-both, and-l, and-r, not-true}
+use Rattle.bits.specs.Results.{Results, resultOf, withResult, cleared}
 use Rattle.frames.specs.Frame.{size}
-use Rattle.charts.specs.Chart.{Chart, kind, scheme, argument, next0, next1, schemes, end}
+use Rattle.charts.specs.Chart.{Chart, kind, scheme, argument, next0, next1, handler, schemes, end}
 use Rattle.walk.specs.Stops.{stops, start, byArc, byWord, Stop, plain, call, function, test, home, back, stopAt}
-use Rattle.walk.specs.Walk.{Tick}
+use Rattle.walk.specs.Walk.{Tick, drops}
 use Rattle.walk.proofs.Facts.{Target, StopOf, Facts}
 use Rattle.walk.proofs.Views.{View, a-plain, a-call, a-function, a-home, a-back, a-begin}
 use Rattle.walk.proofs.Views.{a-condition, view, stop-call, stop-function, begin-leads, end-stops}
 
--- the callers of unfinished calls, the last one first
+-- the callers of unfinished calls, the last one first, and whether the handler is the first open scheme
 pub record Position : Type 0 where
   pub node : ℕ
   pub callers : List ℕ
   pub results : Results
+  pub first : Bool
 
-abbrev pub at : ℕ → List ℕ → Results → Position
-at v ks b = record { node = v; callers = ks; results = b }
+abbrev pub at : ℕ → List ℕ → Results → Bool → Position
+at v ks b f = record { node = v; callers = ks; results = b; first = f }
 
--- mask and code of a stop's tick
+-- mask and code of a stop's tick, where a call drops the open schemes or not
 abbrev pub maskOf : Stop → ℕ
 maskOf (plain m r u) = m
 maskOf (call m r h u) = m
@@ -34,20 +38,20 @@ maskOf (test u) = 0
 maskOf home = 0
 maskOf back = 0
 
-abbrev pub codeOf : Stop → ℕ
-codeOf (plain m r u) = 0
-codeOf (call m r h u) = 16 + h
-codeOf (function h u₀ u₁) = 64 + h
-codeOf (test u) = 0
-codeOf home = 4
-codeOf back = 3
+abbrev pub codeOf : Bool → Stop → ℕ
+codeOf d (plain m r u) = 0
+codeOf d (call m r h u) = pick d 96 (16 + h)
+codeOf d (function h u₀ u₁) = pick d 96 (64 + h)
+codeOf d (test u) = 0
+codeOf d home = 4
+codeOf d back = 3
 
 abbrev pub one : ℕ → ℕ → ℕ → ℕ → Tick
 one v m k o = record { node = v; mask = m; code = k; opened = o }
 
 -- the tick of stop v, which does s, with o schemes open
-abbrev pub tickOf : ℕ → ℕ → Stop → Tick
-tickOf o v s = one v (maskOf s) (codeOf s) o
+abbrev pub tickOf : Bool → ℕ → ℕ → Stop → Tick
+tickOf d o v s = one v (maskOf s) (codeOf d s) o
 
 -- where caller k goes on when its call has ended
 abbrev pub resumedBy : Chart → ℕ → ℕ → Results → Stop → ℕ
@@ -61,29 +65,44 @@ resumedBy c k w b back = k
 abbrev pub resumed : Chart → ℕ → ℕ → Results → ℕ
 resumed c k w b = resumedBy c k w b (stopAt c k)
 
--- with no caller left there is nothing to go back to, and a walk never comes there
-abbrev pub returned : Chart → List ℕ → ℕ → Results → Position
-returned c [] w b = at 0 [] b
-returned c (k ∷ ks) w b = at (resumed c k w b) ks b
+-- where a walk begins
+abbrev pub atHome : Chart → Results → Position
+atHome c b = at (end c 1) [] b false
 
-abbrev pub movedBy : Chart → ℕ → List ℕ → ℕ → Results → Stop → Position
-movedBy c v ks w b (plain m r u) = at (byArc c w u) ks (withResult r (scheme c v) b)
-movedBy c v ks w b (call m r h u) = at (start c h) (v ∷ ks) (cleared h (withResult r (scheme c v) b))
-movedBy c v ks w b (function h u₀ u₁) = at (start c h) (v ∷ ks) (cleared h b)
-movedBy c v ks w b (test u) = at (byWord c w u) ks b
-movedBy c v ks w b home = at (start c 1) ks b
-movedBy c v ks w b back = returned c ks w b
+-- with no caller left the handler has ended
+abbrev pub returned : Chart → List ℕ → ℕ → Results → Bool → Position
+returned c [] w b f = atHome c b
+returned c (k ∷ ks) w b f = at (resumed c k w b) ks b f
 
--- the tick that is made at a position, and the position after it
-abbrev pub tickAt : Chart → Position → Tick
-tickAt c x = tickOf (suc (length (x .callers))) (x .node) (stopAt c (x .node))
+-- where a drop leads, and a call of scheme h by node v
+abbrev pub handling : Chart → Results → Position
+handling c b = at (start c (handler c)) [] b true
 
-abbrev pub move : Chart → ℕ → Position → Position
-move c w x = movedBy c (x .node) (x .callers) w (x .results) (stopAt c (x .node))
+abbrev pub called : Chart → ℕ → List ℕ → ℕ → Results → Bool → Bool → Position
+called c v ks h b f true = handling c (cleared (handler c) b)
+called c v ks h b f false = at (start c h) (v ∷ ks) (cleared h b) f
 
-unfoldable pub trace : Chart → List ℕ → Position → List Tick
-trace c [] x = []
-trace c (w ∷ ws) x = tickAt c x ∷ trace c ws (move c w x)
+abbrev pub movedBy : Chart → Bool → ℕ → List ℕ → ℕ → Results → Bool → Stop → Position
+movedBy c d v ks w b f (plain m r u) = at (byArc c w u) ks (withResult r (scheme c v) b) f
+movedBy c d v ks w b f (call m r h u) = called c v ks h (withResult r (scheme c v) b) f d
+movedBy c d v ks w b f (function h u₀ u₁) = called c v ks h b f d
+movedBy c d v ks w b f (test u) = at (byWord c w u) ks b f
+movedBy c d v ks w b f home = at (start c 1) ks b f
+movedBy c d v ks w b f back = returned c ks w b f
+
+-- with n places: whether a call drops here, the tick that is made at a position, and the position after it
+abbrev pub dropsAt : ℕ → Chart → Position → Bool
+dropsAt n c x = drops n c (x .first) (suc (length (x .callers)))
+
+abbrev pub tickAt : ℕ → Chart → Position → Tick
+tickAt n c x = tickOf (dropsAt n c x) (suc (length (x .callers))) (x .node) (stopAt c (x .node))
+
+abbrev pub move : ℕ → Chart → ℕ → Position → Position
+move n c w x = movedBy c (dropsAt n c x) (x .node) (x .callers) w (x .results) (x .first) (stopAt c (x .node))
+
+unfoldable pub trace : ℕ → Chart → List ℕ → Position → List Tick
+trace n c [] x = []
+trace n c (w ∷ ws) x = tickAt n c x ∷ trace n c ws (move n c w x)
 
 -- ---- positions that a walk can come to
 -- node k waits for the end of scheme h, which it called
@@ -119,10 +138,6 @@ good c h u ks b f s under handled = record {
 -- a caller is itself a stop
 pub caller-stop : (c : Chart) (h k : ℕ) → Caller c h k → StopOf c (scheme c k) k
 caller-stop c h k caller = record { inside = caller .inside; same = refl; stopping = caller .stopping }
-
--- where a walk begins
-abbrev pub atHome : Chart → Results → Position
-atHome c b = at (end c 1) [] b false
 
 pub home-good : (c : Chart) → Facts c → (b : Results) → Good c (atHome c b)
 home-good c facts b = let e = facts .ends 1 (omega arith) (facts .first) in
