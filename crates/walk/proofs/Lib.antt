@@ -6,3 +6,4 @@ pub mod Follow
 pub mod FactsHold
 pub mod Functions
 pub mod NoHandler
+pub mod Drops
