@@ -1,4 +1,4 @@
-//! The bench sheet, B1 to B10, run on the reference.
+//! The bench sheet, B1 to B10, and the cases that requests add, run on the reference.
 
 use reference::frames::{text_of, Frame, IMAGE_TEXT};
 use reference::{entry, fresh_state, programs, walk, Answer};
@@ -65,7 +65,7 @@ fn b2_three_places() {
 #[test]
 fn b2_by_the_walk() {
     let chart = entry::chart_from_text(CHART_P.as_bytes()).unwrap();
-    let ticks = walk::walk(&chart, &W);
+    let ticks = walk::walk(&chart, 3, &W);
     let codes: Vec<u8> = ticks.iter().map(|t| t.code).collect();
     let masks: Vec<u32> = ticks.iter().map(|t| t.mask).collect();
     let open: Vec<usize> = ticks.iter().map(|t| t.open).collect();
@@ -207,6 +207,48 @@ fn a_call_clears_after_it_writes() {
     assert_eq!(bit_after(&image, 3, &[0; 2]), (Answer::Done(2), false));
     assert_eq!(bit_after(&image, 3, &[0; 3]), (Answer::Done(3), false));
     assert_eq!(bit_after(&image, 1, &[0; 2]), (refused(17, 0, 1), true));
+}
+
+/// Scheme 1 calls scheme 2, which calls itself; scheme 3 is marked as the handler and draws back by mask 4.
+fn drawn_back() -> Vec<u8> {
+    text_of(&[
+        BEGIN,
+        [2, 1, 2, 2, 0, 0, 0, 0, 0, 1],
+        END,
+        [0, 2, 0, 4, 0, 0, 0, 0, 0, 0],
+        [2, 2, 2, 5, 0, 2, 0, 0, 0, 2],
+        [1, 2, 0, 0, 0, 0, 0, 0, 0, 0],
+        [0, 3, 1, 7, 0, 0, 0, 0, 0, 0],
+        [2, 3, 0, 8, 0, 0, 0, 0, 0, 4],
+        [1, 3, 0, 0, 0, 0, 0, 0, 0, 0],
+    ])
+}
+
+/// The image is as without the mark, but for byte 5 of its header.
+#[test]
+fn the_header_names_the_handler() {
+    let image = entry::translated(&drawn_back()).unwrap();
+    assert_eq!(&image[..23], b"0F030400030300000000E4\n");
+    let unmarked =
+        String::from_utf8(drawn_back()).unwrap().replace("00030107", "00030007").replace("F5\n", "F6\n");
+    let plain = entry::translated(unmarked.as_bytes()).unwrap();
+    assert_eq!(&plain[..23], b"0F030400030000000000E7\n");
+    assert_eq!(image[23..], plain[23..]);
+}
+
+/// The second call of scheme 2 finds both places taken: its mask comes with code 60, scheme 3 follows, and then a home tick.
+#[test]
+fn the_handler_follows_a_full_stack() {
+    let wanted = [0x04, 0x12, 0x60, 0x00, 0x03, 0x04, 0x12, 0x60, 0x00, 0x03];
+    let image = entry::translated(&drawn_back()).unwrap();
+    let (answer, masks, codes) = run(&image, 2, &[0; 10]);
+    assert_eq!(answer, Answer::Done(10));
+    assert_eq!(codes, wanted);
+    assert_eq!(masks, [0, 1, 2, 4, 0, 0, 1, 2, 4, 0]);
+    let ticks = walk::walk(&entry::chart_from_text(&drawn_back()).unwrap(), 2, &[0; 10]);
+    assert_eq!(ticks.iter().map(|t| t.code).collect::<Vec<u8>>(), wanted);
+    assert_eq!(ticks.iter().map(|t| t.mask).collect::<Vec<u32>>(), masks);
+    assert_eq!(ticks.iter().map(|t| t.open).collect::<Vec<usize>>(), [1, 1, 2, 1, 1, 1, 1, 2, 1, 1]);
 }
 
 #[test]

@@ -59,7 +59,7 @@ fn invented_states_fit() {
     for seed in 0..CASES {
         let mut random = Random::new(seed);
         let image = images::accepted(&mut random);
-        let state = states::fitting(&mut random, &image.labels);
+        let state = states::fitting(&mut random, &image.labels, image.handler);
         assert!(machine::fits(&image, &state), "seed {seed}");
     }
 }
@@ -72,7 +72,7 @@ fn a_tick_keeps_a_fitting_state_fitting() {
         if image::image_of(&image.frames()).is_err() {
             continue;
         }
-        let mut state = states::fitting(&mut random, &image.labels);
+        let mut state = states::fitting(&mut random, &image.labels, image.handler);
         for word in runs::words(&mut random, 100) {
             let Ok(advanced) = machine::tick(&image, &state, word) else {
                 break;
