@@ -51,13 +51,18 @@ fn spoil(random: &mut Random, labels: &[Label], state: &mut State) {
     let last = (labels.len() - 1) as u8;
     let depth = state.depth;
     let at = random.below(usize::from(depth).clamp(1, 32));
-    match random.below(8) {
+    let any = random.below(usize::from(last) + 1) as u8;
+    match random.below(9) {
         0 => state.size = random.pick(&[0, 1, 32, 33, 255, depth.wrapping_sub(1)]),
         1 => state.depth = random.pick(&[0, 1, 32, 33, 255, state.size.wrapping_add(1)]),
         2 => state.depth = random.pick(&[depth.wrapping_add(1), depth.wrapping_sub(1)]),
         3 => state.places[random.below(32)] = random.byte(),
         4 => state.places[at] = last.wrapping_add(1),
         5 => state.places[at] = random.pick(&[0, 1]),
-        _ => state.places[at] = random.below(usize::from(last) + 1) as u8,
+        6 => {
+            (state.depth, state.places) = (1, [0; 32]);
+            state.places[0] = any;
+        }
+        _ => state.places[at] = any,
     }
 }
