@@ -80,18 +80,26 @@ fn a_kept_machine_ticks_as_the_reference_does() {
 }
 
 /// What only a table at fault can show at a tick, and whether this one does.
-fn oddities(held: &Held, state: &State, word: u16) -> [(&'static str, bool); 12] {
+fn oddities(held: &Held, state: &State, word: u16) -> [(&'static str, bool); 17] {
     let top = usize::from(state.depth) - 1;
     let number = state.places[top];
     let here = held.labels.get(usize::from(number));
     let is = |test: &dyn Fn(&Label) -> bool| here.is_some_and(test);
-    let made = held.tick(state, word).is_ok();
+    let ticked = held.tick(state, word);
+    let made = ticked.is_ok();
+    let drops = ticked.is_ok_and(|advanced| advanced.code == 0x60);
+    let entry = |scheme: u8| held.entries[usize::from(scheme).max(1) - 1];
     let taken = |row: &Row| word & row.care == row.values;
     let first = || held.rows[usize::from(number)].iter().find(|row| taken(row));
     let bit_ignored = |label: &Label| label.kind == PLAIN && first().is_some_and(|row| row.function_bit != 2);
     [
         ("a label above the last", here.is_none()),
-        ("a return at the bottom", top == 0 && is(&|l| l.kind == RETURN)),
+        ("a return at the bottom, with no handler", top == 0 && !made && is(&|l| l.kind == RETURN)),
+        ("a return at the bottom to label 0", top == 0 && made && is(&|l| l.kind == RETURN)),
+        ("a drop at a call of scheme 0", drops && is(&|l| l.called == 0)),
+        ("a drop by owner 0, which writes", drops && is(&|l| l.owner == 0 && l.result != 0)),
+        ("a drop to an entry that is not the handler's", drops && !held.handles(entry(held.handler))),
+        ("a drop to an entry above the last", drops && usize::from(entry(held.handler)) >= held.labels.len()),
         ("home above the bottom", top > 0 && is(&|l| l.kind == HOME)),
         ("a call of scheme 0", is(&|l| l.calls() && l.called == 0)),
         ("a call of scheme 1", is(&|l| l.calls() && l.called == 1)),
