@@ -2,22 +2,14 @@
 //! marks are refused.
 
 use reference::frames::{text_of, Frame};
+use reference::samples::drawn_back;
 use reference::{entry, fresh_state, Answer, State};
 
-/// Scheme 1 calls scheme 2 by mask 1 and writes 1; scheme 2 calls scheme `called` by mask 2 and writes 1; scheme 3 is the handler,
-/// with one operation that writes 1 and calls scheme `handles`.
+/// The chart of the samples whose handler is scheme 3, with other calls in scheme 2 and in the handler.
 fn records(called: u8, handles: u8) -> Vec<Frame> {
-    vec![
-        [0, 1, 0, 1, 0, 0, 0, 0, 0, 0],
-        [2, 1, 2, 2, 0, 2, 0, 0, 0, 1],
-        [1, 1, 0, 0, 0, 0, 0, 0, 0, 0],
-        [0, 2, 0, 4, 0, 0, 0, 0, 0, 0],
-        [2, 2, called, 5, 0, 2, 0, 0, 0, 2],
-        [1, 2, 0, 0, 0, 0, 0, 0, 0, 0],
-        [0, 3, 1, 7, 0, 0, 0, 0, 0, 0],
-        [2, 3, handles, 8, 0, 2, 0, 0, 0, 4],
-        [1, 3, 0, 0, 0, 0, 0, 0, 0, 0],
-    ]
+    let mut records = drawn_back();
+    (records[4][2], records[7][2]) = (called, handles);
+    records
 }
 
 /// Labels 2, 3 and 4 are the operations of schemes 1, 2 and 3.
@@ -98,11 +90,9 @@ fn the_handler_may_stand_at_the_bottom_and_no_other() {
     for places in [&[3][..], &[3, 3], &[1, 1], &[0, 1]] {
         assert!(!fits(&handled, places), "{places:?}");
     }
-    let plain: Vec<Frame> = records(2, 2)
-        .into_iter()
-        .map(|r| if r[0] == 0 { [0, r[1], 0, r[3], 0, 0, 0, 0, 0, 0] } else { r })
-        .collect();
-    let plain = entry::translated(&text_of(&plain)).unwrap();
+    let mut unmarked = records(2, 2);
+    unmarked[6][2] = 0;
+    let plain = entry::translated(&text_of(&unmarked)).unwrap();
     for places in [&[1][..], &[4], &[4, 3]] {
         assert!(!fits(&plain, places), "{places:?}");
     }
