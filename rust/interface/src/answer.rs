@@ -69,9 +69,9 @@ const SENSES: [&str; 19] = [
     "a stack size other than 1 to 32",
     "a state that does not fit the image",
     "an output buffer that is too short",
-    "a call when the stack is full",
+    "a call that finds the stack full, with no handler to drop to",
     "no row for the word",
-    "a handler's mark on scheme 1, or a second mark",
+    "a handler's mark on scheme 1, or a second one",
 ];
 
 impl Refusal {
@@ -80,9 +80,9 @@ impl Refusal {
     /// ```
     /// use interface::Refusal;
     ///
-    /// let refusal = Refusal { number: 17, index: 0, count: 3 };
-    /// assert_eq!(refusal.sense(), "a call when the stack is full");
-    /// assert_eq!(refusal.to_string(), "refusal 17 after 3 ticks: a call when the stack is full");
+    /// let refusal = Refusal { number: 18, index: 0, count: 3 };
+    /// assert_eq!(refusal.sense(), "no row for the word");
+    /// assert_eq!(refusal.to_string(), "refusal 18 after 3 ticks: no row for the word");
     /// ```
     pub fn sense(&self) -> &'static str {
         let place = usize::from(self.number).checked_sub(1);

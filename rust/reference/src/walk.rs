@@ -12,7 +12,7 @@ pub struct Tick {
 }
 
 impl Tick {
-    /// Whether this tick calls a scheme: 12 to 20 and 42 to 50, hexadecimal.
+    /// Whether this tick calls a scheme: 12 to 20 and 42 to 50, hexadecimal. A drop, 60, is no call.
     pub fn calls(&self) -> bool {
         (0x12..=0x20).contains(&self.code) || (0x42..=0x50).contains(&self.code)
     }
