@@ -110,7 +110,8 @@ impl Held {
     }
 
     /// One tick of a state with a depth of 1 to its size, or 17 or 18. A call clears the bit of the scheme called; 0 counts as 1.
-    /// Where there is a handler, a call that finds the stack full drops all for it, and a return at the bottom goes home.
+    /// Where there is a handler, a call that finds the stack full drops all for it. A return at the bottom leads to label 0, also in
+    /// a table without a handler, where only damage leads to one.
     pub fn tick(&self, state: &State, word: u16) -> Result<Advanced, u8> {
         let top = usize::from(state.depth) - 1;
         let here = self.label(state.places[top]);
@@ -131,7 +132,6 @@ impl Held {
                 after.depth += 1;
                 after.results[usize::from(here.called).max(1) - 1] = false;
             }
-            RETURN if top == 0 && self.handler == 0 => return Err(18),
             RETURN if top == 0 => after.places[0] = 0,
             RETURN => {
                 after.places[top - 1] = self.next(state.places[top - 1], &after.results, word)?;

@@ -94,8 +94,14 @@ fn oddities(held: &Held, state: &State, word: u16) -> [(&'static str, bool); 17]
     let bit_ignored = |label: &Label| label.kind == PLAIN && first().is_some_and(|row| row.function_bit != 2);
     [
         ("a label above the last", here.is_none()),
-        ("a return at the bottom, with no handler", top == 0 && !made && is(&|l| l.kind == RETURN)),
-        ("a return at the bottom to label 0", top == 0 && made && is(&|l| l.kind == RETURN)),
+        (
+            "a return at the bottom, with no handler",
+            top == 0 && held.handler == 0 && is(&|l| l.kind == RETURN),
+        ),
+        (
+            "a return at the bottom, with a handler",
+            top == 0 && held.handler != 0 && is(&|l| l.kind == RETURN),
+        ),
         ("a drop at a call of scheme 0", drops && is(&|l| l.called == 0)),
         ("a drop by owner 0, which writes", drops && is(&|l| l.owner == 0 && l.result != 0)),
         ("a drop to an entry that is not the handler's", drops && !held.handles(entry(held.handler))),
@@ -175,12 +181,11 @@ fn the_header_alone_decides_on_11() {
 #[test]
 fn ticks_on_faulty_tables_keep_the_rules() {
     let refused = |number, count| Answer::Refused { number, index: 0, count };
-    // a return at the bottom has no row
-    let plain_to_return = [(5, 2, 0), (8, 7, 1)];
-    assert_eq!(ran(&changed(&plain_to_return), &[0, 0, 0]), (refused(18, 2), vec![0x04, 0x00]));
-    // unless there is a handler: then it leads to label 0
-    let handled = [(0, 5, 2), (5, 2, 0), (8, 7, 1)];
-    assert_eq!(ran(&changed(&handled), &[0; 4]), (Answer::Done(4), vec![0x04, 0x00, 0x03, 0x04]));
+    // a return at the bottom leads to label 0, with a handler and without
+    for handler in [0, 2] {
+        let to_return = [(0, 5, handler), (5, 2, 0), (8, 7, 1)];
+        assert_eq!(ran(&changed(&to_return), &[0; 4]), (Answer::Done(4), vec![0x04, 0x00, 0x03, 0x04]));
+    }
     // a row to a label above the last
     let to_nothing = [(5, 2, 0), (8, 7, 5)];
     assert_eq!(ran(&changed(&to_nothing), &[0, 0, 0]), (refused(18, 2), vec![0x04, 0x00]));

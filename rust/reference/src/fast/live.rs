@@ -167,12 +167,12 @@ impl<'a> Table<'a> {
                 state.places[top] = self.entry(1);
                 0x04
             }
-            _ if top == 0 && self.handler != 0 => {
+            _ if top == 0 => {
                 state.places[0] = 0;
                 0x03
             }
             _ => {
-                let below = top.checked_sub(1).ok_or(18)?;
+                let below = top - 1;
                 let bit = Self::bit(&state.results, &self.label(state.places[below]));
                 state.places[below] = self.next(state.places[below], bit, word)?;
                 state.places[top] = 0;

@@ -35,9 +35,7 @@ impl Faulty {
                     ..advanced
                 }))
             }
-            GoesHomeWithoutAHandler if alone && held.handler == 0 => {
-                Some(Ok(Advanced { mask: 0, code: 0x03, state: State { places: [0; 32], ..*state } }))
-            }
+            LooksForARowWithoutAHandler if alone && held.handler == 0 => Some(Err(18)),
             LooksForARowAtTheBottom if alone => Some(Err(18)),
             _ => None,
         }

@@ -75,7 +75,7 @@ faults! {
     ClearsTheCalledBit,
     ForgetsTheCallersResult,
     LeavesThePlacesAbove,
-    GoesHomeWithoutAHandler,
+    LooksForARowWithoutAHandler,
     LooksForARowAtTheBottom,
 }
 
