@@ -52,7 +52,7 @@ fn next_label(image: &Image, results: &[bool; 16], from: u8, word: u16) -> Optio
     matching.map(|row| row.next)
 }
 
-/// One tick of a fitting state, or 17 or 18. A finished call sets the bit of the scheme called to 0, after its own result is written.
+/// One tick of a fitting state, or 17 or 18. A call's own result is written before it clears a bit.
 pub fn tick(image: &Image, state: &State, word: u16) -> Result<Advanced, u8> {
     let top = usize::from(state.depth) - 1;
     let at = state.places[top];
@@ -77,13 +77,7 @@ pub fn tick(image: &Image, state: &State, word: u16) -> Result<Advanced, u8> {
             after.depth -= 1;
             0x03
         }
-        OPERATION_CALL | FUNCTION_CALL if state.depth == state.size => {
-            if image.handler == 0 || handles(image, state.places[0]) {
-                return Err(17);
-            }
-            drop_all(image, &mut after);
-            0x60
-        }
+        OPERATION_CALL | FUNCTION_CALL if state.depth == state.size => drop_all(image, &mut after)?,
         OPERATION_CALL | FUNCTION_CALL => {
             after.places[top + 1] = entry(image, here.called);
             after.depth += 1;
@@ -99,12 +93,16 @@ pub fn tick(image: &Image, state: &State, word: u16) -> Result<Advanced, u8> {
     Ok(Advanced { mask: here.mask, code, state: after })
 }
 
-/// Empties the stack, and starts the handler at the bottom with its bit at 0.
-fn drop_all(image: &Image, state: &mut State) {
+/// Empties a full stack and starts the handler at the bottom with its bit at 0; or 17, where there is none or it is there already.
+fn drop_all(image: &Image, state: &mut State) -> Result<u8, u8> {
+    if image.handler == 0 || handles(image, state.places[0]) {
+        return Err(17);
+    }
     state.places = [0; 32];
     state.places[0] = entry(image, image.handler);
     state.depth = 1;
     state.results[usize::from(image.handler) - 1] = false;
+    Ok(0x60)
 }
 
 fn write_result(state: &mut State, here: &Label) {
