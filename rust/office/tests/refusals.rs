@@ -69,6 +69,10 @@ fn the_sheets_are_accepted() {
     assert_eq!(checked(CHART.as_bytes()).unwrap(), words);
     assert_eq!(checked(IMAGE.as_bytes()).unwrap(), "accepted: an image of 2 schemes, 5 labels and 4 rows");
     assert_eq!(edited(CHART, 1, 1, "00"), CHART);
+    let with_handler = format!("{words}; scheme 2 is the handler");
+    assert_eq!(checked(edited(CHART, 4, 5, "01").as_bytes()).unwrap(), with_handler);
+    let with_handler = "accepted: an image of 2 schemes, 5 labels and 4 rows; scheme 2 is the handler";
+    assert_eq!(checked(edited(IMAGE, 1, 11, "02").as_bytes()).unwrap(), with_handler);
 }
 
 #[test]
@@ -160,7 +164,10 @@ fn refusal_4_a_field() {
                 .into(),
         ),
         ((2, 9, "05"), format!("line 2, column 9: 05 stands here, but an operation {in_use}")),
-        ((1, 5, "01"), format!("line 1, column 5: 01 stands here, but a Begin {in_use}")),
+        ((1, 5, "02"), "line 1, column 5: the mark is 02; it should be 00 (none) or 01 (the handler)".into()),
+        ((4, 5, "FF"), "line 4, column 5: the mark is FF; it should be 00 (none) or 01 (the handler)".into()),
+        ((1, 9, "01"), format!("line 1, column 9: 01 stands here, but a Begin {in_use}")),
+        ((3, 5, "01"), format!("line 3, column 5: 01 stands here, but an End {in_use}")),
         ((3, 7, "02"), format!("line 3, column 7: 02 stands here, but an End {in_use}")),
         ((5, 19, "F0"), format!("line 5, column 19: F0 stands here, but a condition {in_use}")),
     ];
@@ -302,7 +309,24 @@ fn refusal_11_the_header() {
             ),
             (
                 edited(IMAGE, 1, 11, "01"),
-                "line 1, column 11: 01 stands here, but the first line has no use for this byte: it should be 00",
+                "line 1, column 11: the handler is scheme 01; it should be 02, or 00 for none",
+            ),
+            (
+                edited(IMAGE, 1, 3, "0304000403"),
+                "line 1, column 3: the first line makes the image 13 lines, but there are 12: 2 that begin with 10, the \
+                 entries, where the first line says 3",
+            ),
+            (
+                edited(IMAGE, 1, 3, "0304000404"),
+                "line 1, column 11: the handler is scheme 04; it should be 02 to 03, or 00 for none",
+            ),
+            (
+                edited(IMAGE, 1, 3, "0104000402"),
+                "line 1, column 11: the handler is scheme 02; with one scheme it should be 00",
+            ),
+            (
+                edited(IMAGE, 1, 13, "01"),
+                "line 1, column 13: 01 stands here, but the first line has no use for this byte: it should be 00",
             ),
             (
                 fewer,
@@ -380,6 +404,46 @@ fn refusals_14_to_18() {
     assert_eq!(told(run(IMAGE, &state, 4)), "after 3 ticks a call finds the stack full");
     let patched = edited(&IMAGE.replace("12030001000102040000E3\n", ""), 1, 9, "03");
     assert_eq!(told(run(&patched, &state, 4)), "after 2 ticks no row of the label matches the word");
+}
+
+#[test]
+fn refusal_19_the_mark() {
+    let three = format!("{CHART}{}", lines(&["00030108000000000000", "01030000000000000000"]));
+    let second = edited(&three, 4, 5, "01");
+    let cannot = "line 1, column 5: scheme 1 cannot be the handler; marked Begins:";
+    each(
+        19,
+        &[
+            (edited(CHART, 1, 5, "01"), &format!("{cannot} line 1")),
+            (edited(&second, 1, 5, "01"), &format!("{cannot} line 1, line 4 and line 8")),
+            (second, "line 8, column 5: a second handler; marked Begins: line 4 and line 8"),
+        ],
+    );
+    // tried between 5 and 6
+    let marked = edited(CHART, 1, 5, "01");
+    assert_eq!(told(edited(&marked, 6, 1, "02")).0, 5);
+    assert_eq!(told(edited(&marked, 2, 7, "09")).0, 19);
+}
+
+/// The first full stack starts the handler, the second is met with the handler at the bottom.
+#[test]
+fn a_full_stack_is_refused_while_the_handler_is_at_the_bottom() {
+    use fairleadow::{Library, Proved, State};
+    let chart = edited(CHART, 4, 5, "01");
+    let mut image = vec![0; fairleadow::IMAGE_TEXT];
+    let length = Proved.translate(chart.as_bytes(), &mut image).ok().expect("an image");
+    assert_eq!(image[..length], *edited(IMAGE, 1, 11, "02").as_bytes());
+    let (mut masks, mut codes) = ([0; 9], [0; 9]);
+    let words = [0, 0, 1, 0, 1, 1, 1, 0, 0];
+    let (answer, after) = Proved.run(&image[..length], &Proved.fresh(2).1, &words, &mut masks, &mut codes);
+    assert_eq!((answer.number(), answer.count()), (17, 7));
+    assert_eq!(codes[..7], [0x04, 0x12, 0x00, 0x60, 0x00, 0x12, 0x00]);
+    assert_eq!(masks[..7], [0, 1, 0, 2, 0, 2, 0]);
+    assert_eq!((after.depth, &after.places[..3]), (2, &[4, 4, 0][..]));
+    // the handler at the bottom fits an image with this handler alone
+    let answer = |image: &str, state: &State| Proved.run(image.as_bytes(), state, &[], &mut [], &mut []).0;
+    assert_eq!(answer(IMAGE, &after).number(), 15);
+    assert_eq!(answer(&edited(IMAGE, 1, 11, "02"), &after).number(), 0);
 }
 
 #[test]

@@ -19,6 +19,10 @@
 //!
 //! The lines of nodes stand in the order of the chart's lines. Outputs are the micro operations of the mask. What has no
 //! name is called by its number: x2 is condition 2, y0 output 0, s2 scheme 2.
+//!
+//! `begin when the stack is full -> back` marks a scheme as the handler. It stands on the Begin because the chart has its
+//! mark there, so a line of either stays a line of the other, and what the library refuses is told by this line. It says
+//! when the scheme begins, so nobody needs to know the word, and it takes no name away: these words mean nothing elsewhere.
 
 mod layout;
 mod near;
@@ -34,6 +38,9 @@ use crate::names::Names;
 use crate::problem::{Problem, LONE_RETURNS};
 
 use statement::Statement;
+
+/// What the Begin of the handler says.
+pub const WHEN_FULL: &str = "when the stack is full";
 
 /// The first words of statements, by which a file is known as notation.
 pub const KEYWORDS: [&str; 9] =
