@@ -255,7 +255,7 @@ fn too_many_rows_are_told_by_names() {
 fn garbled_notations_are_told() {
     use office::notation::Notation;
     use reference::generate::Random;
-    let text = with("more: if wood then start else end").replace("y1", "y2");
+    let text = with_begin("begin when the stack is full -> cut");
     let characters: Vec<char> = text.chars().collect();
     let (mut read, mut refused) = (0, 0);
     for seed in 0..50_000 {
