@@ -228,12 +228,13 @@ fn a_wrong_mark_is_told_by_its_line() {
     let problem = source::from_notation(&first.replace("begin -> start", &format!("{full} -> start")));
     let problem = problem.expect_err("a mark on scheme 1");
     let words = "line 5 (begin): scheme shaping cannot be the handler; marked Begins: line 5 and line 12";
-    assert_eq!((problem.words.as_str(), problem.line), (words, Some(5)));
+    assert_eq!((problem.words.as_str(), problem.line, problem.column), (words, Some(5), Some(7)));
     assert_eq!(problem.excerpt.as_deref(), Some("begin when the stack is full -> start"));
     assert_eq!(problem.refusal.map(|refusal| refusal.number), Some(19));
-    let third = format!("{first}scheme 3\nback: {full} -> end\nend\n");
+    let third = format!("{first}scheme 3\nback: begin\twhen  the stack is full -> end\nend\n");
+    let problem = source::from_notation(&third).expect_err("a second mark");
     let words = "line 16 (node back): a second handler; marked Begins: line 12 and back (line 16)";
-    assert_eq!(told(&third), words);
+    assert_eq!((problem.words.as_str(), problem.line, problem.column), (words, Some(16), Some(13)));
 }
 
 #[test]

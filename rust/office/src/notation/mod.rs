@@ -145,11 +145,19 @@ impl Notation {
         }
     }
 
-    /// A refusal of the library, told by the lines and names of this notation.
+    /// A refusal of the library, told by the lines and names of this notation; a mark that is refused has a column too.
     pub fn problem(&self, answer: Answer) -> Problem {
-        let problem = explain::composed(&self.records, &self.names, &self.node_lines(), answer);
-        problem.excerpt(self.text.as_bytes())
+        let told = explain::composed(&self.records, &self.names, &self.node_lines(), answer);
+        let marked = told.line.filter(|_| answer.number() == 19);
+        let column = marked.and_then(|line| mark_column(self.text.lines().nth(line - 1)?));
+        Problem { column, ..told }.excerpt(self.text.as_bytes())
     }
+}
+
+/// Where a begin line marks the handler: at the word after its `begin`.
+fn mark_column(line: &str) -> Option<usize> {
+    let words = words::words(line).words;
+    words.windows(2).find(|pair| pair[0].text == "begin").map(|pair| pair[1].column)
 }
 
 /// What a statement is on its line; nodes are counted on.
