@@ -1,4 +1,4 @@
--- What it gives that the image check accepts: the counts of the header hold, and the image that the contents hold is sound.
+-- What it gives that the image check accepts: the counts and the handler of the header hold, and the image that the contents hold is sound.
 use Prim.Native.Nat.{ℕ, zero, suc, _+_, _*_, _≤_, _<_}
 use mathlib.Core.Bool.{Bool, true, false, _&&_, _||_, not}
 use mathlib.Core.Path.{_≡_, sym, _∙_, ap, subst}
@@ -176,13 +176,21 @@ row-told b f r small tiny e =
           (not-false (within b (labelIn b (r .from) .owner) (r .next)) (or-r (a₁ || a₂ || a₃ || a₄) a₅ e₁)));
     }
 
+-- ---- the handler is 0 or a scheme of 2 to H
+pub handler-told : (b : List ℕ) → badHandler b ≡ false → (handlerIn b ≡ 0 → ⊥) → (2 ≤ handlerIn b) × (handlerIn b ≤ schemeCount b)
+handler-told b e n =
+    let low : Bool = ltb (handlerIn b) 2 in
+    let high : Bool = ltb (schemeCount b) (handlerIn b) in
+    let t : (low || high) ≡ false = and-false (not (eqb (handlerIn b) 0)) (low || high) e (ap not (ne-eqb (handlerIn b) 0 n)) in
+    (ltb-false (handlerIn b) 2 (or-l low high t), ltb-false (schemeCount b) (handlerIn b) (or-r low high t))
+
 -- ---- the whole table
 pub record Counted (b : List ℕ) : Type 0 where
   pub first : 1 ≤ schemeCount b
   pub most : schemeCount b ≤ 16
   pub two : 1 ≤ lastLabel b
   pub few : rowCount b ≤ 1024
-  pub handled : (handlerIn b ≡ 0 → ⊥) → (2 ≤ handlerIn b) × (handlerIn b ≤ schemeCount b)
+  pub handler : badHandler b ≡ false
   pub all : size b ≡ rowsFrom b + rowCount b
 
 module _ (b : List ℕ) (ok : tableVerdict b ≡ fine) where
@@ -214,9 +222,6 @@ module _ (b : List ℕ) (ok : tableVerdict b ≡ fine) where
       let z : Bool = filled b 0 6 4 in
       let a : (k || z || badHandler b || badCounts b) ≡ false = or-l (k || z || badHandler b || badCounts b) n header-good in
       let e : badCounts b ≡ false = or-r (k || z || badHandler b) (badCounts b) a in
-      let x : Bool = ltb (handlerIn b) 2 in
-      let y : Bool = ltb (schemeCount b) (handlerIn b) in
-      let g : (not (eqb (handlerIn b) 0) && (x || y)) ≡ false = or-r (k || z) (badHandler b) (or-l (k || z || badHandler b) (badCounts b) a) in
       let e₁ : (h || i || m) ≡ false = or-l (h || i || m) r e in
       let e₂ : (h || i) ≡ false = or-l (h || i) m e₁ in
       record {
@@ -224,9 +229,7 @@ module _ (b : List ℕ) (ok : tableVerdict b ≡ fine) where
         most = ltb-false 16 (schemeCount b) (or-r h i e₂);
         two = omega (arith, eqb-false (lastLabel b) 0 (or-r (h || i) m e₁));
         few = ltb-false 1024 (rowCount b) (or-r (h || i || m) r e);
-        handled = λ o.
-            let f : (x || y) ≡ false = and-false (not (eqb (handlerIn b) 0)) (x || y) g (ap not (ne-eqb (handlerIn b) 0 o)) in
-            (ltb-false (handlerIn b) 2 (or-l x y f), ltb-false (schemeCount b) (handlerIn b) (or-r x y f));
+        handler = or-r (k || z) (badHandler b) (or-l (k || z || badHandler b) (badCounts b) a);
         all = eqb-true (size b) (rowsFrom b + rowCount b)
             (not-false (eqb (size b) (rowsFrom b + rowCount b)) (or-r (k || z || badHandler b || badCounts b) n header-good));
       }
@@ -269,7 +272,7 @@ module _ (b : List ℕ) (ok : tableVerdict b ≡ fine) where
     handled : length (decoded b .entries) ≡ schemeCount b
         → (decoded b .handler ≡ 0 → ⊥) → (2 ≤ decoded b .handler) × (decoded b .handler ≤ length (decoded b .entries))
     unfolding decoded
-    handled e o = let r = counted .handled o in (r .0, omega arith)
+    handled e n = let r = handler-told b (counted .handler) n in (r .0, omega arith)
 
     pub accepted-sound : Sound (decoded b)
     accepted-sound =

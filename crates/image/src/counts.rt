@@ -1,10 +1,10 @@
-// The counts of the header, as far as refusal 11 tries them by themselves.
+// The counts and the handler of the header, as far as refusal 11 tries them by themselves.
 use crate::table::byte;
 use crate::table::pair;
 ghost use mathlib.Core.Path.{_≡_};
 ghost use Prim.Native.Nat.{_<_};
 ghost use Rattle.frames.specs.Frame.{size};
-ghost use Rattle.image.specs.Check.{badCounts};
+ghost use Rattle.image.specs.Check.{badCounts, badHandler};
 
 // H is not 1 to 16, M is 0, or there are more than 1,024 rows.
 pub fn bad_counts(table: &[u8]) -> bool
@@ -22,4 +22,19 @@ pub fn bad_counts(table: &[u8]) -> bool
         return true;
     }
     1024 < pair(table, 0, 3)
+}
+
+// The handler is neither 0 nor a scheme of 2 to H.
+pub fn bad_handler(table: &[u8]) -> bool
+    requires { ⌜ 0 < size (now table) ⌝ }
+    ensures { λ r. ⌜ r ≡ badHandler (now (table .entry)) ⌝ }
+{
+    let handler = byte(table, 0, 5);
+    if handler == 0 {
+        return false;
+    }
+    if handler < 2 {
+        return true;
+    }
+    byte(table, 0, 1) < handler
 }

@@ -3,6 +3,7 @@ mod counts;
 mod table;
 
 pub use counts::bad_counts;
+pub use counts::bad_handler;
 pub use table::byte;
 pub use table::filled_to;
 pub use table::label_byte;
