@@ -6,14 +6,13 @@ use borrow.Author.Tests.{ne-eqb, le-leb, lt-leb}
 use Rattle.codes.specs.declared.Meaning.the-variants.{OperationCall, FunctionCall, Unknown}
 use Rattle.codes.specs.Codes.{codeOf, meaningOf}
 
--- the code of every kind from 5 up
-pub code-rest : (k h : ℕ) → (k ≡ 0 → ⊥) → (k ≡ 1 → ⊥) → (k ≡ 2 → ⊥) → (k ≡ 3 → ⊥) → (k ≡ 4 → ⊥) → 96 ≡ codeOf k h
-code-rest zero h p q r t u = absurd (p refl)
-code-rest (suc zero) h p q r t u = absurd (q refl)
-code-rest (suc (suc zero)) h p q r t u = absurd (r refl)
-code-rest (suc (suc (suc zero))) h p q r t u = absurd (t refl)
-code-rest (suc (suc (suc (suc zero)))) h p q r t u = absurd (u refl)
-code-rest (suc (suc (suc (suc (suc k))))) h p q r t u = refl
+-- the code of every kind from 4 up
+pub code-rest : (k h : ℕ) → (k ≡ 0 → ⊥) → (k ≡ 1 → ⊥) → (k ≡ 2 → ⊥) → (k ≡ 3 → ⊥) → 4 ≡ codeOf k h
+code-rest zero h p q r t = absurd (p refl)
+code-rest (suc zero) h p q r t = absurd (q refl)
+code-rest (suc (suc zero)) h p q r t = absurd (r refl)
+code-rest (suc (suc (suc zero))) h p q r t = absurd (t refl)
+code-rest (suc (suc (suc (suc k)))) h p q r t = refl
 
 -- ---- what a code stands for, by the range that it lies in
 module _ (c : ℕ) where

@@ -27,25 +27,35 @@ code-means (suc (suc zero)) h p =
     let r = p (omega arith) (omega arith) in
     sym (in-functions (64 + h) (omega (arith, r .0)) (omega (arith, r .1))) ∙ ap FunctionCall (let e : 64 + h - 64 ≡ h = omega arith in e)
 code-means (suc (suc (suc zero))) h p = refl
-code-means (suc (suc (suc (suc zero)))) h p = refl
-code-means (suc (suc (suc (suc (suc k))))) h p = refl
+code-means (suc (suc (suc (suc k)))) h p = refl
 
 pub codes-apart : (k h : ℕ) → Called k h → (j g : ℕ) → Called j g → codeOf k h ≡ codeOf j g → tickOf k h ≡ tickOf j g
 codes-apart k h p j g q e = sym (code-means k h p) ∙ ap meaningOf e ∙ code-means j g q
 
+-- 96 stands for a drop, and no other tick has it
+pub drop-means : meaningOf 96 ≡ Drop
+unfolding meaningOf
+drop-means = refl
+
+pub drop-apart : (k h : ℕ) → Called k h → codeOf k h ≡ 96 → ⊥
+drop-apart zero h p e = omega arith
+drop-apart (suc zero) h p e = omega (arith, p (omega arith) (omega arith) .1)
+drop-apart (suc (suc zero)) h p e = omega (arith, p (omega arith) (omega arith) .1)
+drop-apart (suc (suc (suc zero))) h p e = omega arith
+drop-apart (suc (suc (suc (suc k)))) h p e = omega arith
+
 -- a tick's kind is read back
-pub kind-back : (k h : ℕ) → k ≤ 5 → kindOf (tickOf k h) ≡ k
+pub kind-back : (k h : ℕ) → k ≤ 4 → kindOf (tickOf k h) ≡ k
 kind-back zero h l = refl
 kind-back (suc zero) h l = refl
 kind-back (suc (suc zero)) h l = refl
 kind-back (suc (suc (suc zero))) h l = refl
 kind-back (suc (suc (suc (suc zero)))) h l = refl
-kind-back (suc (suc (suc (suc (suc zero))))) h l = refl
-kind-back (suc (suc (suc (suc (suc (suc k)))))) h l = absurd (omega arith)
+kind-back (suc (suc (suc (suc (suc k))))) h l = absurd (omega arith)
 
--- a code that stands for a tick is that tick's
+-- a code that stands for a tick is that tick's, which is 96 for a drop
 abbrev pub Coded : ℕ → Meaning → Type 0
-Coded c m = codeOf (kindOf m) (calledOf m) ≡ c
+Coded c m = pick (eqb (kindOf m) 5) 96 (codeOf (kindOf m) (calledOf m)) ≡ c
 
 module _ (c : ℕ) where
   one-more : (t : Bool) (m rest : Meaning) → (t ≡ true → Coded c m) → ((rest ≡ Unknown → ⊥) → Coded c rest)

@@ -1,5 +1,4 @@
--- Tick codes: which code a tick has, and what a code stands for. Tick kinds are numbered as an image has them, and 5 is a call that dropped
--- all open schemes.
+-- Tick codes: which code a tick has, and what a code stands for. Tick kinds are numbered as an image has them.
 use Prim.Native.Nat.{ℕ, zero, suc, _+_, _-_}
 use mathlib.Core.Bool.{Bool, _&&_}
 use lib.Dec.{leb, eqb}
@@ -13,16 +12,14 @@ codeOf zero h = 0
 codeOf (suc zero) h = 16 + h
 codeOf (suc (suc zero)) h = 64 + h
 codeOf (suc (suc (suc zero))) h = 3
-codeOf (suc (suc (suc (suc zero)))) h = 4
-codeOf (suc (suc (suc (suc (suc k))))) h = 96
+codeOf (suc (suc (suc (suc k)))) h = 4
 
 abbrev pub tickOf : ℕ → ℕ → Meaning
 tickOf zero h = Plain
 tickOf (suc zero) h = OperationCall h
 tickOf (suc (suc zero)) h = FunctionCall h
 tickOf (suc (suc (suc zero))) h = Return
-tickOf (suc (suc (suc (suc zero)))) h = Home
-tickOf (suc (suc (suc (suc (suc k))))) h = Drop
+tickOf (suc (suc (suc (suc k)))) h = Home
 
 -- ---- what a code stands for
 -- base + h for a scheme h that can be called
@@ -35,7 +32,7 @@ meaningOf code =
     (pick (callAbove 16 code) (OperationCall (code - 16))
     (pick (callAbove 64 code) (FunctionCall (code - 64)) (pick (eqb code 96) Drop Unknown)))))
 
--- its tick kind, 255 for a code that no tick has, and the scheme called, 0 for none
+-- its tick kind, 5 for a call that dropped all open schemes, 255 for a code that no tick has, and the scheme called, 0 for none
 abbrev pub kindOf : Meaning → ℕ
 kindOf Plain = 0
 kindOf (OperationCall h) = 1

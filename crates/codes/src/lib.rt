@@ -24,8 +24,7 @@ pub fn code_of(kind: u8, called: u8) -> u8
         1 => 0x10 + called,
         2 => 0x40 + called,
         3 => 0x03,
-        4 => 0x04,
-        _ => 0x60,
+        _ => 0x04,
     }
 }
 

@@ -29,7 +29,8 @@ use Rattle.tables.specs.Table.{tableEnd, badTable, labelOn, labelOf, fir
 use Rattle.tables.proofs.RangeLaws.{map-alike, map-moved, concat-alike, ranges-join}
 use Rattle.tables.proofs.Front.{handler-alike, alike-image, counts-same, bad-handler-same, end-same}
 use Rattle.tables.proofs.TableReads.{label-on}
-use Rattle.tables.proofs.Noted.{noted-length, noted-schemes, noted-last, noted-rows, noted-handler, noted-end, noted-label, noted-late, noted-pair, noted-in}
+use Rattle.tables.proofs.Noted.{noted-length, noted-schemes, noted-last, noted-rows, noted-handler, noted-end}
+use Rattle.tables.proofs.Noted.{noted-label, noted-late, noted-pair, noted-in}
 use Rattle.tables.proofs.FirstFrames.{first-low, first-inside, first-rises, first-own, first-two, first-last}
 
 -- the row in frame f, with the label that its own byte 1 names

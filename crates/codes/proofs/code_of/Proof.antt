@@ -26,12 +26,8 @@ returns-4 : tie.Need-returns-4
 returns-4 c = search needs
 
 returns-5 : tie.Need-returns-5
-returns-5 c = search needs
-
-returns-6 : tie.Need-returns-6
-returns-6 c =
-    code-rest (c .before .args .kind) (c .before .args .called) (search needs) (search needs) (search needs) (search needs) (search needs)
+returns-5 c = code-rest (c .before .args .kind) (c .before .args .called) (search needs) (search needs) (search needs) (search needs)
 
 pub code-of-spec : {M : Type 1} → statement M
 code-of-spec =
-    tie.close (tie.spec add-result add-result-2 returns returns-2 returns-3 returns-4 returns-5 returns-6)
+    tie.close (tie.spec add-result add-result-2 returns returns-2 returns-3 returns-4 returns-5)
