@@ -12,17 +12,18 @@ use Rattle.lists.specs.Pick.{pick}
 use Rattle.lists.specs.Sequences.{some}
 use Rattle.lists.proofs.Tests.{no-both, or-l, or-r, and-l, and-r, and-true}
 use Rattle.lists.proofs.Searches.{some-cons}
-use Rattle.bits.specs.Results.{Results, resultOf, withResult, cleared}
+use Rattle.bits.specs.Results.{Results, noResults, resultOf, withResult, cleared}
 use Rattle.bits.proofs.ResultLaws.{cleared-own, cleared-keeps, result-keeps}
 use Rattle.frames.specs.Frame.{contents}
 use Rattle.charts.specs.Chart.{Chart, kind, scheme, argument, next0, next1, result}
 use Rattle.walk.specs.Stops.{byArc, Stop, plain, call, function, test, home, back, stopAt}
-use Rattle.walk.specs.Walk.{Tick}
+use Rattle.walk.specs.Walk.{Tick, isDrop}
 use Rattle.walk.specs.Functions.{writesOne, returnsTo, Unwritten, ZeroArc}
 use Rattle.walk.proofs.Facts.{Facts}
 use Rattle.walk.proofs.FactsHold.{facts}
 use Rattle.walk.proofs.Views.{View, a-plain, a-call, a-function, a-home, a-back, a-begin, a-condition, stop-function}
-use Rattle.walk.proofs.Trace.{Position, at, codeOf, tickOf, resumedBy, returned, movedBy, tickAt, move, trace, Good, view-of, moves, atHome, home-good}
+use Rattle.walk.proofs.Trace.{Position, at, codeOf, tickOf, resumedBy, returned, movedBy, dropsAt, tickAt, move, trace}
+use Rattle.walk.proofs.Trace.{Good, view-of, moves, atHome, home-good}
 use Rattle.walk.proofs.Recursion.{walk-trace}
 
 -- ---- ticks by their first
@@ -37,29 +38,48 @@ some-tick t [] us e = absurd (let z : _≡_ {A = ℕ} 0 1 = cc in omega arith)
 some-tick t (x ∷ ts) us e = absurd (let z : _≡_ {A = ℕ} 0 1 = cc in omega arith)
 
 -- only a return has code 3
-is-back : (s : Stop) → codeOf s ≡ 3 → s ≡ back
-is-back (plain m r u) e = absurd (omega arith)
-is-back (call m r h u) e = absurd (omega arith)
-is-back (function h u₀ u₁) e = absurd (omega arith)
-is-back (test u) e = absurd (omega arith)
-is-back home e = absurd (omega arith)
-is-back back e = refl
+is-back : (d : Bool) (s : Stop) → codeOf d s ≡ 3 → s ≡ back
+is-back d (plain m r u) e = absurd (omega arith)
+is-back true (call m r h u) e = absurd (omega arith)
+is-back false (call m r h u) e = absurd (omega arith)
+is-back true (function h u₀ u₁) e = absurd (omega arith)
+is-back false (function h u₀ u₁) e = absurd (omega arith)
+is-back d (test u) e = absurd (omega arith)
+is-back d home e = absurd (omega arith)
+is-back d back e = refl
 
 -- ---- function v of scheme h called, with callers ks under it
 module _ (c : Chart) (v h : ℕ) (ks : List ℕ) (deep : 2 ≤ h) where
   -- its call is not finished, and its bit is 0
   data Waits : Position → Type 0 where
-    waits : (u : ℕ) (above : List ℕ) (b : Results) → resultOf h b ≡ false → Waits (at u (above ++ (v ∷ ks)) b)
+    waits : (u : ℕ) (above : List ℕ) (b : Results) (f : Bool) → resultOf h b ≡ false → Waits (at u (above ++ (v ∷ ks)) b f)
 
   abbrev own : Tick → Bool
   own = returnsTo (suc (length ks))
 
-  returned-waits : (js : List ℕ) (w : ℕ) (b : Results) → resultOf h b ≡ false
-      → eqb (suc (length (js ++ (v ∷ ks)))) (suc (suc (length ks))) ≡ false → Waits (returned c (js ++ (v ∷ ks)) w b)
-  returned-waits [] w b e q = no-both _ (eq-eqb (suc (suc (length ks))) (suc (suc (length ks))) refl) q
-  returned-waits (j ∷ js) w b e q = waits _ js b e
+  -- a tick that neither drops the open schemes, nor is the own return, nor writes 1 to the bit
+  record Passing (t : Tick) : Type 0 where
+    kept : isDrop t ≡ false
+    inside : own t ≡ false
+    unwritten : writesOne c h t ≡ false
 
-  module _ (u w : ℕ) (js : List ℕ) (b : Results) (e : resultOf h b ≡ false) where
+  abbrev AllPassing : List Tick → Type 0
+  AllPassing [] = Unit {0}
+  AllPassing (t ∷ ts) = Passing t × AllPassing ts
+
+  all-passing : (ts : List Tick) → some isDrop ts ≡ false → some own ts ≡ false → some (writesOne c h) ts ≡ false → AllPassing ts
+  all-passing [] d r q = tt
+  all-passing (t ∷ ts) d r q = (
+    record { kept = none-first isDrop t ts d; inside = none-first own t ts r; unwritten = none-first (writesOne c h) t ts q },
+    all-passing ts (none-rest isDrop t ts d) (none-rest own t ts r) (none-rest (writesOne c h) t ts q),
+  )
+
+  returned-waits : (js : List ℕ) (w : ℕ) (b : Results) (f : Bool) → resultOf h b ≡ false
+      → eqb (suc (length (js ++ (v ∷ ks)))) (suc (suc (length ks))) ≡ false → Waits (returned c (js ++ (v ∷ ks)) w b f)
+  returned-waits [] w b f e q = no-both _ (eq-eqb (suc (suc (length ks))) (suc (suc (length ks))) refl) q
+  returned-waits (j ∷ js) w b f e q = waits _ js b f e
+
+  module _ (u w : ℕ) (js : List ℕ) (b : Results) (f : Bool) (e : resultOf h b ≡ false) where
     abbrev o : ℕ
     o = suc (length (js ++ (v ∷ ks)))
 
@@ -67,96 +87,93 @@ module _ (c : Chart) (v h : ℕ) (ks : List ℕ) (deep : 2 ≤ h) where
     written-not k q s r = no-both _
         (and-true _ _ (eq-eqb (kind c u) 2 k) (and-true _ _ (eq-eqb (scheme c u) h s) (eq-eqb (result c u) 2 r))) q
 
-    -- a tick that neither writes 1 to the bit nor is the own return
-    waits-by : {s : Stop} → View c u s → writesOne c h (tickOf o u s) ≡ false → own (tickOf o u s) ≡ false
-        → Waits (movedBy c u (js ++ (v ∷ ks)) w b s)
-    waits-by (a-plain k a) q r = waits _ js _ (result-keeps (result c u) (scheme c u) h b deep (written-not k q) e)
-    waits-by (a-call k a) q r =
-        waits _ (u ∷ js) _ (cleared-keeps (argument c u) h (withResult (result c u) (scheme c u) b)
-        (result-keeps (result c u) (scheme c u) h b deep (written-not k q) e))
-    waits-by (a-function k) q r = waits _ (u ∷ js) _ (cleared-keeps (argument c u) h b e)
-    waits-by (a-home k s) q r = waits _ js b e
-    waits-by (a-back k s) q r = returned-waits js w b e r
-    waits-by (a-begin k) q r = waits _ js b e
-    waits-by (a-condition k) q r = waits _ js b e
+    waits-by : (d : Bool) → {s : Stop} → View c u s → Passing (tickOf d o u s) → Waits (movedBy c d u (js ++ (v ∷ ks)) w b f s)
+    waits-by d (a-plain k a) p = waits _ js _ f (result-keeps (result c u) (scheme c u) h b deep (written-not k (p .unwritten)) e)
+    waits-by true (a-call k a) p = no-both true refl (p .kept)
+    waits-by false (a-call k a) p =
+        waits _ (u ∷ js) _ f (cleared-keeps (argument c u) h (withResult (result c u) (scheme c u) b)
+        (result-keeps (result c u) (scheme c u) h b deep (written-not k (p .unwritten)) e))
+    waits-by true (a-function k) p = no-both true refl (p .kept)
+    waits-by false (a-function k) p = waits _ (u ∷ js) _ f (cleared-keeps (argument c u) h b e)
+    waits-by d (a-home k s) p = waits _ js b f e
+    waits-by d (a-back k s) p = returned-waits js w b f e (p .inside)
+    waits-by d (a-begin k) p = waits _ js b f e
+    waits-by d (a-condition k) p = waits _ js b f e
 
-  module _ (facts : Facts c) (kinded : kind c v ≡ 4) (called : argument c v ≡ h) where
-    -- the call itself
-    called-waits : (w : ℕ) (b : Results) → Waits (move c w (at v ks b))
-    called-waits w b = subst (λ (s : Stop). Waits (movedBy c v ks w b s)) (sym (stop-function c v kinded))
-        (waits _ [] (cleared (argument c v) b) (ap (λ (k : ℕ). resultOf h (cleared k b)) called ∙ cleared-own h b))
+  module _ (n : ℕ) (facts : Facts c) (kinded : kind c v ≡ 4) (called : argument c v ≡ h) where
+    -- the call itself, which is no drop
+    called-waits : (w : ℕ) (b : Results) (f d : Bool) → eqb (codeOf d (stopAt c v)) 96 ≡ false → Waits (movedBy c d v ks w b f (stopAt c v))
+    called-waits w b f true q = no-both _ (ap (λ (s : Stop). eqb (codeOf true s) 96) (stop-function c v kinded)) q
+    called-waits w b f false q = subst (λ (s : Stop). Waits (movedBy c false v ks w b f s)) (sym (stop-function c v kinded))
+        (waits _ [] (cleared (argument c v) b) f (ap (λ (k : ℕ). resultOf h (cleared k b)) called ∙ cleared-own h b))
 
-    waits-on : (w : ℕ) (x : Position) → Good c x → Waits x → writesOne c h (tickAt c x) ≡ false → own (tickAt c x) ≡ false → Waits (move c w x)
-    waits-on w x g (waits u js b e) q r = waits-by u w js b e (view-of c facts x g) q r
+    waits-on : (w : ℕ) (x : Position) → Good c x → Waits x → Passing (tickAt n c x) → Waits (move n c w x)
+    waits-on w x g (waits u js b f e) p = waits-by u w js b f e (dropsAt n c x) (view-of c facts x g) p
 
     -- the own return: the function takes its 0 arc
-    own-return : (w : ℕ) (x : Position) → Waits x → own (tickAt c x) ≡ true → move c w x .node ≡ byArc c w (next0 c v)
-    own-return w x (waits u [] b e) q =
-        ap (λ (s : Stop). movedBy c u (v ∷ ks) w b s .node) (is-back (stopAt c u) (eqb-true _ _ (and-l _ _ q)))
+    own-return : (w : ℕ) (x : Position) → Waits x → own (tickAt n c x) ≡ true → move n c w x .node ≡ byArc c w (next0 c v)
+    own-return w x (waits u [] b f e) q =
+        ap (λ (s : Stop). movedBy c (dropsAt n c x) u (v ∷ ks) w b f s .node) (is-back (dropsAt n c x) (stopAt c u) (eqb-true _ _ (and-l _ _ q)))
         ∙ ap (resumedBy c v w b) (stop-function c v kinded)
         ∙ ap (λ (t : Bool). byArc c w (pick t (next1 c v) (next0 c v))) (ap (λ (k : ℕ). resultOf k b) called ∙ e)
-    own-return w x (waits u (j ∷ js) b e) q =
+    own-return w x (waits u (j ∷ js) b f e) q =
         let o : ℕ = suc (length (j ∷ (js ++ (v ∷ ks)))) in
         absurd (omega (
           arith,
-          eqb-true o (suc (suc (length ks))) (and-r (eqb (codeOf (stopAt c u)) 3) (eqb o (suc (suc (length ks)))) q),
+          eqb-true o (suc (suc (length ks))) (and-r (eqb (codeOf (dropsAt n c x) (stopAt c u)) 3) (eqb o (suc (suc (length ks)))) q),
           length-append js (v ∷ ks),
         ))
 
     goes-on : (between : List Tick) (ws : List ℕ) (x : Position) (last next : Tick) (rest : List Tick) → Good c x → Waits x
-        → trace c ws x ≡ between ++ (last ∷ (next ∷ rest))
-        → some own between ≡ false → own last ≡ true → some (writesOne c h) between ≡ false
+        → trace n c ws x ≡ between ++ (last ∷ (next ∷ rest)) → AllPassing between → own last ≡ true
         → next .node ≡ byArc c (getD ws (length between) 0) (next0 c v)
     unfolding trace
-    goes-on between [] x last next rest g k q inside end unwritten = some-tick last between (next ∷ rest) q
-    goes-on [] (w ∷ []) x last next rest g k q inside end unwritten =
+    goes-on between [] x last next rest g k q passing end = some-tick last between (next ∷ rest) q
+    goes-on [] (w ∷ []) x last next rest g k q passing end =
         let e : [] ≡ next ∷ rest = cc in some-tick next [] rest e
-    goes-on [] (w ∷ (y ∷ ws)) x last next rest g k q inside end unwritten =
-        let e : tickAt c x ≡ last = cc in
-        let d : next ≡ tickAt c (move c w x) = cc in
+    goes-on [] (w ∷ (y ∷ ws)) x last next rest g k q passing end =
+        let e : tickAt n c x ≡ last = cc in
+        let d : next ≡ tickAt n c (move n c w x) = cc in
         ap (λ (t : Tick). t .node) d ∙ own-return w x k (ap own e ∙ end)
-    goes-on (t ∷ ts) (w ∷ ws) x last next rest g k q inside end unwritten =
-        let e : tickAt c x ≡ t = cc in
-        let d : trace c ws (move c w x) ≡ ts ++ (last ∷ (next ∷ rest)) = cc in
-        let on : Waits (move c w x) = waits-on w x g k (ap (writesOne c h) e ∙ none-first (writesOne c h) t ts unwritten)
-        (ap own e ∙ none-first own t ts inside) in
-        goes-on ts ws (move c w x) last next rest (moves c facts w x g) on d (none-rest own t ts inside) end
-        (none-rest (writesOne c h) t ts unwritten)
+    goes-on (t ∷ ts) (w ∷ ws) x last next rest g k q passing end =
+        let e : t ≡ tickAt n c x = cc in
+        let d : trace n c ws (move n c w x) ≡ ts ++ (last ∷ (next ∷ rest)) = cc in
+        goes-on ts ws (move n c w x) last next rest (moves c facts n w x g) (waits-on w x g k (subst Passing e (passing .0))) d (passing .1) end
 
-module _ (c : Chart) (facts : Facts c) where
+module _ (n : ℕ) (c : Chart) (facts : Facts c) where
   -- from the call on
   from-call : (ws : List ℕ) (x : Position) (between rest : List Tick) (first last next : Tick) → Good c x
-      → trace c ws x ≡ first ∷ (between ++ (last ∷ (next ∷ rest))) → Unwritten c first between last
+      → trace n c ws x ≡ first ∷ (between ++ (last ∷ (next ∷ rest))) → Unwritten c first between last
       → next .node ≡ byArc c (getD ws (suc (length between)) 0) (next0 c (first .node))
   unfolding trace
   from-call [] x between rest first last next g q u = some-tick first [] _ q
   from-call (w ∷ ws) x between rest first last next g q u =
-      let v : ℕ = x .node in let h : ℕ = argument c v in
-      let e : first ≡ tickAt c x = cc in
-      let d : trace c ws (move c w x) ≡ between ++ (last ∷ (next ∷ rest)) = cc in
-      let at-call : Unwritten c (tickAt c x) between last = subst (λ (t : Tick). Unwritten c t between last) e u in
+      let v : ℕ = x .node in let h : ℕ = argument c v in let ks : List ℕ = x .callers in
+      let e : first ≡ tickAt n c x = cc in
+      let d : trace n c ws (move n c w x) ≡ between ++ (last ∷ (next ∷ rest)) = cc in
+      let at-call : Unwritten c (tickAt n c x) between last = subst (λ (t : Tick). Unwritten c t between last) e u in
       let deep : 2 ≤ h = facts .functions v (g .top .inside) (at-call .function) .0 in
-      goes-on c v h (x .callers) deep facts (at-call .function) refl between ws (move c w x) last next rest (moves c facts w x g)
-      (called-waits c v h (x .callers) deep facts (at-call .function) refl w (x .results)) d
-      (at-call .inside) (at-call .own) (at-call .unwritten)
+      goes-on c v h ks deep n facts (at-call .function) refl between ws (move n c w x) last next rest (moves c facts n w x g)
+      (called-waits c v h ks deep n facts (at-call .function) refl w (x .results) (x .first) (dropsAt n c x) (at-call .made)) d
+      (all-passing c v h ks deep between (at-call .kept) (at-call .inside) (at-call .unwritten)) (at-call .own)
       ∙ ap (λ (t : Tick). byArc c (getD ws (length between) 0) (next0 c (t .node))) (sym e)
 
   from-start : (before : List Tick) (ws : List ℕ) (x : Position) (between rest : List Tick) (first last next : Tick) → Good c x
-      → trace c ws x ≡ before ++ (first ∷ (between ++ (last ∷ (next ∷ rest)))) → Unwritten c first between last
+      → trace n c ws x ≡ before ++ (first ∷ (between ++ (last ∷ (next ∷ rest)))) → Unwritten c first between last
       → next .node ≡ byArc c (getD ws (length before + suc (length between)) 0) (next0 c (first .node))
   unfolding trace
   from-start [] ws x between rest first last next g q u =
-      let n : suc (length between) ≡ 0 + suc (length between) = omega arith in
-      from-call ws x between rest first last next g q u ∙ ap (λ (k : ℕ). byArc c (getD ws k 0) (next0 c (first .node))) n
+      let k : suc (length between) ≡ 0 + suc (length between) = omega arith in
+      from-call ws x between rest first last next g q u ∙ ap (λ (k : ℕ). byArc c (getD ws k 0) (next0 c (first .node))) k
   from-start (t ∷ ts) [] x between rest first last next g q u = some-tick t [] _ q
   from-start (t ∷ ts) (w ∷ ws) x between rest first last next g q u =
-      let d : trace c ws (move c w x) ≡ ts ++ (first ∷ (between ++ (last ∷ (next ∷ rest)))) = cc in
-      let n : suc (length ts + suc (length between)) ≡ suc (length ts) + suc (length between) = omega arith in
-      from-start ts ws (move c w x) between rest first last next (moves c facts w x g) d u
-      ∙ ap (λ (k : ℕ). byArc c (getD (w ∷ ws) k 0) (next0 c (first .node))) n
+      let d : trace n c ws (move n c w x) ≡ ts ++ (first ∷ (between ++ (last ∷ (next ∷ rest)))) = cc in
+      let k : suc (length ts + suc (length between)) ≡ suc (length ts) + suc (length between) = omega arith in
+      from-start ts ws (move n c w x) between rest first last next (moves c facts n w x g) d u
+      ∙ ap (λ (k : ℕ). byArc c (getD (w ∷ ws) k 0) (next0 c (first .node))) k
 
 pub zero-arc : ZeroArc
 unfolding ZeroArc
-zero-arc text read words before between rest first last next q u =
+zero-arc text read places words before between rest first last next q u =
     let c : Chart = contents text in let f : Facts c = facts text read in
-    from-start c f before words (atHome c) between rest first last next (home-good c f) (sym (walk-trace c f words) ∙ q) u
+    from-start places c f before words (atHome c noResults) between rest first last next (home-good c f noResults) (sym (walk-trace places c words) ∙ q) u

@@ -1,138 +1,149 @@
 -- The recursive walk makes the ticks of the trace from home: the list of callers does what the recursion does.
 use Prim.Native.Nat.{ℕ, zero, suc, _+_, _≤_, _<_}
+use mathlib.Core.Bool.{Bool, true, false}
 use mathlib.Core.Path.{_≡_, refl, ap, _∙_, sym}
-use mathlib.Core.Logic.{inl, inr}
 use mathlib.Core.List.{List, [], _∷_, _++_, append-assoc}
 use lib.ListN.{length}
 use native.Mathlib.Omega.{arith}
 use native.Mathlib.Nat.{le-of-suc-le-suc, not-suc-le-zero}
-use Rattle.bits.specs.Results.{Results, noResults}
-use Rattle.charts.specs.Chart.{Chart, scheme, argument, end}
-use Rattle.walk.specs.Stops.{Stop, plain, call, function, test, home, back, stopAt}
-use Rattle.walk.specs.Walk.{Tick, tick, Course, spent, ended, ticksOf, after, Performer, resume, act, perform, walk}
-use Rattle.walk.proofs.Facts.{Facts}
-use Rattle.walk.proofs.Views.{View, a-plain, a-call, a-function, a-home, a-back, a-begin, a-condition}
-use Rattle.walk.proofs.Trace.{at, tickOf, resumedBy, resumed, returned, movedBy, trace, Under}
-use Rattle.walk.proofs.Trace.{Good, view-of, resumed-good, calling, moved-good, atHome, home-good}
+use Rattle.lists.specs.Pick.{pick}
+use Rattle.bits.specs.Results.{Results, noResults, cleared}
+use Rattle.charts.specs.Chart.{Chart, handler, end}
+use Rattle.walk.specs.Stops.{start, Stop, plain, call, function, test, home, back, stopAt}
+use Rattle.walk.specs.Walk.{Tick, tick, Course, spent, ended, dropped, after, Performer, resume, calls, act, perform, drops}
+use Rattle.walk.specs.Walk.{then, walkFrom, walk}
+use Rattle.walk.proofs.Trace.{at, one, tickOf, resumedBy, resumed, returned, handling, called, movedBy, trace, atHome}
 
--- ---- a scheme that has ended leaves fewer than n words
+-- ---- a scheme that has ended, or was dropped, leaves fewer than n words
 abbrev Shorter : ℕ → Course → Type 0
 Shorter n (spent ts) = Unit {0}
 Shorter n (ended ts w ws b) = length ws < n
+Shorter n (dropped ts ws b) = length ws < n
 
 shorter-le : (n m : ℕ) (r : Course) → n ≤ m → Shorter n r → Shorter m r
 shorter-le n m (spent us) l h = tt
 shorter-le n m (ended us w ws b) l h = omega arith
+shorter-le n m (dropped us ws b) l h = omega arith
 
 shorter-after : (n m : ℕ) (ts : List Tick) (r : Course) → n ≤ m → Shorter n r → Shorter m (after ts r)
 shorter-after n m ts (spent us) l h = tt
 shorter-after n m ts (ended us w ws b) l h = omega arith
+shorter-after n m ts (dropped us ws b) l h = omega arith
 
 abbrev Short : Performer → Type 0
-Short go = (o v : ℕ) (ws : List ℕ) (b : Results) → Shorter (suc (length ws)) (go o v ws b)
+Short go = (o v : ℕ) (ws : List ℕ) (b : Results) → Shorter (length ws) (go o v ws b)
 
 module _ (go : Performer) (ih : Short go) where
   shorter-resume : (o m : ℕ) (ts : List Tick) (f : ℕ → Results → ℕ) (r : Course) → Shorter m r → Shorter m (resume go o ts f r)
   shorter-resume o m ts f (spent us) h = tt
-  shorter-resume o m ts f (ended us w ws b) h = shorter-after (suc (length ws)) m (ts ++ us) (go o (f w b) ws b) h (ih o (f w b) ws b)
+  shorter-resume o m ts f (ended us w ws b) h = shorter-after (length ws) m (ts ++ us) (go o (f w b) ws b) (omega arith) (ih o (f w b) ws b)
+  shorter-resume o m ts f (dropped us ws b) h = h
 
-  step : (ts : List Tick) (o v : ℕ) (ws : List ℕ) (b : Results) → Shorter (suc (suc (length ws))) (after ts (go o v ws b))
-  step ts o v ws b = shorter-after (suc (length ws)) _ ts (go o v ws b) (omega arith) (ih o v ws b)
+  step : (ts : List Tick) (o v : ℕ) (ws : List ℕ) (b : Results) → Shorter (suc (length ws)) (after ts (go o v ws b))
+  step ts o v ws b = shorter-after (length ws) _ ts (go o v ws b) (omega arith) (ih o v ws b)
 
-  step-in : (ts : List Tick) (f : ℕ → Results → ℕ) (o v : ℕ) (ws : List ℕ) (b : Results)
-      → Shorter (suc (suc (length ws))) (resume go o ts f (go (suc o) v ws b))
-  step-in ts f o v ws b =
-      shorter-resume o _ ts f (go (suc o) v ws b) (shorter-le (suc (length ws)) _ (go (suc o) v ws b) (omega arith) (ih (suc o) v ws b))
+  step-in : (c : Chart) (o v m k h : ℕ) (f : ℕ → Results → ℕ) (ws : List ℕ) (b : Results) (d : Bool)
+      → Shorter (suc (length ws)) (calls go c o v m k h f ws b d)
+  step-in c o v m k h f ws b false = let r : Course = go (suc o) (start c h) ws (cleared h b) in
+      shorter-resume o _ (tick v m (k + h) o) f r (shorter-le (length ws) _ r (omega arith) (ih (suc o) (start c h) ws (cleared h b)))
+  step-in c o v m k h f ws b true = omega arith
 
-  shorter-act : (c : Chart) (o v w : ℕ) (ws : List ℕ) (b : Results) (s : Stop) → Shorter (suc (suc (length ws))) (act go c o v w ws b s)
-  shorter-act c o v w ws b (plain m r u) = step _ o _ ws _
-  shorter-act c o v w ws b (call m r h u) = step-in _ _ o _ ws _
-  shorter-act c o v w ws b (function h u₀ u₁) = step-in _ _ o _ ws _
-  shorter-act c o v w ws b (test u) = step _ o _ ws b
-  shorter-act c o v w ws b home = step _ o _ ws b
-  shorter-act c o v w ws b back = omega arith
+  shorter-act : (c : Chart) (d : ℕ → Bool) (o v w : ℕ) (ws : List ℕ) (b : Results) (s : Stop) → Shorter (suc (length ws)) (act go c d o v w ws b s)
+  shorter-act c d o v w ws b (plain m r u) = step _ o _ ws _
+  shorter-act c d o v w ws b (call m r h u) = step-in c o v m 16 h _ ws _ (d o)
+  shorter-act c d o v w ws b (function h u₀ u₁) = step-in c o v 0 64 h _ ws b (d o)
+  shorter-act c d o v w ws b (test u) = step _ o _ ws b
+  shorter-act c d o v w ws b home = step _ o _ ws b
+  shorter-act c d o v w ws b back = omega arith
 
-shorter : (n : ℕ) (c : Chart) → Short (perform n c)
+shorter : (k : ℕ) (c : Chart) (d : ℕ → Bool) → Short (perform k c d)
 unfolding perform
-shorter zero c o v ws b = tt
-shorter (suc n) c o v [] b = tt
-shorter (suc n) c o v (w ∷ ws) b = shorter-act (perform n c) (shorter n c) c o v w ws b (stopAt c v)
+shorter zero c d o v ws b = tt
+shorter (suc k) c d o v [] b = tt
+shorter (suc k) c d o v (w ∷ ws) b = shorter-act (perform k c d) (shorter k c d) c d o v w ws b (stopAt c v)
 
 -- ---- a course, and then the callers: what the trace makes of it
-abbrev onward : Chart → List ℕ → Course → List Tick
-onward c ks (spent ts) = ts
-onward c [] (ended ts w ws b) = ts
-onward c (k ∷ ks) (ended ts w ws b) = ts ++ trace c ws (at (resumed c k w b) ks b)
+module _ (n : ℕ) (c : Chart) where
+  abbrev onward : List ℕ → Bool → Course → List Tick
+  onward ks f (spent ts) = ts
+  onward ks f (ended ts w ws b) = ts ++ trace n c ws (returned c ks w b f)
+  onward ks f (dropped ts ws b) = ts ++ trace n c ws (handling c b)
 
-onward-after : (c : Chart) (ks : List ℕ) (ts : List Tick) (r : Course) → onward c ks (after ts r) ≡ ts ++ onward c ks r
-onward-after c ks ts (spent us) = refl
-onward-after c [] ts (ended us w ws b) = refl
-onward-after c (k ∷ ks) ts (ended us w ws b) = append-assoc ts us (trace c ws (at (resumed c k w b) ks b))
+  onward-after : (ks : List ℕ) (f : Bool) (ts : List Tick) (r : Course) → onward ks f (after ts r) ≡ ts ++ onward ks f r
+  onward-after ks f ts (spent us) = refl
+  onward-after ks f ts (ended us w ws b) = append-assoc ts us (trace n c ws (returned c ks w b f))
+  onward-after ks f ts (dropped us ws b) = append-assoc ts us (trace n c ws (handling c b))
 
-onward-home : (c : Chart) (r : Course) → onward c [] r ≡ ticksOf r
-onward-home c (spent ts) = refl
-onward-home c (ended ts w ws b) = refl
+  abbrev performed : ℕ → ℕ → List ℕ → List ℕ → Results → Bool → Course
+  performed k v ks ws b f = perform k c (drops n c f) (suc (length ks)) v ws b
 
-module _ (c : Chart) (facts : Facts c) where
   abbrev Same : ℕ → Type 0
-  Same n = (ws : List ℕ) (v : ℕ) (ks : List ℕ) (b : Results) → length ws ≤ n → Good c (at v ks b)
-      → trace c ws (at v ks b) ≡ onward c ks (perform n c (suc (length ks)) v ws b)
+  Same k = (ws : List ℕ) (v : ℕ) (ks : List ℕ) (b : Results) (f : Bool) → length ws ≤ k
+      → trace n c ws (at v ks b f) ≡ onward ks f (performed k v ks ws b f)
 
-  module _ (n : ℕ) (ih : Same n) where
+  module _ (k : ℕ) (ih : Same k) where
     -- the scheme goes on
-    same-after : (ts : List Tick) (ws : List ℕ) (v : ℕ) (ks : List ℕ) (b : Results) → length ws ≤ n → Good c (at v ks b)
-        → ts ++ trace c ws (at v ks b) ≡ onward c ks (after ts (perform n c (suc (length ks)) v ws b))
-    same-after ts ws v ks b l g =
-        ap (λ (us : List Tick). ts ++ us) (ih ws v ks b l g) ∙ sym (onward-after c ks ts (perform n c (suc (length ks)) v ws b))
+    same-after : (ts : List Tick) (ws : List ℕ) (v : ℕ) (ks : List ℕ) (b : Results) (f : Bool) → length ws ≤ k
+        → ts ++ trace n c ws (at v ks b f) ≡ onward ks f (after ts (performed k v ks ws b f))
+    same-after ts ws v ks b f l = ap (λ (us : List Tick). ts ++ us) (ih ws v ks b f l) ∙ sym (onward-after ks f ts (performed k v ks ws b f))
 
-    -- the caller v goes on, from the node that f gives
-    same-resume : (v : ℕ) (ks : List ℕ) (ts : List Tick) (f : ℕ → Results → ℕ) → ((w : ℕ) (b : Results) → f w b ≡ resumed c v w b)
-        → (h : ℕ) → Under c h (v ∷ ks) → (r : Course) → Shorter (suc n) r
-        → ts ++ onward c (v ∷ ks) r ≡ onward c ks (resume (perform n c) (suc (length ks)) ts f r)
-    same-resume v ks ts f e h under (spent us) l = refl
-    same-resume v ks ts f e h under (ended us w ws b) l =
-        sym (append-assoc ts us (trace c ws (at (resumed c v w b) ks b)))
-        ∙ rw (e w b) (same-after (ts ++ us) ws (resumed c v w b) ks b (le-of-suc-le-suc l) (resumed-good c facts h v w ks b under))
+    -- the caller v goes on, from the node that g gives
+    module _ (v : ℕ) (ks : List ℕ) (f : Bool) (g : ℕ → Results → ℕ) (e : (w : ℕ) (b : Results) → g w b ≡ resumed c v w b) where
+      same-resume : (ts : List Tick) (r : Course) → Shorter (suc k) r
+          → ts ++ onward (v ∷ ks) f r ≡ onward ks f (resume (perform k c (drops n c f)) (suc (length ks)) ts g r)
+      same-resume ts (spent us) l = refl
+      same-resume ts (ended us w ws b) l =
+          sym (append-assoc ts us (trace n c ws (at (resumed c v w b) ks b f)))
+          ∙ rw (e w b) (same-after (ts ++ us) ws (resumed c v w b) ks b f (le-of-suc-le-suc l))
+      same-resume ts (dropped us ws b) l = sym (append-assoc ts us (trace n c ws (handling c b)))
 
-    -- a call: the scheme called, and then the caller
-    same-call : (v : ℕ) (ks : List ℕ) (ts : List Tick) (f : ℕ → Results → ℕ) → ((w : ℕ) (b : Results) → f w b ≡ resumed c v w b)
-        → (h : ℕ) → Under c h (v ∷ ks) → (ws : List ℕ) (u : ℕ) (b : Results) → length ws ≤ n → Good c (at u (v ∷ ks) b)
-        → ts ++ trace c ws (at u (v ∷ ks) b)
-        ≡ onward c ks (resume (perform n c) (suc (length ks)) ts f (perform n c (suc (suc (length ks))) u ws b))
-    same-call v ks ts f e h under ws u b l g =
-        let r : Course = perform n c (suc (suc (length ks))) u ws b in
-        ap (λ (us : List Tick). ts ++ us) (ih ws u (v ∷ ks) b l g)
-        ∙ same-resume v ks ts f e h under r (shorter-le (suc (length ws)) (suc n) r (omega arith) (shorter n c _ u ws b))
+      -- a call: the scheme called, and then the caller; or a drop
+      same-call : (m j h : ℕ) (ws : List ℕ) (b : Results) → length ws ≤ k → (d : Bool)
+          → one v m (pick d 96 (j + h)) (suc (length ks)) ∷ trace n c ws (called c v ks h b f d)
+          ≡ onward ks f (calls (perform k c (drops n c f)) c (suc (length ks)) v m j h g ws b d)
+      same-call m j h ws b l true = refl
+      same-call m j h ws b l false =
+          let r : Course = performed k (start c h) (v ∷ ks) ws (cleared h b) f in
+          ap (λ (us : List Tick). one v m (j + h) (suc (length ks)) ∷ us) (ih ws (start c h) (v ∷ ks) (cleared h b) f l)
+          ∙ same-resume (tick v m (j + h) (suc (length ks))) r
+          (shorter-le (length ws) (suc k) r (omega arith) (shorter k c (drops n c f) _ (start c h) ws (cleared h b)))
 
-    same-back : (v : ℕ) (ks : List ℕ) (w : ℕ) (ws : List ℕ) (b : Results) → Good c (at v ks b) → (scheme c v ≡ 1 → ⊥)
-        → tick v 0 3 (suc (length ks)) ++ trace c ws (returned c ks w b) ≡ onward c ks (ended (tick v 0 3 (suc (length ks))) w ws b)
-    same-back v [] w ws b g s = absurd (s (g .under))
-    same-back v (k ∷ ks) w ws b g s = refl
+    same-act : (v : ℕ) (ks : List ℕ) (w : ℕ) (ws : List ℕ) (b : Results) (f : Bool) → length ws ≤ k → (s : Stop) → stopAt c v ≡ s
+        → let d = drops n c f (suc (length ks)) in
+        tickOf d (suc (length ks)) v s ∷ trace n c ws (movedBy c d v ks w b f s)
+        ≡ onward ks f (act (perform k c (drops n c f)) c (drops n c f) (suc (length ks)) v w ws b s)
+    same-act v ks w ws b f l (plain m r u) q = same-after _ ws _ ks _ f l
+    same-act v ks w ws b f l (call m r h u) q =
+        same-call v ks f _ (λ x e. sym (ap (resumedBy c v x e) q)) m 16 h ws _ l (drops n c f (suc (length ks)))
+    same-act v ks w ws b f l (function h u₀ u₁) q =
+        same-call v ks f _ (λ x e. sym (ap (resumedBy c v x e) q)) 0 64 h ws b l (drops n c f (suc (length ks)))
+    same-act v ks w ws b f l (test u) q = same-after _ ws _ ks b f l
+    same-act v ks w ws b f l home q = same-after _ ws _ ks b f l
+    same-act v ks w ws b f l back q = refl
 
-    same-act : (v : ℕ) (ks : List ℕ) (w : ℕ) (ws : List ℕ) (b : Results) → length ws ≤ n → Good c (at v ks b)
-        → {s : Stop} → View c v s → stopAt c v ≡ s
-        → tickOf (suc (length ks)) v s ∷ trace c ws (movedBy c v ks w b s) ≡ onward c ks (act (perform n c) c (suc (length ks)) v w ws b s)
-    same-act v ks w ws b l g (a-plain e a) q = same-after _ ws _ ks _ l (moved-good c facts v ks b w g (a-plain e a))
-    same-act v ks w ws b l g (a-call e a) q =
-        same-call v ks _ _ (λ x d. sym (ap (resumedBy c v x d) q)) (argument c v)
-        (calling c v ks b g (inl e) (facts .calls v (g .top .inside) e a .0)) ws _ _ l (moved-good c facts v ks b w g (a-call e a))
-    same-act v ks w ws b l g (a-function e) q =
-        same-call v ks _ _ (λ x d. sym (ap (resumedBy c v x d) q)) (argument c v)
-        (calling c v ks b g (inr e) (facts .functions v (g .top .inside) e .0)) ws _ _ l (moved-good c facts v ks b w g (a-function e))
-    same-act v ks w ws b l g (a-home e s) q = same-after _ ws _ ks b l (moved-good c facts v ks b w g (a-home e s))
-    same-act v ks w ws b l g (a-back e s) q = same-back v ks w ws b g s
-    same-act v ks w ws b l g (a-begin e) q = same-after _ ws _ ks b l (moved-good c facts v ks b w g (a-begin e))
-    same-act v ks w ws b l g (a-condition e) q = same-after _ ws _ ks b l (moved-good c facts v ks b w g (a-condition e))
-
-  same : (n : ℕ) → Same n
+  same : (k : ℕ) → Same k
   unfolding perform trace
-  same zero [] v ks b l g = refl
-  same zero (w ∷ ws) v ks b l g = absurd (not-suc-le-zero l)
-  same (suc n) [] v ks b l g = refl
-  same (suc n) (w ∷ ws) v ks b l g = same-act n (same n) v ks w ws b (le-of-suc-le-suc l) g (view-of c facts (at v ks b) g) refl
+  same zero [] v ks b f l = refl
+  same zero (w ∷ ws) v ks b f l = absurd (not-suc-le-zero l)
+  same (suc k) [] v ks b f l = refl
+  same (suc k) (w ∷ ws) v ks b f l = same-act k (same k) v ks w ws b f (le-of-suc-le-suc l) (stopAt c v) refl
 
-  pub walk-trace : (ws : List ℕ) → walk c ws ≡ trace c ws (atHome c)
+  -- ---- the first open scheme, and what follows it
+  walk-from : (k : ℕ) (f : Bool) (v : ℕ) (ws : List ℕ) (b : Results) → length ws ≤ k → walkFrom k n c f v ws b ≡ trace n c ws (at v [] b f)
+  unfolding walkFrom trace
+  walk-from zero f v [] b l = refl
+  walk-from zero f v (w ∷ ws) b l = absurd (not-suc-le-zero l)
+  walk-from (suc k) f v ws b l =
+      go (perform (length ws) c (drops n c f) 1 v ws b) (shorter (length ws) c (drops n c f) 1 v ws b) (walk-from k)
+      ∙ sym (same (length ws) ws v [] b f (omega arith))
+    where
+      go : (r : Course) → Shorter (length ws) r
+          → ((f : Bool) (v : ℕ) (ws : List ℕ) (b : Results) → length ws ≤ k → walkFrom k n c f v ws b ≡ trace n c ws (at v [] b f))
+          → then (walkFrom k n c) c r ≡ onward [] f r
+      go (spent ts) s ih = refl
+      go (ended ts w us d) s ih = ap (λ (xs : List Tick). ts ++ xs) (ih false (end c 1) us d (omega arith))
+      go (dropped ts us d) s ih = ap (λ (xs : List Tick). ts ++ xs) (ih true (start c (handler c)) us d (omega arith))
+
+  pub walk-trace : (ws : List ℕ) → walk n c ws ≡ trace n c ws (atHome c noResults)
   unfolding walk
-  walk-trace ws =
-      sym (onward-home c (perform (length ws) c 1 (end c 1) ws noResults))
-      ∙ sym (same (length ws) ws (end c 1) [] noResults (omega arith) (home-good c facts))
+  walk-trace ws = walk-from (length ws) false (end c 1) ws noResults (omega arith)

@@ -1,31 +1,35 @@
 -- The walk without recursion: positions of a node, its unfinished callers and the result bits, each word a move to the next one.
 use Prim.Native.Nat.{ℕ, suc, _+_, _≤_, _<_}
-use mathlib.Core.Bool.{Bool, true, false}
+use mathlib.Core.Bool.{Bool, true, false, _&&_, not}
 use mathlib.Core.Path.{_≡_, refl, ap, sym, subst}
 use mathlib.Core.Logic.{_⊎_, inl, inr}
 use mathlib.Core.List.{List, [], _∷_, _++_}
 use lib.ListN.{length}
+use lib.Dec.{eqb}
+use borrow.Author.Tests.{eqb-false}
 use native.Mathlib.Omega.{arith}
 use Rattle.lists.specs.Pick.{pick}
-use Rattle.bits.specs.Results.{Results, noResults, resultOf, withResult, cleared}
+use Rattle.lists.proofs.Tests.{no-both, and-l, and-r, not-true}
+use Rattle.bits.specs.Results.{Results, resultOf, withResult, cleared}
 use Rattle.frames.specs.Frame.{size}
-use Rattle.charts.specs.Chart.{Chart, kind, scheme, argument, next0, next1, schemes, end}
+use Rattle.charts.specs.Chart.{Chart, kind, scheme, argument, next0, next1, handler, schemes, end}
 use Rattle.walk.specs.Stops.{stops, start, byArc, byWord, Stop, plain, call, function, test, home, back, stopAt}
-use Rattle.walk.specs.Walk.{Tick}
+use Rattle.walk.specs.Walk.{Tick, drops}
 use Rattle.walk.proofs.Facts.{Target, StopOf, Facts}
 use Rattle.walk.proofs.Views.{View, a-plain, a-call, a-function, a-home, a-back, a-begin}
 use Rattle.walk.proofs.Views.{a-condition, view, stop-call, stop-function, begin-leads, end-stops}
 
--- the callers of unfinished calls, the last one first
+-- the callers of unfinished calls, the last one first, and whether the handler is the first open scheme
 pub record Position : Type 0 where
   pub node : ℕ
   pub callers : List ℕ
   pub results : Results
+  pub first : Bool
 
-abbrev pub at : ℕ → List ℕ → Results → Position
-at v ks b = record { node = v; callers = ks; results = b }
+abbrev pub at : ℕ → List ℕ → Results → Bool → Position
+at v ks b f = record { node = v; callers = ks; results = b; first = f }
 
--- mask and code of a stop's tick
+-- mask and code of a stop's tick, where a call drops the open schemes or not
 abbrev pub maskOf : Stop → ℕ
 maskOf (plain m r u) = m
 maskOf (call m r h u) = m
@@ -34,20 +38,20 @@ maskOf (test u) = 0
 maskOf home = 0
 maskOf back = 0
 
-abbrev pub codeOf : Stop → ℕ
-codeOf (plain m r u) = 0
-codeOf (call m r h u) = 16 + h
-codeOf (function h u₀ u₁) = 64 + h
-codeOf (test u) = 0
-codeOf home = 4
-codeOf back = 3
+abbrev pub codeOf : Bool → Stop → ℕ
+codeOf d (plain m r u) = 0
+codeOf d (call m r h u) = pick d 96 (16 + h)
+codeOf d (function h u₀ u₁) = pick d 96 (64 + h)
+codeOf d (test u) = 0
+codeOf d home = 4
+codeOf d back = 3
 
 abbrev pub one : ℕ → ℕ → ℕ → ℕ → Tick
 one v m k o = record { node = v; mask = m; code = k; opened = o }
 
 -- the tick of stop v, which does s, with o schemes open
-abbrev pub tickOf : ℕ → ℕ → Stop → Tick
-tickOf o v s = one v (maskOf s) (codeOf s) o
+abbrev pub tickOf : Bool → ℕ → ℕ → Stop → Tick
+tickOf d o v s = one v (maskOf s) (codeOf d s) o
 
 -- where caller k goes on when its call has ended
 abbrev pub resumedBy : Chart → ℕ → ℕ → Results → Stop → ℕ
@@ -61,29 +65,44 @@ resumedBy c k w b back = k
 abbrev pub resumed : Chart → ℕ → ℕ → Results → ℕ
 resumed c k w b = resumedBy c k w b (stopAt c k)
 
--- with no caller left there is nothing to go back to, and a walk never comes there
-abbrev pub returned : Chart → List ℕ → ℕ → Results → Position
-returned c [] w b = at 0 [] b
-returned c (k ∷ ks) w b = at (resumed c k w b) ks b
+-- where a walk begins
+abbrev pub atHome : Chart → Results → Position
+atHome c b = at (end c 1) [] b false
 
-abbrev pub movedBy : Chart → ℕ → List ℕ → ℕ → Results → Stop → Position
-movedBy c v ks w b (plain m r u) = at (byArc c w u) ks (withResult r (scheme c v) b)
-movedBy c v ks w b (call m r h u) = at (start c h) (v ∷ ks) (cleared h (withResult r (scheme c v) b))
-movedBy c v ks w b (function h u₀ u₁) = at (start c h) (v ∷ ks) (cleared h b)
-movedBy c v ks w b (test u) = at (byWord c w u) ks b
-movedBy c v ks w b home = at (start c 1) ks b
-movedBy c v ks w b back = returned c ks w b
+-- with no caller left the handler has ended
+abbrev pub returned : Chart → List ℕ → ℕ → Results → Bool → Position
+returned c [] w b f = atHome c b
+returned c (k ∷ ks) w b f = at (resumed c k w b) ks b f
 
--- the tick that is made at a position, and the position after it
-abbrev pub tickAt : Chart → Position → Tick
-tickAt c x = tickOf (suc (length (x .callers))) (x .node) (stopAt c (x .node))
+-- where a drop leads, and a call of scheme h by node v
+abbrev pub handling : Chart → Results → Position
+handling c b = at (start c (handler c)) [] b true
 
-abbrev pub move : Chart → ℕ → Position → Position
-move c w x = movedBy c (x .node) (x .callers) w (x .results) (stopAt c (x .node))
+abbrev pub called : Chart → ℕ → List ℕ → ℕ → Results → Bool → Bool → Position
+called c v ks h b f true = handling c (cleared (handler c) b)
+called c v ks h b f false = at (start c h) (v ∷ ks) (cleared h b) f
 
-unfoldable pub trace : Chart → List ℕ → Position → List Tick
-trace c [] x = []
-trace c (w ∷ ws) x = tickAt c x ∷ trace c ws (move c w x)
+abbrev pub movedBy : Chart → Bool → ℕ → List ℕ → ℕ → Results → Bool → Stop → Position
+movedBy c d v ks w b f (plain m r u) = at (byArc c w u) ks (withResult r (scheme c v) b) f
+movedBy c d v ks w b f (call m r h u) = called c v ks h (withResult r (scheme c v) b) f d
+movedBy c d v ks w b f (function h u₀ u₁) = called c v ks h b f d
+movedBy c d v ks w b f (test u) = at (byWord c w u) ks b f
+movedBy c d v ks w b f home = at (start c 1) ks b f
+movedBy c d v ks w b f back = returned c ks w b f
+
+-- with n places: whether a call drops here, the tick that is made at a position, and the position after it
+abbrev pub dropsAt : ℕ → Chart → Position → Bool
+dropsAt n c x = drops n c (x .first) (suc (length (x .callers)))
+
+abbrev pub tickAt : ℕ → Chart → Position → Tick
+tickAt n c x = tickOf (dropsAt n c x) (suc (length (x .callers))) (x .node) (stopAt c (x .node))
+
+abbrev pub move : ℕ → Chart → ℕ → Position → Position
+move n c w x = movedBy c (dropsAt n c x) (x .node) (x .callers) w (x .results) (x .first) (stopAt c (x .node))
+
+unfoldable pub trace : ℕ → Chart → List ℕ → Position → List Tick
+trace n c [] x = []
+trace n c (w ∷ ws) x = tickAt n c x ∷ trace n c ws (move n c w x)
 
 -- ---- positions that a walk can come to
 -- node k waits for the end of scheme h, which it called
@@ -120,13 +139,13 @@ good c h u ks b f s under handled = record {
 pub caller-stop : (c : Chart) (h k : ℕ) → Caller c h k → StopOf c (scheme c k) k
 caller-stop c h k caller = record { inside = caller .inside; same = refl; stopping = caller .stopping }
 
--- where a walk begins
-abbrev pub atHome : Chart → Results → Position
-atHome c b = at (end c 1) [] b false
+-- the End of scheme 1 is a stop
+pub home-stop : (c : Chart) → Facts c → StopOf c 1 (end c 1)
+home-stop c facts = let e = facts .ends 1 (omega arith) (facts .first) in
+    record { inside = e .0; same = e .2; stopping = end-stops c (end c 1) (e .1) }
 
 pub home-good : (c : Chart) → Facts c → (b : Results) → Good c (atHome c b)
-home-good c facts b = let e = facts .ends 1 (omega arith) (facts .first) in
-    good c 1 (end c 1) [] b false (record { inside = e .0; same = e .2; stopping = end-stops c (end c 1) (e .1) }) refl (λ q. no-both false q refl)
+home-good c facts b = good c 1 (end c 1) [] b false (home-stop c facts) refl (λ q. no-both false q refl)
 
 pub handling-good : (c : Chart) → Facts c → (b : Results) → (handler c ≡ 0 → ⊥) → Good c (handling c b)
 handling-good c facts b n = let l = facts .handled n in
@@ -140,12 +159,18 @@ drop-handler n c f o e =
     eqb-false (handler c) 0 (not-true (eqb (handler c) 0) (and-r p q (and-l (p && q) (eqb o n) e)))
 
 module _ (c : Chart) (facts : Facts c) where
-  arc-to : (v w : ℕ) → v < size c → (kind c v ≡ 1 → ⊥) → StopOf c (scheme c v) (byArc c w (next0 c v))
+  -- where a stop's arcs lead in its own scheme
+  pub arc-to : (v w : ℕ) → v < size c → (kind c v ≡ 1 → ⊥) → StopOf c (scheme c v) (byArc c w (next0 c v))
   arc-to v w l e = facts .follows (scheme c v) (next0 c v) w (facts .arc0 v l e)
 
-  function-to : (v w : ℕ) (t : Bool) → v < size c → kind c v ≡ 4 → StopOf c (scheme c v) (byArc c w (pick t (next1 c v) (next0 c v)))
+  pub function-to : (v w : ℕ) (t : Bool) → v < size c → kind c v ≡ 4 → StopOf c (scheme c v) (byArc c w (pick t (next1 c v) (next0 c v)))
   function-to v w true l e = facts .follows (scheme c v) (next1 c v) w (facts .arc1 v l (omega arith))
   function-to v w false l e = arc-to v w l (λ p. omega arith)
+
+  pub begin-to : (v w : ℕ) → v < size c → kind c v ≡ 0 → stops c v ≡ true → StopOf c (scheme c v) (byWord c w (next0 c v))
+  begin-to v w l e s =
+      let t : Target c (scheme c v) (next0 c v) = facts .arc0 v l (λ p. omega arith) in
+      subst (λ (h : ℕ). StopOf c h (byWord c w (next0 c v))) (t .same) (facts .tests (next0 c v) w (t .inside) (begin-leads c v e s))
 
   resumes-to : (h k w : ℕ) (b : Results) → Caller c h k → StopOf c (scheme c k) (resumed c k w b)
   resumes-to h k w b caller = go (caller .calls)
@@ -184,10 +209,7 @@ module _ (c : Chart) (facts : Facts c) where
     moved-good d n w (a-function e) = called-good b (inr e) (facts .functions v (g .top .inside) e) d n
     moved-good d n w (a-home e s) = good c 1 (start c 1) ks b f (facts .starts 1 (omega arith) (facts .first)) (at-first s) (g .handled)
     moved-good d n w (a-back e s) = returned-good w
-    moved-good d n w (a-begin e) =
-        let t : Target c (scheme c v) (next0 c v) = facts .arc0 v (g .top .inside) (λ p. omega arith) in
-        good c (scheme c (next0 c v)) _ ks b f (facts .tests (next0 c v) w (t .inside) (begin-leads c v e (g .top .stopping)))
-        (subst (λ (h : ℕ). Under c (bottom c f) h ks) (sym (t .same)) (g .under)) (g .handled)
+    moved-good d n w (a-begin e) = good c (scheme c v) _ ks b f (begin-to v w (g .top .inside) e (g .top .stopping)) (g .under) (g .handled)
     moved-good d n w (a-condition e) = good c (scheme c v) _ ks b f (facts .tests v w (g .top .inside) e) (g .under) (g .handled)
 
   pub view-of : (x : Position) → Good c x → View c (x .node) (stopAt c (x .node))
