@@ -33,7 +33,7 @@ first (t ∷ ts) = t
 module _ (run : Runner) (claim : Agreement translate freshState run) where
   -- on the image of a chart, by the walk's ticks
   pub at-chart : {chart image : List ℕ} {i : Image} → TranslatesTo chart image i → (size : ℕ) → 1 ≤ size → size ≤ 32
-      → (asked : List Asked) (ts : List Tick) → walk (contents chart) (joined asked) ≡ ts
+      → (asked : List Asked) (ts : List Tick) → walk size (contents chart) (joined asked) ≡ ts
       → chain run image (fresh size) asked ≡ expectedAll (bound size ts) ts 0 asked
   unfolding Agreement
   at-chart {chart} {image} known size l h asked ts e =

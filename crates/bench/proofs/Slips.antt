@@ -115,7 +115,7 @@ joinedRows (r ∷ q ∷ rs) = elim (alike r q) [
 ]
 
 abbrev joinedTable : Image → Image
-joinedTable i = record { entries = i .entries; labels = i .labels; rows = joinedRows (i .rows) }
+joinedTable i = record { handler = i .handler; entries = i .entries; labels = i .labels; rows = joinedRows (i .rows) }
 
 abbrev pub joinsRows : Translator
 joinsRows text out = lent (translateVerdict text) 1 (λ _. imageText (joinedTable (table (contents text)))) out

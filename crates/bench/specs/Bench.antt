@@ -97,7 +97,7 @@ pub record BenchSheet : Type 0 where
   pub b4 : freshRun imageP 1 words .reply ≡ refusal 17 0 1
   pub b5 : (size : ℕ) → 1 ≤ size → size ≤ 32 → freshRun imageP size [] .reply ≡ success 0
   -- every tick of the walk and of the machine is a home tick, whatever the words and the stack size
-  pub b6-walk : (ws : List ℕ) → walk (contents chartHome) ws ≡ map (λ w. record { node = 1; mask = 0; code = 4; opened = 1 }) ws
+  pub b6-walk : (n : ℕ) (ws : List ℕ) → walk n (contents chartHome) ws ≡ map (λ w. record { node = 1; mask = 0; code = 4; opened = 1 }) ws
   pub b6-run : (size : ℕ) → 1 ≤ size → size ≤ 32 → (ws : List ℕ) → freshRun (imageOf 92 chartHome) size ws ≡ record {
     reply = success (length ws);
     state = fresh size;
