@@ -3,6 +3,7 @@ pub mod Tables
 pub mod Rounds
 pub mod BenchSheet
 pub mod Cases
+pub mod Handler
 pub mod Outputs
 pub mod Instances
 pub mod Variants

@@ -11,6 +11,7 @@ use Rattle.image.specs.Check.{imageVerdict}
 use Rattle.translator.specs.Labels.{homeLabel, returnLabel}
 use Rattle.translator.specs.Entry.{translate}
 use Rattle.bench.specs.Bench.{lines, chartP, imageP, chartHome, chartFunction, chartBore, chartAgain}
+use Rattle.bench.specs.Handler.{chartHandler, imageHandler}
 use Rattle.bench.proofs.Computing.{translating, checking}
 
 pub record TranslatesTo (chart image : List ℕ) (table : Image) : Type 0 where
@@ -131,3 +132,18 @@ tableAgain = record {
 pub of-again : TranslatesTo chartAgain imageAgain tableAgain
 unfolding translating checking chartAgain imageAgain tableAgain
 of-again = record { translated = λ out. refl; passes = refl; decodes = refl }
+
+-- ---- a chart with a handler
+unfoldable pub tableHandler : Image
+tableHandler = record {
+  handler = 3;
+  entries = 2 ∷ 4 ∷ 6 ∷ [];
+  labels = homeLabel ∷ returnLabel ∷ labelWith 2 2 1 0 0 ∷ labelWith 1 3 1 0 1 ∷ labelWith 0 0 2 0 0 ∷ labelWith 1 2 2 2 2
+      ∷ labelWith 0 0 3 2 4 ∷ labelWith 1 2 3 2 8 ∷ [];
+  rows = row 2 2 0 0 0 ∷ row 2 2 2 0 3 ∷ row 2 0 0 1 0 ∷ row 3 0 0 2 0 ∷ row 4 1 0 2 1 ∷ row 4 1 1 2 5 ∷ row 5 0 0 2 1 ∷ row 6 1 0 2 1
+      ∷ row 6 1 1 2 7 ∷ row 7 0 0 2 1 ∷ [];
+}
+
+pub of-handler : TranslatesTo chartHandler imageHandler tableHandler
+unfolding translating checking chartHandler imageHandler tableHandler
+of-handler = record { translated = λ out. refl; passes = refl; decodes = refl }
