@@ -22,7 +22,7 @@ use Rattle.agreement.proofs.Demand.{theorem}
 use Rattle.bench.specs.Bench.{chartP, imageP, words, chartHome}
 use Rattle.bench.proofs.Computing.{translating, running}
 use Rattle.bench.proofs.Tables.{imageHome}
-use Rattle.bench.proofs.Instances.{first, at-home, at-deep, at-twice}
+use Rattle.bench.proofs.Instances.{first, second, at-home, at-deep, at-twice}
 use Rattle.bench.proofs.Variants.{Step, ticksBy, runBy, codeAt}
 
 -- ---- translators
@@ -124,10 +124,6 @@ writes-nothing-fails f idle claim =
 
 abbrev pub KeepsState : Runner → Type 0
 KeepsState f = (image : List ℕ) (s : State) (ws masks codes : List ℕ) → f image s ws masks codes .state ≡ s
-
-abbrev second : List Told → Told
-second [] = first []
-second (t ∷ ts) = first ts
 
 pub keeps-state-fails : (f : Runner) → KeepsState f → Agreement translate freshState f → ⊥
 unfolding chain

@@ -8,6 +8,7 @@ pub mod Outputs
 pub mod Instances
 pub mod Variants
 pub mod Slips
+pub mod HandlerSlips
 pub mod Idlers
 pub mod Live
 pub mod Functions

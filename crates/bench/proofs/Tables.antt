@@ -140,7 +140,7 @@ tableHandler = record {
   entries = 2 ∷ 4 ∷ 6 ∷ [];
   labels = homeLabel ∷ returnLabel ∷ labelWith 2 2 1 0 0 ∷ labelWith 1 3 1 0 1 ∷ labelWith 0 0 2 0 0 ∷ labelWith 1 2 2 2 2
       ∷ labelWith 0 0 3 2 4 ∷ labelWith 1 2 3 2 8 ∷ [];
-  rows = row 2 2 0 0 0 ∷ row 2 2 2 0 3 ∷ row 2 0 0 1 0 ∷ row 3 0 0 2 0 ∷ row 4 1 0 2 1 ∷ row 4 1 1 2 5 ∷ row 5 0 0 2 1 ∷ row 6 1 0 2 1
+  rows = row 2 2 0 0 0 ∷ row 2 2 2 0 3 ∷ row 2 2 0 1 0 ∷ row 2 2 2 1 3 ∷ row 3 0 0 2 0 ∷ row 4 1 0 2 1 ∷ row 4 1 1 2 5 ∷ row 5 0 0 2 1 ∷ row 6 1 0 2 1
       ∷ row 6 1 1 2 7 ∷ row 7 0 0 2 1 ∷ [];
 }
 

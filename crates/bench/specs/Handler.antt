@@ -14,24 +14,24 @@ use Rattle.state.specs.declared.State.{State}
 use Rattle.runs.specs.Run.{run}
 use Rattle.bench.specs.Bench.{lines, freshRun}
 
--- scheme 1: function 2, and on a 0, where condition 1 is set, an operation that calls scheme 3; scheme 2: where condition 0 is set, an operation
--- that writes 1 and calls scheme 2; scheme 3, the handler: an operation that writes 1, and where condition 0 is set, one that does so and calls
--- scheme 2
+-- scheme 1: function 2 and then, where condition 1 is set, an operation that calls scheme 3; scheme 2: where condition 0 is set, an operation
+-- that writes 1 and calls scheme 2; scheme 3, the handler: an operation that writes 1 and then, where condition 0 is set, one that writes 1 and
+-- calls scheme 2
 unfoldable pub chartHandler : List ℕ
 chartHandler = lines (
-    "00010001000000000000FE" ∷ "04010202040000000000F3" ∷ "03010104030000000000F4" ∷ "02010304000000000001F5"
+    "00010001000000000000FE" ∷ "04010202020000000000F5" ∷ "03010104030000000000F4" ∷ "02010304000000000001F5"
     ∷ "01010000000000000000FE" ∷ "00020006000000000000F8" ∷ "03020008070000000000EC" ∷ "02020208000200000002EE"
     ∷ "01020000000000000000FD" ∷ "0003010A000000000000F2" ∷ "0203000B000200000004EA" ∷ "0303000D0C0000000000E1"
     ∷ "0203020D000200000008E2" ∷ "01030000000000000000FC" ∷ [])
 
 unfoldable pub imageHandler : List ℕ
 imageHandler = lines (
-    "0F0307000A0300000000DA" ∷ "10010200000000000000ED" ∷ "10020400000000000000EA" ∷ "10030600000000000000E7"
+    "0F0307000B0300000000D9" ∷ "10010200000000000000ED" ∷ "10020400000000000000EA" ∷ "10030600000000000000E7"
     ∷ "11000400010000000000EA" ∷ "11010300000000000000EB" ∷ "11020202010000000000E8" ∷ "11030103010000000001E6"
     ∷ "11040000020000000000E9" ∷ "11050102020200000002E1" ∷ "11060000030200000004E0" ∷ "11070102030200000008D8"
-    ∷ "12020002000000000000EA" ∷ "12020002000200030000E5" ∷ "12020000000001000000EB" ∷ "12030000000002000000E9"
-    ∷ "12040001000002010000E6" ∷ "12040001000102050000E1" ∷ "12050000000002010000E6" ∷ "12060001000002010000E4"
-    ∷ "12060001000102070000DD" ∷ "12070000000002010000E4" ∷ [])
+    ∷ "12020002000000000000EA" ∷ "12020002000200030000E5" ∷ "12020002000001000000E9" ∷ "12020002000201030000E4"
+    ∷ "12030000000002000000E9" ∷ "12040001000002010000E6" ∷ "12040001000102050000E1" ∷ "12050000000002010000E6"
+    ∷ "12060001000002010000E4" ∷ "12060001000102070000DD" ∷ "12070000000002010000E4" ∷ [])
 
 -- with two places: a drop, the handler, home, and a drop again; the word 2 of the handler's return has condition 1 set, but is not read
 unfoldable pub dropWords : List ℕ

@@ -14,6 +14,13 @@ chartEndless = lines (
     "00010001000000000000FE" ∷ "02010202000000000001F8" ∷ "01010000000000000000FE"
     ∷ "00020004000000000000FA" ∷ "02020205000000000002F3" ∷ "01020000000000000000FD" ∷ [])
 
+-- the same with a handler, which makes one plain tick
+unfoldable pub chartDropped : List ℕ
+chartDropped = lines (
+    "00010001000000000000FE" ∷ "02010202000000000001F8" ∷ "01010000000000000000FE" ∷ "00020004000000000000FA"
+    ∷ "02020205000000000002F3" ∷ "01020000000000000000FD" ∷ "00030107000000000000F5" ∷ "02030008000000000004EF"
+    ∷ "01030000000000000000FC" ∷ [])
+
 -- Begin, an operation, condition 5 (on 0 End, on 1 the operation again), End
 unfoldable pub chartHeld : List ℕ
 chartHeld = lines ("00010001000000000000FE" ∷ "02010002000000000001FA" ∷ "03010503010000000000F3" ∷ "01010000000000000000FE" ∷ [])
@@ -31,6 +38,9 @@ pub record PrintedCases : Type 0 where
   pub run-held : runOutput (translateOutput chartHeld) ≡ lines (concatMap (λ r. r) (replicate 16 ("04" ∷ "00" ∷ [])) ++ ("04" ∷ replicate 31 "00"))
   -- a home tick and 31 calls fill the stack, and 17 follows
   pub run-endless : runOutput (translateOutput chartEndless) ≡ lines ("04" ∷ replicate 31 "12" ++ ("FF110000000000000000F0" ∷ []))
+  -- with a handler a drop follows them, the handler with its return, and home again
+  pub run-dropped : runOutput (translateOutput chartDropped)
+      ≡ lines ("04" ∷ replicate 31 "12" ++ ("60" ∷ "00" ∷ "03" ∷ "04" ∷ replicate 28 "12"))
   -- no image: empty, and a chart
   pub run-empty : runOutput [] ≡ lines ("FF01000000000000000000" ∷ [])
   pub run-chart : runOutput chartP ≡ lines ("FF0B0000000000000000F6" ∷ [])
