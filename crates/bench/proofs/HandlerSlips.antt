@@ -1,7 +1,7 @@
 -- Slips of a drop, each a tick in the place of the machine's. Most are shown not to meet demand 3. The result bits that a drop leaves never show
 -- in a tick, because a function's own call clears the bit that its return reads; a slip in them is shown to hand back another state than the
 -- definition, which demand 1 asks for.
-use mathlib.Core.Path.{_≡_, refl, _∙_, ap, ap₂, sym}
+use mathlib.Core.Path.{_≡_, _∙_, ap, sym}
 use mathlib.Core.Bool.{_&&_}
 use mathlib.Core.List.{List, [], _∷_}
 use Prim.Native.Nat.{ℕ, suc, _-_}
@@ -10,7 +10,6 @@ use lib.Dec.{leb, eqb}
 use lib.ListN.{take, set}
 use Rattle.lists.specs.Pick.{pick}
 use Rattle.bits.specs.Results.{Results, resultOf, withResult, cleared}
-use Rattle.frames.specs.Verdict.{Verdict, next}
 use Rattle.frames.specs.Answer.{number}
 use Rattle.image.specs.Image.{Image, Label}
 use Rattle.translator.specs.Entry.{translate}
@@ -19,33 +18,14 @@ use Rattle.state.specs.State.{noPlaces, labelAt, entryAt, placeAt, isCall, ofHa
 use Rattle.ticks.specs.Tick.{Ticked, ticked, stopped, full, tick}
 use Rattle.ticks.specs.Parts.{topOf, beneath}
 use Rattle.ticks.specs.Functions.{findsFull, returned}
-use Rattle.runs.specs.Run.{Run, runOn, runVerdict, run}
-use Rattle.agreement.specs.Agreement.{Runner, Asked, Told, told, chain, Agreement}
-use Rattle.agreement.proofs.Images.{stateVerdict, runImage, run-image}
+use Rattle.runs.specs.Run.{Run, run}
+use Rattle.agreement.specs.Agreement.{Runner, Told, chain, Agreement}
+use Rattle.agreement.proofs.Images.{runImage, run-image}
 use Rattle.bench.specs.Handler.{imageHandler, dropWords, bottomWords, ordinaryWords}
 use Rattle.bench.proofs.Computing.{running}
 use Rattle.bench.proofs.Tables.{tableHandler, of-handler}
-use Rattle.bench.proofs.Instances.{alone, handed, second, at-drop, at-bottom, at-ordinary, at-parted}
-use Rattle.bench.proofs.Variants.{Step, ticksBy, runBy, codeAt}
-
--- ---- a run with another tick on the chart's image, by its table
-abbrev tableRun : Step → Runner
-tableRun step image s ws ms ks = runOn (stateVerdict tableHandler s ws ms ks) (λ _. ticksBy step tableHandler s ws) s ms ks
-
-by-table : (step : Step) (s : State) (ws ms ks : List ℕ) → runBy step imageHandler s ws ms ks ≡ tableRun step imageHandler s ws ms ks
-unfolding runVerdict
-by-table step s ws ms ks =
-    ap₂ (λ (v : Verdict) (i : Image). runOn (next v λ _. stateVerdict i s ws ms ks) (λ _. ticksBy step i s ws) s ms ks) (of-handler .passes) (of-handler .decodes)
-
-made : (step : Step) (ws : List ℕ) {t : Told} → handed (runBy step) imageHandler 2 ws ≡ t → handed (tableRun step) imageHandler 2 ws ≡ t
-made step ws e = sym (ap told (by-table step (fresh 2) ws (alone ws .masks) (alone ws .codes))) ∙ e
-
-chain-made : (step : Step) (s : State) (asked : List Asked) → chain (runBy step) imageHandler s asked ≡ chain (tableRun step) imageHandler s asked
-unfolding chain
-chain-made step s [] = refl
-chain-made step s (a ∷ rest) =
-    ap (λ (r : Run). told r ∷ chain (runBy step) imageHandler (r .state) rest) (by-table step s (a .words) (a .masks) (a .codes))
-    ∙ ap (λ (l : List Told). told (tableRun step imageHandler s (a .words) (a .masks) (a .codes)) ∷ l) (chain-made step _ rest)
+use Rattle.bench.proofs.Instances.{alone, second, at-drop, at-bottom, at-ordinary, at-parted}
+use Rattle.bench.proofs.Variants.{Step, ticksBy, runBy, tableRun, by-table, made, chain-made, codeAt}
 
 -- ---- the label at the top, and the bits with its result
 abbrev topLabel : Image → State → Label
@@ -74,7 +54,7 @@ neverDrops i s w = pick (findsFull i s) (stopped 17) (tick i s w)
 
 pub never-drops-fails : Agreement translate freshState (runBy neverDrops) → ⊥
 unfolding running ticksBy tableHandler dropWords
-never-drops-fails claim = let z : _≡_ {A = ℕ} 7 96 = ap (codeAt 3) (made neverDrops dropWords (at-drop (runBy neverDrops) claim)) in omega arith
+never-drops-fails claim = let z : _≡_ {A = ℕ} 7 96 = ap (codeAt 3) (made of-handler neverDrops 2 dropWords (at-drop (runBy neverDrops) claim)) in omega arith
 
 -- ---- a drop at depth Σ - 1
 abbrev pub dropsEarly : Step
@@ -82,7 +62,7 @@ dropsEarly i s w = pick (isCall (topLabel i s) && leb (s .size - 1) (s .depth)) 
 
 pub drops-early-fails : Agreement translate freshState (runBy dropsEarly) → ⊥
 unfolding running ticksBy tableHandler dropWords
-drops-early-fails claim = let z : _≡_ {A = ℕ} 96 66 = ap (codeAt 1) (made dropsEarly dropWords (at-drop (runBy dropsEarly) claim)) in omega arith
+drops-early-fails claim = let z : _≡_ {A = ℕ} 96 66 = ap (codeAt 1) (made of-handler dropsEarly 2 dropWords (at-drop (runBy dropsEarly) claim)) in omega arith
 
 -- ---- a drop though the handler is at the bottom
 abbrev pub dropsAgain : Step
@@ -97,7 +77,7 @@ dropsAgain i s w = pick (findsFull i s && ofHandler i (placeAt s 0))
 
 pub drops-again-fails : Agreement translate freshState (runBy dropsAgain) → ⊥
 unfolding running ticksBy tableHandler bottomWords
-drops-again-fails claim = let z : _≡_ {A = ℕ} 96 7 = ap (codeAt 7) (made dropsAgain bottomWords (at-bottom (runBy dropsAgain) claim)) in omega arith
+drops-again-fails claim = let z : _≡_ {A = ℕ} 96 7 = ap (codeAt 7) (made of-handler dropsAgain 2 bottomWords (at-bottom (runBy dropsAgain) claim)) in omega arith
 
 -- ---- a handler that counts zero: with it at the bottom there is a place more
 abbrev resized : ℕ → State → State
@@ -112,7 +92,7 @@ countsZero i s w = pick (ofHandler i (placeAt s 0)) (resizedAfter (s .size) (tic
 
 pub counts-zero-fails : Agreement translate freshState (runBy countsZero) → ⊥
 unfolding running ticksBy tableHandler bottomWords
-counts-zero-fails claim = let z : _≡_ {A = ℕ} 18 7 = ap (codeAt 7) (made countsZero bottomWords (at-bottom (runBy countsZero) claim)) in omega arith
+counts-zero-fails claim = let z : _≡_ {A = ℕ} 18 7 = ap (codeAt 7) (made of-handler countsZero 2 bottomWords (at-bottom (runBy countsZero) claim)) in omega arith
 
 -- ---- a handler's scheme that was called taken for the handler at the bottom
 abbrev pub heedsCalled : Step
@@ -120,7 +100,7 @@ heedsCalled i s w = pick (findsFull i s && ofHandler i (topOf s)) (stopped 17) (
 
 pub heeds-called-fails : Agreement translate freshState (runBy heedsCalled) → ⊥
 unfolding running ticksBy tableHandler ordinaryWords
-heeds-called-fails claim = let z : _≡_ {A = ℕ} 7 96 = ap (codeAt 6) (made heedsCalled ordinaryWords (at-ordinary (runBy heedsCalled) claim)) in omega arith
+heeds-called-fails claim = let z : _≡_ {A = ℕ} 7 96 = ap (codeAt 6) (made of-handler heedsCalled 2 ordinaryWords (at-ordinary (runBy heedsCalled) claim)) in omega arith
 
 -- ---- a handler that returns to what stood beneath the caller: it starts in the caller's place
 abbrev pub keepsBeneath : Step
@@ -128,7 +108,7 @@ keepsBeneath = afterDrop (λ i s t. withPlaces (s .depth) (set (s .places) (s .d
 
 pub keeps-beneath-fails : Agreement translate freshState (runBy keepsBeneath) → ⊥
 unfolding running ticksBy tableHandler dropWords
-keeps-beneath-fails claim = let z : _≡_ {A = ℕ} 19 4 = ap (codeAt 6) (made keepsBeneath dropWords (at-drop (runBy keepsBeneath) claim)) in omega arith
+keeps-beneath-fails claim = let z : _≡_ {A = ℕ} 19 4 = ap (codeAt 6) (made of-handler keepsBeneath 2 dropWords (at-drop (runBy keepsBeneath) claim)) in omega arith
 
 -- ---- the handler's return at depth 1 takes a row, of which label 1 has none
 abbrev pub takesRow : Step
@@ -136,7 +116,7 @@ takesRow i s w = pick (eqb (topLabel i s .kind) 3) (returned s (beneath i s w)) 
 
 pub takes-row-fails : Agreement translate freshState (runBy takesRow) → ⊥
 unfolding running ticksBy tableHandler dropWords
-takes-row-fails claim = let z : _≡_ {A = ℕ} 7 3 = ap (codeAt 5) (made takesRow dropWords (at-drop (runBy takesRow) claim)) in omega arith
+takes-row-fails claim = let z : _≡_ {A = ℕ} 7 3 = ap (codeAt 5) (made of-handler takesRow 2 dropWords (at-drop (runBy takesRow) claim)) in omega arith
 
 -- ---- the places above the handler left as they were: the next run gets 15
 abbrev pub leavesPlaces : Step
@@ -145,7 +125,7 @@ leavesPlaces = afterDrop (λ i s t. withPlaces 1 (set (s .places) 0 (entryAt i (
 pub leaves-places-fails : Agreement translate freshState (runBy leavesPlaces) → ⊥
 unfolding running ticksBy tableHandler chain
 leaves-places-fails claim =
-    let told = sym (chain-made leavesPlaces (fresh 2) (alone (0 ∷ 0 ∷ 1 ∷ 0 ∷ []) ∷ alone (0 ∷ []) ∷ [])) ∙ at-parted (runBy leavesPlaces) claim in
+    let told = sym (chain-made of-handler leavesPlaces (fresh 2) (alone (0 ∷ 0 ∷ 1 ∷ 0 ∷ []) ∷ alone (0 ∷ []) ∷ [])) ∙ at-parted (runBy leavesPlaces) claim in
     let z : _≡_ {A = ℕ} 15 0 = ap (λ (ts : List Told). number (second ts .reply)) told in
     omega arith
 
@@ -156,10 +136,10 @@ HandsBack f = (image : List ℕ) (s : State) (ws ms ks : List ℕ) → f image s
 
 -- the two states after these words, from a fresh one with two places, by the chart's table
 states-made : (step : Step) → HandsBack (runBy step) → (ws : List ℕ) → let a = alone ws in
-    tableRun step imageHandler (fresh 2) ws (a .masks) (a .codes) .state ≡ runImage tableHandler (fresh 2) ws (a .masks) (a .codes) .state
+    tableRun tableHandler step imageHandler (fresh 2) ws (a .masks) (a .codes) .state ≡ runImage tableHandler (fresh 2) ws (a .masks) (a .codes) .state
 states-made step claim ws =
     let a = alone ws in
-    sym (ap (λ (r : Run). r .state) (by-table step (fresh 2) ws (a .masks) (a .codes)))
+    sym (ap (λ (r : Run). r .state) (by-table of-handler step (fresh 2) ws (a .masks) (a .codes)))
     ∙ claim imageHandler (fresh 2) ws (a .masks) (a .codes)
     ∙ ap (λ (r : Run). r .state) (run-image imageHandler tableHandler (of-handler .passes) (of-handler .decodes) (fresh 2) ws (a .masks) (a .codes))
 
