@@ -2,9 +2,9 @@
  *
  * Every function answers for everything that it is handed. All but fairleadow_meaning return 0, or the number of a refusal, and write
  *   *index   the frame (a line or a record) that the refusal names, from 0; only 2, 3, 4, 6 to 9, 12 and 13 name one, else it is 0
- *   *count   records, characters, bytes of a table or ticks written; with refusals 1 to 16 it is 0, with 17 and 18 the ticks
- *            finished before
- * With refusals 1 to 16 no buffer and no state is changed; only 14 writes a state, of zeros. With success, and with 17 and 18,
+ *   *count   records, characters, bytes of a table or ticks written; with refusals 1 to 16 and 19 it is 0, with 17 and 18 the
+ *            ticks finished before
+ * With refusals 1 to 16 and 19 no buffer and no state is changed; only 14 writes a state, of zeros. With success, and with 17 and 18,
  * nothing past the count is changed.
  * A buffer is a pointer and how many elements it has. No pointer is null, and nothing that a call writes may overlap anything
  * else that the call is given. Nothing is allocated and nothing is kept between calls. The archive of `rt staticlib` is code for
@@ -12,7 +12,7 @@
  * preparation 13,710, a live run 420, a live tick 340. controller/README.md tells of archives for ARM. This file is for both, and
  * for C and C++: lengths are of type size_t, and fairleadow_calls.h, which lies beside it, makes of them what the archive takes.
  *
- * The refusals, tried in this order (docs/REFUSALS.md tells what to look for):
+ * The refusals, tried in this order, but 19 directly after 5 (docs/REFUSALS.md tells what to look for):
  *    1  the length of the text or of the records           10  more than 1,024 rows
  *    2  a character other than 0-9, A-F and line feed      11  the image's header
  *    3  the sum of a frame                                 12  an image frame that stands in a wrong place
@@ -20,8 +20,9 @@
  *    5  a scheme without just one Begin and one End        14  a stack size other than 1 to 32
  *    6  an arc into another scheme, to a Begin or nowhere  15  a state that does not fit the image
  *    7  a call of a scheme that cannot be called           16  an output buffer that is too short
- *    8  a circle of conditions                             17  a call when the stack is full
+ *    8  a circle of conditions                             17  a call that finds the stack full, with no handler to drop to
  *    9  a node cut off from its Begin                      18  no row for the word
+ *                                                          19  a handler's mark on scheme 1, or a second one
  */
 #ifndef FAIRLEADOW_H
 #define FAIRLEADOW_H
@@ -50,16 +51,17 @@ typedef struct {
 #include "fairleadow_calls.h"
 
 /* Chart lines to node records of ten bytes each: 0 the kind (0 Begin, 1 End, 2 operation, 3 condition, 4 function), 1 the scheme,
- * 2 the scheme called or the condition's number, 3 the next node, or that on a 0, 4 the next node on a 1, 5 the result that an
- * operation writes (0 none, 1 a 0, 2 a 1), 6 to 9 its mask, the high byte first. Tries 1 to 9 and 16; counts records. */
+ * 2 the scheme called, the condition's number or, in a Begin, 1 where its scheme is the handler, 3 the next node, or that on a 0,
+ * 4 the next node on a 1, 5 the result that an operation writes (0 none, 1 a 0, 2 a 1), 6 to 9 its mask, the high byte first.
+ * Tries 1 to 9, 19 and 16; counts records. */
 uint8_t fairleadow_read_chart(const uint8_t *text, size_t text_len, uint8_t *records, size_t records_len,
                               size_t *index, size_t *count);
 
-/* Node records to chart lines. Tries 1, 4 to 9 and 16; counts characters. */
+/* Node records to chart lines. Tries 1, 4 to 9, 19 and 16; counts characters. */
 uint8_t fairleadow_write_chart(const uint8_t *records, size_t records_len, uint8_t *text, size_t text_len,
                                size_t *index, size_t *count);
 
-/* Chart lines to the image's lines. Tries 1 to 10 and 16; counts characters. */
+/* Chart lines to the image's lines. Tries 1 to 10, 19 and 16; counts characters. */
 uint8_t fairleadow_translate(const uint8_t *chart, size_t chart_len, uint8_t *image, size_t image_len,
                              size_t *index, size_t *count);
 
@@ -70,7 +72,9 @@ uint8_t fairleadow_check_image(const uint8_t *image, size_t image_len, size_t *i
 uint8_t fairleadow_fresh(size_t size, fairleadow_state *state, size_t *index, size_t *count);
 
 /* One tick for each word, a mask and a code for each tick. Bit i of a word is condition i, bit i of a mask micro operation i.
- * Codes: 0x00 plain, 0x03 return, 0x04 home, 0x10 + h an operation's call of scheme h, 0x40 + h a function's.
+ * Codes: 0x00 plain, 0x03 return, 0x04 home, 0x10 + h an operation's call of scheme h, 0x40 + h a function's, 0x60 a drop: a call
+ * found the stack full, all open schemes are closed, and the handler starts at the next tick. A return may be the handler's, after
+ * which comes a home tick.
  * Tries what the image check tries, then 15 to 18; counts ticks. With 17 and 18 the state is that after the ticks counted. */
 uint8_t fairleadow_run(const uint8_t *image, size_t image_len, fairleadow_state *state, const uint16_t *words, size_t words_len,
                        uint32_t *masks, size_t masks_len, uint8_t *codes, size_t codes_len, size_t *index, size_t *count);
@@ -87,8 +91,8 @@ uint8_t fairleadow_prepare(const uint8_t *image, size_t image_len, uint8_t *tabl
 
 /* A run on a table. On one that fairleadow_prepare wrote it answers what fairleadow_run answers on the image; the buffer may be
  * longer than the table. Any other bytes are taken for a table too, so that damage does no more than other ticks (their codes may
- * be such as fairleadow_meaning does not know) or one of the refusals below; 11 is given where the counts of their header are out of
- * bounds, or ask for more bytes than there are.
+ * be such as fairleadow_meaning does not know) or one of the refusals below; 11 is given where the counts or the handler of their
+ * header are out of bounds, or the counts ask for more bytes than there are.
  * Tries 11, then 15 to 18; counts ticks. With 17 and 18 the state is that after the ticks counted. */
 uint8_t fairleadow_live_run(const uint8_t *table, size_t table_len, fairleadow_state *state, const uint16_t *words, size_t words_len,
                             uint32_t *masks, size_t masks_len, uint8_t *codes, size_t codes_len, size_t *index, size_t *count);
@@ -99,7 +103,8 @@ uint8_t fairleadow_live_tick(const uint8_t *table, size_t table_len, fairleadow_
                              uint32_t *mask, uint8_t *code, size_t *index, size_t *count);
 
 /* What a tick's code stands for. Returns the tick kind as an image has it (0 plain, 1 operation call, 2 function call, 3 return,
- * 4 home), or 255 for a code that no tick has, and writes the scheme called, 2 to 16, or 0 where none is. Refuses nothing. */
+ * 4 home), 5 for a drop, or 255 for a code that no tick has, and writes the scheme called, 2 to 16, or 0 where none is. Refuses
+ * nothing. */
 uint8_t fairleadow_meaning(uint8_t code, uint8_t *called);
 
 #ifdef __cplusplus

@@ -34,11 +34,11 @@ static int read_and_write(size_t length) {
 }
 
 static void tell_codes(const uint8_t *codes, size_t count) {
-    static const char *const kinds[] = {"plain", "operation call", "function call", "return", "home"};
+    static const char *const kinds[] = {"plain", "operation call", "function call", "return", "home", "drop"};
     uint8_t called;
     for (size_t i = 0; i < count; i++) {
         uint8_t kind = fairleadow_meaning(codes[i], &called);
-        printf("code %02X: %s", codes[i], kind < 5 ? kinds[kind] : "unknown");
+        printf("code %02X: %s", codes[i], kind < 6 ? kinds[kind] : "unknown");
         if (called)
             printf(" of scheme %u", called);
         printf("\n");
