@@ -20,10 +20,10 @@ use Rattle.image.specs.Check.{imageVerdict}
 use Rattle.image.proofs.Sound.{noRow, nthRow, endOf, Reaches, Sound}
 use Rattle.image.proofs.Accepted.{image-sound}
 use Rattle.state.specs.declared.State.{State}
-use Rattle.state.specs.State.{fresh, labelAt, entryAt, placeAt, isCall, unfit}
-use Rattle.ticks.specs.Tick.{rowOf, Ticked, ticked, stopped, moved, pushed, tickBy, tick}
+use Rattle.state.specs.State.{fresh, labelAt, entryAt, placeAt, isCall, ofHandler, unfit}
+use Rattle.ticks.specs.Tick.{rowOf, Ticked, ticked, stopped, moved, full, pushed, popped, tickBy, tick}
 use Rattle.rows.specs.Rows.{matches, Found, found, missing, firstRow}
-use Rattle.state.proofs.Fitness.{Carries, Fits, fits, unfits}
+use Rattle.state.proofs.Fitness.{Carries, Bottom, Fits, fits, unfits}
 use Rattle.rows.proofs.FirstRows.{row-here, row-later}
 
 -- a row that is found is one of the label's

@@ -2,4 +2,5 @@ pub mod Normal
 pub mod Keeps
 pub mod Depths
 pub mod TickCases
+pub mod FullCases
 pub mod Functions
