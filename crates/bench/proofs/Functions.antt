@@ -21,14 +21,11 @@ use Rattle.ticks.specs.Tick.{ticked, tick}
 use Rattle.ticks.specs.Functions.{Unwritten as UnwrittenTicks, none, more, ZeroRow}
 use Rattle.ticks.proofs.Functions.{zero-row}
 use Rattle.runs.specs.Run.{ticks}
-use Rattle.bench.specs.Bench.{chartBore, boreWords}
+use Rattle.bench.specs.Bench.{chartBore, boreWords, one}
 use Rattle.bench.proofs.Computing.{walking, running}
 use Rattle.bench.proofs.Tables.{imageBore, of-bore}
 
 -- ---- the walk
-abbrev one : ℕ → ℕ → ℕ → ℕ → Tick
-one v m k o = record { node = v; mask = m; code = k; opened = o }
-
 abbrev firstBlock : List Tick
 firstBlock = one 4 0 4 1 ∷ one 1 0 66 1 ∷ one 5 0 0 2 ∷ one 7 0 0 2 ∷ one 8 0 3 2 ∷ one 3 1 0 1 ∷ one 4 0 4 1 ∷ []
 
@@ -48,7 +45,8 @@ bore-read = refl
 pub bore-says-no : _≡_ {A = ℕ} 2 (byArc (contents chartBore) 0 (next0 (contents chartBore) 1))
 unfolding ZeroArc boreWords
 bore-says-no =
-    zero-arc chartBore bore-read 2 boreWords firstBlock (one 5 0 0 2 ∷ []) (one 4 0 4 1 ∷ []) (one 1 0 66 1) (one 8 0 3 2) (one 2 2 0 1) bore-walk bore-unwritten
+    zero-arc chartBore bore-read 2 boreWords firstBlock (one 5 0 0 2 ∷ []) (one 4 0 4 1 ∷ []) (one 1 0 66 1) (one 8 0 3 2) (one 2 2 0 1)
+    bore-walk bore-unwritten
 
 -- in the first block the operation of scheme 2 does write 1
 pub bore-writes : some (writesOne (contents chartBore) 2) firstBlock ≡ true

@@ -77,7 +77,10 @@ dropsAgain i s w = pick (findsFull i s && ofHandler i (placeAt s 0))
 
 pub drops-again-fails : Agreement translate freshState (runBy dropsAgain) → ⊥
 unfolding running ticksBy tableHandler bottomWords
-drops-again-fails claim = let z : _≡_ {A = ℕ} 96 7 = ap (codeAt 7) (made of-handler dropsAgain 2 bottomWords (at-bottom (runBy dropsAgain) claim)) in omega arith
+drops-again-fails claim =
+    let z : _≡_ {A = ℕ} 96 7 =
+    ap (codeAt 7) (made of-handler dropsAgain 2 bottomWords (at-bottom (runBy dropsAgain) claim)) in
+    omega arith
 
 -- ---- a handler that counts zero: with it at the bottom there is a place more
 abbrev resized : ℕ → State → State
@@ -92,7 +95,10 @@ countsZero i s w = pick (ofHandler i (placeAt s 0)) (resizedAfter (s .size) (tic
 
 pub counts-zero-fails : Agreement translate freshState (runBy countsZero) → ⊥
 unfolding running ticksBy tableHandler bottomWords
-counts-zero-fails claim = let z : _≡_ {A = ℕ} 18 7 = ap (codeAt 7) (made of-handler countsZero 2 bottomWords (at-bottom (runBy countsZero) claim)) in omega arith
+counts-zero-fails claim =
+    let z : _≡_ {A = ℕ} 18 7 =
+    ap (codeAt 7) (made of-handler countsZero 2 bottomWords (at-bottom (runBy countsZero) claim)) in
+    omega arith
 
 -- ---- a handler's scheme that was called taken for the handler at the bottom
 abbrev pub heedsCalled : Step
@@ -100,7 +106,10 @@ heedsCalled i s w = pick (findsFull i s && ofHandler i (topOf s)) (stopped 17) (
 
 pub heeds-called-fails : Agreement translate freshState (runBy heedsCalled) → ⊥
 unfolding running ticksBy tableHandler ordinaryWords
-heeds-called-fails claim = let z : _≡_ {A = ℕ} 7 96 = ap (codeAt 6) (made of-handler heedsCalled 2 ordinaryWords (at-ordinary (runBy heedsCalled) claim)) in omega arith
+heeds-called-fails claim =
+    let z : _≡_ {A = ℕ} 7 96 =
+    ap (codeAt 6) (made of-handler heedsCalled 2 ordinaryWords (at-ordinary (runBy heedsCalled) claim)) in
+    omega arith
 
 -- ---- a handler that returns to what stood beneath the caller: it starts in the caller's place
 abbrev pub keepsBeneath : Step
@@ -108,7 +117,10 @@ keepsBeneath = afterDrop (λ i s t. withPlaces (s .depth) (set (s .places) (s .d
 
 pub keeps-beneath-fails : Agreement translate freshState (runBy keepsBeneath) → ⊥
 unfolding running ticksBy tableHandler dropWords
-keeps-beneath-fails claim = let z : _≡_ {A = ℕ} 19 4 = ap (codeAt 6) (made of-handler keepsBeneath 2 dropWords (at-drop (runBy keepsBeneath) claim)) in omega arith
+keeps-beneath-fails claim =
+    let z : _≡_ {A = ℕ} 19 4 =
+    ap (codeAt 6) (made of-handler keepsBeneath 2 dropWords (at-drop (runBy keepsBeneath) claim)) in
+    omega arith
 
 -- ---- the handler's return at depth 1 takes a row, of which label 1 has none
 abbrev pub takesRow : Step

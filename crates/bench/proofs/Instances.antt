@@ -17,7 +17,8 @@ use Rattle.agreement.proofs.Chain.{fresh-is}
 use Rattle.bench.specs.Bench.{chartP, imageP, words, chartHome, chartFunction, chartBore, boreWords}
 use Rattle.bench.specs.Handler.{chartHandler, imageHandler, dropWords, bottomWords, ordinaryWords}
 use Rattle.bench.proofs.Computing.{walking}
-use Rattle.bench.proofs.Tables.{TranslatesTo, of-P, imageHome, of-home, imageFunction, of-function, chartChoice, imageChoice, of-choice, imageBore, of-bore, of-handler}
+use Rattle.bench.proofs.Tables.{TranslatesTo, of-P, imageHome, of-home, imageFunction, of-function, chartChoice, imageChoice, of-choice}
+use Rattle.bench.proofs.Tables.{imageBore, of-bore, of-handler}
 
 -- one run with just room for its words; 7 is no code
 abbrev pub alone : List ℕ → Asked
@@ -130,6 +131,7 @@ module _ (run : Runner) (claim : Agreement translate freshState run) where
 
   -- a run that ends with the drop, and one of a word after it
   pub at-parted : chain run imageHandler (fresh 2) (alone (0 ∷ 0 ∷ 1 ∷ 0 ∷ []) ∷ alone (0 ∷ []) ∷ [])
-      ≡ record { reply = success 4; masks = 0 ∷ 0 ∷ 0 ∷ 2 ∷ []; codes = 4 ∷ 66 ∷ 0 ∷ 96 ∷ [] } ∷ record { reply = success 1; masks = 4 ∷ []; codes = 0 ∷ [] } ∷ []
+      ≡ record { reply = success 4; masks = 0 ∷ 0 ∷ 0 ∷ 2 ∷ []; codes = 4 ∷ 66 ∷ 0 ∷ 96 ∷ [] }
+      ∷ record { reply = success 1; masks = 4 ∷ []; codes = 0 ∷ [] } ∷ []
   unfolding walking chartHandler chain bound expectedAll
   at-parted = at-chart of-handler 2 (omega arith) (omega arith) (alone (0 ∷ 0 ∷ 1 ∷ 0 ∷ []) ∷ alone (0 ∷ []) ∷ []) _ refl

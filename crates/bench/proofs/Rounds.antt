@@ -27,7 +27,7 @@ use Rattle.state.proofs.Fitness.{fits}
 use Rattle.ticks.proofs.Keeps.{fresh-fits}
 use Rattle.agreement.proofs.Images.{run-image}
 use Rattle.agreement.proofs.Chain.{fresh-is}
-use Rattle.bench.specs.Bench.{chartHome, freshRun, repeated}
+use Rattle.bench.specs.Bench.{chartHome, freshRun, one, repeated}
 use Rattle.bench.proofs.Computing.{walking}
 use Rattle.bench.proofs.Tables.{TranslatesTo, imageHome, tableHome, of-home, imageFunction, tableFunction, of-function}
 
@@ -58,12 +58,12 @@ finished r s ws v m k = rw (full (r .masks) ws m, full (r .codes) ws k, v, k)
 
 -- ---- B6
 home-course : (d : ℕ → Bool) (ws : List ℕ)
-    → perform (length ws) (contents chartHome) d 1 1 ws noResults ≡ spent (map (λ w. record { node = 1; mask = 0; code = 4; opened = 1 }) ws)
+    → perform (length ws) (contents chartHome) d 1 1 ws noResults ≡ spent (map (λ w. one 1 0 4 1) ws)
 unfolding walking chartHome
 home-course d [] = refl
 home-course d (w ∷ ws) = ap (after (oneTick 1 0 4 1)) (home-course d ws)
 
-pub home-walk : (n : ℕ) (ws : List ℕ) → walk n (contents chartHome) ws ≡ map (λ w. record { node = 1; mask = 0; code = 4; opened = 1 }) ws
+pub home-walk : (n : ℕ) (ws : List ℕ) → walk n (contents chartHome) ws ≡ map (λ w. one 1 0 4 1) ws
 unfolding walking chartHome
 home-walk n [] = refl
 home-walk n (w ∷ ws) = let c = contents chartHome in ap (onward (walkFrom (length ws) n c) c) (home-course (drops n c false) (w ∷ ws))

@@ -63,7 +63,10 @@ readsAtCall i s w = pick (eqb (kindOf i s) 3)
 
 pub reads-at-call-fails : Agreement translate freshState (runBy readsAtCall) → ⊥
 unfolding running ticksBy tableFunction
-reads-at-call-fails claim = let z : _≡_ {A = ℕ} 4 0 = ap (codeAt 4) (made of-function readsAtCall 2 (replicate 6 0) (at-function (runBy readsAtCall) claim)) in omega arith
+reads-at-call-fails claim =
+    let z : _≡_ {A = ℕ} 4 0 =
+    ap (codeAt 4) (made of-function readsAtCall 2 (replicate 6 0) (at-function (runBy readsAtCall) claim)) in
+    omega arith
 
 -- ---- after a return the choice by the call's word
 abbrev pub choosesByCall : Step
@@ -73,7 +76,10 @@ choosesByCall i s w = pick (eqb (kindOf i s) 3)
 
 pub chooses-by-call-fails : Agreement translate freshState (runBy choosesByCall) → ⊥
 unfolding running ticksBy tableChoice
-chooses-by-call-fails claim = let z : _≡_ {A = ℕ} 4 0 = ap (codeAt 4) (made of-choice choosesByCall 2 (0 ∷ 0 ∷ 0 ∷ 1 ∷ 0 ∷ []) (at-choice (runBy choosesByCall) claim)) in omega arith
+chooses-by-call-fails claim =
+    let z : _≡_ {A = ℕ} 4 0 =
+    ap (codeAt 4) (made of-choice choosesByCall 2 (0 ∷ 0 ∷ 0 ∷ 1 ∷ 0 ∷ []) (at-choice (runBy choosesByCall) claim)) in
+    omega arith
 
 -- ---- a call keeps the bit of the scheme called as it is after the caller's result
 abbrev keptBit : State → Label → Bool

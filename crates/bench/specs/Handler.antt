@@ -12,7 +12,7 @@ use Rattle.image.specs.Check.{imageVerdict}
 use Rattle.translator.specs.Entry.{translate}
 use Rattle.state.specs.declared.State.{State}
 use Rattle.runs.specs.Run.{run}
-use Rattle.bench.specs.Bench.{lines, freshRun}
+use Rattle.bench.specs.Bench.{lines, one, freshRun}
 
 -- scheme 1: function 2 and then, where condition 1 is set, an operation that calls scheme 3; scheme 2: where condition 0 is set, an operation
 -- that writes 1 and calls scheme 2; scheme 3, the handler: an operation that writes 1 and then, where condition 0 is set, one that writes 1 and
@@ -44,10 +44,6 @@ bottomWords = 0 ∷ 0 ∷ 1 ∷ 0 ∷ 1 ∷ 0 ∷ 1 ∷ 0 ∷ 0 ∷ []
 -- scheme 1 calls scheme 3, which calls scheme 2
 unfoldable pub ordinaryWords : List ℕ
 ordinaryWords = 0 ∷ 0 ∷ 0 ∷ 2 ∷ 0 ∷ 1 ∷ 0 ∷ 0 ∷ 0 ∷ 0 ∷ []
-
--- a tick by its node, mask, code and open schemes
-abbrev pub one : ℕ → ℕ → ℕ → ℕ → Tick
-one v m k o = record { node = v; mask = m; code = k; opened = o }
 
 -- a state of two places by its depth, their labels and the bits of schemes 2 and 3
 abbrev pub stateAt : ℕ → ℕ → ℕ → Bool → Bool → State
