@@ -1,4 +1,5 @@
 pub mod Normal
+pub mod Leads
 pub mod Keeps
 pub mod Depths
 pub mod TickCases

@@ -47,7 +47,11 @@ module _ (i : Image) (s : State) where
 
     pushed-normal : (m code h : ℕ) (t : Bool) → Normal s (pushed i s m code h b t)
     pushed-normal m code h true = full-normal m
-    pushed-normal m code h false = record { size = refl; places = λ q. length-set (s .places) (s .depth) (entryAt i h) ∙ q; bits = length-set b (h - 1) false ∙ e }
+    pushed-normal m code h false = record {
+      size = refl;
+      places = λ q. length-set (s .places) (s .depth) (entryAt i h) ∙ q;
+      bits = length-set b (h - 1) false ∙ e;
+    }
 
     popped-normal : (w m : ℕ) (t : Bool) → Normal s (popped i s w m b t)
     popped-normal w m true = moved-normal m 3 0 1 (s .places) (found 0) refl

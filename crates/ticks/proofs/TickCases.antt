@@ -252,7 +252,8 @@ module _ (b before : List ℕ) (w : ℕ) where
         (ap (λ (j : ℕ). j + 1) is ∙ add-one (s .depth)) in
         rw (m, code)
         (steps-ticked b before w (caller .mask) (codeOf (caller .kind) (caller .called)) t bytes
-        (tick-call b s (y .stands) w (y .low) (y .high) ∙ ap (pushed (tableImage b) s (caller .mask) _ (caller .called) _) (lt-leb (s .size) (s .depth) (omega arith))) left)
+        (tick-call b s (y .stands) w (y .low) (y .high)
+        ∙ ap (pushed (tableImage b) s (caller .mask) _ (caller .called) _) (lt-leb (s .size) (s .depth) (omega arith))) left)
 
   -- where a row leads, as the number that was found
   module _ (n : ℕ) (f : Found) (e : n ≡ nextOf f) where
