@@ -35,12 +35,12 @@ kindOf i s = labelAt i (topOf s) .kind
 abbrev beneath : State → ℕ
 beneath s = placeAt s (s .depth - 2)
 
-abbrev dropped : State → State
-dropped s = record { size = s .size; depth = s .depth - 1; places = set (s .places) (s .depth - 1) 0; bits = s .bits }
+abbrev withoutTop : State → State
+withoutTop s = record { size = s .size; depth = s .depth - 1; places = set (s .places) (s .depth - 1) 0; bits = s .bits }
 
 -- ---- the call issued again on return: the label beneath stays and calls once more
 abbrev pub callsAgain : Step
-callsAgain i s w = pick (eqb (kindOf i s) 3) (ticked 0 3 (dropped s)) (tick i s w)
+callsAgain i s w = pick (eqb (kindOf i s) 3) (ticked 0 3 (withoutTop s)) (tick i s w)
 
 pub calls-again-fails : Agreement translate freshState (runBy callsAgain) → ⊥
 unfolding running ticksBy tableP words
@@ -94,7 +94,7 @@ keeps-bit-fails claim = let z : _≡_ {A = ℕ} 1 2 = ap (maskAt 10) (made of-bo
 
 -- ---- a return from scheme 1
 abbrev pub returnsHome : Step
-returnsHome i s w = pick (eqb (kindOf i s) 4) (ticked 0 3 (dropped s)) (tick i s w)
+returnsHome i s w = pick (eqb (kindOf i s) 4) (ticked 0 3 (withoutTop s)) (tick i s w)
 
 pub returns-home-fails : Agreement translate freshState (runBy returnsHome) → ⊥
 unfolding running ticksBy tableHome

@@ -58,7 +58,7 @@ pub record HandlerCases : Type 0 where
   -- a drop finds two schemes open and the tick after it one, and the handler's return leads home
   pub drop-walk : walk 2 (contents chartHandler) dropWords
       ≡ one 4 0 4 1 ∷ one 1 0 66 1 ∷ one 5 0 0 2 ∷ one 7 2 96 2 ∷ one 10 4 0 1 ∷ one 13 0 3 1 ∷ one 4 0 4 1 ∷ one 1 0 66 1 ∷ one 5 0 0 2 ∷ one 7 2 96 2 ∷ []
-  -- the last tick writes the caller's 1, does not clear it though scheme 2 is called too, and clears the handler's 1
+  -- the last tick, a drop, writes the caller's 1, does not clear it though scheme 2 is called too, and clears the handler's 1
   pub drop-before : freshRun imageHandler 2 (take 9 dropWords) .state ≡ stateAt 2 2 5 false true
   pub drop-run : freshRun imageHandler 2 dropWords ≡ record {
     reply = success 10;
