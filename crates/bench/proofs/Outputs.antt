@@ -12,6 +12,7 @@ printed-cases = record {
   translate-p = refl;
   translate-empty = refl;
   translate-circle = refl;
+  translate-mark = refl;
   high-index = refl;
   run-p = refl;
   run-held = refl;

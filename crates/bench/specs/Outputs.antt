@@ -4,9 +4,11 @@ use mathlib.Core.Path.{_≡_}
 use mathlib.Core.List.{List, [], _∷_, _++_}
 use lib.ListN.{replicate}
 use Rattle.lists.specs.Sequences.{concatMap}
+use Rattle.frames.specs.Frame.{textOf}
 use Rattle.printing.specs.Lines.{refusalLine}
 use Rattle.programs.specs.Programs.{translateOutput, runOutput}
 use Rattle.bench.specs.Bench.{lines, chartP, imageP, chartCircle}
+use Rattle.bench.specs.Cases.{markedFirst}
 
 -- Begin, an operation that calls scheme 2, End; scheme 2 the same, so that it calls itself for ever
 unfoldable pub chartEndless : List ℕ
@@ -30,6 +32,7 @@ pub record PrintedCases : Type 0 where
   pub translate-p : translateOutput chartP ≡ imageP
   pub translate-empty : translateOutput [] ≡ lines ("FF01000000000000000000" ∷ [])
   pub translate-circle : translateOutput chartCircle ≡ lines ("FF080001000000000000F8" ∷ [])
+  pub translate-mark : translateOutput (textOf markedFirst) ≡ lines ("FF130000000000000000EE" ∷ [])
   -- a frame index of more than one byte
   pub high-index : refusalLine 13 1290 ≡ lines ("FF0D050A000000000000E5" ∷ [])
   -- sixteen turns of four ticks
