@@ -1,12 +1,15 @@
-// Charts as node records of ten bytes: their fields, and refusals 4 to 7.
+// Charts as node records of ten bytes: their fields, the handler, and refusals 4 to 7 and 19.
 mod arcs;
 mod counts;
 mod fields;
+mod handlers;
 mod schemes;
 
 pub use arcs::lowest_arc_and_call;
 pub use counts::check_fields;
 pub use fields::field;
+pub use handlers::bad_marks;
+pub use handlers::handler_scheme;
 pub use schemes::highest_scheme;
 
 // What a pass for 4 and 5 comes to: the lowest node that 4 refuses, or the number of nodes, and the largest scheme before it.
