@@ -1,0 +1,4 @@
+pub mod CallLaws
+pub mod Longest
+pub mod Circles
+pub mod Cases
