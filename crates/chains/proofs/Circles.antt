@@ -1,7 +1,7 @@
 -- What refusal 20 means: a chain from scheme 1 ends in a scheme that can call itself.
 use Prim.Native.Nat.{ℕ, zero, suc, _+_, _-_, _≤_, _<_}
-use mathlib.Core.Bool.{Bool, true, false}
-use mathlib.Core.Path.{_≡_, refl, sym, _∙_, subst}
+use mathlib.Core.Bool.{true, false, not}
+use mathlib.Core.Path.{_≡_, sym, _∙_, ap, subst}
 use mathlib.Core.Logic.{⊎-elim}
 use mathlib.Core.List.{[], _∷_}
 use native.Mathlib.Omega.{arith}
@@ -16,7 +16,7 @@ use Rattle.walk.proofs.Facts.{Facts}
 use Rattle.chains.specs.Calls.{callsOf, callsItself, circular, endsOf, noEnd}
 use Rattle.chains.specs.Chains.{Calls, Chain, first, on, Leads, one, more, Circle}
 use Rattle.chains.proofs.CallLaws.{calls-member, member-calls, called-range}
-use Rattle.chains.proofs.Longest.{one-member, chain-some, chain-reached, chain-few, chain-end, end-chain, ends-below, Front, front}
+use Rattle.chains.proofs.Longest.{one-member, chain-some, chain-reached, chain-few, end-chain, filled, Front, front}
 
 module _ (c : Chart) where
   -- a chain of some length
@@ -62,7 +62,7 @@ module _ (c : Chart) where
         (and-true (marked (joinedFrom 17 (callsOf c) (1 ∷ [])) h) (marked (joinedFrom 17 (callsOf c) (callsOf c h)) h)
         (chain-reached c f (k .schemes) h (k .chain)) (leads-marked h h (k .back)))
 
--- ---- how the code may tell: there is a circle exactly where a chain has 17 schemes
+-- ---- how the code tells: there is a circle exactly where a chain has 17 schemes
 module _ (c : Chart) (f : Facts c) where
   -- a chain of more than n schemes
   record Further (n h : ℕ) : Type 0 where
@@ -84,24 +84,14 @@ module _ (c : Chart) (f : Facts c) where
       let q : Further (r .schemes) h = longer h h l (r .schemes) (r .chain) in
       record { schemes = q .schemes; beyond = omega (arith, r .beyond, q .beyond); chain = q .chain }
 
-  abbrev seventeen : Bool
-  seventeen = any (marked (endsOf c 16)) 0 17
+  pub circle-long : Circle c → (k : ℕ) → noEnd c k ≡ false
+  circle-long q k =
+      let r : Further k (q .scheme) = rounds (q .scheme) (q .back) k (q .schemes) (q .chain) in
+      let t : Front c f (suc k) = front c f (r .schemes - suc k) (suc k) (q .scheme) (omega arith)
+      (subst (λ (n : ℕ). Chain c n (q .scheme)) (omega (arith, r .beyond)) (r .chain)) in
+      filled c f k (t .end) (t .chain)
 
-  circle-long : Circle c → seventeen ≡ true
-  circle-long k =
-      let r : Further 16 (k .scheme) = rounds (k .scheme) (k .back) 16 (k .schemes) (k .chain) in
-      let t : Front c f 17 = front c f (r .schemes - 17) 17 (k .scheme) (omega arith) (subst (λ (n : ℕ). Chain c n (k .scheme)) (omega (arith, r .beyond)) (r .chain)) in
-      let m : marked (endsOf c 16) (t .end) ≡ true = chain-end c f 16 (t .end) (t .chain) in
-      any-true (marked (endsOf c 16)) 0 17 (t .end) (omega arith) (omega (arith, ends-below c 16 (t .end) m)) m
-
-  long-circle : circular c ≡ false → seventeen ≡ false
-  long-circle calm = any-none (marked (endsOf c 16)) 0 17 (λ h l. ⊎-elim
+  pub no-circle-short : circular c ≡ false → noEnd c 16 ≡ true
+  no-circle-short calm = ap not (any-none (marked (endsOf c 16)) 0 17 (λ h l. ⊎-elim
       (λ (m : marked (endsOf c 16) (0 + h) ≡ true). absurd (omega (arith, chain-few c f calm 17 (0 + h) (end-chain c 16 (0 + h) m))))
-      (λ m. m) (cases (marked (endsOf c 16) (0 + h))))
-
-  pub circular-by-chains : circular c ≡ seventeen
-  circular-by-chains = go (circular c) refl
-    where
-      go : (b : Bool) → circular c ≡ b → circular c ≡ seventeen
-      go true e = e ∙ sym (circle-long (circle-told c e))
-      go false e = e ∙ sym (long-circle e)
+      (λ m. m) (cases (marked (endsOf c 16) (0 + h)))))

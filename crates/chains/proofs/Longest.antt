@@ -41,7 +41,7 @@ module _ (c : Chart) where
   abbrev leadsTo : ℕ → ℕ → ℕ → Bool
   leadsTo k h g = marked (endsOf c k) g && calls c g h
 
-  ends-suc : (k h : ℕ) → h < 17 → marked (endsOf c (suc k)) h ≡ any (leadsTo k h) 0 17
+  pub ends-suc : (k h : ℕ) → h < 17 → marked (endsOf c (suc k)) h ≡ any (leadsTo k h) 0 17
   unfolding endsOf
   ends-suc k h l = getD-map-range (λ h. any (leadsTo k h) 0 17) false 0 17 h l ∙ ap (λ (j : ℕ). any (leadsTo k j) 0 17) (zero-add h)
 
@@ -74,6 +74,13 @@ module _ (c : Chart) where
         ends-suc k h (omega (arith, r))
         ∙ any-true (leadsTo k h) 0 17 g (omega arith) (omega (arith, r))
         (and-true (marked (endsOf c k) g) (calls c g h) (chain-end k g s) (calls-true c g h call))
+
+    chain-inside : (n h : ℕ) → Chain c n h → h < 17
+    chain-inside n h first = omega arith
+    chain-inside n h (on {m} {g} s call) = let r = called-range c f g h call in omega (arith, r)
+
+    pub filled : (k h : ℕ) → Chain c (suc k) h → noEnd c k ≡ false
+    filled k h s = ap not (any-true (marked (endsOf c k)) 0 17 h (omega arith) (omega (arith, chain-inside (suc k) h s)) (chain-end k h s))
 
     -- a chain has a shorter one in front
     pub record Front (n : ℕ) : Type 0 where
@@ -130,17 +137,10 @@ module _ (c : Chart) where
           (no-return g (r .0) (r .1) (chain-reached m g s)) in
           omega (arith, falls m g s)
 
-      chain-inside : (n h : ℕ) → Chain c n h → h < 17
-      chain-inside n h first = omega arith
-      chain-inside n h (on {m} {g} s call) = let r = called-range c f g h call in omega (arith, r)
-
       pub chain-few : (n h : ℕ) → Chain c n h → n ≤ 16
       chain-few n h s = omega (arith, falls n h s, rank-most, rank-some 17 (callsOf c) h (chain-inside n h s))
 
       -- ---- the longest chain
-      filled : (k h : ℕ) → Chain c (suc k) h → noEnd c k ≡ false
-      filled k h s = ap not (any-true (marked (endsOf c k)) 0 17 h (omega arith) (omega (arith, chain-inside (suc k) h s)) (chain-end k h s))
-
       places-some : 1 ≤ places c
       unfolding places
       places-some = ⊎-elim (λ (l : 0 < lowest (noEnd c) 0 16). l)
