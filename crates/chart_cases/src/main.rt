@@ -164,7 +164,7 @@ fn fields(records: [u8; 70]) {
             61,
             17,
             2,
-            1,
+            2,
             59,
             1,
             42,
@@ -180,6 +180,26 @@ fn fields(records: [u8; 70]) {
     record_case(records, &[29, 1, 59, 1]);
     record_each(records, &[20, 0, 51, 3]);
     record_case(records, &[20, 0, 63, 7]);
+}
+
+// A mark on scheme 2, one that is no mark, and 19: a mark on scheme 1, by itself and beside 4, 5 and 6.
+fn marks(records: [u8; 70]) {
+    record_each(records, &[32, 1, 32, 2, 2, 1]);
+    record_case(records, &[2, 1, 32, 2]);
+    record_case(records, &[2, 1, 20, 0]);
+    record_case(records, &[2, 1, 63, 7]);
+}
+
+// Schemes 2 and 3 of a Begin and an End each: a mark on 3 alone, then 19 for one on both.
+fn two_marks(records: [u8; 70]) {
+    let mut three = records;
+    patch(
+        &mut three,
+        &[40, 1, 43, 0, 44, 0, 50, 0, 51, 3, 52, 1, 53, 6],
+    );
+    patch(&mut three, &[60, 1, 61, 3, 62, 0, 63, 0, 69, 0]);
+    record_case(three, &[32, 0]);
+    record_case(three, &[32, 1]);
 }
 
 // 6 and 7.
@@ -215,6 +235,8 @@ fn main() {
     texts(text);
     two_faults(text);
     fields(records);
+    marks(records);
+    two_marks(records);
     arcs(records);
     paths(records);
 }

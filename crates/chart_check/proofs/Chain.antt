@@ -1,4 +1,4 @@
--- The chain of refusals 4 to 9, as the code goes along it: what is left of the verdict after each.
+-- The chain of refusals 4 to 9, with 19 after 5, as the code goes along it: what is left of the verdict after each.
 use mathlib.Core.Path.{_≡_, refl, sym, _∙_, ap}
 use mathlib.Core.Bool.{Bool}
 use Prim.Native.Nat.{ℕ, _≤_, _<_}
@@ -10,7 +10,7 @@ use Rattle.frames.specs.declared.Answer.{Answer}
 use Rattle.frames.specs.declared.Answer.the-variants.{Refused}
 use Rattle.frames.proofs.Chains.{lowest-refused, lowest-fine, next-refused, next-on}
 use Rattle.charts.specs.Chart.{Chart, schemes}
-use Rattle.charts.specs.Check.{badField, badScheme, badArc, badCall, cutOff, chartVerdict}
+use Rattle.charts.specs.Check.{badField, badScheme, badMarks, badArc, badCall, cutOff, chartVerdict}
 use Rattle.chart_check.specs.Asked.{joinedVerdict}
 
 -- ---- the verdicts from a refusal on
@@ -23,8 +23,11 @@ from7 c = next (atLowest 7 (badCall c) (size c)) λ _. joinedVerdict c
 abbrev pub from6 : Chart → Verdict
 from6 c = next (atLowest 6 (badArc c) (size c)) λ _. from7 c
 
+abbrev pub from19 : Chart → Verdict
+from19 c = next (when 19 (badMarks c)) λ _. from6 c
+
 abbrev pub from5 : Chart → Verdict
-from5 c = next (when 5 (any (badScheme c) 1 (schemes c))) λ _. from6 c
+from5 c = next (when 5 (any (badScheme c) 1 (schemes c))) λ _. from19 c
 
 abbrev pub from4 : Chart → Verdict
 from4 c = next (atLowest 4 (badField c) (size c)) λ _. from5 c

@@ -1,5 +1,6 @@
-// Refusals 4 to 9 of node records, each before the next.
+// Refusals 4 to 9 of node records, each before the next, with 19 after 5.
 use crate::joined::check_joined;
+use charts::bad_marks;
 use charts::check_fields;
 use charts::lowest_arc_and_call;
 use frames::Answer;
@@ -23,6 +24,9 @@ pub fn check_chart(records: &[u8]) -> Answer
     }
     if tried.scheme {
         return refused(5, 0);
+    }
+    if bad_marks(records) {
+        return refused(19, 0);
     }
     let found = lowest_arc_and_call(records, tried.highest);
     let arc = found.arc;

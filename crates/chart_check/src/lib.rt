@@ -1,4 +1,4 @@
-// Refusals 8 and 9 of a chart, and all of 4 to 9 in turn.
+// Refusals 8 and 9 of a chart, and all of 4 to 9 and 19 in turn.
 mod check;
 mod circles;
 mod finished;

@@ -9,7 +9,7 @@ use frames::refused;
 ghost use Rattle.frames.specs.Answer.{Lends};
 ghost use Rattle.charts.specs.Entry.{readChart, writeChart};
 
-// A chart's text to its node records, ten bytes each: refusals 1 to 9 and 16, else the number of records.
+// A chart's text to its node records, ten bytes each: refusals 1 to 9, 19 after 5, and 16, else the number of records.
 pub fn read_chart(text: &[u8], out: &mut [u8]) -> Answer
     ensures { λ r. ⌜ Lends (readChart (now (text .entry)) (now (out .entry))) r (now (out .exit)) ⌝ }
 {
@@ -31,7 +31,7 @@ pub fn read_chart(text: &[u8], out: &mut [u8]) -> Answer
     Answer::Done(count)
 }
 
-// Node records to the chart's text: refusals 1, 4 to 9 and 16, else the number of characters.
+// Node records to the chart's text: refusals 1, 4 to 9, 19 after 5, and 16, else the number of characters.
 pub fn write_chart(records: &[u8], out: &mut [u8]) -> Answer
     ensures { λ r. ⌜ Lends (writeChart (now (records .entry)) (now (out .entry))) r (now (out .exit)) ⌝ }
 {

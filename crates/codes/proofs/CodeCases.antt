@@ -34,16 +34,25 @@ module _ (c : ℕ) where
         le-leb c 80 (omega arith),
       )
 
-  module _ (p : c ≡ 0 → ⊥) (q : c ≡ 3 → ⊥) (r : c ≡ 4 → ⊥) where
+  module _ (p : c ≡ 0 → ⊥) (q : c ≡ 3 → ⊥) (r : c ≡ 4 → ⊥) (t : c ≡ 96 → ⊥) where
     pub below-calls : c < 18 → Unknown ≡ meaningOf c
     unfolding meaningOf
-    below-calls h = simp (ne-eqb c 0 p, ne-eqb c 3 q, ne-eqb c 4 r, lt-leb 18 c h, lt-leb 66 c (omega arith))
+    below-calls h = simp (ne-eqb c 0 p, ne-eqb c 3 q, ne-eqb c 4 r, lt-leb 18 c h, lt-leb 66 c (omega arith), ne-eqb c 96 t)
 
     pub between-calls : 33 ≤ c → c < 66 → Unknown ≡ meaningOf c
     unfolding meaningOf
-    between-calls l h = simp (ne-eqb c 0 p, ne-eqb c 3 q, ne-eqb c 4 r, le-leb 18 c (omega arith), lt-leb c 32 l, lt-leb 66 c h)
+    between-calls l h = simp (ne-eqb c 0 p, ne-eqb c 3 q, ne-eqb c 4 r, le-leb 18 c (omega arith), lt-leb c 32 l, lt-leb 66 c h, ne-eqb c 96 t)
 
     pub above-calls : 81 ≤ c → Unknown ≡ meaningOf c
     unfolding meaningOf
     above-calls h =
-        simp (ne-eqb c 0 p, ne-eqb c 3 q, ne-eqb c 4 r, le-leb 18 c (omega arith), lt-leb c 32 (omega arith), le-leb 66 c (omega arith), lt-leb c 80 h)
+        simp (
+          ne-eqb c 0 p,
+          ne-eqb c 3 q,
+          ne-eqb c 4 r,
+          le-leb 18 c (omega arith),
+          lt-leb c 32 (omega arith),
+          le-leb 66 c (omega arith),
+          lt-leb c 80 h,
+          ne-eqb c 96 t,
+        )

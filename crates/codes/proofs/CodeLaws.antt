@@ -8,7 +8,7 @@ use borrow.Author.Tests.{eqb-true, leb-true}
 use Rattle.lists.specs.Pick.{pick}
 use Rattle.lists.proofs.Tests.{and-l}
 use Rattle.codes.specs.declared.Meaning.{Meaning}
-use Rattle.codes.specs.declared.Meaning.the-variants.{Plain, OperationCall, FunctionCall, Return, Home, Unknown}
+use Rattle.codes.specs.declared.Meaning.the-variants.{Plain, OperationCall, FunctionCall, Return, Home, Drop, Unknown}
 use Rattle.codes.specs.Codes.{codeOf, tickOf, callAbove, meaningOf, kindOf, calledOf}
 use Rattle.codes.proofs.CodeCases.{in-operations, in-functions}
 
@@ -32,6 +32,18 @@ code-means (suc (suc (suc (suc k)))) h p = refl
 pub codes-apart : (k h : ℕ) → Called k h → (j g : ℕ) → Called j g → codeOf k h ≡ codeOf j g → tickOf k h ≡ tickOf j g
 codes-apart k h p j g q e = sym (code-means k h p) ∙ ap meaningOf e ∙ code-means j g q
 
+-- 96 stands for a drop, and no other tick has it
+pub drop-means : meaningOf 96 ≡ Drop
+unfolding meaningOf
+drop-means = refl
+
+pub drop-apart : (k h : ℕ) → Called k h → codeOf k h ≡ 96 → ⊥
+drop-apart zero h p e = omega arith
+drop-apart (suc zero) h p e = omega (arith, p (omega arith) (omega arith) .1)
+drop-apart (suc (suc zero)) h p e = omega (arith, p (omega arith) (omega arith) .1)
+drop-apart (suc (suc (suc zero))) h p e = omega arith
+drop-apart (suc (suc (suc (suc k)))) h p e = omega arith
+
 -- a tick's kind is read back
 pub kind-back : (k h : ℕ) → k ≤ 4 → kindOf (tickOf k h) ≡ k
 kind-back zero h l = refl
@@ -41,9 +53,9 @@ kind-back (suc (suc (suc zero))) h l = refl
 kind-back (suc (suc (suc (suc zero)))) h l = refl
 kind-back (suc (suc (suc (suc (suc k))))) h l = absurd (omega arith)
 
--- a code that stands for a tick is that tick's
+-- a code that stands for a tick is that tick's, which is 96 for a drop
 abbrev pub Coded : ℕ → Meaning → Type 0
-Coded c m = codeOf (kindOf m) (calledOf m) ≡ c
+Coded c m = pick (eqb (kindOf m) 5) 96 (codeOf (kindOf m) (calledOf m)) ≡ c
 
 module _ (c : ℕ) where
   one-more : (t : Bool) (m rest : Meaning) → (t ≡ true → Coded c m) → ((rest ≡ Unknown → ⊥) → Coded c rest)
@@ -64,4 +76,5 @@ module _ (c : ℕ) where
       (one-more (eqb c 3) Return _ (λ e. sym (eqb-true c 3 e))
       (one-more (eqb c 4) Home _ (λ e. sym (eqb-true c 4 e))
       (one-more (callAbove 16 c) (OperationCall (c - 16)) _ operation-coded
-      (one-more (callAbove 64 c) (FunctionCall (c - 64)) Unknown function-coded (λ n. absurd (n refl))))))
+      (one-more (callAbove 64 c) (FunctionCall (c - 64)) _ function-coded
+      (one-more (eqb c 96) Drop Unknown (λ e. sym (eqb-true c 96 e)) (λ n. absurd (n refl)))))))

@@ -3,13 +3,14 @@ ghost use mathlib.Core.Path.{_≡_};
 ghost use Prim.Native.Nat.{_≤_};
 ghost use Rattle.codes.specs.Codes.{codeOf, meaningOf};
 
-// What a code stands for, a call with the scheme called; Unknown is a code that no tick has.
+// What a code stands for, a call with the scheme called; Drop is a call that dropped all open schemes, Unknown a code that no tick has.
 pub enum Meaning {
     Plain,
     OperationCall(u8),
     FunctionCall(u8),
     Return,
     Home,
+    Drop,
     Unknown,
 }
 
@@ -37,6 +38,7 @@ pub fn meaning_of(code: u8) -> Meaning
         0x04 => Meaning::Home,
         0x12..=0x20 => Meaning::OperationCall(code - 0x10),
         0x42..=0x50 => Meaning::FunctionCall(code - 0x40),
+        0x60 => Meaning::Drop,
         _ => Meaning::Unknown,
     }
 }

@@ -10,7 +10,7 @@ use Rattle.lists.specs.Pick.{pick}
 use Rattle.lists.proofs.Tests.{or-true-l, or-true-r}
 use Rattle.frames.specs.Frame.{size, field}
 use Rattle.image.specs.Decode.{rowCount, labelsFrom, rowsFrom}
-use Rattle.image.specs.Check.{Position, header, entryAt, labelAt, rowAt, filled, badCounts, badHeader, positionOf, strayFrame, stray}
+use Rattle.image.specs.Check.{Position, header, entryAt, labelAt, rowAt, filled, badHandler, badCounts, badHeader, positionOf, strayFrame, stray}
 use Rattle.image.proofs.Cases.{equal}
 use Rattle.image_check.specs.Parts.{kindOf}
 

@@ -12,7 +12,7 @@ use Rattle.lists.proofs.Searches.{lowest-past, lowest-none, lowest-alike}
 use Rattle.frames.specs.Frame.{size, field}
 use Rattle.frames.specs.Answer.{success, refusal, judged}
 use Rattle.image.specs.Decode.{rowCount, rowsFrom}
-use Rattle.image.specs.Check.{filled, badCounts, badHeader, stray, badContent, tableVerdict}
+use Rattle.image.specs.Check.{filled, badHandler, badCounts, badHeader, stray, badContent, tableVerdict}
 use Rattle.image_check.specs.Parts.{faulty}
 
 -- a good header tells how many frames there are

@@ -1,5 +1,6 @@
 // Refusals 11 and 12: the header, and what each frame has to be by its position.
 use image::bad_counts;
+use image::bad_handler;
 use image::byte;
 use image::filled_to;
 use image::labels_from;
@@ -23,7 +24,10 @@ pub fn bad_header(table: &[u8]) -> bool
     if byte(table, 0, 0) != 15 {
         return true;
     }
-    if filled_to(table, 0, 5, 10) {
+    if filled_to(table, 0, 6, 10) {
+        return true;
+    }
+    if bad_handler(table) {
         return true;
     }
     if bad_counts(table) {

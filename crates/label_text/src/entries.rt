@@ -12,14 +12,14 @@ ghost use Rattle.chart_labels.specs.Labels.{entry};
 ghost use Rattle.label_text.specs.Ready.{OfScheme, Schemed};
 ghost use Rattle.label_text.specs.Parts.{headerText, entryText, upTo};
 
-pub fn put_header(out: &mut [u8], highest: u8, last: u8, rows: usize)
+pub fn put_header(out: &mut [u8], highest: u8, last: u8, rows: usize, handler: u8)
     requires { ⌜ 23 ≤ length (now out) ⌝ }
     requires { ⌜ rows ≤ 1024 ⌝ }
-    ensures { λ _. ⌜ now (out .exit) ≡ written (now (out .entry)) 0 (headerText highest last rows) ⌝ }
+    ensures { λ _. ⌜ now (out .exit) ≡ written (now (out .entry)) 0 (headerText highest last rows handler) ⌝ }
 {
     let rows0 = (rows / 256) as u8;
     let rows1 = (rows % 256) as u8;
-    let bytes = [15, highest, last, rows0, rows1, 0, 0, 0, 0, 0];
+    let bytes = [15, highest, last, rows0, rows1, handler, 0, 0, 0, 0];
     put_frame(out, 0, &bytes);
 }
 

@@ -1,6 +1,6 @@
 -- Only the bytes of the frames that the header counts say which image a table holds: bytes behind them are no part of it.
 use Prim.Native.Nat.{ℕ, zero, suc, _+_, _*_, _-_, _≤_, _<_, min}
-use mathlib.Core.Bool.{Bool, false, _||_}
+use mathlib.Core.Bool.{Bool, false, _&&_, _||_, not}
 use mathlib.Core.Path.{_≡_, refl, sym, _∙_, ap, ap₂}
 use mathlib.Core.List.{List, map}
 use native.Mathlib.Omega.{arith}
@@ -14,14 +14,18 @@ use Rattle.lists.specs.Sequences.{concatMap}
 use Rattle.lists.proofs.Tests.{or-l, or-r, no-pick}
 use Rattle.frames.specs.Frame.{size, field, pairAt, quadAt}
 use Rattle.image.specs.Image.{Label, noLabel}
-use Rattle.image.specs.Decode.{schemeCount, lastLabel, rowCount, labelsFrom, entryIn}
-use Rattle.image.specs.Check.{badCounts}
+use Rattle.image.specs.Decode.{schemeCount, lastLabel, rowCount, handlerIn, labelsFrom, entryIn}
+use Rattle.image.specs.Check.{badCounts, badHandler}
 use Rattle.tables.specs.Table.{tableEnd, badTable, labelOn, labelOf, notedIn, firstOn, endOn, rowOn, rowsOn, tableImage, front, Whole}
 use Rattle.tables.proofs.RangeLaws.{map-alike, concat-alike}
 
 -- the rows of a label end within the table
 pub end-inside : (b : List ℕ) (l : ℕ) → endOn b l ≤ tableEnd b
 end-inside b l = omega arith
+
+-- the handler and H decide whether the handler is good
+pub handler-alike : (b c : List ℕ) → handlerIn c ≡ handlerIn b → schemeCount c ≡ schemeCount b → badHandler c ≡ badHandler b
+handler-alike b c = ap₂ (λ (h n : ℕ). not (eqb h 0) && (ltb h 2 || ltb n h))
 
 module _ (b c : List ℕ) (same : (k : ℕ) → k < 10 * tableEnd b → getD c k 0 ≡ getD b k 0) where
   field-same : (f k : ℕ) → f < tableEnd b → k < 10 → field c f k ≡ field b f k
@@ -40,6 +44,9 @@ module _ (b c : List ℕ) (same : (k : ℕ) → k < 10 * tableEnd b → getD c k
   rows-same : rowCount c ≡ rowCount b
   rows-same = pair-same 0 3 (omega arith) (omega arith)
 
+  handler-same : handlerIn c ≡ handlerIn b
+  handler-same = field-same 0 5 (omega arith) (omega arith)
+
   pub end-same : tableEnd c ≡ tableEnd b
   end-same = omega (arith, schemes-same, last-same, rows-same)
 
@@ -47,6 +54,9 @@ module _ (b c : List ℕ) (same : (k : ℕ) → k < 10 * tableEnd b → getD c k
   counts-same =
       ap₂ (λ (t u : Bool). t || u)
       (ap₂ (λ (h m : ℕ). eqb h 0 || ltb 16 h || eqb m 0) schemes-same last-same) (ap (λ (r : ℕ). ltb 1024 r) rows-same)
+
+  pub bad-handler-same : badHandler c ≡ badHandler b
+  bad-handler-same = handler-alike b c handler-same schemes-same
 
   -- ---- one label
   label-field : (l k : ℕ) → l ≤ lastLabel b → k < 10 → field c (labelsFrom c + l) k ≡ field b (labelsFrom b + l) k
@@ -114,15 +124,21 @@ module _ (b c : List ℕ) (same : (k : ℕ) → k < 10 * tableEnd b → getD c k
       let r : concatMap (rowsOn c) (range 2 (lastLabel c - 1)) ≡ concatMap (rowsOn b) (range 2 (lastLabel b - 1)) =
       ap (λ (n : ℕ). concatMap (rowsOn c) (range 2 (n - 1))) last-same
       ∙ concat-alike (rowsOn c) (rowsOn b) 2 (lastLabel b - 1) (λ k p q. rows-on-same k (omega arith)) in
-      λ j. record { entries = e j; labels = l j; rows = r j }
+      λ j. record { handler = handler-same j; entries = e j; labels = l j; rows = r j }
 
 -- ---- the front of a table
 module _ (b : List ℕ) (good : badTable b ≡ false) where
+  header-good : (badCounts b || badHandler b) ≡ false
+  header-good = or-l (badCounts b || badHandler b) (ltb (size b) (tableEnd b)) good
+
   pub counts-good : badCounts b ≡ false
-  counts-good = or-l (badCounts b) (ltb (size b) (tableEnd b)) good
+  counts-good = or-l (badCounts b) (badHandler b) header-good
+
+  pub handler-good : badHandler b ≡ false
+  handler-good = or-r (badCounts b) (badHandler b) header-good
 
   pub end-holds : 10 * tableEnd b ≤ length b
-  end-holds = omega (arith, ltb-false (size b) (tableEnd b) (or-r (badCounts b) (ltb (size b) (tableEnd b)) good))
+  end-holds = omega (arith, ltb-false (size b) (tableEnd b) (or-r (badCounts b || badHandler b) (ltb (size b) (tableEnd b)) good))
 
   pub front-at : (k : ℕ) → k < 10 * tableEnd b → getD (front b) k 0 ≡ getD b k 0
   front-at k h = getD-take (10 * tableEnd b) b k 0 h
@@ -133,5 +149,6 @@ module _ (b : List ℕ) (good : badTable b ≡ false) where
   pub front-whole : Whole (front b)
   front-whole = record {
     counts = counts-same b (front b) front-at ∙ counts-good;
+    handler = bad-handler-same b (front b) front-at ∙ handler-good;
     alone = omega (arith, length-take (10 * tableEnd b) b, end-holds, end-same b (front b) front-at);
   }

@@ -7,18 +7,22 @@ use native.Mathlib.Omega.{arith}
 use lib.Dec.{ltb}
 use lib.ListN.{length}
 use borrow.Author.Tests.{lt-ltb}
-use Rattle.lists.proofs.Tests.{or-true-l, or-true-r}
+use Rattle.lists.proofs.Tests.{or-true-l, or-true-r, or-none}
 use Rattle.frames.specs.Frame.{size}
-use Rattle.image.specs.Check.{badCounts}
+use Rattle.image.specs.Check.{badCounts, badHandler}
 use Rattle.tables.specs.Table.{tableEnd, badTable}
 
 module _ (b : List ℕ) where
   -- not even a header
   pub header-short : length b < 10 → true ≡ badTable b
-  header-short h = sym (or-true-r (badCounts b) (ltb (size b) (tableEnd b)) (lt-ltb (size b) (tableEnd b) (omega arith)))
+  header-short h = sym (or-true-r (badCounts b || badHandler b) (ltb (size b) (tableEnd b)) (lt-ltb (size b) (tableEnd b) (omega arith)))
 
   pub header-counts : badCounts b ≡ true → true ≡ badTable b
-  header-counts e = sym (or-true-l (badCounts b) (ltb (size b) (tableEnd b)) e)
+  header-counts e = sym (or-true-l (badCounts b || badHandler b) (ltb (size b) (tableEnd b)) (or-true-l (badCounts b) (badHandler b) e))
 
-  pub header-frames : badCounts b ≡ false → (n : ℕ) → n ≡ tableEnd b → ltb (size b) n ≡ badTable b
-  header-frames e n q = ap (λ (m : ℕ). ltb (size b) m) q ∙ sym (ap (λ (t : Bool). t || ltb (size b) (tableEnd b)) e)
+  pub header-handler : badHandler b ≡ true → true ≡ badTable b
+  header-handler e = sym (or-true-l (badCounts b || badHandler b) (ltb (size b) (tableEnd b)) (or-true-r (badCounts b) (badHandler b) e))
+
+  pub header-frames : badCounts b ≡ false → badHandler b ≡ false → (n : ℕ) → n ≡ tableEnd b → ltb (size b) n ≡ badTable b
+  header-frames e h n q =
+      ap (λ (m : ℕ). ltb (size b) m) q ∙ sym (ap (λ (t : Bool). t || ltb (size b) (tableEnd b)) (or-none (badCounts b) (badHandler b) e h))

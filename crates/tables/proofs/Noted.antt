@@ -9,7 +9,7 @@ use lib.Seq.{getD-set-same, getD-set-other}
 use Rattle.frames.specs.Frame.{size, field, pairAt, quadAt}
 use Rattle.frames.specs.Verdict.{fine}
 use Rattle.image.specs.Image.{Label}
-use Rattle.image.specs.Decode.{schemeCount, lastLabel, rowCount, labelsFrom, rowsFrom, labelIn}
+use Rattle.image.specs.Decode.{schemeCount, lastLabel, rowCount, handlerIn, labelsFrom, rowsFrom, labelIn}
 use Rattle.image.specs.Check.{tableVerdict}
 use Rattle.image.proofs.Accepted.{counted}
 use Rattle.tables.specs.Prepare.{firstFrame, notedTo, noted}
@@ -115,6 +115,9 @@ module _ (b : List ℕ) where
 
   pub noted-rows : rowCount (noted b) ≡ rowCount b
   noted-rows = ap₂ (λ (x y : ℕ). x * 256 + y) (noted-late 0 3 (omega arith) (omega arith)) (noted-late 0 4 (omega arith) (omega arith))
+
+  pub noted-handler : handlerIn (noted b) ≡ handlerIn b
+  noted-handler = noted-late 0 5 (omega arith) (omega arith)
 
   pub noted-labels-from : labelsFrom (noted b) ≡ labelsFrom b
   noted-labels-from = ap (λ (n : ℕ). 1 + n) noted-schemes

@@ -21,15 +21,16 @@ use Rattle.frames.proofs.Lent.{Success, lent-told}
 use Rattle.frames.proofs.Contents.{any-contents-length}
 use Rattle.image.specs.Image.{Label, Row}
 use Rattle.image.specs.Decode.{schemeCount, lastLabel, rowCount, rowsFrom, entryIn, labelIn, rowIn, decoded}
-use Rattle.image.specs.Check.{badCounts, tableVerdict, imageVerdict}
+use Rattle.image.specs.Check.{badCounts, badHandler, tableVerdict, imageVerdict}
 use Rattle.image.proofs.Sound.{SoundLabel, SoundRow, nthLabel, nthRow}
 use Rattle.image.proofs.Accepted.{label-read, row-read, labels-count, entries-count, rows-count, counted, accepted-sound, image-bytes, image-table}
 use Rattle.tables.specs.Prepare.{firstFrame, noted, prepare}
 use Rattle.tables.specs.Table.{tableEnd, badTable, labelOn, labelOf, firstOn, endOn, rowOn, rowsOn, tableImage, Whole}
 use Rattle.tables.proofs.RangeLaws.{map-alike, map-moved, concat-alike, ranges-join}
-use Rattle.tables.proofs.Front.{alike-image, counts-same, end-same}
+use Rattle.tables.proofs.Front.{handler-alike, alike-image, counts-same, bad-handler-same, end-same}
 use Rattle.tables.proofs.TableReads.{label-on}
-use Rattle.tables.proofs.Noted.{noted-length, noted-schemes, noted-last, noted-rows, noted-end, noted-label, noted-late, noted-pair, noted-in}
+use Rattle.tables.proofs.Noted.{noted-length, noted-schemes, noted-last, noted-rows, noted-handler, noted-end}
+use Rattle.tables.proofs.Noted.{noted-label, noted-late, noted-pair, noted-in}
 use Rattle.tables.proofs.FirstFrames.{first-low, first-inside, first-rises, first-own, first-two, first-last}
 
 -- the row in frame f, with the label that its own byte 1 names
@@ -54,9 +55,13 @@ module _ (b : List ℕ) (ok : tableVerdict b ≡ fine) where
       ap₂ (λ (t u : Bool). t || u)
       (ap₂ (λ (h m : ℕ). eqb h 0 || ltb 16 h || eqb m 0) (noted-schemes b) (noted-last b)) (ap (λ (r : ℕ). ltb 1024 r) (noted-rows b))
 
+  noted-handler-good : badHandler (noted b) ≡ false
+  noted-handler-good = handler-alike b (noted b) (noted-handler b) (noted-schemes b) ∙ counted b ok .handler
+
   pub noted-whole : length b % 10 ≡ 0 → Whole (noted b)
   noted-whole e = record {
     counts = noted-counts ∙ accepted-counts;
+    handler = noted-handler-good;
     alone = omega (arith, noted-length b, noted-end b, whole-size);
   }
 
@@ -177,7 +182,7 @@ module _ (b : List ℕ) (ok : tableVerdict b ≡ fine) where
         ∙ map-alike (labelOn (noted b)) (labelIn b) 0 (lastLabel b + 1) (λ k p q. label-sound k (omega arith)) in
         let r : concatMap (rowsOn (noted b)) (range 2 (lastLabel (noted b) - 1)) ≡ map (rowIn b) (range 0 (rowCount b)) =
         ap (λ (n : ℕ). concatMap (rowsOn (noted b)) (range 2 (n - 1))) (noted-last b) ∙ rows-all in
-        λ j. record { entries = e j; labels = l j; rows = r j }
+        λ j. record { handler = noted-handler b j; entries = e j; labels = l j; rows = r j }
 
 -- ---- over the entry: what it wrote, with anything behind it
 pub record Prepared (t old : List ℕ) (n : ℕ) : Type 0 where
@@ -226,8 +231,10 @@ module _ (t old : List ℕ) (n : ℕ) (e : prepare t old .reply ≡ success n) w
 
     taken-good : badTable c ≡ false
     taken-good =
-        or-none (badCounts c) (ltb (size c) (tableEnd c))
+        or-none (badCounts c || badHandler c) (ltb (size c) (tableEnd c))
+        (or-none (badCounts c) (badHandler c)
         (counts-same (noted b) c same ∙ noted-counts b table-fine ∙ accepted-counts b table-fine)
+        (bad-handler-same (noted b) c same ∙ noted-handler-good b table-fine))
         (le-ltb (size c) (tableEnd c) (omega (arith, end-same (noted b) c same, noted-end b, end-is, long)))
 
     taken-image : tableImage c ≡ decoded b

@@ -5,6 +5,7 @@ use mathlib.Core.Path.{_≡_, refl, sym, _∙_, ap, subst}
 use mathlib.Core.Logic.{_⊎_, inl, inr}
 use mathlib.Core.List.{List, map}
 use native.Mathlib.Nat.{zero-add}
+use native.Mathlib.Decide.{ℕ-discrete}
 use native.Mathlib.Omega.{arith}
 use lib.Dec.{ltb, eqb}
 use lib.ListN.{length, getD, List·getD-eq-default}
@@ -14,9 +15,10 @@ use Rattle.lists.specs.Numbers.{range}
 use Rattle.lists.proofs.Tests.{or-l, or-r, yes-pick, no-pick, cases, split}
 use Rattle.lists.proofs.Ranges.{length-map-range, getD-map-range}
 use Rattle.image.specs.Image.{Label, noLabel}
-use Rattle.image.specs.Decode.{schemeCount, lastLabel, rowCount, entryIn, labelIn}
+use Rattle.image.specs.Decode.{schemeCount, lastLabel, rowCount, handlerIn, entryIn, labelIn}
 use Rattle.image.specs.Check.{badCounts}
-use Rattle.tables.specs.Table.{tableImage, labelOn, labelOf, entryOf}
+use Rattle.image.proofs.Accepted.{handler-told}
+use Rattle.tables.specs.Table.{tableImage, labelOn, labelOf, entryOf, Whole}
 
 -- ---- counts that refusal 11 lets pass
 pub record Counts (b : List ℕ) : Type 0 where
@@ -40,6 +42,14 @@ counts-told b e =
       few = ltb-false 1024 (rowCount b) (or-r (h || i || m) r e);
     }
 
+-- the handler is none or a scheme of the table
+pub handler-inside : (b : List ℕ) → Whole b → handlerIn b ≤ schemeCount b
+handler-inside b w = go (ℕ-discrete (handlerIn b) 0)
+  where
+    go : Dec (handlerIn b ≡ 0) → handlerIn b ≤ schemeCount b
+    go (yes e) = omega arith
+    go (no e) = handler-told b (w .handler) e .1
+
 -- ---- what stands at each number
 module _ (b : List ℕ) where
   pub labels-count : length (tableImage b .labels) ≡ lastLabel b + 1
@@ -49,6 +59,10 @@ module _ (b : List ℕ) where
   pub entries-count : length (tableImage b .entries) ≡ schemeCount b
   unfolding tableImage
   entries-count = length-map-range (entryIn b) 1 (schemeCount b)
+
+  pub handler-at : tableImage b .handler ≡ handlerIn b
+  unfolding tableImage
+  handler-at = refl
 
   pub label-on : (l : ℕ) → l ≤ lastLabel b → labelOf b l ≡ labelOn b l
   label-on l h = no-pick (ltb (lastLabel b) l) noLabel (labelOn b l) (le-ltb (lastLabel b) l h)

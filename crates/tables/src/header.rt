@@ -1,5 +1,6 @@
 // Refusal 11 of a table, which only its header and its length decide.
 use image::bad_counts;
+use image::bad_handler;
 use image::pair;
 use image::rows_from;
 ghost use mathlib.Core.Path.{_≡_};
@@ -31,6 +32,9 @@ pub fn bad_table(table: &[u8]) -> bool
         return true;
     }
     if bad_counts(table) {
+        return true;
+    }
+    if bad_handler(table) {
         return true;
     }
     table.len() / 10 < table_end(table)

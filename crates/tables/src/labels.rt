@@ -5,7 +5,7 @@ use image::pair;
 ghost use mathlib.Core.Path.{_≡_};
 ghost use Prim.Native.Nat.{_+_, _≤_, _<_};
 ghost use Rattle.frames.specs.Frame.{field};
-ghost use Rattle.image.specs.Decode.{schemeCount, lastLabel, labelsFrom};
+ghost use Rattle.image.specs.Decode.{schemeCount, lastLabel, handlerIn, labelsFrom};
 ghost use Rattle.tables.specs.Table.{Whole, labelOf, entryOf};
 ghost use Rattle.tables.specs.Labels.{asLabel, Framed};
 
@@ -78,6 +78,14 @@ pub fn last_label(table: &[u8]) -> u8
     ensures { λ r. ⌜ r ≡ lastLabel (now (table .entry)) ⌝ }
 {
     byte(table, 0, 2)
+}
+
+// The handler's scheme, 0 for none.
+pub fn handler_of(table: &[u8]) -> u8
+    requires { ⌜ Whole (now table) ⌝ }
+    ensures { λ r. ⌜ r ≡ handlerIn (now (table .entry)) ⌝ }
+{
+    byte(table, 0, 5)
 }
 
 // Label l: 0 and 1 are the same in every image, and one above M holds nothing.

@@ -9,6 +9,7 @@ pub use entry::prepare_table;
 pub use header::bad_table;
 pub use header::table_length;
 pub use labels::entry_of;
+pub use labels::handler_of;
 pub use labels::kind_read;
 pub use labels::label_of;
 pub use labels::label_read;

@@ -5,3 +5,5 @@ pub mod Recursion
 pub mod Follow
 pub mod FactsHold
 pub mod Functions
+pub mod NoHandler
+pub mod Drops

@@ -139,9 +139,13 @@ good c h u ks b f s under handled = record {
 pub caller-stop : (c : Chart) (h k : ℕ) → Caller c h k → StopOf c (scheme c k) k
 caller-stop c h k caller = record { inside = caller .inside; same = refl; stopping = caller .stopping }
 
+-- the End of scheme 1 is a stop
+pub home-stop : (c : Chart) → Facts c → StopOf c 1 (end c 1)
+home-stop c facts = let e = facts .ends 1 (omega arith) (facts .first) in
+    record { inside = e .0; same = e .2; stopping = end-stops c (end c 1) (e .1) }
+
 pub home-good : (c : Chart) → Facts c → (b : Results) → Good c (atHome c b)
-home-good c facts b = let e = facts .ends 1 (omega arith) (facts .first) in
-    good c 1 (end c 1) [] b false (record { inside = e .0; same = e .2; stopping = end-stops c (end c 1) (e .1) }) refl (λ q. no-both false q refl)
+home-good c facts b = good c 1 (end c 1) [] b false (home-stop c facts) refl (λ q. no-both false q refl)
 
 pub handling-good : (c : Chart) → Facts c → (b : Results) → (handler c ≡ 0 → ⊥) → Good c (handling c b)
 handling-good c facts b n = let l = facts .handled n in
@@ -155,12 +159,18 @@ drop-handler n c f o e =
     eqb-false (handler c) 0 (not-true (eqb (handler c) 0) (and-r p q (and-l (p && q) (eqb o n) e)))
 
 module _ (c : Chart) (facts : Facts c) where
-  arc-to : (v w : ℕ) → v < size c → (kind c v ≡ 1 → ⊥) → StopOf c (scheme c v) (byArc c w (next0 c v))
+  -- where a stop's arcs lead in its own scheme
+  pub arc-to : (v w : ℕ) → v < size c → (kind c v ≡ 1 → ⊥) → StopOf c (scheme c v) (byArc c w (next0 c v))
   arc-to v w l e = facts .follows (scheme c v) (next0 c v) w (facts .arc0 v l e)
 
-  function-to : (v w : ℕ) (t : Bool) → v < size c → kind c v ≡ 4 → StopOf c (scheme c v) (byArc c w (pick t (next1 c v) (next0 c v)))
+  pub function-to : (v w : ℕ) (t : Bool) → v < size c → kind c v ≡ 4 → StopOf c (scheme c v) (byArc c w (pick t (next1 c v) (next0 c v)))
   function-to v w true l e = facts .follows (scheme c v) (next1 c v) w (facts .arc1 v l (omega arith))
   function-to v w false l e = arc-to v w l (λ p. omega arith)
+
+  pub begin-to : (v w : ℕ) → v < size c → kind c v ≡ 0 → stops c v ≡ true → StopOf c (scheme c v) (byWord c w (next0 c v))
+  begin-to v w l e s =
+      let t : Target c (scheme c v) (next0 c v) = facts .arc0 v l (λ p. omega arith) in
+      subst (λ (h : ℕ). StopOf c h (byWord c w (next0 c v))) (t .same) (facts .tests (next0 c v) w (t .inside) (begin-leads c v e s))
 
   resumes-to : (h k w : ℕ) (b : Results) → Caller c h k → StopOf c (scheme c k) (resumed c k w b)
   resumes-to h k w b caller = go (caller .calls)
@@ -199,10 +209,7 @@ module _ (c : Chart) (facts : Facts c) where
     moved-good d n w (a-function e) = called-good b (inr e) (facts .functions v (g .top .inside) e) d n
     moved-good d n w (a-home e s) = good c 1 (start c 1) ks b f (facts .starts 1 (omega arith) (facts .first)) (at-first s) (g .handled)
     moved-good d n w (a-back e s) = returned-good w
-    moved-good d n w (a-begin e) =
-        let t : Target c (scheme c v) (next0 c v) = facts .arc0 v (g .top .inside) (λ p. omega arith) in
-        good c (scheme c (next0 c v)) _ ks b f (facts .tests (next0 c v) w (t .inside) (begin-leads c v e (g .top .stopping)))
-        (subst (λ (h : ℕ). Under c (bottom c f) h ks) (sym (t .same)) (g .under)) (g .handled)
+    moved-good d n w (a-begin e) = good c (scheme c v) _ ks b f (begin-to v w (g .top .inside) e (g .top .stopping)) (g .under) (g .handled)
     moved-good d n w (a-condition e) = good c (scheme c v) _ ks b f (facts .tests v w (g .top .inside) e) (g .under) (g .handled)
 
   pub view-of : (x : Position) → Good c x → View c (x .node) (stopAt c (x .node))

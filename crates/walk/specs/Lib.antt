@@ -1,3 +1,4 @@
 pub mod Stops
 pub mod Walk
 pub mod Functions
+pub mod Unbounded

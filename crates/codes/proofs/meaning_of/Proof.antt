@@ -24,19 +24,23 @@ unfolding meaningOf
 returns-3 c = simp (c .match .keys3)
 
 returns-4 : tie.Need-returns-4
-returns-4 c = in-operations _ (search needs) (search needs)
+unfolding meaningOf
+returns-4 c = simp (c .match .keys4)
 
 returns-5 : tie.Need-returns-5
-returns-5 c = in-functions _ (search needs) (search needs)
+returns-5 c = in-operations _ (search needs) (search needs)
 
 returns-6 : tie.Need-returns-6
-returns-6 c = below-calls _ (search needs) (search needs) (search needs) (search needs)
+returns-6 c = in-functions _ (search needs) (search needs)
 
 returns-7 : tie.Need-returns-7
-returns-7 c = between-calls _ (search needs) (search needs) (search needs) (search needs) (search needs)
+returns-7 c = below-calls _ (search needs) (search needs) (search needs) (search needs) (search needs)
 
 returns-8 : tie.Need-returns-8
-returns-8 c = above-calls _ (search needs) (search needs) (search needs) (search needs)
+returns-8 c = between-calls _ (search needs) (search needs) (search needs) (search needs) (search needs) (search needs)
+
+returns-9 : tie.Need-returns-9
+returns-9 c = above-calls _ (search needs) (search needs) (search needs) (search needs) (search needs)
 
 pub meaning-of-spec : {M : Type 1} → statement M
 meaning-of-spec =
@@ -51,4 +55,5 @@ meaning-of-spec =
     returns-5
     returns-6
     returns-7
-    returns-8)
+    returns-8
+    returns-9)
