@@ -128,7 +128,8 @@ module _ (c : Chart) where
       → imageText (table c) ≡ parts highest (own + 1) n
   unfolding imageText imageFrames table
   image-parts highest own n eh eo en =
-      let h : headerText (length (table c .entries)) (length (table c .labels) - 1) (length (table c .rows)) (handler c) ≡ headerText highest (own + 1) n (handler c) =
+      let h : headerText (length (table c .entries)) (length (table c .labels) - 1) (length (table c .rows)) (handler c)
+      ≡ headerText highest (own + 1) n (handler c) =
       ap (λ (k : ℕ). headerText k (length (table c .labels) - 1) (length (table c .rows)) (handler c)) (length-entries c ∙ sym eh)
       ∙ ap₂ (λ (k m : ℕ). headerText highest k m (handler c)) (omega (arith, length-labels c)) (sym en) in
       concat-cons frameText _ _

@@ -108,7 +108,8 @@ returns c =
     let put = rows handled in
     let pre = asked put .pre in
     image-put _ _ _ _ (pre .sizes) _ _ _ _ _ _ _ _ _ (pre .room) (rows-put _ _ _ _ (pre .sizes) _ _ (put .put-rows .ensures .ends))
-    (handled .handler-scheme .ensures) (entries (fixed (labels put)) .put-entries .ensures) (fixed (labels put) .put-fixed .ensures) (labels put .put-labels .ensures)
+    (handled .handler-scheme .ensures)
+    (entries (fixed (labels put)) .put-entries .ensures) (fixed (labels put) .put-fixed .ensures) (labels put .put-labels .ensures)
     (put .put-rows .ensures) (header .put-header .ensures)
 
 pub put-image-spec : {M : Type 1} → statement M
