@@ -1,5 +1,5 @@
 -- The masks of the calls: one node more, and the rounds over them.
-use Prim.Native.Nat.{ℕ, zero, suc, _+_, _^_, _≤_, _<_}
+use Prim.Native.Nat.{ℕ, zero, suc, _+_, _-_, _^_, _≤_, _<_}
 use mathlib.Core.Bool.{Bool, true, false, _&&_, _||_, not}
 use mathlib.Core.Path.{_≡_, refl, sym, _∙_, ap, ap₂, subst}
 use mathlib.Core.Logic.{⊎-elim}
@@ -15,7 +15,7 @@ use Rattle.lists.specs.Pick.{pick}
 use Rattle.lists.specs.Numbers.{tabulate, any, lowest}
 use Rattle.lists.specs.Sequences.{some}
 use Rattle.lists.proofs.Tests.{cases, and-true, and-no, or-true-r, yes-pick, no-pick}
-use Rattle.lists.proofs.Searches.{lowest-alike, lowest-none, lowest-most, Searching, searching-found, searching-over}
+use Rattle.lists.proofs.Searches.{lowest-alike, lowest-none, lowest-most, Searching, searching-first, searching-found, searching-next, searching-over}
 use Rattle.lists.proofs.Tabulated.{length-tabulate, getD-tabulate, tabulate-alike, tabulate-set, tabulate-none}
 use Rattle.bits.specs.Word.{bit}
 use Rattle.graph.specs.Reach.{marked}
@@ -170,24 +170,43 @@ module _ (masks : List ℕ) where
       ∙ ap (bitOr (calledBy masks set g)) (sym (ap (λ (b : Bool). pick b (getD masks g 0) 0) (ne-eqb (bit set g) 1 n)))
       ∙ sym (ap (calledBy masks set) (add-one g))
 
-  pub ends-next : (k ends r : ℕ) → ends ≡ endsBy masks k → r ≡ calledBy masks ends 17 → r ≡ endsBy masks (k + 1)
-  unfolding endsBy
-  ends-next k ends r e q = q ∙ ap (λ (set : ℕ). calledBy masks set 17) e ∙ sym (ap (endsBy masks) (add-one k))
-
   -- chains of k calls end nowhere
   abbrev pub emptyBy : ℕ → Bool
   emptyBy k = eqb (endsBy masks k) 0
 
-  pub longest-found : (k : ℕ) → Searching emptyBy 17 k → k < 17 → emptyBy k ≡ true → k ≡ longestBy masks
-  unfolding longestBy
-  longest-found k s l e =
-      let q : k ≡ lowest emptyBy 0 17 = searching-found emptyBy 17 k s l e in
-      q ∙ sym (yes-pick (ltb (lowest emptyBy 0 17) 17) (lowest emptyBy 0 17) 0 (lt-ltb (lowest emptyBy 0 17) 17 (omega arith)))
+  -- the chains of fewer than s calls end somewhere, those of s - 1 in these schemes
+  pub record Round (ends s : ℕ) : Type 0 where
+    pub some : 1 ≤ s
+    pub search : Searching emptyBy 17 s
+    pub held : ends ≡ endsBy masks (s - 1)
 
-  pub longest-none : (k : ℕ) → Searching emptyBy 17 k → 17 ≤ k → 0 ≡ longestBy masks
+  pub round-first : Round 2 1
+  unfolding endsBy
+  round-first = record { some = omega arith; search = searching-next emptyBy 17 0 (searching-first emptyBy 17) (omega arith) refl; held = refl }
+
+  module _ (ends s r : ℕ) (h : Round ends s) (e : r ≡ calledBy masks ends 17) where
+    round-ends : r ≡ endsBy masks s
+    unfolding endsBy
+    round-ends =
+        e ∙ ap (λ (set : ℕ). calledBy masks set 17) (h .held) ∙ ap (endsBy masks) (let z : suc (s - 1) ≡ s = omega (arith, h .some) in z)
+
+    pub round-found : s < 17 → r ≡ 0 → s ≡ longestBy masks
+    unfolding longestBy
+    round-found l z =
+        let q : s ≡ lowest emptyBy 0 17 = searching-found emptyBy 17 s (h .search) l (eq-eqb (endsBy masks s) 0 (sym round-ends ∙ z)) in
+        q ∙ sym (yes-pick (ltb (lowest emptyBy 0 17) 17) (lowest emptyBy 0 17) 0 (lt-ltb (lowest emptyBy 0 17) 17 (omega arith)))
+
+    pub round-next : s < 17 → (r ≡ 0 → ⊥) → Round r (s + 1)
+    round-next l n = record {
+      some = omega arith;
+      search = searching-next emptyBy 17 s (h .search) l (ne-eqb (endsBy masks s) 0 (λ z. n (round-ends ∙ z)));
+      held = round-ends ∙ ap (endsBy masks) (omega arith);
+    }
+
+  pub round-over : (ends s : ℕ) → Round ends s → 17 ≤ s → 0 ≡ longestBy masks
   unfolding longestBy
-  longest-none k s l =
-      let q : k ≡ lowest emptyBy 0 17 = searching-over emptyBy 17 k s l in
+  round-over ends s h l =
+      let q : s ≡ lowest emptyBy 0 17 = searching-over emptyBy 17 s (h .search) l in
       sym (no-pick (ltb (lowest emptyBy 0 17) 17) (lowest emptyBy 0 17) 0 (le-ltb (lowest emptyBy 0 17) 17 (omega arith)))
 
 -- ---- the rounds

@@ -37,7 +37,7 @@ unfoldable pub endsBy : List ℕ → ℕ → ℕ
 endsBy masks zero = 2
 endsBy masks (suc k) = calledBy masks (endsBy masks k) 17
 
--- the lowest number of calls that no chain has, or 0 where there are chains of 16 calls
+-- the lowest number of calls that no chain has, or 0 where there are chains of 16 calls: of 17 schemes
 unfoldable pub longestBy : List ℕ → ℕ
 longestBy masks = let k = lowest (λ k. eqb (endsBy masks k) 0) 0 17 in pick (ltb k 17) k 0
 

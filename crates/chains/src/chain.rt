@@ -1,4 +1,4 @@
-// The longest chain of calls, one call more in each round; a chain of 16 calls has a scheme twice.
+// The longest chain of calls, one scheme more in each round; a chain of 17 schemes has one of them twice.
 use crate::calls::note_calls;
 ghost use mathlib.Core.Path.{_≡_};
 ghost use lib.ListN.{length};
@@ -21,19 +21,19 @@ fn called_by(masks: &[u32], set: u32) -> u32
     called
 }
 
-// By the masks: the lowest number of calls that no chain from scheme 1 has, or 0 where there are chains of 16.
+// By the masks: how many schemes the longest chain from scheme 1 has, or 0 where there are chains of 17.
 fn longest(masks: &[u32]) -> u8
     requires { ⌜ length (now masks) ≡ 17 ⌝ }
     ensures { λ r. ⌜ r ≡ longestBy (now (masks .entry)) ⌝ }
 {
     let mut ends: u32 = 2;
-    let mut k: u8 = 0;
-    while k < 17 {
-        if ends == 0 {
-            return k;
-        }
+    let mut schemes: u8 = 1;
+    while schemes < 17 {
         ends = called_by(masks, ends);
-        k += 1;
+        if ends == 0 {
+            return schemes;
+        }
+        schemes += 1;
     }
     0
 }
