@@ -141,7 +141,7 @@ module _ (c : Chart) where
       chain-few n h s = omega (arith, falls n h s, rank-most, rank-some 17 (callsOf c) h (chain-inside n h s))
 
       -- ---- the longest chain
-      places-some : 1 ≤ places c
+      pub places-some : 1 ≤ places c
       unfolding places
       places-some = ⊎-elim (λ (l : 0 < lowest (noEnd c) 0 16). l)
           (λ (l : lowest (noEnd c) 0 16 ≤ 0).
