@@ -1,5 +1,5 @@
 -- The answer at each return of the entry point.
-use Prim.Native.Nat.{ℕ, _*_, _≤_}
+use Prim.Native.Nat.{ℕ, _*_, _≤_, min}
 use mathlib.Core.Bool.{Bool, true, false}
 use mathlib.Core.Path.{_≡_, refl, sym, _∙_, ap, subst}
 use mathlib.Core.Logic.{⊎-elim}
@@ -8,7 +8,7 @@ use native.Mathlib.Omega.{arith}
 use lib.Dec.{ltb}
 use lib.ListN.{length, take}
 use Rattle.lists.specs.Pick.{pick}
-use Rattle.lists.proofs.Tests.{cases}
+use Rattle.lists.proofs.Tests.{cases, same-ltb}
 use Rattle.frames.specs.Frame.{contents}
 use Rattle.frames.specs.Verdict.{Verdict, fine, refused, when}
 use Rattle.frames.specs.Answer.{success, refusal, reply, judged}
@@ -26,6 +26,10 @@ use Rattle.chains.specs.Calls.{circular, places}
 use Rattle.chains.specs.Masks.{longestChain}
 use Rattle.chains.proofs.Longest.{places-some}
 use Rattle.places.specs.Entry.{placesVerdict, placesNeeded}
+
+-- ---- rows counted up to 1025
+pub more-than-most : (r n : ℕ) → r ≡ min 1025 n → ltb 1024 r ≡ ltb 1024 n
+more-than-most r n e = same-ltb 1024 r 1024 n (λ l. omega arith) (λ l. omega arith)
 
 -- ---- what the code's number tells
 module _ (c : Chart) (f : Facts c) (n : ℕ) (e : n ≡ longestChain c) where
