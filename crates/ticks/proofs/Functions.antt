@@ -9,9 +9,9 @@ use lib.Dec.{leb, eqb}
 use lib.ListN.{length, getD, set, List·getD-eq-default}
 use lib.Seq.{getD-set-other}
 use native.Mathlib.Omega.{arith}
-use borrow.Author.Tests.{eqb-true, eq-eqb, lt-leb}
+use borrow.Author.Tests.{eqb-true, eqb-false, eq-eqb, lt-leb}
 use Rattle.lists.specs.Pick.{pick}
-use Rattle.lists.proofs.Tests.{no-both, or-cases, and-l, and-r, and-true, and-false, split}
+use Rattle.lists.proofs.Tests.{no-both, or-l, or-cases, and-l, and-r, and-true, and-false, split}
 use Rattle.bits.specs.Results.{Results, resultOf, withResult, cleared}
 use Rattle.bits.proofs.ResultLaws.{cleared-own, cleared-keeps, result-keeps}
 use Rattle.frames.specs.Frame.{contents}
@@ -26,7 +26,7 @@ use Rattle.state.proofs.FitCases.{kind-call}
 use Rattle.state.proofs.Fitness.{Fits, unfits}
 use Rattle.ticks.specs.Tick.{rowOf, Ticked, ticked, stopped, moved, pushed, popped, tickBy, tick}
 use Rattle.ticks.specs.Parts.{topOf}
-use Rattle.ticks.specs.Functions.{findsFull, CallClears, writesOne, returnsAt, Unwritten, none, more, returned, ZeroRow}
+use Rattle.ticks.specs.Functions.{findsFull, CallClears, Drop, Drops, writesOne, returnsAt, Unwritten, none, more, returned, ZeroRow}
 
 -- ---- a finished call
 abbrev Cleared : ℕ → Ticked → Type 0
@@ -61,6 +61,41 @@ call-clears i s call w m code t e =
         → Cleared (pick (leb (s .size) (s .depth)) (i .handler) h) (tickBy i s w (topOf s) x b (x .kind))
     go (inl p) = rw (eqb-true (x .kind) 1 p) (pushes (x .mask) (16 + h) (leb (s .size) (s .depth)))
     go (inr p) = rw (eqb-true (x .kind) 2 p) (pushes (x .mask) (64 + h) (leb (s .size) (s .depth)))
+
+-- ---- a drop
+abbrev Dropped : Image → Label → State → Ticked → Type 0
+Dropped i x s (ticked m code t) = Drop i x s m code t
+Dropped i x s (stopped n) = Unit {0}
+
+pub drops : Drops
+unfolding Drops tick
+drops i s full w m code t e = subst (Dropped i x s) e (go (or-cases (eqb (x .kind) 1) (eqb (x .kind) 2) (and-l (isCall x) (leb (s .size) (s .depth)) full)))
+  where
+    x : Label
+    x = labelAt i (topOf s)
+
+    b : Results
+    b = withResult (x .result) (x .owner) (s .bits)
+
+    dropped : (r : Bool) → (eqb (i .handler) 0 || ofHandler i (placeAt s 0)) ≡ r → Dropped i x s (pick r (stopped 17)
+        (ticked (x .mask) 96 (record { size = s .size; depth = 1; places = set noPlaces 0 (entryAt i (i .handler)); bits = cleared (i .handler) b })))
+    dropped true q = tt
+    dropped false q = record {
+      mask = refl;
+      coded = refl;
+      alone = refl;
+      cleared = cleared-own (i .handler) b;
+      kept = λ h l other. let z : i .handler ≡ 0 → ⊥ = eqb-false (i .handler) 0 (or-l (eqb (i .handler) 0) (ofHandler i (placeAt s 0)) q) in
+          getD-set-other b (i .handler - 1) (h - 1) false false (λ k. other (omega arith));
+    }
+
+    pushes : (code : ℕ) (r : Bool) → r ≡ true → Dropped i x s (pushed i s (x .mask) code (x .called) b r)
+    pushes code true q = dropped (eqb (i .handler) 0 || ofHandler i (placeAt s 0)) refl
+    pushes code false q = no-both false q refl
+
+    go : (eqb (x .kind) 1 ≡ true) ⊎ (eqb (x .kind) 2 ≡ true) → Dropped i x s (tickBy i s w (topOf s) x b (x .kind))
+    go (inl p) = rw (eqb-true (x .kind) 1 p) (pushes (16 + x .called) (leb (s .size) (s .depth)) (and-r (isCall x) (leb (s .size) (s .depth)) full))
+    go (inr p) = rw (eqb-true (x .kind) 2 p) (pushes (64 + x .called) (leb (s .size) (s .depth)) (and-r (isCall x) (leb (s .size) (s .depth)) full))
 
 -- a call that does not find the stack full has a place free
 free : (i : Image) (s : State) → findsFull i s ≡ false → isCall (labelAt i (topOf s)) ≡ true → leb (s .size) (s .depth) ≡ false

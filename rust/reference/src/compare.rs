@@ -35,15 +35,14 @@ impl fmt::Display for Difference {
     }
 }
 
-/// How often each call gave each answer (0 for success), and how often its ticks dropped the stack and went home from the
-/// handler's End.
+/// How often each call gave each answer (0 for success), and how often its ticks dropped the stack and returned at the bottom.
 #[derive(Debug, Default)]
 pub struct Summary {
     pub answers: BTreeMap<(&'static str, u8), usize>,
     pub handled: BTreeMap<&'static str, Handled>,
 }
 
-/// Drops to the handler, and returns from it at the bottom.
+/// Drops to the handler, and returns at the bottom: the handler's, or those that a damaged table leads to.
 #[derive(Clone, Copy, Debug, Default)]
 pub struct Handled {
     pub drops: usize,
@@ -85,7 +84,7 @@ impl fmt::Display for Summary {
             writeln!(f, "{call:>12} {number:>3} {count:>8}")?;
         }
         for (call, Handled { drops, returns }) in &self.handled {
-            writeln!(f, "{call:>12} {drops:>8} drops, {returns:>8} returns from the handler")?;
+            writeln!(f, "{call:>12} {drops:>8} drops, {returns:>8} returns at the bottom")?;
         }
         Ok(())
     }
