@@ -1,0 +1,3 @@
+pub mod CalmWalk
+pub mod Made
+pub mod Enough
