@@ -58,18 +58,19 @@ needed-0 text e = judged-0 (placesVerdict text)
 
 made-c : (asked : List Asked) (tolds : List Told) → AllMade asked tolds → AllMadeC asked (map toldC tolds)
 made-c asked tolds a = record {
-  numbers = by number tolds ∙ ap (map number) (a .replies) ∙ through number asked;
-  counts = by count tolds ∙ ap (map count) (a .replies) ∙ through count asked;
+  numbers = by number (λ (t : ToldC). t .number) (λ t. refl) tolds ∙ ap (map number) (a .replies) ∙ through number asked;
+  counts = by count (λ (t : ToldC). t .count) (λ t. refl) tolds ∙ ap (map count) (a .replies) ∙ through count asked;
   drops = all-map (λ (t : ToldC). noDrop (t .count) (t .codes)) toldC tolds (a .drops);
 }
   where
-    by : (f : Reply → ℕ) (ts : List Told) → map (λ (t : Told). f (t .reply)) ts ≡ map f (map (λ (t : Told). t .reply) ts)
-    by f [] = refl
-    by f (t ∷ ts) = ap (λ (xs : List ℕ). f (t .reply) ∷ xs) (by f ts)
+    by : (f : Reply → ℕ) (g : ToldC → ℕ) → ((t : Told) → g (toldC t) ≡ f (t .reply)) → (ts : List Told)
+        → map g (map toldC ts) ≡ map f (map (λ (t : Told). t .reply) ts)
+    by f g h [] = refl
+    by f g h (t ∷ ts) = ap₂ (λ (x : ℕ) (xs : List ℕ). x ∷ xs) (h t) (by f g h ts)
 
-    through : (f : Reply → ℕ) (as : List Asked) → map f (map allMade as) ≡ map (λ a. f (allMade a)) as
+    through : (f : Reply → ℕ) (rest : List Asked) → map f (map allMade rest) ≡ map (λ a. f (allMade a)) rest
     through f [] = refl
-    through f (a ∷ as) = ap (λ (xs : List ℕ). f (allMade a) ∷ xs) (through f as)
+    through f (a ∷ rest) = ap (λ (xs : List ℕ). f (allMade a) ∷ xs) (through f rest)
 
 pub enough-c : EnoughC
 unfolding EnoughC DeliveredC
