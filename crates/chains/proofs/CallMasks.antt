@@ -1,9 +1,9 @@
 -- The masks of the calls: one node more, and the rounds over them.
 use Prim.Native.Nat.{ℕ, zero, suc, _+_, _-_, _^_, _≤_, _<_}
 use mathlib.Core.Bool.{Bool, true, false, _&&_, _||_, not}
-use mathlib.Core.Path.{_≡_, refl, sym, _∙_, ap, ap₂, subst}
+use mathlib.Core.Path.{_≡_, refl, sym, _∙_, ap, ap₂}
 use mathlib.Core.Logic.{⊎-elim}
-use mathlib.Core.List.{List, [], _∷_}
+use mathlib.Core.List.{List}
 use native.Mathlib.Decide.{ℕ-discrete}
 use native.Mathlib.Numerals.{add-one}
 use native.Mathlib.Omega.{arith}
@@ -12,7 +12,7 @@ use lib.Dec.{ltb, eqb}
 use lib.ListN.{length, getD, set, replicate}
 use borrow.Author.Tests.{eq-eqb, ne-eqb, lt-ltb, le-ltb}
 use Rattle.lists.specs.Pick.{pick}
-use Rattle.lists.specs.Numbers.{tabulate, any, lowest}
+use Rattle.lists.specs.Numbers.{any, lowest}
 use Rattle.lists.specs.Sequences.{some}
 use Rattle.lists.proofs.Tests.{cases, and-true, and-no, or-true-r, yes-pick, no-pick}
 use Rattle.lists.proofs.Searches.{lowest-alike, lowest-none, lowest-most, Searching, searching-first, searching-found, searching-next, searching-over}
@@ -21,7 +21,7 @@ use Rattle.bits.specs.Word.{bit}
 use Rattle.graph.specs.Reach.{marked}
 use Rattle.frames.specs.Frame.{size}
 use Rattle.frames.proofs.ReadFrame.{any-snoc}
-use Rattle.charts.specs.Chart.{Chart, kind, scheme, argument, is, schemes}
+use Rattle.charts.specs.Chart.{Chart, kind, scheme, argument}
 use Rattle.walk.proofs.Facts.{Facts}
 use Rattle.chains.specs.Calls.{holdsCall, isCall, calls, circular, endsOf, noEnd, places}
 use Rattle.chains.specs.Chains.{Calls}
@@ -29,7 +29,7 @@ use Rattle.chains.specs.Masks.{calledAt, maskOf, callMasks, calledBy, en
 use Rattle.chains.proofs.CallLaws.{holds-function, holds-operation, called-range}
 use Rattle.chains.proofs.Longest.{ends-suc}
 use Rattle.chains.proofs.Circles.{circle-told, circle-long, no-circle-short}
-use Rattle.chains.proofs.Masks.{mask-bit, mask-is, mask-alike, mask-or, mask-more, mask-empty}
+use Rattle.chains.proofs.Masks.{mask-bit, mask-alike, mask-or, mask-more, mask-empty}
 
 any-next : (p : ℕ → Bool) (n : ℕ) → any p 0 (n + 1) ≡ (any p 0 n || p n)
 any-next p n = ap (any p 0) (add-one n) ∙ any-snoc p 0 n ∙ ap (λ (k : ℕ). any p 0 n || p k) (omega arith)

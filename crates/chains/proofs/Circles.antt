@@ -1,13 +1,12 @@
 -- What refusal 20 means: a chain from scheme 1 ends in a scheme that can call itself.
 use Prim.Native.Nat.{ℕ, zero, suc, _+_, _-_, _≤_, _<_}
 use mathlib.Core.Bool.{true, false, not}
-use mathlib.Core.Path.{_≡_, sym, _∙_, ap, subst}
+use mathlib.Core.Path.{_≡_, ap, subst}
 use mathlib.Core.Logic.{⊎-elim}
 use mathlib.Core.List.{[], _∷_}
 use native.Mathlib.Omega.{arith}
 use Rattle.lists.proofs.Tests.{and-l, and-r, and-true, cases}
 use Rattle.lists.proofs.Searches.{any-true, any-some, any-none}
-use Rattle.lists.specs.Numbers.{any}
 use Rattle.graph.specs.Reach.{marked, joinedFrom}
 use Rattle.graph.proofs.Closure.{joined-first, joined-closed}
 use Rattle.graph.proofs.Paths.{Path, here, on as further, PathFrom, joined-path}

@@ -20,7 +20,7 @@ use Rattle.graph.proofs.Rank.{rank, rank-some, rank-falls, after, with}
 use Rattle.charts.specs.Chart.{Chart}
 use Rattle.walk.proofs.Facts.{Facts}
 use Rattle.chains.specs.Calls.{calls, callsOf, callsItself, circular, endsOf, noEnd, places}
-use Rattle.chains.specs.Chains.{Chain, first, on, Longest}
+use Rattle.chains.specs.Chains.{Chain, first, on}
 use Rattle.chains.proofs.CallLaws.{calls-true, true-calls, calls-member, member-calls, called-range}
 
 pub one-member : (h : ℕ) → member h (1 ∷ []) ≡ true → h ≡ 1

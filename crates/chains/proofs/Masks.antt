@@ -1,10 +1,10 @@
 -- Laws of masks of the numbers below n that pass a test: their bits, two of them joined, one number more.
-use Prim.Native.Nat.{ℕ, zero, suc, _+_, _*_, _/_, _%_, _^_, _≤_, _<_, max}
+use Prim.Native.Nat.{ℕ, zero, suc, _+_, _/_, _%_, _^_, _≤_, _<_, max}
 use mathlib.Core.Bool.{Bool, true, false, _||_, not}
 use mathlib.Core.Path.{_≡_, refl, sym, _∙_, ap, ap₂, subst}
 use mathlib.Core.Logic.{⊎-elim}
 use native.Mathlib.Decide.{ℕ-discrete}
-use native.Mathlib.Nat.{pow-suc, zero-div, one-mul, div-lt-iff-lt-mul}
+use native.Mathlib.Nat.{pow-suc, one-mul, div-lt-iff-lt-mul}
 use native.Mathlib.Omega.{arith}
 use lib.Arith.{lt-one}
 use lib.Bits.{bitOr, or-lt}
@@ -13,7 +13,7 @@ use lib.Pow.{pow-pos, pow-mono, pow-lt}
 use borrow.Author.Tests.{ne-eqb, eq-eqb}
 use Rattle.lists.specs.Pick.{pick}
 use Rattle.lists.specs.Numbers.{any}
-use Rattle.lists.proofs.Tests.{cases, split}
+use Rattle.lists.proofs.Tests.{split}
 use Rattle.lists.proofs.Searches.{any-some, any-false}
 use Rattle.bits.specs.Word.{bit}
 use Rattle.bits.proofs.BitLaws.{bit-or, bit-none, bit-add-same, bit-add-other, bit-pow-same, bit-pow-other, same-bits}

@@ -16,7 +16,7 @@ use Rattle.walk.specs.Stops.{Stop, stopAt}
 use Rattle.walk.specs.Walk.{Tick, isDrop, drops, walk}
 use Rattle.walk.proofs.Facts.{Facts}
 use Rattle.walk.proofs.Views.{View, a-plain, a-call, a-function, a-home, a-back, a-begin, a-condition}
-use Rattle.walk.proofs.Trace.{Position, at, returned, called, movedBy, dropsAt, tickAt, move, trace, Caller, Under, bottom, Good, view-of, moves, atHome, home-good}
+use Rattle.walk.proofs.Trace.{Position, at, returned, called, movedBy, tickAt, move, trace, Caller, Under, bottom, Good, view-of, moves, atHome, home-good}
 use Rattle.walk.proofs.Drops.{isCall, drop-exactly}
 use Rattle.walk.proofs.Recursion.{walk-trace}
 use Rattle.chains.specs.Calls.{holdsCall, circular, places}

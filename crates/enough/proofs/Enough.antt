@@ -2,14 +2,12 @@
 use Prim.Native.Nat.{ℕ, _≤_}
 use mathlib.Core.Path.{_≡_, refl, sym, _∙_, ap, ap₂, subst}
 use mathlib.Core.List.{List, [], _∷_, map}
-use lib.ListN.{length}
 use native.Mathlib.Omega.{arith}
-use Rattle.lists.proofs.Joins.{All, all-map}
+use Rattle.lists.proofs.Joins.{all-map}
 use Rattle.frames.specs.Frame.{contents}
 use Rattle.frames.specs.Verdict.{Verdict, fine, refused}
 use Rattle.frames.specs.Answer.{Reply, success, number, count, judged}
 use Rattle.frames.proofs.Refuses.{Refuses, next-refuses, when-refuses}
-use Rattle.charts.specs.Chart.{Chart}
 use Rattle.walk.specs.Walk.{Tick, walk}
 use Rattle.translator.specs.Entry.{translateVerdict}
 use Rattle.chains.specs.Calls.{circular, places}

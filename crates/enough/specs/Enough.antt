@@ -6,7 +6,7 @@ use mathlib.Core.List.{List, map}
 use lib.ListN.{length, take}
 use Rattle.lists.specs.Pick.{pick}
 use Rattle.lists.proofs.Joins.{All}
-use Rattle.frames.specs.Answer.{Reply, success, refusal, reply, number, index, count, Lends}
+use Rattle.frames.specs.Answer.{Reply, success, refusal, reply, number, count, Lends}
 use Rattle.frames.specs.declared.Answer.{Answer}
 use Rattle.translator.specs.Entry.{translate}
 use Rattle.places.specs.Entry.{placesNeeded}

@@ -1,5 +1,4 @@
 -- A chart that needs two places by its calls, while no words lead to the call: one place does.
-use Prim.Native.Nat.{ℕ}
 use mathlib.Core.Path.{_≡_}
 use mathlib.Core.List.{List, [], _∷_, _++_}
 use Rattle.frames.specs.Frame.{textOf}

@@ -1,7 +1,7 @@
 -- The answer at each return of the entry point.
 use Prim.Native.Nat.{ℕ, _*_, _≤_, min}
 use mathlib.Core.Bool.{Bool, true, false}
-use mathlib.Core.Path.{_≡_, refl, sym, _∙_, ap, subst}
+use mathlib.Core.Path.{_≡_, sym, _∙_, ap, subst}
 use mathlib.Core.Logic.{⊎-elim}
 use mathlib.Core.List.{List}
 use native.Mathlib.Omega.{arith}
@@ -10,7 +10,7 @@ use lib.ListN.{length, take}
 use Rattle.lists.specs.Pick.{pick}
 use Rattle.lists.proofs.Tests.{cases, same-ltb}
 use Rattle.frames.specs.Frame.{contents}
-use Rattle.frames.specs.Verdict.{Verdict, fine, refused, when}
+use Rattle.frames.specs.Verdict.{Verdict, refused, when}
 use Rattle.frames.specs.Answer.{success, refusal, reply, judged}
 use Rattle.frames.specs.declared.Answer.{Answer}
 use Rattle.frames.specs.declared.Answer.the-variants.{Refused}

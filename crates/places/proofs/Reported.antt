@@ -6,7 +6,7 @@ use mathlib.Core.List.{List}
 use native.Mathlib.Omega.{arith}
 use Rattle.frames.specs.Frame.{contents}
 use Rattle.frames.specs.Verdict.{Verdict, fine, refused, next, when}
-use Rattle.frames.specs.Answer.{Reply, success, refusal, number, count, judged}
+use Rattle.frames.specs.Answer.{success, refusal, number, count, judged}
 use Rattle.frames.proofs.Chains.{next-on}
 use Rattle.frames.proofs.Refuses.{Refuses}
 use Rattle.frames.proofs.Verdicts.{next-first, next-rest, when-fine}

@@ -8,8 +8,6 @@ use frames::refused;
 ghost use mathlib.Core.Path.{_≡_};
 ghost use lib.Dec.{ltb};
 ghost use lib.ListN.{length};
-ghost use Rattle.lists.specs.Pick.{pick};
-ghost use Rattle.frames.specs.Verdict.{when};
 ghost use Rattle.frames.specs.Answer.{reply};
 ghost use Rattle.chart_labels.specs.Ready.{Ready};
 ghost use Rattle.chart_rows.specs.Rows.{rows};
