@@ -142,7 +142,8 @@ module _ (p : ℕ → ℕ → Bool) (s : ℕ → Bool) (masks : List ℕ) (are :
     where
       bit-is : (b : Bool) → s n ≡ b → eqb (bit (maskOf s 17) n) 1 ≡ b
       bit-is true e = eq-eqb (bit (maskOf s 17) n) 1 (mask-bit s 17 n (omega arith) ∙ ap (λ (b : Bool). pick b 1 0) e)
-      bit-is false e = ne-eqb (bit (maskOf s 17) n) 1 (λ z. let o : bit (maskOf s 17) n ≡ 0 = mask-bit s 17 n (omega arith) ∙ ap (λ (b : Bool). pick b 1 0) e in omega arith)
+      bit-is false e = ne-eqb (bit (maskOf s 17) n) 1
+          (λ z. let o : bit (maskOf s 17) n ≡ 0 = mask-bit s 17 n (omega arith) ∙ ap (λ (b : Bool). pick b 1 0) e in omega arith)
 
       with-one : (b : Bool) → s n ≡ b → (h : ℕ) → by (suc n) h ≡ (by n h || (b && p n h))
       with-one b e h = any-snoc (λ g. s g && p g h) 0 n ∙ ap (λ (k : ℕ). by n h || (s k && p k h)) (omega arith) ∙ ap (λ (b : Bool). by n h || (b && p n h)) e

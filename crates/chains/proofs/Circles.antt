@@ -1,6 +1,6 @@
 -- What refusal 20 means: a chain from scheme 1 ends in a scheme that can call itself.
 use Prim.Native.Nat.{ℕ, zero, suc, _+_, _-_, _≤_, _<_}
-use mathlib.Core.Bool.{true, false, not}
+use mathlib.Core.Bool.{Bool, true, false, not}
 use mathlib.Core.Path.{_≡_, ap, subst}
 use mathlib.Core.Logic.{⊎-elim}
 use mathlib.Core.List.{[], _∷_}
@@ -37,16 +37,20 @@ module _ (c : Chart) where
   circle-told e =
       let r = any-some (callsItself c) 1 16 e in
       let h : ℕ = r .0 in
-      let p : PathFrom 17 (callsOf c) (1 ∷ []) h = joined-path 17 (callsOf c) (1 ∷ []) h (and-l (marked (joinedFrom 17 (callsOf c) (1 ∷ [])) h) (marked (joinedFrom 17 (callsOf c) (callsOf c h)) h) (r .3)) in
-      let q : PathFrom 17 (callsOf c) (callsOf c h) h = joined-path 17 (callsOf c) (callsOf c h) h (and-r (marked (joinedFrom 17 (callsOf c) (1 ∷ [])) h) (marked (joinedFrom 17 (callsOf c) (callsOf c h)) h) (r .3)) in
+      let reached : Bool = marked (joinedFrom 17 (callsOf c) (1 ∷ [])) h in
+      let back : Bool = marked (joinedFrom 17 (callsOf c) (callsOf c h)) h in
+      let p : PathFrom 17 (callsOf c) (1 ∷ []) h = joined-path 17 (callsOf c) (1 ∷ []) h (and-l reached back (r .3)) in
+      let q : PathFrom 17 (callsOf c) (callsOf c h) h = joined-path 17 (callsOf c) (callsOf c h) h (and-r reached back (r .3)) in
       let s : ChainTo h = path-chain (subst (λ (g : ℕ). Path 17 (callsOf c) g h) (one-member (p .first) (p .among)) (p .path)) in
       record { scheme = h; schemes = s .schemes; chain = s .chain; back = path-leads h (q .first) (member-calls c h (q .first) (q .among)) (q .path) }
 
   module _ (f : Facts c) where
     leads-marked : (g h : ℕ) → Leads c g h → marked (joinedFrom 17 (callsOf c) (callsOf c g)) h ≡ true
-    leads-marked g h (one s) = let r = called-range c f g h s in joined-first 17 (callsOf c) (callsOf c g) h (omega (arith, r)) (calls-member c g h (omega (arith, r)) s)
+    leads-marked g h (one s) = let r = called-range c f g h s in
+        joined-first 17 (callsOf c) (callsOf c g) h (omega (arith, r)) (calls-member c g h (omega (arith, r)) s)
     leads-marked g k (more {h} l s) = let r = called-range c f h k s in
-        joined-closed 17 (callsOf c) (callsOf c g) .goes h k (omega (arith, r)) (omega (arith, r)) (leads-marked g h l) (calls-member c h k (omega (arith, r)) s)
+        joined-closed 17 (callsOf c) (callsOf c g) .goes h k (omega (arith, r)) (omega (arith, r)) (leads-marked g h l)
+        (calls-member c h k (omega (arith, r)) s)
 
     leads-from : (g h : ℕ) → Leads c g h → (1 ≤ g) × (g ≤ 16)
     leads-from g h (one s) = let r = called-range c f g h s in (r .0, r .1)

@@ -121,7 +121,9 @@ module _ (c : Chart) where
 
     rank-most : rank 17 (callsOf c) 1 ≤ 16
     unfolding rank
-    rank-most = let l : rank 17 (callsOf c) 1 < 17 = count-miss (with 17 (callsOf c) 1) 17 0 (omega arith) (or-none (eqb 1 0) (marked (after 17 (callsOf c) 1) 0) refl (unjoined 1)) in omega arith
+    rank-most =
+        let l : rank 17 (callsOf c) 1 < 17 = count-miss (with 17 (callsOf c) 1) 17 0 (omega arith)
+        (or-none (eqb 1 0) (marked (after 17 (callsOf c) 1) 0) refl (unjoined 1)) in omega arith
 
     module _ (calm : circular c ≡ false) where
       no-return : (h : ℕ) → 1 ≤ h → h ≤ 16 → reached h ≡ true → marked (after 17 (callsOf c) h) h ≡ false
@@ -154,8 +156,10 @@ module _ (c : Chart) where
       no-longer n h s = ⊎-elim
           (λ (l : lowest (noEnd c) 0 16 < n).
           let e : n ≡ suc (lowest (noEnd c) 0 16) + (n - suc (lowest (noEnd c) 0 16)) = omega arith in
-          let t : Front (suc (lowest (noEnd c) 0 16)) = front (n - suc (lowest (noEnd c) 0 16)) (suc (lowest (noEnd c) 0 16)) h (omega arith) (subst (λ (m : ℕ). Chain c m h) e s) in
-          no-both (noEnd c (lowest (noEnd c) 0 16)) (lowest-hit (noEnd c) 0 16 (omega (arith, chain-few n h s))) (filled (lowest (noEnd c) 0 16) (t .end) (t .chain)))
+          let t : Front (suc (lowest (noEnd c) 0 16)) = front (n - suc (lowest (noEnd c) 0 16)) (suc (lowest (noEnd c) 0 16)) h (omega arith)
+          (subst (λ (m : ℕ). Chain c m h) e s) in
+          no-both (noEnd c (lowest (noEnd c) 0 16)) (lowest-hit (noEnd c) 0 16 (omega (arith, chain-few n h s)))
+          (filled (lowest (noEnd c) 0 16) (t .end) (t .chain)))
           (λ l. l) (split (lowest (noEnd c) 0 16) n)
 
       pub as-long : Front (places c)
@@ -163,5 +167,6 @@ module _ (c : Chart) where
       as-long =
           let k : ℕ = places c - 1 in
           let e : suc k ≡ places c = omega (arith, places-some) in
-          let r = any-some (marked (endsOf c k)) 0 17 (not-false (any (marked (endsOf c k)) 0 17) (lowest-before (noEnd c) 0 16 k (omega arith) (omega (arith, places-some)))) in
+          let r = any-some (marked (endsOf c k)) 0 17 (not-false (any (marked (endsOf c k)) 0 17)
+          (lowest-before (noEnd c) 0 16 k (omega arith) (omega (arith, places-some)))) in
           record { end = r .0; chain = subst (λ (m : ℕ). Chain c m (r .0)) e (end-chain k (r .0) (r .3)) }

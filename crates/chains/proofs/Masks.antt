@@ -70,7 +70,8 @@ module _ (p : ℕ → Bool) where
           let o : bit (maskOf p n) (r .0) ≡ 1 = mask-bit n (r .0) (omega (arith, r .2)) ∙ ap (λ (b : Bool). pick b 1 0) (r .3) in
           ne-eqb (maskOf p n) 0 (λ z. let q : bit (maskOf p n) (r .0) ≡ 0 = ap (λ (x : ℕ). bit x (r .0)) z ∙ bit-none (r .0) in omega arith) ∙ sym (ap not e)
       go false e =
-          eq-eqb (maskOf p n) 0 (sym (mask-is n 0 (pow-pos n) (λ i l. bit-none i ∙ sym (ap (λ (b : Bool). pick b 1 0) (any-false p 0 n e i (omega arith) (omega arith))))))
+          eq-eqb (maskOf p n) 0 (sym (mask-is n 0 (pow-pos n)
+          (λ i l. bit-none i ∙ sym (ap (λ (b : Bool). pick b 1 0) (any-false p 0 n e i (omega arith) (omega arith))))))
           ∙ sym (ap not e)
 
 pub mask-alike : (p q : ℕ → Bool) (n : ℕ) → ((i : ℕ) → i < n → p i ≡ q i) → maskOf p n ≡ maskOf q n

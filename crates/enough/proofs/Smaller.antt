@@ -15,6 +15,7 @@ use Rattle.bits.specs.Results.{Results, noResults}
 use Rattle.graph.specs.Reach.{reach}
 use Rattle.frames.specs.Digit.{digitOf, charOf}
 use Rattle.frames.specs.Frame.{contents, total, frameText, textOf}
+use Rattle.frames.specs.Answer.{success}
 use Rattle.frames.specs.Check.{badForm, badSum, textVerdict}
 use Rattle.charts.specs.Chart.{handler, nodeOf}
 use Rattle.charts.specs.Check.{badField, chartVerdict}
@@ -33,8 +34,17 @@ use Rattle.agreement.proofs.Bounds.{bound-go, bound-le}
 use Rattle.enough.specs.Smaller.{chartNever, Smaller}
 use Rattle.enough.proofs.Made.{expected-made}
 
-number-2 : placesNeeded (textOf chartNever) ≡ Rattle.frames.specs.Answer.success 2
-unfolding lowest any count sum highest some filter concatMap reach digitOf charOf contents total frameText textOf badForm badSum textVerdict handler nodeOf badField chartVerdict readVerdict stops start label paths rowsOf rows translateVerdict calls circular endsOf places placesVerdict placesNeeded
+-- what the computation opens
+unfoldable accepting : Unit {0}
+unfolding lowest any count sum highest some filter concatMap reach digitOf charOf contents total frameText textOf badForm badSum textVerdict
+accepting = tt
+
+unfoldable counting : Unit {0}
+unfolding accepting handler nodeOf badField chartVerdict readVerdict stops start label paths rowsOf rows translateVerdict calls circular endsOf places
+counting = tt
+
+number-2 : placesNeeded (textOf chartNever) ≡ success 2
+unfolding counting placesVerdict placesNeeded
 number-2 = refl
 
 -- ---- from the first condition every word leads to End

@@ -67,8 +67,8 @@ returns-3 c =
     let longest = c .before .before in
     let rows = longest .before .before in
     ap reply (c .refused2 .ensures)
-    ∙ needed-circle _ _ _ (done (rows .before .before .before)) _ (rows .too-many-rows .ensures) (longest .before .if1 .left) _ (longest .longest-chain .ensures)
-    (c .before .if2 .taken)
+    ∙ needed-circle _ _ _ (done (rows .before .before .before)) _ (rows .too-many-rows .ensures) (longest .before .if1 .left)
+    _ (longest .longest-chain .ensures) (c .before .if2 .taken)
 
 cast-t13 : tie.Need-cast-t13
 cast-t13 c = search needs
@@ -77,7 +77,8 @@ returns-4 : tie.Need-returns-4
 returns-4 c =
     let longest = c .before in
     let rows = longest .before .before in
-    needed-done _ _ _ (done (rows .before .before .before)) _ (rows .too-many-rows .ensures) (longest .before .if1 .left) _ (longest .longest-chain .ensures) (c .if2 .left)
+    needed-done _ _ _ (done (rows .before .before .before)) _ (rows .too-many-rows .ensures) (longest .before .if1 .left)
+    _ (longest .longest-chain .ensures) (c .if2 .left)
 
 pub places-needed-spec : {M : Type 1} → statement M
 places-needed-spec =
