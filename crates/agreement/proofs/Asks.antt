@@ -8,6 +8,8 @@ use Rattle.chart_text.proofs.write_chart as write-chart
 use Rattle.chart_text.proofs.write_chart.Reads as write-chart-reads
 use Rattle.translator.proofs.translate as translate
 use Rattle.translator.proofs.translate.Reads as translate-reads
+use Rattle.places.proofs.places_needed as places-needed
+use Rattle.places.proofs.places_needed.Reads as places-needed-reads
 use Rattle.image_check.proofs.check_image as check-image
 use Rattle.image_check.proofs.check_image.Reads as check-image-reads
 use Rattle.tables.proofs.prepare as prepare
@@ -28,6 +30,8 @@ use Rattle.fairleadow.proofs.fairleadow_write_chart as c-write-chart
 use Rattle.fairleadow.proofs.fairleadow_write_chart.Reads as c-write-chart-reads
 use Rattle.fairleadow.proofs.fairleadow_translate as c-translate
 use Rattle.fairleadow.proofs.fairleadow_translate.Reads as c-translate-reads
+use Rattle.fairleadow.proofs.fairleadow_places as c-places
+use Rattle.fairleadow.proofs.fairleadow_places.Reads as c-places-reads
 use Rattle.fairleadow.proofs.fairleadow_check_image as c-check-image
 use Rattle.fairleadow.proofs.fairleadow_check_image.Reads as c-check-image-reads
 use Rattle.fairleadow.proofs.fairleadow_fresh as c-fresh
@@ -53,6 +57,9 @@ write-chart-asks-nothing κs a = tt
 
 pub translate-asks-nothing : (κs : Lfts 2) (a : ArgsD translate.signature κs) → translate-reads.Asked κs a
 translate-asks-nothing κs a = tt
+
+pub places-needed-asks-nothing : (κs : Lfts 1) (a : ArgsD places-needed.signature κs) → places-needed-reads.Asked κs a
+places-needed-asks-nothing κs a = tt
 
 pub check-image-asks-nothing : (κs : Lfts 1) (a : ArgsD check-image.signature κs) → check-image-reads.Asked κs a
 check-image-asks-nothing κs a = tt
@@ -84,6 +91,9 @@ c-write-chart-asks-nothing κs a = tt
 
 pub c-translate-asks-nothing : (κs : Lfts 4) (a : ArgsD c-translate.signature κs) → c-translate-reads.Asked κs a
 c-translate-asks-nothing κs a = tt
+
+pub c-places-asks-nothing : (κs : Lfts 3) (a : ArgsD c-places.signature κs) → c-places-reads.Asked κs a
+c-places-asks-nothing κs a = tt
 
 pub c-check-image-asks-nothing : (κs : Lfts 3) (a : ArgsD c-check-image.signature κs) → c-check-image-reads.Asked κs a
 c-check-image-asks-nothing κs a = tt

@@ -7,52 +7,32 @@ use native.Mathlib.Omega.{arith}
 use lib.Dec.{ltb}
 use lib.ListN.{length}
 use Rattle.lists.specs.Pick.{pick}
-use Rattle.lists.specs.Numbers.{any}
 use Rattle.lists.specs.Sequences.{over}
-use Rattle.frames.specs.Frame.{contents, size}
-use Rattle.frames.specs.Verdict.{Verdict, fine, refused, when, atLowest}
-use Rattle.frames.specs.Check.{textVerdict}
+use Rattle.frames.specs.Frame.{contents}
+use Rattle.frames.specs.Verdict.{Verdict, fine, refused}
 use Rattle.frames.specs.Answer.{success, refusal, number, count, Lent, lent}
-use Rattle.frames.proofs.Refuses.{Refuses, next-refuses, when-refuses, lowest-refuses, text-refuses}
-use Rattle.charts.specs.Chart.{Chart, schemes}
-use Rattle.charts.specs.Check.{badField, badScheme, badMarks, badArc, badCall, onCircle, cutOff, chartVerdict}
-use Rattle.charts.specs.Entry.{readVerdict}
+use Rattle.frames.proofs.Refuses.{Refuses}
 use Rattle.image.specs.Image.{imageText}
 use Rattle.image.specs.Check.{imageVerdict}
 use Rattle.image.proofs.Refuses.{Early, early-image}
 use Rattle.tables.specs.Prepare.{noted, prepare}
-use Rattle.translator.specs.Rows.{rows}
 use Rattle.translator.specs.Table.{table}
 use Rattle.translator.specs.Entry.{translateVerdict, translate}
+use Rattle.translator.proofs.Refuses.{OfChart, translate-refuses}
 
 -- 1 or above
 abbrev pub Positive : ℕ → Type 0
 Positive k = 1 ≤ k
 
-chart-positive : (c : Chart) → Refuses Positive (chartVerdict c)
-unfolding chartVerdict
-chart-positive c =
-    next-refuses Positive (atLowest 4 (badField c) (size c)) _ (lowest-refuses Positive 4 (badField c) (size c) (omega arith))
-    (next-refuses Positive (when 5 (any (badScheme c) 1 (schemes c))) _ (when-refuses Positive 5 (any (badScheme c) 1 (schemes c)) (omega arith))
-    (next-refuses Positive (when 19 (badMarks c)) _ (when-refuses Positive 19 (badMarks c) (omega arith))
-    (next-refuses Positive (atLowest 6 (badArc c) (size c)) _ (lowest-refuses Positive 6 (badArc c) (size c) (omega arith))
-    (next-refuses Positive (atLowest 7 (badCall c) (size c)) _ (lowest-refuses Positive 7 (badCall c) (size c) (omega arith))
-    (next-refuses Positive (atLowest 8 (onCircle c) (size c)) _ (lowest-refuses Positive 8 (onCircle c) (size c) (omega arith))
-    (lowest-refuses Positive 9 (cutOff c) (size c) (omega arith)))))))
+refuses-too : (P Q : ℕ → Type 0) → ((k : ℕ) → P k → Q k) → (v : Verdict) → Refuses P v → Refuses Q v
+refuses-too P Q h fine p = tt
+refuses-too P Q h (refused k i) p = h k p
 
-translate-positive : (t : List ℕ) → Refuses Positive (translateVerdict t)
-unfolding translateVerdict readVerdict
-translate-positive t =
-    next-refuses Positive (readVerdict t) _
-    (next-refuses Positive (textVerdict 5888 t) _ (text-refuses Positive (omega arith) (omega arith) (omega arith) 5888 t) (chart-positive (contents t)))
-    (when-refuses Positive 10 (ltb 1024 (length (rows (contents t)))) (omega arith))
+pub translate-positive : (t : List ℕ) → Refuses Positive (translateVerdict t)
+translate-positive t = refuses-too OfChart Positive (λ k p. p .0) (translateVerdict t) (translate-refuses t)
 
 pub image-positive : (t : List ℕ) → Refuses Positive (imageVerdict t)
-image-positive t = go (imageVerdict t) (early-image t)
-  where
-    go : (v : Verdict) → Refuses Early v → Refuses Positive v
-    go fine p = tt
-    go (refused k i) p = p .0
+image-positive t = refuses-too Early Positive (λ k p. p .0) (imageVerdict t) (early-image t)
 
 -- 16 is the one refusal besides
 lent-success : (v : Verdict) (unit : ℕ) (new : Unit {0} → List ℕ) (old : List ℕ) → Refuses Positive v

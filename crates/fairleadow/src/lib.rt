@@ -16,6 +16,7 @@ ghost use Rattle.frames.specs.Answer.{judged};
 ghost use Rattle.charts.specs.Entry.{readChart, writeChart};
 ghost use Rattle.image.specs.Check.{imageVerdict};
 ghost use Rattle.translator.specs.Entry.{translate};
+ghost use Rattle.places.specs.Entry.{placesNeeded};
 ghost use Rattle.state.specs.State.{freshState};
 ghost use Rattle.tables.specs.Prepare.{prepare};
 ghost use Rattle.fairleadow.specs.Calls.{Told, LendsC, MakesC, runFor, liveRunFor, RunsC, tickFor, liveTickFor, AdvancesC};
@@ -57,6 +58,14 @@ pub extern "C" fn fairleadow_translate(
     ensures { λ r. ⌜ LendsC (translate (now (chart .entry)) (now (image .entry))) r (now (at .exit)) (now (made .exit)) (now (image .exit)) ⌝ }
 {
     let answer = translator::translate(chart, image);
+    tell(answer, at, made)
+}
+
+#[no_mangle]
+pub extern "C" fn fairleadow_places(chart: &[u8], at: &mut usize, made: &mut usize) -> u8
+    ensures { λ r. ⌜ Told (placesNeeded (now (chart .entry))) r (now (at .exit)) (now (made .exit)) ⌝ }
+{
+    let answer = places::places_needed(chart);
     tell(answer, at, made)
 }
 

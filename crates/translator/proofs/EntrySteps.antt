@@ -36,12 +36,16 @@ chart-room : (t zeros : List ℕ) → 2560 ≤ length zeros → readVerdict t �
 chart-room t zeros h ok = let a : Accepted (contents t) = accepted t ok in omega (arith, a .whole, a .few)
 
 module _ (t zeros : List ℕ) (room : 2560 ≤ length zeros) (a : Answer) (e : reply a ≡ readChart t zeros .reply) where
-  -- the reader's refusal is the translator's
+  -- a refusal of the reader is its verdict's, since there is room, and counts 0
+  pub read-no : (k i m : ℕ) → a ≡ Refused k i m → (readVerdict t ≡ refused k i) × (m ≡ 0)
+  unfolding readChart
+  read-no k i m q = lent-no (readVerdict t) 10 (λ _. contents t) zeros k i m (chart-room t zeros room) (sym e ∙ ap reply q)
+
+  -- and the translator's
   pub read-refused : (out : List ℕ) (k i m : ℕ) → a ≡ Refused k i m → Lends (translate t out) a out
-  unfolding translate translateVerdict readChart
+  unfolding translate translateVerdict
   read-refused out k i m q =
-      let p : (readVerdict t ≡ refused k i) × (m ≡ 0) =
-      lent-no (readVerdict t) 10 (λ _. contents t) zeros k i m (chart-room t zeros room) (sym e ∙ ap reply q) in
+      let p : (readVerdict t ≡ refused k i) × (m ≡ 0) = read-no k i m q in
       lent-refused (translateVerdict t) 1 (λ _. imageText (table (contents t))) out k i
       (next-refused (readVerdict t) (λ _. when 10 (ltb 1024 (length (rows (contents t))))) k i (p .0))
       a (ap reply q ∙ ap (refusal k i) (p .1))

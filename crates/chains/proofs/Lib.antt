@@ -1,0 +1,6 @@
+pub mod CallLaws
+pub mod Longest
+pub mod Circles
+pub mod Masks
+pub mod CallMasks
+pub mod Cases

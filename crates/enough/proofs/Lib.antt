@@ -1,0 +1,4 @@
+pub mod CalmWalk
+pub mod Made
+pub mod Enough
+pub mod Smaller

@@ -1,0 +1,83 @@
+-- What is expected of runs whose bound lies behind all their words, where no tick of the walk is a drop: each is made in full.
+use Prim.Native.Nat.{ℕ, zero, suc, _+_, _-_, _≤_, min}
+use mathlib.Core.Bool.{Bool, true, false, _&&_}
+use mathlib.Core.Path.{_≡_, refl, sym, _∙_, ap, ap₂, subst}
+use mathlib.Core.List.{List, [], _∷_, map}
+use lib.Dec.{ltb}
+use lib.ListN.{length, take, drop, length-append, length-take, length-drop}
+use native.Mathlib.Omega.{arith}
+use borrow.Author.Tests.{eqb-false, le-ltb}
+use Rattle.lists.specs.Pick.{pick}
+use Rattle.lists.proofs.Joins.{All, all-map, all-of}
+use Rattle.frames.specs.Answer.{Reply, success, refusal, count}
+use Rattle.frames.proofs.Lent.{front}
+use Rattle.walk.specs.Walk.{Tick, isDrop}
+use Rattle.agreement.specs.Agreement.{Asked, Told, short, joined, refusedShort, expected, expectedAll}
+use Rattle.agreement.proofs.Joins.{joined-short, joined-long}
+use Rattle.agreement.proofs.Expected.{all-short, all-long}
+use Rattle.enough.specs.Enough.{allMade, noDrop, AllMade}
+
+module _ {A : Type 0} (P : A → Type 0) where
+  all-take : (n : ℕ) (xs : List A) → All P xs → All P (take n xs)
+  all-take zero xs a = tt
+  all-take (suc n) [] a = tt
+  all-take (suc n) (x ∷ xs) a = (a .0, all-take n xs (a .1))
+
+  all-drop : (n : ℕ) (xs : List A) → All P xs → All P (drop n xs)
+  all-drop zero xs a = a
+  all-drop (suc n) [] a = tt
+  all-drop (suc n) (x ∷ xs) a = all-drop n xs (a .1)
+
+length-codes : (us : List Tick) → length (map (λ (t : Tick). t .code) us) ≡ length us
+length-codes [] = refl
+length-codes (u ∷ us) = ap suc (length-codes us)
+
+module _ (b : ℕ) (ts : List Tick) (long : b ≤ length ts) (quiet : All (λ (t : Tick). isDrop t ≡ false) ts) where
+  -- ---- one run
+  module _ (p : ℕ) (a : Asked) (l : p + length (a .words) ≤ b) where
+    reply-made : expected b ts p a .reply ≡ success (length (a .words))
+    reply-made =
+        let m : ℕ = length (a .words) in
+        let e : min (p + m) b - min p b ≡ m = omega arith in
+        ap (λ (t : Bool). pick (t && ltb 0 m) (refusal 17 0 (min (p + m) b - min p b)) (success (min (p + m) b - min p b))) (le-ltb b (p + m) l)
+        ∙ ap success e
+
+    no-drop : noDrop (count (expected b ts p a .reply)) (expected b ts p a .codes)
+    no-drop =
+        let m : ℕ = length (a .words) in
+        let done : ℕ = min (p + m) b - min p b in
+        let mine : List Tick = take done (drop p ts) in
+        let codes : List ℕ = map (λ (t : Tick). t .code) mine in
+        let e : done ≡ m = omega arith in
+        let z : length (drop p ts) ≡ length ts - p = length-drop p ts in
+        let n : length mine ≡ done = length-take done (drop p ts) ∙ omega arith in
+        let calm : All (λ (t : Tick). isDrop t ≡ false) mine =
+        all-take (λ (t : Tick). isDrop t ≡ false) done (drop p ts) (all-drop (λ (t : Tick). isDrop t ≡ false) p ts quiet) in
+        subst (All (λ (code : ℕ). code ≡ 96 → ⊥))
+        (sym (front (count (expected b ts p a .reply)) codes (a .codes) (ap count reply-made ∙ sym e ∙ sym n ∙ sym (length-codes mine))))
+        (all-map (λ (code : ℕ). code ≡ 96 → ⊥) (λ (t : Tick). t .code) mine
+        (all-of (λ (t : Tick). isDrop t ≡ false) (λ (t : Tick). t .code ≡ 96 → ⊥) (λ t q. eqb-false (t .code) 96 q) mine calm))
+
+  -- ---- one run more
+  more-made : (a : Asked) (rest : List Asked) (t : Told) (tolds : List Told) → t .reply ≡ allMade a → noDrop (count (t .reply)) (t .codes)
+      → AllMade rest tolds → AllMade (a ∷ rest) (t ∷ tolds)
+  more-made a rest t tolds e q r = record { replies = ap₂ (λ (x : Reply) (xs : List Reply). x ∷ xs) e (r .replies); drops = (q, r .drops) }
+
+  pub expected-made : (asked : List Asked) (p : ℕ) → p + length (joined asked) ≤ b → AllMade asked (expectedAll b ts p asked)
+  unfolding expectedAll
+  expected-made [] p l = record { replies = refl; drops = tt }
+  expected-made (a ∷ rest) p l = go (expected-made rest) (short a) refl
+    where
+      go : ((q : ℕ) → q + length (joined rest) ≤ b → AllMade rest (expectedAll b ts q rest)) → (t : Bool) → short a ≡ t
+          → AllMade (a ∷ rest) (expectedAll b ts p (a ∷ rest))
+      go ih true e =
+          let j : length (joined (a ∷ rest)) ≡ length (joined rest) = ap length (joined-short a rest e) in
+          subst (AllMade (a ∷ rest)) (sym (all-short b ts p a rest e))
+          (more-made a rest (refusedShort a) _ (sym (ap (λ (t : Bool). pick t (refusal 16 0 0) (success (length (a .words)))) e)) tt (ih p (omega arith)))
+      go ih false e =
+          let j : length (joined (a ∷ rest)) ≡ length (a .words) + length (joined rest) =
+          ap length (joined-long a rest e) ∙ length-append (a .words) (joined rest) in
+          subst (AllMade (a ∷ rest)) (sym (all-long b ts p a rest e))
+          (more-made a rest (expected b ts p a) _
+          (reply-made p a (omega arith) ∙ sym (ap (λ (t : Bool). pick t (refusal 16 0 0) (success (length (a .words)))) e))
+          (no-drop p a (omega arith)) (ih (p + length (a .words)) (omega arith)))

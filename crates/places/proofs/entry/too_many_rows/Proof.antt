@@ -1,0 +1,30 @@
+-- `places::too_many_rows`: the rows are counted up to 1025.
+use Rattle.places.proofs.EntrySteps.{more-than-most}
+use borrow.Author.Needs.{needs}
+use Rattle.places.proofs.entry.too_many_rows.Statement.{statement}
+use Rattle.places.proofs.entry.too_many_rows.Tie as tie
+
+slice-aggregate-note-nodes : tie.Need-slice-aggregate-note-nodes
+slice-aggregate-note-nodes c = search needs
+
+note-nodes-requires : tie.Need-note-nodes-requires
+note-nodes-requires c κs = search needs
+
+slice-aggregate-count-rows : tie.Need-slice-aggregate-count-rows
+slice-aggregate-count-rows c = search needs
+
+count-rows-requires : tie.Need-count-rows-requires
+count-rows-requires c κs = search needs
+
+returns : tie.Need-returns
+returns c = more-than-most _ _ (c .count-rows .ensures)
+
+pub too-many-rows-spec : {M : Type 1} → statement M
+too-many-rows-spec =
+    tie.close
+    (tie.spec
+    slice-aggregate-note-nodes
+    note-nodes-requires
+    slice-aggregate-count-rows
+    count-rows-requires
+    returns)
