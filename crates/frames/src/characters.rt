@@ -1,19 +1,28 @@
 // Characters and digits, each found from the other by arithmetic.
 ghost use mathlib.Core.Path.{_≡_};
 ghost use Prim.Native.Nat.{_<_};
-ghost use Rattle.frames.specs.Digit.{digitOf, charOf};
+ghost use Rattle.frames.specs.Digit.{letterOf, digitOf, charOf};
 
-// The digit that a character stands for, or 255.
+// The digit that a letter stands for, or 255. A small letter is its capital with one bit more, 32.
+fn letter_digit(c: u8) -> u8
+    ensures { λ r. ⌜ r ≡ letterOf c ⌝ }
+{
+    let letter = c & 223;
+    if (65 <= letter) & (letter <= 70) {
+        return letter - 55;
+    }
+    255
+}
+
+// The digit that a character stands for, or 255. A letter's is found before the test, so that the compiler needs no branch.
 pub fn digit(c: u8) -> u8
     ensures { λ r. ⌜ r ≡ digitOf c ⌝ }
 {
+    let other = letter_digit(c);
     if (48 <= c) & (c <= 57) {
         return c - 48;
     }
-    if (65 <= c) & (c <= 70) {
-        return c - 55;
-    }
-    255
+    other
 }
 
 // The character of a digit.
