@@ -38,6 +38,9 @@ masked-is c h = sym (getD-tabulate masked 256 c h) ∙ ap (λ (xs : List ℕ). g
 pub within : (a b c : ℕ) → (leb a c && leb c b) ≡ true → (a ≤ c) × (c ≤ b)
 within a b c h = (leb-true a c (and-l (leb a c) (leb c b) h), leb-true c b (and-r (leb a c) (leb c b) h))
 
+pub above : (k a b c : ℕ) → (leb a c && leb c b) ≡ true → leb k a ≡ true → k ≤ c
+above k a b c h l = omega (arith, within a b c h .0, leb-true k a l)
+
 pub digit-low : (c : ℕ) → 48 ≤ c → c ≤ 57 → digitOf c ≡ c - 48
 unfolding digitOf
 digit-low c h l = simp (le-leb 48 c h, le-leb c 57 l)

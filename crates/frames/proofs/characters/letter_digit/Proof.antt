@@ -1,16 +1,13 @@
 -- `frames::characters::letter_digit` meets its contract: the rule on the letter's capital, which was computed for every character.
-use mathlib.Core.Path.{sym, _∙_}
-use Prim.Native.Nat.{_≤_}
-use native.Mathlib.Omega.{arith}
+use mathlib.Core.Path.{refl, sym, _∙_}
 use borrow.Author.Needs.{needs}
-use lib.Bits.{bitAnd}
 use Rattle.lists.proofs.Tests.{yes-pick, no-pick}
-use Rattle.frames.proofs.Digits.{within, masked-is}
+use Rattle.frames.proofs.Digits.{above, masked-is}
 use Rattle.frames.proofs.characters.letter_digit.Statement.{statement}
 use Rattle.frames.proofs.characters.letter_digit.Tie as tie
 
 sub-result : tie.Need-sub-result
-sub-result c = let low : 65 ≤ bitAnd (c .before .args .c) 223 = within _ _ _ (c .if1 .taken) .0 in omega arith
+sub-result c = above _ _ _ _ (c .if1 .taken) refl
 
 returns : tie.Need-returns
 returns c = sym (yes-pick _ _ _ (c .if1 .taken)) ∙ masked-is (c .before .args .c) (search needs)
