@@ -3,6 +3,7 @@ pub mod StopLabels
 pub mod Places
 pub mod Simulation
 pub mod Bounds
+pub mod FullCalls
 pub mod Ticks
 pub mod Expected
 pub mod Images

@@ -38,7 +38,7 @@ pub record Search (c : Chart) (unfinished : List Bool) (path : List ℕ) : Type 
 abbrev pub joinedVerdict : Chart → Verdict
 joinedVerdict c = next (atLowest 8 (onCircle c) (size c)) λ _. atLowest 9 (cutOff c) (size c)
 
--- refusals 4 to 6 find nothing
+-- refusals 4, 5 and 6 find nothing
 pub record Passed (c : Chart) : Type 0 where
   pub few : size c ≤ 256
   pub fields : size c ≤ lowest (badField c) 0 (size c)

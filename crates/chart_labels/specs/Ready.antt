@@ -9,7 +9,7 @@ use Rattle.charts.specs.Chart.{Chart, kind, next0, begin}
 use Rattle.charts.specs.Check.{chartVerdict}
 use Rattle.chart_labels.specs.Labels.{label}
 
--- an accepted chart: the whole records of 1 to 256 nodes, in bytes, and none of 4 to 9
+-- an accepted chart: the whole records of 1 to 256 nodes, in bytes, and none of 4 to 9 and 19
 pub record Ready (c : Chart) : Type 0 where
   pub whole : length c ≡ 10 * size c
   pub some : 1 ≤ size c

@@ -50,7 +50,7 @@ schemes c = highest (scheme c) 0 (size c)
 abbrev pub isOf : Chart → ℕ → ℕ → ℕ → Bool
 isOf c k h v = is c k v && eqb (scheme c v) h
 
--- a Begin with byte 2 equal to 1 marks its scheme as the handler, which is performed when the stack is full
+-- a Begin with byte 2 equal to 1 marks its scheme as the handler, to which a call that finds the stack full drops
 abbrev pub marksHandler : Chart → ℕ → Bool
 marksHandler c v = is c 0 v && eqb (argument c v) 1
 

@@ -38,7 +38,7 @@ abbrev pub replied : Verdict → ℕ → Reply
 replied fine n = success n
 replied (refused k i) n = refusal k i n
 
--- a verdict of 1 to 16, with the count of success; a refusal of these counts 0
+-- a verdict with the count of success; a refusal that comes before any tick counts 0
 abbrev pub judged : Verdict → ℕ → Reply
 judged fine n = success n
 judged (refused k i) n = refusal k i 0

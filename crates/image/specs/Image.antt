@@ -1,4 +1,4 @@
--- The image (the paper's word for the table that the machine steps through): entries, labels and rows, and its frames.
+-- The image (the paper's word for the table that the machine steps through): the handler, entries, labels and rows, and its frames.
 use Prim.Native.Nat.{ℕ, _-_}
 use mathlib.Core.List.{List, [], _∷_, _++_, map}
 use lib.ListN.{length, replicate}
@@ -32,7 +32,7 @@ pub record Row : Type 0 where
   pub bit : ℕ
   pub next : ℕ
 
--- handler: the scheme that is performed when the stack is full, 0 for none
+-- handler: the scheme that a call which finds the stack full drops to, 0 for none
 pub record Image : Type 0 where
   pub handler : ℕ
   pub entries : List ℕ

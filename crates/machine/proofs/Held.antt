@@ -32,7 +32,7 @@ module _ (b : List ℕ) where
 
   -- a state with as many places and bits
   back : (t : State) → Same s t → stateOf (bytesOf t) ≡ t
-  back t same = state-back t (same .places ∙ held-places b) (same .bits ∙ held-bits b)
+  back t same = state-back t (same .places (held-places b)) (same .bits ∙ held-bits b)
 
   module _ (i : Image) (ws ms ks : List ℕ) where
     abbrev ran : Ran

@@ -6,11 +6,11 @@ use native.Mathlib.Omega.{arith}
 use lib.Dec.{ltb, eqb}
 use borrow.Author.Tests.{eq-eqb, ne-eqb, eqb-false, ltb-false}
 use Rattle.lists.specs.Numbers.{any}
-use Rattle.lists.proofs.Tests.{or-l, or-r, or-none}
+use Rattle.lists.proofs.Tests.{or-l, or-r, or-none, or-true-r}
 use Rattle.image.specs.Image.{Image}
 use Rattle.state.specs.declared.State.{State}
 use Rattle.state.specs.State.{badSize, placeAt, unfitPlace, badDepth, unfit}
-use Rattle.state.specs.Fit.{unfitBottom}
+use Rattle.state.specs.Fit.{unfitBottom, astray, astrayAtBottom}
 use Rattle.state.proofs.Sizes.{size-most}
 
 -- place k is not 0; l stands for what was read there
@@ -35,6 +35,29 @@ kind-none (suc (suc zero)) n = absurd (n (omega arith) (omega arith))
 kind-none (suc (suc (suc k))) n =
     or-none (eqb (suc (suc (suc k))) 1) (eqb (suc (suc (suc k))) 2)
     (ne-eqb (suc (suc (suc k))) 1 (λ e. omega arith)) (ne-eqb (suc (suc (suc k))) 2 (λ e. omega arith))
+
+-- ---- where a label of that owner may not stand
+module _ (owner scheme l : ℕ) where
+  pub astray-owned : owner ≡ scheme → false ≡ astray owner scheme l
+  astray-owned e = sym (ap not (or-true-r (eqb l 1) (eqb owner scheme) (eq-eqb owner scheme e)))
+
+  pub astray-other : (owner ≡ scheme → ⊥) → not (eqb l 1) ≡ astray owner scheme l
+  astray-other n = go (eqb l 1)
+    where
+      go : (t : Bool) → not t ≡ not (t || eqb owner scheme)
+      go true = refl
+      go false = sym (ap not (ne-eqb owner scheme n))
+
+module _ (handler owner l : ℕ) where
+  pub bottom-first : owner ≡ 1 → false ≡ astrayAtBottom handler owner l
+  bottom-first e = rw (eq-eqb owner 1 e)
+
+  module _ (other : owner ≡ 1 → ⊥) where
+    pub bottom-none : handler ≡ 0 → true ≡ astrayAtBottom handler owner l
+    bottom-none e = rw (ne-eqb owner 1 other, eq-eqb handler 0 e)
+
+    pub bottom-handler : (handler ≡ 0 → ⊥) → astray owner handler l ≡ astrayAtBottom handler owner l
+    bottom-handler n = rw (ne-eqb owner 1 other, ne-eqb handler 0 n)
 
 -- ---- the depth; n and d stand for size and depth as they were read
 pub depth-most : (s : State) → badDepth s ≡ false → s .depth ≤ 32

@@ -12,12 +12,16 @@ use Rattle.lists.proofs.Tests.{or-r, or-l, or-cases, or-true-l, or-true-r, or-n
 use Rattle.lists.proofs.Searches.{any-false, any-none}
 use Rattle.image.specs.Image.{Image}
 use Rattle.state.specs.declared.State.{State}
-use Rattle.state.specs.State.{labelAt, placeAt, isCall, mayCarry, unfitPlace, badDepth, unfit}
+use Rattle.state.specs.State.{labelAt, placeAt, isCall, mayCarry, unfitPlace, ofHandler, badBottom, badDepth, unfit}
 
 -- label l may be kept under the label above it
 pub record Carries (i : Image) (l above : ℕ) : Type 0 where
   pub call : isCall (labelAt i l) ≡ true
   pub over : (above ≡ 1) ⊎ (labelAt i above .owner ≡ labelAt i l .called)
+
+-- label l may stand at the bottom
+abbrev pub Bottom : Image → ℕ → Type 0
+Bottom i l = (labelAt i l .owner ≡ 1) ⊎ (ofHandler i l ≡ true)
 
 pub record Fits (i : Image) (s : State) : Type 0 where
   pub whole : length (s .places) ≡ 32

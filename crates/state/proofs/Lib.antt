@@ -1,6 +1,7 @@
 pub mod Sizes
 pub mod ResultBytes
 pub mod ByteParts
+pub mod ClearTurns
 pub mod TidyTurns
 pub mod Fitness
 pub mod FitCases

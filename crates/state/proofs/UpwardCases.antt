@@ -1,26 +1,25 @@
--- The places up to the depth, looked at from the bottom up with the scheme that the label below calls.
+-- The places up to the depth, looked at from the bottom up with the kind of the label below and the scheme that it calls.
 use Prim.Native.Nat.{ℕ, _+_, _-_, _≤_, _<_}
 use mathlib.Core.Bool.{Bool, true, false, _&&_, _||_, not}
-use mathlib.Core.Path.{_≡_, refl, sym, _∙_, ap, subst}
+use mathlib.Core.Path.{_≡_, refl, sym, _∙_, ap, ap₂, subst}
 use mathlib.Core.Logic.{_⊎_, inl, inr}
 use mathlib.Core.List.{List}
-use native.Mathlib.Decide.{ℕ-discrete}
 use native.Mathlib.Omega.{arith}
 use lib.Dec.{leb, ltb, eqb}
 use lib.ListN.{length}
-use borrow.Author.Tests.{eq-eqb, ne-eqb, eqb-true, eqb-false, lt-ltb, le-ltb, le-leb, lt-leb}
+use borrow.Author.Tests.{lt-ltb, le-ltb, le-leb, lt-leb}
 use Rattle.lists.specs.Numbers.{any}
-use Rattle.lists.proofs.Tests.{or-l, or-r, or-none, or-cases, or-true-l, or-true-r, and-l, and-r, and-false, not-false, split}
+use Rattle.lists.proofs.Tests.{or-none, or-true-l, or-true-r, split}
 use Rattle.lists.proofs.Searches.{any-true, any-none}
 use Rattle.image.specs.Image.{Image, Label}
-use Rattle.image.specs.Decode.{lastLabel}
+use Rattle.image.specs.Decode.{lastLabel, handlerIn}
 use Rattle.tables.specs.Table.{tableImage, labelOf}
 use Rattle.tables.specs.Labels.{asLabel}
 use Rattle.tables.specs.declared.Label as declared
 use Rattle.tables.proofs.TableReads.{labels-count, label-at}
 use Rattle.state.specs.declared.State.{State}
 use Rattle.state.specs.State.{labelAt, placeAt, isCall, mayCarry, unfitPlace}
-use Rattle.state.specs.Fit.{unfitBottom, astray}
+use Rattle.state.specs.Fit.{unfitBottom, astray, astrayAtBottom}
 
 module _ (i : Image) (s : State) where
   -- the label at place k
@@ -61,178 +60,126 @@ module _ (i : Image) (s : State) where
       place-loose k h
       (ap (λ (t : Bool). t && (eqb (placeAt s (k + 1)) 1 || eqb (atPlace (k + 1) .owner) (atPlace k .called))) e)
 
-  -- ---- what is known when place k is reached, and once its label was found to belong there
-  pub record Passed (scheme k : ℕ) : Type 0 where
+  bottom-bad : unfitBottom i s ≡ true → total ≡ true
+  bottom-bad e = or-true-r (any (unfitPlace i s) 0 (s .depth)) (unfitBottom i s) e
+
+  -- ---- what is known when place k above the bottom is reached: of the label below it, kind and called scheme
+  pub record Passed (kind scheme k : ℕ) : Type 0 where
+    pub some : 1 ≤ k
     pub inside : k ≤ s .depth
-    pub first : k ≡ 0 → scheme ≡ 1
     pub lower : (j : ℕ) → j + 1 < k → unfitPlace i s j ≡ false
-    pub held : (j : ℕ) → j + 1 ≡ k → Inside j
-    pub call : (j : ℕ) → j + 1 ≡ k → isCall (atPlace j) ≡ true
-    pub called : (j : ℕ) → j + 1 ≡ k → atPlace j .called ≡ scheme
-    pub bottom : 1 ≤ k → atPlace 0 .owner ≡ 1
+    pub held : Inside (k - 1)
+    pub kinded : atPlace (k - 1) .kind ≡ kind
+    pub called : atPlace (k - 1) .called ≡ scheme
+    pub bottom : unfitBottom i s ≡ false
 
-  pub record Belongs (k : ℕ) : Type 0 where
-    pub lower : (j : ℕ) → j < k → unfitPlace i s j ≡ false
-    pub bottom : atPlace 0 .owner ≡ 1
-
-  pub passed-first : Passed 1 0
-  passed-first = record {
-    inside = omega arith;
-    first = λ _. refl;
-    lower = λ j h. absurd (omega arith);
-    held = λ j h. absurd (omega arith);
-    call = λ j h. absurd (omega arith);
-    called = λ j h. absurd (omega arith);
-    bottom = λ h. absurd (omega arith);
+  pub passed-first : 1 ≤ s .depth → Inside 0 → unfitBottom i s ≡ false → Passed (atPlace 0 .kind) (atPlace 0 .called) 1
+  passed-first h g e = record {
+    some = omega arith;
+    inside = h;
+    lower = λ j l. absurd (omega arith);
+    held = g;
+    kinded = refl;
+    called = refl;
+    bottom = e;
   }
 
-  module _ (scheme k : ℕ) (c : Passed scheme k) (here : k < s .depth) where
-    abbrev over : ℕ → Bool
-    over j = eqb (placeAt s (j + 1)) 1 || eqb (atPlace (j + 1) .owner) (atPlace j .called)
-
-    carried : (j : ℕ) → j + 1 ≡ k → mayCarry i (placeAt s j) (placeAt s (j + 1)) ≡ over j
-    carried j e = ap (λ (t : Bool). t && over j) (c .call j e)
-
-    -- the label below carries this one
-    joined : ((j : ℕ) → j + 1 ≡ k → over j ≡ true) → (k ≡ 0 → atPlace 0 .owner ≡ 1) → Belongs k
-    joined o z = record { lower = λ j h. low j (split (j + 1) k) h; bottom = base (split 0 k) }
+  module _ (kind scheme k : ℕ) (c : Passed kind scheme k) where
+    pub passed-all : s .depth ≤ k → total ≡ false
+    passed-all h =
+        or-none (any (unfitPlace i s) 0 (s .depth)) (unfitBottom i s)
+        (any-none (unfitPlace i s) 0 (s .depth) (λ j b. each (0 + j) (split (0 + j + 1) k) (omega arith))) (c .bottom)
       where
-        low : (j : ℕ) → (j + 1 < k) ⊎ (k ≤ j + 1) → j < k → unfitPlace i s j ≡ false
-        low j (inl g) h = c .lower j g
-        low j (inr g) h =
-            let e : j + 1 ≡ k = omega arith in
-            place-kept j (omega arith) (c .held j e) (carried j e ∙ o j e)
+        each : (j : ℕ) → (j + 1 < k) ⊎ (k ≤ j + 1) → j < s .depth → unfitPlace i s j ≡ false
+        each j (inl a) b = c .lower j a
+        each j (inr a) b = let e : k - 1 ≡ j = omega (arith, c .some) in ap (unfitPlace i s) (sym e) ∙ place-top (k - 1) (omega (arith, c .some)) (c .held)
 
-        base : (0 < k) ⊎ (k ≤ 0) → atPlace 0 .owner ≡ 1
-        base (inl g) = c .bottom g
-        base (inr g) = z (omega arith)
+    module _ (here : k < s .depth) where
+      above : k - 1 + 1 ≡ k
+      above = omega (arith, c .some)
 
-    pub belongs-owned : atPlace k .owner ≡ scheme → Belongs k
-    belongs-owned e =
-        joined
-        (λ j q. or-true-r (eqb (placeAt s (j + 1)) 1) (eqb (atPlace (j + 1) .owner) (atPlace j .called))
-        (eq-eqb (atPlace (j + 1) .owner) (atPlace j .called) (ap (λ (m : ℕ). atPlace m .owner) q ∙ e ∙ sym (c .called j q))))
-        (λ z. ap (λ (m : ℕ). atPlace m .owner) (sym z) ∙ e ∙ c .first z)
+      pub idle : (eqb kind 1 || eqb kind 2) ≡ false → total ≡ true
+      idle e = place-idle (k - 1) (omega (arith, c .some)) (ap (λ (n : ℕ). eqb n 1 || eqb n 2) (c .kinded) ∙ e)
 
-    pub belongs-return : placeAt s k ≡ 1 → (k ≡ 0 → ⊥) → Belongs k
-    belongs-return e n =
-        joined (λ j q. or-true-l (eqb (placeAt s (j + 1)) 1) _ (eq-eqb (placeAt s (j + 1)) 1 (ap (placeAt s) q ∙ e))) (λ z. absurd (n z))
+      module _ (call : (eqb kind 1 || eqb kind 2) ≡ true) where
+        -- whether the label below carries this one
+        carried : mayCarry i (placeAt s (k - 1)) (placeAt s (k - 1 + 1)) ≡ (eqb (placeAt s k) 1 || eqb (atPlace k .owner) scheme)
+        carried =
+            ap₂ (λ (n h : ℕ). (eqb n 1 || eqb n 2) && (eqb (placeAt s (k - 1 + 1)) 1 || eqb (atPlace (k - 1 + 1) .owner) h)) (c .kinded) (c .called)
+            ∙ ap₂ (λ (t : Bool) (j : ℕ). t && (eqb (placeAt s j) 1 || eqb (atPlace j .owner) scheme)) call above
 
-    pub stray : (atPlace k .owner ≡ scheme → ⊥) → ((placeAt s k ≡ 1 → ⊥) ⊎ (k ≡ 0)) → total ≡ true
-    stray n o = go (split 0 k)
-      where
-        lone : (j : ℕ) → j + 1 ≡ k → ((placeAt s k ≡ 1 → ⊥) ⊎ (k ≡ 0)) → over j ≡ false
-        lone j q (inl m) =
-            or-none (eqb (placeAt s (j + 1)) 1) (eqb (atPlace (j + 1) .owner) (atPlace j .called))
-            (ne-eqb (placeAt s (j + 1)) 1 (λ e. m (ap (placeAt s) (sym q) ∙ e)))
-            (ne-eqb (atPlace (j + 1) .owner) (atPlace j .called) (λ e. n (ap (λ (m : ℕ). atPlace m .owner) (sym q) ∙ e ∙ c .called j q)))
-        lone j q (inr z) = absurd (omega arith)
+        pub stray : (eqb (placeAt s k) 1 || eqb (atPlace k .owner) scheme) ≡ false → total ≡ true
+        stray e = place-loose (k - 1) (omega (arith, c .some)) (carried ∙ e)
 
-        go : (0 < k) ⊎ (k ≤ 0) → total ≡ true
-        go (inl g) =
-            let j : ℕ = k - 1 in
-            let q : j + 1 ≡ k = omega arith in
-            place-loose j (omega arith) (carried j q ∙ lone j q o)
-        go (inr g) =
-            let z : k ≡ 0 = omega arith in
-            or-true-r (any (unfitPlace i s) 0 (s .depth)) (unfitBottom i s)
-            (ap not (ne-eqb (atPlace 0 .owner) 1 (λ e. n (ap (λ (m : ℕ). atPlace m .owner) z ∙ e ∙ sym (c .first z)))))
+        pub passed-next : (eqb (placeAt s k) 1 || eqb (atPlace k .owner) scheme) ≡ true → Inside k
+            → Passed (atPlace k .kind) (atPlace k .called) (k + 1)
+        passed-next e g = record {
+          some = omega arith;
+          inside = omega arith;
+          lower = λ j h. low j (split (j + 1) k) h;
+          held = subst (λ (m : ℕ). Inside m) back g;
+          kinded = ap (λ (m : ℕ). atPlace m .kind) (sym back);
+          called = ap (λ (m : ℕ). atPlace m .called) (sym back);
+          bottom = c .bottom;
+        }
+          where
+            back : k ≡ k + 1 - 1
+            back = omega arith
 
-    module _ (y : Belongs k) (g : Inside k) where
-      pub top-fits : s .depth ≤ k + 1 → total ≡ false
-      top-fits h =
-          or-none (any (unfitPlace i s) 0 (s .depth)) (unfitBottom i s)
-          (any-none (unfitPlace i s) 0 (s .depth) (λ j b. each (0 + j) (split (0 + j) k) (omega arith)))
-          (ap not (eq-eqb (atPlace 0 .owner) 1 (y .bottom)))
-        where
-          each : (j : ℕ) → (j < k) ⊎ (k ≤ j) → j < s .depth → unfitPlace i s j ≡ false
-          each j (inl a) b = y .lower j a
-          each j (inr a) b = let e : k ≡ j = omega arith in ap (unfitPlace i s) (sym e) ∙ place-top k h g
+            low : (j : ℕ) → (j + 1 < k) ⊎ (k ≤ j + 1) → j + 1 < k + 1 → unfitPlace i s j ≡ false
+            low j (inl a) h = c .lower j a
+            low j (inr a) h =
+                let q : k - 1 ≡ j = omega (arith, c .some) in
+                ap (unfitPlace i s) (sym q) ∙ place-kept (k - 1) (omega (arith, c .some)) (c .held) (carried ∙ e)
 
-      pub passed-next : isCall (atPlace k) ≡ true → Passed (atPlace k .called) (k + 1)
-      passed-next e = record {
-        inside = omega arith;
-        first = λ z. absurd (omega arith);
-        lower = λ j h. y .lower j (omega arith);
-        held = λ j q. let z : k ≡ j = omega arith in subst (λ (m : ℕ). Inside m) z g;
-        call = λ j q. let z : j ≡ k = omega arith in ap (λ (m : ℕ). isCall (atPlace m)) z ∙ e;
-        called = λ j q. let z : j ≡ k = omega arith in ap (λ (m : ℕ). atPlace m .called) z;
-        bottom = λ _. y .bottom;
-      }
-
-  pub passed-all : (scheme k : ℕ) → Passed scheme k → s .depth ≤ k → 1 ≤ s .depth → total ≡ false
-  passed-all scheme k c h m =
-      or-none (any (unfitPlace i s) 0 (s .depth)) (unfitBottom i s)
-      (any-none (unfitPlace i s) 0 (s .depth) (λ j b. each (0 + j) (split (0 + j + 1) k) (omega arith)))
-      (ap not (eq-eqb (atPlace 0 .owner) 1 (c .bottom (omega arith))))
-    where
-      each : (j : ℕ) → (j + 1 < k) ⊎ (k ≤ j + 1) → j < s .depth → unfitPlace i s j ≡ false
-      each j (inl a) b = c .lower j a
-      each j (inr a) b = place-top j (omega arith) (c .held j (omega (arith, c .inside)))
-
--- ---- place k in which l was read, with the label read there as z and the answers of the two tests
 flip : (x u : Bool) → u ≡ not x → x ≡ not u
 flip true u e = sym (ap not e)
 flip false u e = sym (ap not e)
 
-module _ (b : List ℕ) (s : State) (scheme k l depth last : ℕ) (c : Passed (tableImage b) s scheme k) (deep : depth ≡ s .depth) (here : k < depth)
-    (place : l ≡ placeAt s k) (most : last ≡ lastLabel b) where
-  within : k < s .depth
-  within = omega arith
+-- ---- as the code meets it: l was read at place k, and the label l as z
+module _ (b : List ℕ) (s : State) (k l last : ℕ) (place : l ≡ placeAt s k) (most : last ≡ lastLabel b) where
+  abbrev image : Image
+  image = tableImage b
 
-  pub pass-high : last < l → true ≡ total (tableImage b) s
-  pass-high h = sym (place-high (tableImage b) s k within (omega (arith, labels-count b)))
+  pub pass-high : k < s .depth → last < l → true ≡ total image s
+  pass-high here h = sym (place-high image s k here (omega (arith, labels-count b)))
 
-  module _ (low : l ≤ last) (z : declared.Label) (read : asLabel z ≡ labelOf b l) (t : Bool) (e : t ≡ astray (z .owner) scheme l k) where
-    label-is : atPlace (tableImage b) s k ≡ asLabel z
-    label-is = ap (labelAt (tableImage b)) (sym place) ∙ label-at b l ∙ sym read
-
-    owner-is : atPlace (tableImage b) s k .owner ≡ z .owner
-    owner-is = ap (λ (x : Label). x .owner) label-is
-
-    held : placeAt s k < length (tableImage b .labels)
+  module _ (low : l ≤ last) (z : declared.Label) (read : asLabel z ≡ labelOf b l) where
+    held : placeAt s k < length (image .labels)
     held = omega (arith, labels-count b)
 
-    pub pass-stray : t ≡ true → true ≡ total (tableImage b) s
-    pass-stray q =
-        sym (stray (tableImage b) s scheme k c within
-        (λ o. eqb-false (z .owner) scheme (flip (eqb (z .owner) scheme) true (sym apart)) (sym owner-is ∙ o))
-        (go (or-cases (not (eqb l 1)) (eqb k 0) (and-r (not (eqb (z .owner) scheme)) (not (eqb l 1) || eqb k 0) (sym e ∙ q)))))
-      where
-        apart : not (eqb (z .owner) scheme) ≡ true
-        apart = and-l (not (eqb (z .owner) scheme)) (not (eqb l 1) || eqb k 0) (sym e ∙ q)
+    label-is : atPlace image s k ≡ asLabel z
+    label-is = ap (labelAt image) (sym place) ∙ label-at b l ∙ sym read
 
-        go : (not (eqb l 1) ≡ true) ⊎ (eqb k 0 ≡ true) → (placeAt s k ≡ 1 → ⊥) ⊎ (k ≡ 0)
-        go (inl p) = inl (λ o. eqb-false l 1 (flip (eqb l 1) true (sym p)) (place ∙ o))
-        go (inr p) = inr (eqb-true k 0 p)
+    owner-is : atPlace image s k .owner ≡ z .owner
+    owner-is = ap (λ (x : Label). x .owner) label-is
 
-    module _ (free : t ≡ false) where
-      belongs : Belongs (tableImage b) s k
-      belongs = go (ℕ-discrete (z .owner) scheme)
-        where
-          rest : (z .owner ≡ scheme → ⊥) → (not (eqb l 1) || eqb k 0) ≡ false
-          rest n =
-              and-false (not (eqb (z .owner) scheme)) (not (eqb l 1) || eqb k 0) (sym e ∙ free) (ap not (ne-eqb (z .owner) scheme n))
+    -- at the bottom
+    module _ (first : k ≡ 0) (t : Bool) (e : t ≡ astrayAtBottom (handlerIn b) (z .owner) l) where
+      bottom-is : unfitBottom image s ≡ t
+      unfolding tableImage
+      bottom-is =
+          ap (λ (j : ℕ). astrayAtBottom (handlerIn b) (labelAt image (placeAt s j) .owner) (placeAt s j)) (sym first)
+          ∙ ap₂ (astrayAtBottom (handlerIn b)) owner-is (sym place) ∙ sym e
 
-          go : Dec (z .owner ≡ scheme) → Belongs (tableImage b) s k
-          go (yes o) = belongs-owned (tableImage b) s scheme k c within (owner-is ∙ o)
-          go (no n) =
-              belongs-return (tableImage b) s scheme k c within
-              (sym place ∙ eqb-true l 1 (not-false (eqb l 1) (or-l (not (eqb l 1)) (eqb k 0) (rest n))))
-              (eqb-false k 0 (or-r (not (eqb l 1)) (eqb k 0) (rest n)))
+      pub bottom-stray : t ≡ true → true ≡ total image s
+      bottom-stray q = sym (bottom-bad image s (bottom-is ∙ q))
 
-      module _ (u : Bool) (f : u ≡ not (eqb (z .kind) 1 || eqb (z .kind) 2)) where
-        call-is : isCall (atPlace (tableImage b) s k) ≡ not u
-        call-is = ap isCall label-is ∙ flip (eqb (z .kind) 1 || eqb (z .kind) 2) u f
+      pub bottom-passed : 1 ≤ s .depth → t ≡ false → Passed image s (z .kind) (z .called) 1
+      bottom-passed h q =
+          subst (λ (x : Label). Passed image s (x .kind) (x .called) 1) (ap (atPlace image s) (sym first) ∙ label-is)
+          (passed-first image s h (subst (λ (j : ℕ). placeAt s j < length (image .labels)) first held) (bottom-is ∙ q))
 
-        pub pass-top : u ≡ true → ltb (k + 1) depth ≡ total (tableImage b) s
-        pass-top q = go (split (k + 1) depth)
-          where
-            go : (k + 1 < depth) ⊎ (depth ≤ k + 1) → ltb (k + 1) depth ≡ total (tableImage b) s
-            go (inl h) = lt-ltb (k + 1) depth h ∙ sym (place-idle (tableImage b) s k (omega arith) (call-is ∙ ap not q))
-            go (inr h) = le-ltb (k + 1) depth h ∙ sym (top-fits (tableImage b) s scheme k c within belongs held (omega arith))
+    -- above it, over a label of that kind that calls that scheme
+    module _ (kind scheme : ℕ) (c : Passed image s kind scheme k) (here : k < s .depth) (call : (eqb kind 1 || eqb kind 2) ≡ true)
+        (t : Bool) (e : t ≡ astray (z .owner) scheme l) where
+      carried-is : (eqb (placeAt s k) 1 || eqb (atPlace image s k .owner) scheme) ≡ not t
+      carried-is = ap₂ (λ (j h : ℕ). eqb j 1 || eqb h scheme) (sym place) owner-is ∙ flip (eqb l 1 || eqb (z .owner) scheme) t e
 
-        pub pass-next : u ≡ false → Passed (tableImage b) s (z .called) (k + 1)
-        pass-next q =
-            subst (λ (h : ℕ). Passed (tableImage b) s h (k + 1)) (ap (λ (x : Label). x .called) label-is)
-            (passed-next (tableImage b) s scheme k c within belongs held (call-is ∙ ap not q))
+      pub pass-stray : t ≡ true → true ≡ total image s
+      pass-stray q = sym (stray image s kind scheme k c here call (carried-is ∙ ap not q))
+
+      pub pass-next : t ≡ false → Passed image s (z .kind) (z .called) (k + 1)
+      pass-next q =
+          subst (λ (x : Label). Passed image s (x .kind) (x .called) (k + 1)) label-is
+          (passed-next image s kind scheme k c here call (carried-is ∙ ap not q) held)

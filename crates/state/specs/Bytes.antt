@@ -31,8 +31,11 @@ bytesOf s = s .size ∷ s .depth ∷ (map (placeAt s) (range 0 32) ++ map (resul
 abbrev pub withDepth : State → ℕ → State
 withDepth s d = record { size = s .size; depth = d; places = s .places; bits = s .bits }
 
+abbrev pub withPlaces : State → List ℕ → State
+withPlaces s ps = record { size = s .size; depth = s .depth; places = ps; bits = s .bits }
+
 abbrev pub withPlace : State → ℕ → ℕ → State
-withPlace s k l = record { size = s .size; depth = s .depth; places = set (s .places) k l; bits = s .bits }
+withPlace s k l = withPlaces s (set (s .places) k l)
 
 abbrev pub afterResult : State → ℕ → ℕ → State
 afterResult s r h = record { size = s .size; depth = s .depth; places = s .places; bits = withResult r h (s .bits) }

@@ -14,10 +14,14 @@ pub record Deep (b : List ℕ) (s : State) : Type 0 where
   pub some : 1 ≤ s .depth
   pub most : s .depth ≤ 32
 
--- the part of 15 that speaks of the bottom's owner
+-- the part of 15 that speaks of the bottom
 abbrev pub unfitBottom : Image → State → Bool
 unfitBottom i s = badBottom i (placeAt s 0)
 
--- label l of that owner may not stand at place k, where one of that scheme is called
-abbrev pub astray : ℕ → ℕ → ℕ → ℕ → Bool
-astray owner scheme l k = not (eqb owner scheme) && (not (eqb l 1) || eqb k 0)
+-- label l of that owner may not stand where one of that scheme is called
+abbrev pub astray : ℕ → ℕ → ℕ → Bool
+astray owner scheme l = not (eqb l 1 || eqb owner scheme)
+
+-- nor at the bottom with that handler
+abbrev pub astrayAtBottom : ℕ → ℕ → ℕ → Bool
+astrayAtBottom handler owner l = not (eqb owner 1 || (not (eqb handler 0) && (eqb l 1 || eqb owner handler)))

@@ -4,6 +4,7 @@ use crate::fresh::bad_size;
 use crate::parts::depth_of;
 use crate::parts::place_of;
 use crate::parts::size_of;
+use tables::handler_of;
 use tables::label_of;
 use tables::last_label;
 ghost use mathlib.Core.Path.{_≡_};
@@ -12,10 +13,11 @@ ghost use Prim.Native.Nat.{_-_, _≤_, _<_};
 ghost use lib.Dec.{leb, eqb};
 ghost use Rattle.lists.specs.Pick.{pick};
 ghost use Rattle.lists.specs.Numbers.{any};
+ghost use Rattle.image.specs.Decode.{handlerIn};
 ghost use Rattle.tables.specs.Table.{Whole, tableImage};
 ghost use Rattle.state.specs.State.{placeAt, unfitPlace, badDepth, unfit};
 ghost use Rattle.state.specs.Bytes.{stateOf};
-ghost use Rattle.state.specs.Fit.{astray, unfitBottom, Deep};
+ghost use Rattle.state.specs.Fit.{astray, astrayAtBottom, unfitBottom, Deep};
 
 // Whether a label of that kind may not be kept under another: only a call may.
 fn calls_none(kind: u8) -> bool
@@ -27,43 +29,65 @@ fn calls_none(kind: u8) -> bool
     }
 }
 
-// Whether label l may not stand at place k: it is of another scheme than the one that is called there, and no 1 above the bottom.
-fn is_astray(owner: u8, scheme: u8, l: u8, k: usize) -> bool
-    ensures { λ r. ⌜ r ≡ astray owner scheme l k ⌝ }
+// Whether label l may not stand where one of that scheme is called: it is of another scheme, and no return.
+fn is_astray(owner: u8, scheme: u8, l: u8) -> bool
+    ensures { λ r. ⌜ r ≡ astray owner scheme l ⌝ }
 {
     if owner == scheme {
         return false;
     }
-    if l != 1 {
-        return true;
-    }
-    k == 0
+    l != 1
 }
 
-// Whether some place up to the depth does not fit, or the bottom is not of scheme 1. Each label is read once, from the bottom up, with the
-// scheme that the one below calls.
+// Whether label l may not stand at the bottom: it is not of scheme 1, and of no handler. The handler is read only where it decides.
+fn is_astray_at_bottom(table: &[u8], owner: u8, l: u8) -> bool
+    requires { ⌜ Whole (now table) ⌝ }
+    ensures { λ r. ⌜ r ≡ astrayAtBottom (handlerIn (now (table .entry))) owner l ⌝ }
+{
+    if owner == 1 {
+        return false;
+    }
+    let handler = handler_of(table);
+    if handler == 0 {
+        return true;
+    }
+    is_astray(owner, handler, l)
+}
+
+// Whether some place up to the depth does not fit, or the bottom is not of scheme 1 or the handler. Each label is read once, from the bottom
+// up, with the kind of the one below and the scheme that it calls.
 fn any_unfit(table: &[u8], bytes: &[u8; 50]) -> bool
     requires { ⌜ Deep (now table) (stateOf (now bytes)) ⌝ }
     ensures { λ r. ⌜ r ≡ (any (unfitPlace (tableImage (now (table .entry))) (stateOf (now (bytes .entry)))) 0 (stateOf (now (bytes .entry)) .depth) || unfitBottom (tableImage (now (table .entry))) (stateOf (now (bytes .entry)))) ⌝ }
 {
     let last = last_label(table);
     let depth = depth_of(bytes) as usize;
-    let mut scheme: u8 = 1;
-    let mut k: usize = 0;
+    let bottom = place_of(bytes, 0);
+    if last < bottom {
+        return true;
+    }
+    let first = label_of(table, bottom);
+    if is_astray_at_bottom(table, first.owner, bottom) {
+        return true;
+    }
+    let mut kind = first.kind;
+    let mut scheme = first.called;
+    let mut k: usize = 1;
     while k < depth {
+        if calls_none(kind) {
+            return true;
+        }
         let l = place_of(bytes, k);
         if last < l {
             return true;
         }
         let label = label_of(table, l);
-        if is_astray(label.owner, scheme, l, k) {
+        if is_astray(label.owner, scheme, l) {
             return true;
         }
-        k += 1;
-        if calls_none(label.kind) {
-            return k < depth;
-        }
+        kind = label.kind;
         scheme = label.called;
+        k += 1;
     }
     false
 }

@@ -9,6 +9,7 @@ mod parts;
 pub use bytes::bytes_of;
 pub use bytes::state_of;
 pub use fit::is_unfit;
+pub use parts::clear_places;
 pub use parts::depth_of;
 pub use parts::place_of;
 pub use parts::put_depth;

@@ -1,10 +1,11 @@
 // The parts of a state that is kept as fifty bytes, read and changed in place.
+use super::State;
 ghost use mathlib.Core.Path.{_≡_};
 ghost use Prim.Native.Nat.{_-_, _<_};
 ghost use lib.ListN.{length, set};
 ghost use Rattle.bits.specs.Results.{resultOf};
-ghost use Rattle.state.specs.State.{placeAt};
-ghost use Rattle.state.specs.Bytes.{stateOf, bytesOf, withDepth, withPlace, afterResult};
+ghost use Rattle.state.specs.State.{noPlaces, placeAt};
+ghost use Rattle.state.specs.Bytes.{stateOf, bytesOf, withDepth, withPlace, withPlaces, afterResult};
 
 pub fn size_of(bytes: &[u8; 50]) -> u8
     ensures { λ r. ⌜ r ≡ stateOf (now (bytes .entry)) .size ⌝ }
@@ -44,6 +45,17 @@ pub fn put_place(bytes: &mut [u8; 50], k: usize, label: u8)
     ensures { λ _. ⌜ stateOf (now (bytes .exit)) ≡ withPlace (stateOf (now (bytes .entry))) k label ⌝ }
 {
     put_byte(bytes, 2 + k, label);
+}
+
+// Every place 0, those above the depth too.
+pub fn clear_places(bytes: &mut [u8; 50])
+    ensures { λ _. ⌜ stateOf (now (bytes .exit)) ≡ withPlaces (stateOf (now (bytes .entry))) noPlaces ⌝ }
+{
+    let mut k: usize = 0;
+    while k < State::PLACES {
+        put_place(bytes, k, 0);
+        k += 1;
+    }
 }
 
 // Where scheme h's result stands among the results; number 0 counts as 1.

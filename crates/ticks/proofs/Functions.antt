@@ -1,7 +1,7 @@
 -- A function's label takes its row for bit 0 if nothing writes 1 to the called scheme's bit meanwhile: from the call on the bit is 0, and the
 -- label stays in its place under the top, until the call's own return.
 use Prim.Native.Nat.{ℕ, zero, suc, _+_, _-_, _≤_, _<_}
-use mathlib.Core.Bool.{Bool, true, false}
+use mathlib.Core.Bool.{Bool, true, false, _&&_, _||_}
 use mathlib.Core.Path.{_≡_, refl, ap, _∙_, sym, subst}
 use mathlib.Core.Logic.{_⊎_, inl, inr}
 use mathlib.Core.List.{List}
@@ -9,10 +9,10 @@ use lib.Dec.{leb, eqb}
 use lib.ListN.{length, getD, set, List·getD-eq-default}
 use lib.Seq.{getD-set-other}
 use native.Mathlib.Omega.{arith}
-use borrow.Author.Tests.{eqb-true, eq-eqb}
+use borrow.Author.Tests.{eqb-true, eqb-false, eq-eqb, lt-leb}
 use Rattle.lists.specs.Pick.{pick}
-use Rattle.lists.proofs.Tests.{no-both, or-cases, and-l, and-r, and-true, split}
-use Rattle.bits.specs.Results.{Results, resultOf, withResult}
+use Rattle.lists.proofs.Tests.{no-both, or-l, or-cases, and-l, and-r, and-true, and-false, split}
+use Rattle.bits.specs.Results.{Results, resultOf, withResult, cleared}
 use Rattle.bits.proofs.ResultLaws.{cleared-own, cleared-keeps, result-keeps}
 use Rattle.frames.specs.Frame.{contents}
 use Rattle.image.specs.Image.{Image, Label, noLabel, returnLabel}
@@ -21,11 +21,12 @@ use Rattle.image.proofs.Sound.{Sound}
 use Rattle.image.proofs.Accepted.{image-sound}
 use Rattle.rows.specs.Rows.{Found, found, missing, firstRow}
 use Rattle.state.specs.declared.State.{State}
-use Rattle.state.specs.State.{labelAt, entryAt, placeAt}
+use Rattle.state.specs.State.{noPlaces, labelAt, entryAt, placeAt, isCall, ofHandler}
+use Rattle.state.proofs.FitCases.{kind-call}
 use Rattle.state.proofs.Fitness.{Fits, unfits}
-use Rattle.ticks.specs.Tick.{rowOf, Ticked, ticked, stopped, moved, pushed, tickBy, tick}
+use Rattle.ticks.specs.Tick.{rowOf, Ticked, ticked, stopped, moved, pushed, popped, tickBy, tick}
 use Rattle.ticks.specs.Parts.{topOf}
-use Rattle.ticks.specs.Functions.{CallClears, writesOne, returnsAt, Unwritten, none, more, returned, ZeroRow}
+use Rattle.ticks.specs.Functions.{findsFull, CallClears, Drop, Drops, writesOne, returnsAt, Unwritten, none, more, returned, ZeroRow}
 
 -- ---- a finished call
 abbrev Cleared : ℕ → Ticked → Type 0
@@ -34,7 +35,9 @@ Cleared h (stopped n) = Unit {0}
 
 pub call-clears : CallClears
 unfolding CallClears tick
-call-clears i s call w m code t e = subst (Cleared h) e (go (or-cases (eqb (x .kind) 1) (eqb (x .kind) 2) call))
+call-clears i s call w m code t e =
+    subst (λ (r : Bool). resultOf (pick r (i .handler) h) (t .bits) ≡ false) (sym (ap (λ (c : Bool). c && leb (s .size) (s .depth)) call))
+    (subst (Cleared (pick (leb (s .size) (s .depth)) (i .handler) h)) e (go (or-cases (eqb (x .kind) 1) (eqb (x .kind) 2) call)))
   where
     x : Label
     x = labelAt i (topOf s)
@@ -45,13 +48,58 @@ call-clears i s call w m code t e = subst (Cleared h) e (go (or-cases (eqb (x .k
     b : Results
     b = withResult (x .result) (x .owner) (s .bits)
 
-    pushes : (m code : ℕ) (r : Bool) → Cleared h (pushed i s m code h b r)
-    pushes m code true = tt
+    drops : (m : ℕ) (r : Bool) → Cleared (i .handler) (pick r (stopped 17)
+        (ticked m 96 (record { size = s .size; depth = 1; places = set noPlaces 0 (entryAt i (i .handler)); bits = cleared (i .handler) b })))
+    drops m true = tt
+    drops m false = cleared-own (i .handler) b
+
+    pushes : (m code : ℕ) (r : Bool) → Cleared (pick r (i .handler) h) (pushed i s m code h b r)
+    pushes m code true = drops m (eqb (i .handler) 0 || ofHandler i (placeAt s 0))
     pushes m code false = cleared-own h b
 
-    go : (eqb (x .kind) 1 ≡ true) ⊎ (eqb (x .kind) 2 ≡ true) → Cleared h (tickBy i s w (topOf s) x b (x .kind))
+    go : (eqb (x .kind) 1 ≡ true) ⊎ (eqb (x .kind) 2 ≡ true)
+        → Cleared (pick (leb (s .size) (s .depth)) (i .handler) h) (tickBy i s w (topOf s) x b (x .kind))
     go (inl p) = rw (eqb-true (x .kind) 1 p) (pushes (x .mask) (16 + h) (leb (s .size) (s .depth)))
     go (inr p) = rw (eqb-true (x .kind) 2 p) (pushes (x .mask) (64 + h) (leb (s .size) (s .depth)))
+
+-- ---- a drop
+abbrev Dropped : Image → Label → State → Ticked → Type 0
+Dropped i x s (ticked m code t) = Drop i x s m code t
+Dropped i x s (stopped n) = Unit {0}
+
+pub drops : Drops
+unfolding Drops tick
+drops i s full w m code t e = subst (Dropped i x s) e (go (or-cases (eqb (x .kind) 1) (eqb (x .kind) 2) (and-l (isCall x) (leb (s .size) (s .depth)) full)))
+  where
+    x : Label
+    x = labelAt i (topOf s)
+
+    b : Results
+    b = withResult (x .result) (x .owner) (s .bits)
+
+    dropped : (r : Bool) → (eqb (i .handler) 0 || ofHandler i (placeAt s 0)) ≡ r → Dropped i x s (pick r (stopped 17)
+        (ticked (x .mask) 96 (record { size = s .size; depth = 1; places = set noPlaces 0 (entryAt i (i .handler)); bits = cleared (i .handler) b })))
+    dropped true q = tt
+    dropped false q = record {
+      mask = refl;
+      coded = refl;
+      alone = refl;
+      cleared = cleared-own (i .handler) b;
+      kept = λ h l other. let z : i .handler ≡ 0 → ⊥ = eqb-false (i .handler) 0 (or-l (eqb (i .handler) 0) (ofHandler i (placeAt s 0)) q) in
+          getD-set-other b (i .handler - 1) (h - 1) false false (λ k. other (omega arith));
+    }
+
+    pushes : (code : ℕ) (r : Bool) → r ≡ true → Dropped i x s (pushed i s (x .mask) code (x .called) b r)
+    pushes code true q = dropped (eqb (i .handler) 0 || ofHandler i (placeAt s 0)) refl
+    pushes code false q = no-both false q refl
+
+    go : (eqb (x .kind) 1 ≡ true) ⊎ (eqb (x .kind) 2 ≡ true) → Dropped i x s (tickBy i s w (topOf s) x b (x .kind))
+    go (inl p) = rw (eqb-true (x .kind) 1 p) (pushes (16 + x .called) (leb (s .size) (s .depth)) (and-r (isCall x) (leb (s .size) (s .depth)) full))
+    go (inr p) = rw (eqb-true (x .kind) 2 p) (pushes (64 + x .called) (leb (s .size) (s .depth)) (and-r (isCall x) (leb (s .size) (s .depth)) full))
+
+-- a call that does not find the stack full has a place free
+free : (i : Image) (s : State) → findsFull i s ≡ false → isCall (labelAt i (topOf s)) ≡ true → leb (s .size) (s .depth) ≡ false
+free i s e call = and-false (isCall (labelAt i (topOf s))) (leb (s .size) (s .depth)) e call
 
 -- ---- label l at place d - 1 under the top, and the bit of scheme h 0
 module _ (l d h : ℕ) (some : 1 ≤ d) (deep : 2 ≤ h) where
@@ -71,40 +119,47 @@ module _ (l d h : ℕ) (some : 1 ≤ d) (deep : 2 ≤ h) where
         record { above = o; label = getD-set-other places k (d - 1) u 0 p ∙ q; unset = e }
     moved-waits m code k depth places b missing o p q e = tt
 
-    pushed-waits : (m code g : ℕ) (b : Results) (t : Bool) → resultOf h b ≡ false → After (pushed i s m code g b t)
-    pushed-waits m code g b true e = tt
-    pushed-waits m code g b false e = record {
-      above = omega (arith, y .above);
-      label = getD-set-other (s .places) (s .depth) (d - 1) (entryAt i g) 0 (λ p. omega (arith, y .above)) ∙ y .label;
-      unset = cleared-keeps g h b e;
-    }
+    pushed-waits : (m code g : ℕ) (b : Results) → leb (s .size) (s .depth) ≡ false → resultOf h b ≡ false
+        → After (pushed i s m code g b (leb (s .size) (s .depth)))
+    pushed-waits m code g b room e =
+        subst (λ (t : Bool). After (pushed i s m code g b t)) (sym room)
+        (record {
+          above = omega (arith, y .above);
+          label = getD-set-other (s .places) (s .depth) (d - 1) (entryAt i g) 0 (λ p. omega (arith, y .above)) ∙ y .label;
+          unset = cleared-keeps g h b e;
+        })
 
-    -- by the tick kind of the top label; a return is not the call's own
-    by-waits : (w k : ℕ) (x : Label) (b : Results) → resultOf h b ≡ false → (k ≡ 3 → s .depth ≡ suc d → ⊥) → After (tickBy i s w (topOf s) x b k)
-    by-waits w zero x b e own =
-        moved-waits (x .mask) 0 (s .depth - 1) (s .depth) (s .places) b (rowOf i b (topOf s) w) (y .above) (λ p. omega (arith, y .above)) (y .label) e
-    by-waits w (suc zero) x b e own = pushed-waits (x .mask) (16 + x .called) (x .called) b (leb (s .size) (s .depth)) e
-    by-waits w (suc (suc zero)) x b e own = pushed-waits (x .mask) (64 + x .called) (x .called) b (leb (s .size) (s .depth)) e
-    by-waits w (suc (suc (suc zero))) x b e own =
-        let low : s .depth ≡ suc d → ⊥ = own refl in
-        moved-waits (x .mask) 3 (s .depth - 2) (s .depth - 1) (set (s .places) (s .depth - 1) 0) b (rowOf i b (placeAt s (s .depth - 2)) w)
+    popped-waits : (w m : ℕ) (b : Results) → (s .depth ≡ suc d → ⊥) → resultOf h b ≡ false → After (popped i s w m b (leb (s .depth) 1))
+    popped-waits w m b low e =
+        subst (λ (t : Bool). After (popped i s w m b t)) (sym (lt-leb (s .depth) 1 (omega (arith, y .above))))
+        (moved-waits m 3 (s .depth - 2) (s .depth - 1) (set (s .places) (s .depth - 1) 0) b (rowOf i b (placeAt s (s .depth - 2)) w)
         (omega (arith, y .above)) (λ p. omega (arith, y .above))
-        (getD-set-other (s .places) (s .depth - 1) (d - 1) 0 0 (λ p. omega (arith, y .above)) ∙ y .label) e
-    by-waits w (suc (suc (suc (suc k)))) x b e own =
+        (getD-set-other (s .places) (s .depth - 1) (d - 1) 0 0 (λ p. omega (arith, y .above)) ∙ y .label) e)
+
+    -- by the tick kind of the top label; a call has a place free, and a return is not the call's own
+    by-waits : (w k : ℕ) (x : Label) (b : Results) → resultOf h b ≡ false → (1 ≤ k → k ≤ 2 → leb (s .size) (s .depth) ≡ false)
+        → (k ≡ 3 → s .depth ≡ suc d → ⊥) → After (tickBy i s w (topOf s) x b k)
+    by-waits w zero x b e room own =
+        moved-waits (x .mask) 0 (s .depth - 1) (s .depth) (s .places) b (rowOf i b (topOf s) w) (y .above) (λ p. omega (arith, y .above)) (y .label) e
+    by-waits w (suc zero) x b e room own = pushed-waits (x .mask) (16 + x .called) (x .called) b (room (omega arith) (omega arith)) e
+    by-waits w (suc (suc zero)) x b e room own = pushed-waits (x .mask) (64 + x .called) (x .called) b (room (omega arith) (omega arith)) e
+    by-waits w (suc (suc (suc zero))) x b e room own = popped-waits w (x .mask) b (own refl) e
+    by-waits w (suc (suc (suc (suc k)))) x b e room own =
         moved-waits (x .mask) 4 (s .depth - 1) (s .depth) (s .places) b (found (entryAt i 1)) (y .above) (λ p. omega (arith, y .above)) (y .label) e
 
-    tick-waits : (w : ℕ) → returnsAt i (suc d) s ≡ false → writesOne i h s ≡ false → After (tick i s w)
+    tick-waits : (w : ℕ) → findsFull i s ≡ false → returnsAt i (suc d) s ≡ false → writesOne i h s ≡ false → After (tick i s w)
     unfolding tick
-    tick-waits w own unwritten =
+    tick-waits w room own unwritten =
         let x : Label = labelAt i (topOf s) in
         by-waits w (x .kind) x (withResult (x .result) (x .owner) (s .bits))
         (result-keeps (x .result) (x .owner) h (s .bits) deep
         (λ p q. no-both _ (and-true _ _ (eq-eqb (x .owner) h p) (eq-eqb (x .result) 2 q)) unwritten) (y .unset))
+        (λ low high. free i s room (kind-call (x .kind) low (omega arith)))
         (λ p q. no-both _ (and-true _ _ (eq-eqb (x .kind) 3 p) (eq-eqb (s .depth) (suc d) q)) own)
 
   all-wait : (i : Image) {s t : State} → Unwritten i h (suc d) s t → Waits s → Waits t
   all-wait i none y = y
-  all-wait i {s = s} (more w e own unwritten rest) y = all-wait i rest (subst After e (tick-waits i s y w own unwritten))
+  all-wait i {s = s} (more w e room own unwritten rest) y = all-wait i rest (subst After e (tick-waits i s y w room own unwritten))
 
 -- ---- the labels of a sound image
 module _ (i : Image) (sound : Sound i) where
@@ -135,19 +190,18 @@ module _ (i : Image) (sound : Sound i) where
     deep = function-calls (topOf s) (f .labels (s .depth - 1) (omega (arith, f .some))) kinded
 
     -- the call
-    called-waits : (w m code : ℕ) (t : State) → tick i s w ≡ ticked m code t → Waits (topOf s) (s .depth) h (f .some) deep t
+    called-waits : (w m code : ℕ) (t : State) → tick i s w ≡ ticked m code t → findsFull i s ≡ false
+        → Waits (topOf s) (s .depth) h (f .some) deep t
     unfolding tick
-    called-waits w m code t e =
+    called-waits w m code t e room =
         subst (After (topOf s) (s .depth) h (f .some) deep)
-        (sym (ap (tickBy i s w (topOf s) x (withResult (x .result) (x .owner) (s .bits))) kinded) ∙ e) (go (leb (s .size) (s .depth)))
-      where
-        go : (r : Bool) → After (topOf s) (s .depth) h (f .some) deep (pushed i s (x .mask) (64 + h) h (withResult (x .result) (x .owner) (s .bits)) r)
-        go true = tt
-        go false = record {
+        (ap (pushed i s (x .mask) (64 + h) h (withResult (x .result) (x .owner) (s .bits))) (sym (free i s room (rw kinded)))
+        ∙ sym (ap (tickBy i s w (topOf s) x (withResult (x .result) (x .owner) (s .bits))) kinded) ∙ e)
+        (record {
           above = omega arith;
           label = getD-set-other (s .places) (s .depth) (s .depth - 1) (entryAt i h) 0 (λ p. omega (arith, f .some));
           unset = cleared-own h (withResult (x .result) (x .owner) (s .bits));
-        }
+        })
 
     -- its own return
     own-return : (u : State) → Waits (topOf s) (s .depth) h (f .some) deep u → returnsAt i (suc (s .depth)) u ≡ true
@@ -159,15 +213,16 @@ module _ (i : Image) (sound : Sound i) where
         let k : z .kind ≡ 3 = eqb-true (z .kind) 3 (and-l (eqb (z .kind) 3) (eqb (u .depth) (suc (s .depth))) own) in
         let p : u .depth - 2 ≡ s .depth - 1 = omega arith in
         ap (λ (c : Label). tickBy i u v (topOf u) c (withResult (c .result) (c .owner) (u .bits)) (c .kind)) (return-is (topOf u) k)
+        ∙ ap (popped i u v 0 (u .bits)) (lt-leb (u .depth) 1 (omega (arith, f .some)))
         ∙ ap (λ (l : ℕ). returned u (rowOf i (u .bits) l v)) (ap (placeAt u) p ∙ y .label)
         ∙ ap (λ (t : Bool). returned u (firstRow (topOf s) v (pick t 1 0) (i .rows))) (y .unset)
 
 pub zero-row : ZeroRow
 unfolding ZeroRow
-zero-row text passes s whole fit kinded w m code t u e ticks own v =
+zero-row text passes s whole fit kinded w m code t u e room ticks own v =
     let i : Image = decoded (contents text) in
     let sound : Sound i = image-sound text passes in
     let f : Fits i s = unfits i s whole fit in
     own-return i sound s f kinded u
     (all-wait (topOf s) (s .depth) (labelAt i (topOf s) .called) (f .some) (deep i sound s f kinded) i ticks
-    (called-waits i sound s f kinded w m code t e)) own v
+    (called-waits i sound s f kinded w m code t e room)) own v

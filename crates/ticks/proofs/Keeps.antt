@@ -1,136 +1,33 @@
 -- On a sound image a tick keeps a fitting state fitting, however it ends.
 use Prim.Native.Nat.{ℕ, zero, suc, _+_, _-_, _≤_, _<_}
-use mathlib.Core.Bool.{Bool, true, false, _&&_, _||_, not}
+use mathlib.Core.Bool.{Bool, true, false, _||_}
 use mathlib.Core.Path.{_≡_, refl, ap, _∙_, sym, subst}
 use mathlib.Core.Logic.{_⊎_, inl, inr}
-use mathlib.Core.List.{List, [], _∷_}
+use mathlib.Core.List.{List, _∷_}
 use lib.Dec.{leb, eqb}
 use lib.ListN.{length, getD, set, replicate, length-set, getD-replicate}
 use lib.Seq.{getD-set-same, getD-set-other}
 use native.Mathlib.Omega.{arith}
-use borrow.Author.Tests.{eqb-true, eqb-false, eq-eqb, ne-eqb, leb-true, leb-false}
+use borrow.Author.Tests.{eqb-false, leb-true, leb-false}
 use Rattle.lists.specs.Pick.{pick}
-use Rattle.lists.proofs.Tests.{or-cases, or-true-l, or-true-r, and-l, and-r, and-true, not-true, split}
+use Rattle.lists.proofs.Tests.{split}
 use Rattle.bits.specs.Results.{Results, withResult, cleared}
 use Rattle.frames.specs.Frame.{contents}
 use Rattle.frames.specs.Verdict.{fine}
-use Rattle.image.specs.Image.{Image, Label, Row}
+use Rattle.image.specs.Image.{Image, Label}
 use Rattle.image.specs.Decode.{decoded}
 use Rattle.image.specs.Check.{imageVerdict}
-use Rattle.image.proofs.Sound.{noRow, nthRow, endOf, Reaches, Sound}
+use Rattle.image.proofs.Sound.{Reaches, Sound}
 use Rattle.image.proofs.Accepted.{image-sound}
 use Rattle.state.specs.declared.State.{State}
-use Rattle.state.specs.State.{fresh, labelAt, entryAt, placeAt, isCall, unfit}
-use Rattle.ticks.specs.Tick.{rowOf, Ticked, ticked, stopped, moved, pushed, tickBy, tick}
-use Rattle.rows.specs.Rows.{matches, Found, found, missing, firstRow}
-use Rattle.state.proofs.Fitness.{Carries, Fits, fits, unfits}
-use Rattle.rows.proofs.FirstRows.{row-here, row-later}
-
--- a row that is found is one of the label's
-found-row : (i : Image) (h l w b u : ℕ) (rs : List Row)
-    → ((k : ℕ) → k < length rs → getD rs k noRow .from ≡ l → Reaches i h (getD rs k noRow .next))
-    → firstRow l w b rs ≡ found u → Reaches i h u
-unfolding firstRow
-found-row i h l w b u [] each e = absurd (let z : _≡_ {A = ℕ} 0 1 = cc in omega arith)
-found-row i h l w b u (r ∷ rs) each e = go (eqb (r .from) l && matches w b r) refl (found-row i h l w b u rs (λ k m. each (suc k) (omega arith)))
-  where
-    go : (t : Bool) → (eqb (r .from) l && matches w b r) ≡ t → (firstRow l w b rs ≡ found u → Reaches i h u) → Reaches i h u
-    go true q ih =
-        let p : found (r .next) ≡ found u = sym (row-here l w b r rs q) ∙ e in
-        let same : r .next ≡ u = cc in
-        subst (Reaches i h) same (each 0 (omega arith) (eqb-true (r .from) l (and-l (eqb (r .from) l) (matches w b r) q)))
-    go false q ih = ih (sym (row-later l w b r rs q) ∙ e)
+use Rattle.state.specs.State.{fresh, labelAt, entryAt, placeAt, isCall, ofHandler, unfit}
+use Rattle.ticks.specs.Tick.{rowOf, Ticked, ticked, stopped, moved, full, pushed, popped, tickBy, tick}
+use Rattle.rows.specs.Rows.{Found, found, missing}
+use Rattle.state.proofs.Fitness.{Carries, Bottom, Fits, fits, unfits}
+use Rattle.ticks.proofs.Leads.{Sort, first, second, other, sort}
+use Rattle.ticks.proofs.Leads.{row-leads, call-kind, called-range, not-return, reaches-over, handler-leads, bottom-leads}
 
 module _ (i : Image) (sound : Sound i) where
-  pub row-leads : (l w b u : ℕ) → firstRow l w b (i .rows) ≡ found u → Reaches i (labelAt i l .owner) u
-  row-leads l w b u e = found-row i (labelAt i l .owner) l w b u (i .rows)
-      (λ k m q. subst (λ (x : ℕ). Reaches i (labelAt i x .owner) (nthRow i k .next)) q (sound .each k m .leading)) e
-
-  -- ---- labels by their kind
-  data Sort (l : ℕ) : Type 0 where
-    first : l ≡ 0 → labelAt i l .kind ≡ 4 → labelAt i l .owner ≡ 1 → Sort l
-    second : l ≡ 1 → labelAt i l .kind ≡ 3 → labelAt i l .owner ≡ 0 → Sort l
-    other : 2 ≤ l → labelAt i l .kind ≤ 2 → Sort l
-
-  sort : (l : ℕ) → l < length (i .labels) → Sort l
-  sort zero m = first refl (ap (λ (x : Label). x .kind) (sound .home)) (ap (λ (x : Label). x .owner) (sound .home))
-  sort (suc zero) m = second refl (ap (λ (x : Label). x .kind) (sound .back)) (ap (λ (x : Label). x .owner) (sound .back))
-  sort (suc (suc l)) m = other (omega arith) (sound .others (suc (suc l)) (omega arith) m .kinds)
-
-  call-kind : (l : ℕ) → isCall (labelAt i l) ≡ true → (1 ≤ labelAt i l .kind) × (labelAt i l .kind ≤ 2)
-  call-kind l e = go (or-cases (eqb (labelAt i l .kind) 1) (eqb (labelAt i l .kind) 2) e)
-    where
-      go : (eqb (labelAt i l .kind) 1 ≡ true) ⊎ (eqb (labelAt i l .kind) 2 ≡ true) → (1 ≤ labelAt i l .kind) × (labelAt i l .kind ≤ 2)
-      go (inl p) = let q = eqb-true (labelAt i l .kind) 1 p in (omega arith, omega arith)
-      go (inr p) = let q = eqb-true (labelAt i l .kind) 2 p in (omega arith, omega arith)
-
-  -- a label of kind 1 or 2 is no home and no return, and calls a scheme of 2 to H
-  called-range : (l : ℕ) → l < length (i .labels) → (1 ≤ labelAt i l .kind) × (labelAt i l .kind ≤ 2)
-      → (2 ≤ labelAt i l .called) × (labelAt i l .called ≤ length (i .entries))
-  called-range l m k = go (sort l m)
-    where
-      go : Sort l → (2 ≤ labelAt i l .called) × (labelAt i l .called ≤ length (i .entries))
-      go (first z q o) = absurd (omega arith)
-      go (second z q o) = absurd (omega arith)
-      go (other z q) = sound .others l z m .calls (λ p. omega arith)
-
-  not-return : (l : ℕ) → l < length (i .labels) → (labelAt i l .kind ≡ 3 → ⊥) → l ≡ 1 → ⊥
-  not-return l m k e = go (sort l m)
-    where
-      go : Sort l → ⊥
-      go (first z q o) = omega arith
-      go (second z q o) = k q
-      go (other z q) = omega arith
-
-  end-other : (h : ℕ) → 2 ≤ h → endOf h ≡ 1
-  end-other h l = ap (λ (t : Bool). pick t 0 1) (ne-eqb h 1 (λ p. omega arith))
-
-  -- what a scheme of 2 and up may lead to may stand above its call
-  reaches-over : (h u : ℕ) → 2 ≤ h → Reaches i h u → (u ≡ 1) ⊎ (labelAt i u .owner ≡ h)
-  reaches-over h u l r = go (r .belongs)
-    where
-      go : (labelAt i u .owner ≡ h) ⊎ (u ≡ endOf h) → (u ≡ 1) ⊎ (labelAt i u .owner ≡ h)
-      go (inl e) = inr e
-      go (inr e) = inl (e ∙ end-other h l)
-
-  -- and what scheme 1 may lead to is owned by it
-  reaches-first : (u : ℕ) → Reaches i 1 u → labelAt i u .owner ≡ 1
-  reaches-first u r = go (r .belongs)
-    where
-      go : (labelAt i u .owner ≡ 1) ⊎ (u ≡ endOf 1) → labelAt i u .owner ≡ 1
-      go (inl e) = e
-      go (inr e) = ap (λ (l : ℕ). labelAt i l .owner) e ∙ ap (λ (x : Label). x .owner) (sound .home)
-
-  -- ---- the bottom: what scheme 1 leads to, and what the handler leads to
-  handler-deep : (l : ℕ) → ofHandler i l ≡ true → (2 ≤ i .handler) × (i .handler ≤ length (i .entries))
-  handler-deep l e =
-      let o : Bool = eqb l 1 || eqb (labelAt i l .owner) (i .handler) in
-      sound .handled (eqb-false (i .handler) 0 (not-true (eqb (i .handler) 0) (and-l (not (eqb (i .handler) 0)) o e)))
-
-  handler-own : (l : ℕ) → ofHandler i l ≡ true → (l ≡ 1 → ⊥) → labelAt i l .owner ≡ i .handler
-  handler-own l e n =
-      let x : Bool = eqb l 1 in
-      let y : Bool = eqb (labelAt i l .owner) (i .handler) in
-      go (or-cases x y (and-r (not (eqb (i .handler) 0)) (x || y) e))
-    where
-      go : (eqb l 1 ≡ true) ⊎ (eqb (labelAt i l .owner) (i .handler) ≡ true) → labelAt i l .owner ≡ i .handler
-      go (inl p) = absurd (n (eqb-true l 1 p))
-      go (inr p) = eqb-true (labelAt i l .owner) (i .handler) p
-
-  -- a label that the handler leads to
-  handler-leads : (u : ℕ) → 2 ≤ i .handler → Reaches i (i .handler) u → ofHandler i u ≡ true
-  handler-leads u l r =
-      and-true (not (eqb (i .handler) 0)) (eqb u 1 || eqb (labelAt i u .owner) (i .handler))
-      (ap not (ne-eqb (i .handler) 0 (λ z. omega arith))) (go (reaches-over (i .handler) u l r))
-    where
-      go : (u ≡ 1) ⊎ (labelAt i u .owner ≡ i .handler) → (eqb u 1 || eqb (labelAt i u .owner) (i .handler)) ≡ true
-      go (inl e) = or-true-l (eqb u 1) _ (eq-eqb u 1 e)
-      go (inr e) = or-true-r (eqb u 1) (eqb (labelAt i u .owner) (i .handler)) (eq-eqb (labelAt i u .owner) (i .handler) e)
-
-  bottom-leads : (l u : ℕ) → (l ≡ 1 → ⊥) → Bottom i l → Reaches i (labelAt i l .owner) u → Bottom i u
-  bottom-leads l u n (inl e) r = inl (reaches-first u (subst (λ (h : ℕ). Reaches i h u) e r))
-  bottom-leads l u n (inr e) r = inr (handler-leads u (handler-deep l e .0) (subst (λ (h : ℕ). Reaches i h u) (handler-own l e n) r))
-
   -- ---- the top replaced, a label put above it, the top dropped
   abbrev replaced : State → ℕ → Results → State
   replaced s u b = record { size = s .size; depth = s .depth; places = set (s .places) (s .depth - 1) u; bits = b }
@@ -166,12 +63,12 @@ module _ (i : Image) (sound : Sound i) where
       under k q c = record { call = c .call; over = go (c .over) }
         where
           two : 2 ≤ labelAt i (placeAt s k) .called
-          two = called-range (placeAt s k) (f .labels k (omega (arith, f .some))) (call-kind (placeAt s k) (c .call)) .0
+          two = called-range i sound (placeAt s k) (f .labels k (omega (arith, f .some))) (call-kind i sound (placeAt s k) (c .call)) .0
 
           go : (placeAt s (s .depth - 1) ≡ 1) ⊎ (labelAt i (placeAt s (s .depth - 1)) .owner ≡ labelAt i (placeAt s k) .called)
               → (u ≡ 1) ⊎ (labelAt i u .owner ≡ labelAt i (placeAt s k) .called)
           go (inl e) = absurd (ne e)
-          go (inr e) = reaches-over (labelAt i (placeAt s k) .called) u two (subst (λ (h : ℕ). Reaches i h u) e r)
+          go (inr e) = reaches-over i sound (labelAt i (placeAt s k) .called) u two (subst (λ (h : ℕ). Reaches i h u) e r)
 
       carries : (k : ℕ) → k + 1 < s .depth → (k + 1 < s .depth - 1) ⊎ (s .depth - 1 ≤ k + 1) → Carries i (placeAt t k) (placeAt t (k + 1))
       carries k l (inl p) = rw (other k (λ q. omega arith), other (k + 1) (λ q. omega arith)) (f .carries k l)
@@ -182,7 +79,7 @@ module _ (i : Image) (sound : Sound i) where
       bottom (inl p) = subst (Bottom i) (sym (other 0 (λ q. omega arith))) (f .bottom)
       bottom (inr p) = let q : s .depth - 1 ≡ 0 = omega arith in
           subst (Bottom i) (sym (ap (placeAt t) (sym q) ∙ same))
-          (bottom-leads (placeAt s (s .depth - 1)) u ne (subst (λ (j : ℕ). Bottom i (placeAt s j)) (sym q) (f .bottom)) r)
+          (bottom-leads i sound (placeAt s (s .depth - 1)) u ne (subst (λ (j : ℕ). Bottom i (placeAt s j)) (sym q) (f .bottom)) r)
 
   abbrev above : State → ℕ → Results → State
   above s u b = record { size = s .size; depth = suc (s .depth); places = set (s .places) (s .depth) u; bits = b }
@@ -287,7 +184,7 @@ module _ (i : Image) (sound : Sound i) where
 
     plain-keeps : (w : ℕ) (b : Results) → labelAt i top .kind ≡ 0 → Keeps (tickBy i s w top (labelAt i top) b 0)
     plain-keeps w b e = moved-keeps _ 0 s _ _ (s .places) b (rowOf i b top w)
-        (λ u q. replaced-fits s u b f (not-return top top-low (λ p. omega arith)) (row-leads top w _ u q))
+        (λ u q. replaced-fits s u b f (not-return i sound top top-low (λ p. omega arith)) (row-leads i sound top w _ u q))
 
     full-keeps : (m : ℕ) (b : Results) → Keeps (full i s m b)
     full-keeps m b = go (eqb (i .handler) 0) refl (ofHandler i (placeAt s 0))
@@ -303,7 +200,7 @@ module _ (i : Image) (sound : Sound i) where
             let range : (2 ≤ h) × (h ≤ length (i .entries)) = sound .handled (eqb-false (i .handler) 0 e) in
             let q : suc (h - 1) ≡ h = omega arith in
             let enters : Reaches i h (entryAt i h) = subst (λ (g : ℕ). Reaches i g (entryAt i h)) q (sound .starts (h - 1) (omega arith)) in
-            alone-fits s (entryAt i h) (cleared h b) f (enters .inside) (inr (handler-leads (entryAt i h) (range .0) enters))
+            alone-fits s (entryAt i h) (cleared h b) f (enters .inside) (inr (handler-leads i sound (entryAt i h) (range .0) enters))
 
     call-keeps : (m code : ℕ) (b : Results) → isCall (labelAt i top) ≡ true
         → Keeps (pushed i s m code (labelAt i top .called) b (leb (s .size) (s .depth)))
@@ -313,7 +210,7 @@ module _ (i : Image) (sound : Sound i) where
         h = labelAt i top .called
 
         range : (2 ≤ h) × (h ≤ length (i .entries))
-        range = called-range top top-low (call-kind top e)
+        range = called-range i sound top top-low (call-kind i sound top e)
 
         enters : Reaches i h (entryAt i h)
         enters = let q : suc (h - 1) ≡ h = omega (arith, range) in
@@ -322,7 +219,7 @@ module _ (i : Image) (sound : Sound i) where
         go : (t : Bool) → leb (s .size) (s .depth) ≡ t → Keeps (pushed i s m code (labelAt i top .called) b t)
         go true q = full-keeps m b
         go false q = above-fits s (entryAt i h) (cleared h b) f (leb-false (s .size) (s .depth) q) (enters .inside)
-            (record { call = e; over = reaches-over h (entryAt i h) (range .0) enters })
+            (record { call = e; over = reaches-over i sound h (entryAt i h) (range .0) enters })
 
     return-keeps : (m w : ℕ) (b : Results) → labelAt i top .kind ≡ 3 → Keeps (popped i s w m b (leb (s .depth) 1))
     return-keeps m w b e = go (leb (s .depth) 1) refl
@@ -333,10 +230,10 @@ module _ (i : Image) (sound : Sound i) where
             let d : s .depth - 1 - 1 ≡ s .depth - 2 = omega arith in
             let same : placeAt (dropped s) (s .depth - 1 - 1) ≡ placeAt s (s .depth - 2) =
             ap (placeAt (dropped s)) d ∙ getD-set-other (s .places) (s .depth - 1) (s .depth - 2) 0 0 (λ q. omega arith) in
-            let c = call-kind (placeAt s (s .depth - 2)) (f .carries (s .depth - 2) (omega arith) .call) in
+            let c = call-kind i sound (placeAt s (s .depth - 2)) (f .carries (s .depth - 2) (omega arith) .call) in
             subst (λ (j : ℕ). Fits i (record { size = s .size; depth = s .depth - 1; places = set (set (s .places) (s .depth - 1) 0) j u; bits = b })) d
             (replaced-fits (dropped s) u b (dropped-fits s f two)
-            (λ q. not-return (placeAt s (s .depth - 2)) (f .labels (s .depth - 2) (omega arith)) (λ p. omega arith) (sym same ∙ q))
+            (λ q. not-return i sound (placeAt s (s .depth - 2)) (f .labels (s .depth - 2) (omega arith)) (λ p. omega arith) (sym same ∙ q))
             (subst (λ (l : ℕ). Reaches i (labelAt i l .owner) u) (sym same) r))
 
         -- the handler's return at depth 1 puts label 0 at the bottom
@@ -362,12 +259,12 @@ module _ (i : Image) (sound : Sound i) where
         go : (t : Bool) → leb (s .depth) 1 ≡ t → Keeps (popped i s w m b t)
         go true q = last (leb-true (s .depth) 1 q)
         go false q = moved-keeps m 3 s _ _ (set (s .places) (s .depth - 1) 0) b (rowOf i b (placeAt s (s .depth - 2)) w)
-            (λ u p. back (leb-false (s .depth) 1 q) u (row-leads (placeAt s (s .depth - 2)) w _ u p))
+            (λ u p. back (leb-false (s .depth) 1 q) u (row-leads i sound (placeAt s (s .depth - 2)) w _ u p))
 
     home-keeps : (b : Results) → 4 ≤ labelAt i top .kind → Fits i (replaced s (entryAt i 1) b)
-    home-keeps b e = go (sort top top-low)
+    home-keeps b e = go (sort i sound top top-low)
       where
-        go : Sort top → Fits i (replaced s (entryAt i 1) b)
+        go : Sort i sound top → Fits i (replaced s (entryAt i 1) b)
         go (first z q o) = replaced-fits s (entryAt i 1) b f (λ p. omega arith)
             (subst (λ (h : ℕ). Reaches i h (entryAt i 1)) (sym o) (sound .starts 0 (sound .first)))
         go (second z q o) = absurd (omega arith)

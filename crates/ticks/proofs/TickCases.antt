@@ -1,6 +1,6 @@
 -- One tick on any table whose header holds: what it is for each kind of the top label, and what a function that makes it answers.
 use mathlib.Core.Path.{_≡_, refl, sym, _∙_, ap, ap₂, subst}
-use mathlib.Core.Bool.{Bool, true, false}
+use mathlib.Core.Bool.{Bool, true, false, _||_}
 use mathlib.Core.Logic.{_⊎_, inl, inr}
 use mathlib.Core.List.{List}
 use Prim.Native.Nat.{ℕ, zero, suc, _+_, _-_, _≤_, _<_}
@@ -25,10 +25,10 @@ use Rattle.rows.specs.Search.{Deciding}
 use Rattle.rows.proofs.TableRows.{row-none, row-above, any-row, next-small}
 use Rattle.codes.specs.Codes.{codeOf}
 use Rattle.state.specs.declared.State.{State}
-use Rattle.state.specs.State.{labelAt, entryAt, placeAt}
+use Rattle.state.specs.State.{noPlaces, labelAt, entryAt, placeAt, ofHandler}
 use Rattle.state.specs.Bytes.{stateOf, withDepth, withPlace, afterResult}
-use Rattle.ticks.specs.Tick.{rowOf, Ticked, ticked, stopped, moved, pushed, tickBy, tick}
-use Rattle.ticks.specs.Parts.{Stands, topOf, TopHome, TopReturn, TopNumbered, TopCalls, TopPlain, beneath, bitOf, after, stepOf, Steps}
+use Rattle.ticks.specs.Tick.{rowOf, Ticked, ticked, stopped, moved, full, pushed, popped, tickBy, tick}
+use Rattle.ticks.specs.Parts.{Stands, topOf, TopHome, TopReturn, TopBack, TopNumbered, TopCalls, TopPlain, beneath, bitOf, after, stepOf, Steps}
 use Rattle.ticks.proofs.Depths.{Deep, deep-told}
 
 -- ---- what is answered and left, by what the tick is
@@ -135,8 +135,16 @@ module _ (b : List ℕ) (s : State) (y : Stands b s) where
     tick-high : lastLabel b < l → tick i s w ≡ stopped 18
     tick-high h = tick-as noLabel (label-above b l h) ∙ ap (moved 0 0 s (s .depth - 1) (s .depth) (s .places) (s .bits)) (row-above b l w _ h)
 
-    tick-back : l ≡ 1 → tick i s w ≡ moved 0 3 s (s .depth - 2) (s .depth - 1) (set (s .places) (s .depth - 1) 0) (s .bits) (beneath i s w)
-    tick-back e = tick-as returnLabel (is-return e)
+    tick-return : l ≡ 1 → tick i s w ≡ popped i s w 0 (s .bits) (leb (s .depth) 1)
+    tick-return e = tick-as returnLabel (is-return e)
+
+    tick-back : l ≡ 1 → 2 ≤ s .depth
+        → tick i s w ≡ moved 0 3 s (s .depth - 2) (s .depth - 1) (set (s .places) (s .depth - 1) 0) (s .bits) (beneath i s w)
+    tick-back e two = tick-return e ∙ ap (popped i s w 0 (s .bits)) (lt-leb (s .depth) 1 two)
+
+    -- the handler's own return
+    tick-last : l ≡ 1 → s .depth ≤ 1 → tick i s w ≡ ticked 0 3 (record { size = s .size; depth = 1; places = set (s .places) 0 0; bits = s .bits })
+    tick-last e one = tick-return e ∙ ap (popped i s w 0 (s .bits)) (le-leb (s .depth) 1 one)
 
     by-call : (z : Label) (bs : Results) (k : ℕ) → 1 ≤ k → k ≤ 2
         → tickBy i s w l z bs k ≡ pushed i s (z .mask) (codeOf k (z .called)) (z .called) bs (leb (s .size) (s .depth))
@@ -149,22 +157,12 @@ module _ (b : List ℕ) (s : State) (y : Stands b s) where
         → tick i s w ≡ pushed i s (x .mask) (codeOf (x .kind) (x .called)) (x .called) bits (leb (s .size) (s .depth))
     tick-call h k = tick-is ∙ by-call x bits (x .kind) h k
 
+    pub tick-full : 1 ≤ x .kind → x .kind ≤ 2 → s .size ≤ s .depth → tick i s w ≡ full i s (x .mask) bits
+    tick-full h k f = tick-call h k ∙ ap (pushed i s (x .mask) _ (x .called) bits) (le-leb (s .size) (s .depth) f)
+
     tick-home : l ≡ 0
         → tick i s w ≡ ticked 0 4 (record { size = s .size; depth = s .depth; places = set (s .places) (s .depth - 1) (entryAt i 1); bits = s .bits })
     tick-home e = tick-as homeLabel (is-home e)
-
-    -- at depth 1 no label lies beneath a return, and label 1 has no row
-    pub beneath-none : l ≡ 1 → s .depth ≤ 1 → beneath i s w ≡ missing
-    beneath-none e h =
-        let d : s .depth - 2 ≡ s .depth - 1 = omega arith in
-        ap (λ (j : ℕ). rowOf i (s .bits) (placeAt s j) w) d ∙ ap (λ (j : ℕ). rowOf i (s .bits) j w) e ∙ row-none b 1 w _ (omega arith)
-
-    back-two : (u : ℕ) → l ≡ 1 → beneath i s w ≡ found u → 2 ≤ s .depth
-    back-two u e q = go (split 1 (s .depth))
-      where
-        go : (1 < s .depth) ⊎ (s .depth ≤ 1) → 2 ≤ s .depth
-        go (inl h) = h
-        go (inr h) = let f : beneath i s w ≡ missing = beneath-none e h in let z : _≡_ {A = ℕ} 0 1 = cc in absurd (omega arith)
 
     -- ---- every finished tick leaves a depth of 1 to Σ
     moved-deep : (m code k d : ℕ) (ps : List ℕ) (bs : Results) (f : Found) → ((u : ℕ) → f ≡ found u → (1 ≤ d) × (d ≤ s .size))
@@ -172,10 +170,24 @@ module _ (b : List ℕ) (s : State) (y : Stands b s) where
     moved-deep m code k d ps bs (found u) h = record { some = h u refl .0; most = h u refl .1; small = deep .small }
     moved-deep m code k d ps bs missing h = tt
 
+    full-deep : (m : ℕ) (bs : Results) → Kept (full i s m bs)
+    full-deep m bs = go (eqb (i .handler) 0 || ofHandler i (placeAt s 0))
+      where
+        go : (t : Bool) → Kept (pick t (stopped 17)
+            (ticked m 96 (record { size = s .size; depth = 1; places = set noPlaces 0 (entryAt i (i .handler)); bits = cleared (i .handler) bs })))
+        go true = tt
+        go false = record { some = omega arith; most = omega (arith, deep .some, deep .most); small = deep .small }
+
     pushed-deep : (m code h : ℕ) (bs : Results) (t : Bool) → leb (s .size) (s .depth) ≡ t → Kept (pushed i s m code h bs t)
-    pushed-deep m code h bs true e = tt
+    pushed-deep m code h bs true e = full-deep m bs
     pushed-deep m code h bs false e =
         record { some = omega arith; most = omega (arith, leb-false (s .size) (s .depth) e); small = deep .small }
+
+    popped-deep : (m : ℕ) (bs : Results) (t : Bool) → leb (s .depth) 1 ≡ t → Kept (popped i s w m bs t)
+    popped-deep m bs true e = record { some = omega arith; most = omega (arith, deep .some, deep .most); small = deep .small }
+    popped-deep m bs false e =
+        let two : 1 < s .depth = leb-false (s .depth) 1 e in
+        moved-deep m 3 _ _ _ bs (rowOf i bs (placeAt s (s .depth - 2)) w) (λ u q. (omega arith, omega (arith, deep .most)))
 
     pub tick-deep : Kept (tick i s w)
     tick-deep = go (x .kind) refl (label-values b l .kinds)
@@ -188,9 +200,7 @@ module _ (b : List ℕ) (s : State) (y : Stands b s) where
         go (suc zero) e h = subst Kept (sym (tick-call (omega arith) (omega arith))) (pushed-deep _ _ _ bits (leb (s .size) (s .depth)) refl)
         go (suc (suc zero)) e h = subst Kept (sym (tick-call (omega arith) (omega arith))) (pushed-deep _ _ _ bits (leb (s .size) (s .depth)) refl)
         go (suc (suc (suc zero))) e h =
-            subst Kept (sym (tick-back (return-one e)))
-            (moved-deep _ _ _ _ _ _ (beneath i s w)
-            (λ u q. let two : 2 ≤ s .depth = back-two u (return-one e) q in (omega arith, omega (arith, deep .most))))
+            subst Kept (sym (tick-return (return-one e))) (popped-deep 0 (s .bits) (leb (s .depth) 1) refl)
         go (suc (suc (suc (suc zero)))) e h =
             subst Kept (sym (tick-home (label-values b l .four (omega arith)))) (record { some = deep .some; most = deep .most; small = deep .small })
         go (suc (suc (suc (suc (suc k))))) e h = absurd (omega arith)
@@ -210,11 +220,6 @@ module _ (b before : List ℕ) (w : ℕ) where
   module _ (y : TopCalls b s) where
     abbrev caller : Label
     caller = labelOf b (topOf s)
-
-    pub call-full : s .size ≤ s .depth → Steps b before w (record { number = 17; mask = 0; code = 0 }) before
-    call-full f =
-        steps-stopped b before w 17
-        (tick-call b s (y .stands) w (y .low) (y .high) ∙ ap (pushed (tableImage b) s (caller .mask) _ (caller .called) _) (le-leb (s .size) (s .depth) f))
 
     pub call-steps : (d : ℕ) → d ≡ s .depth → d < s .size → (l : ℕ) → l ≡ topOf s → (z : declared.Label) → asLabel z ≡ labelOf b l
         → (n : ℕ) → n ≡ entryOf b (z .called) → (g : ℕ) → g ≡ codeOf (z .kind) (z .called)
@@ -247,7 +252,8 @@ module _ (b before : List ℕ) (w : ℕ) where
         (ap (λ (j : ℕ). j + 1) is ∙ add-one (s .depth)) in
         rw (m, code)
         (steps-ticked b before w (caller .mask) (codeOf (caller .kind) (caller .called)) t bytes
-        (tick-call b s (y .stands) w (y .low) (y .high) ∙ ap (pushed (tableImage b) s (caller .mask) _ (caller .called) _) (lt-leb (s .size) (s .depth) (omega arith))) left)
+        (tick-call b s (y .stands) w (y .low) (y .high)
+        ∙ ap (pushed (tableImage b) s (caller .mask) _ (caller .called) _) (lt-leb (s .size) (s .depth) (omega arith))) left)
 
   -- where a row leads, as the number that was found
   module _ (n : ℕ) (f : Found) (e : n ≡ nextOf f) where
@@ -268,7 +274,14 @@ module _ (b before : List ℕ) (w : ℕ) where
   pub high-stop : (y : TopNumbered b s) (l : ℕ) → l ≡ topOf s → lastLabel b < l → (r : Stepped) → r ≡ stepOf (stopped 18) → Steps b before w r before
   high-stop y l at h r e = rw e (steps-stopped b before w 18 (tick-high b s (y .stands) w (omega arith)))
 
-  module _ (y : TopReturn b s) (n : ℕ) (e : n ≡ nextOf (beneath (tableImage b) s w)) where
+  pub last-steps : TopReturn b s → (d : ℕ) → d ≡ s .depth → d < 2 → (bytes : List ℕ) → stateOf bytes ≡ withPlace s 0 0
+      → Steps b before w (record { number = 0; mask = 0; code = 3 }) bytes
+  last-steps y d is h bytes e =
+      let one : s .depth ≡ 1 = omega (arith, depth-some (y .stands)) in
+      steps-ticked b before w 0 3 _ bytes (tick-last b s (y .stands) w (y .label) (omega arith))
+      (e ∙ ap (λ (n : ℕ). record { size = s .size; depth = n; places = set (s .places) 0 0; bits = s .bits }) one)
+
+  module _ (y : TopBack b s) (n : ℕ) (e : n ≡ nextOf (beneath (tableImage b) s w)) where
     abbrev under : Found
     under = beneath (tableImage b) s w
 
@@ -276,17 +289,15 @@ module _ (b before : List ℕ) (w : ℕ) where
     back-stop bytes h r q =
         rw q
         (steps-stopped b before w 18
-        (tick-back b s (y .stands) w (y .label) ∙ ap (moved 0 3 s _ _ _ _) (none-found n under e (λ u p. next-small b bytes _ w _ u p) h)))
-
-    pub back-deep : n < 256 → 2 ≤ s .depth
-    back-deep h = back-two b s (y .stands) w n (y .label) (one-found n under e h)
+        (tick-back b s (y .top .stands) w (y .top .label) (y .deep) ∙ ap (moved 0 3 s _ _ _ _) (none-found n under e (λ u p. next-small b bytes _ w _ u p) h)))
 
     pub back-steps : n < 256 → (d k : ℕ) → d ≡ s .depth - 1 → k ≡ s .depth - 2
         → (first second bytes : List ℕ) → stateOf first ≡ withPlace s d 0 → stateOf second ≡ withPlace (stateOf first) k n
         → stateOf bytes ≡ withDepth (stateOf second) d
         → Steps b before w (record { number = 0; mask = 0; code = 3 }) bytes
     back-steps h d k q r first second bytes e₁ e₂ e₃ =
-        steps-ticked b before w 0 3 _ bytes (tick-back b s (y .stands) w (y .label) ∙ ap (moved 0 3 s _ _ _ _) (one-found n under e h))
+        steps-ticked b before w 0 3 _ bytes
+        (tick-back b s (y .top .stands) w (y .top .label) (y .deep) ∙ ap (moved 0 3 s _ _ _ _) (one-found n under e h))
         (e₃ ∙ ap₂ withDepth (e₂ ∙ ap₂ (λ (u : State) (j : ℕ). withPlace u j n) (e₁ ∙ ap (λ (j : ℕ). withPlace s j 0) q) r) q)
 
   -- l is the top, and n where its first row leads, whatever the bit
@@ -352,29 +363,25 @@ module _ (b : List ℕ) (l : ℕ) (z : declared.Label) (read : asLabel z ≡ lab
       go (no k) = record { label = g; none = λ _ m. k (kind ∙ m); some = λ m. absurd (m (bit-none k)) }
 
 -- ---- where the label beneath a return leads
-module _ (b : List ℕ) (s : State) (y : TopReturn b s) (w : ℕ) where
-  pub beneath-first : (d : ℕ) → d ≡ s .depth → d < 2 → 256 ≡ nextOf (beneath (tableImage b) s w)
-  beneath-first d e h = sym (ap nextOf (beneath-none b s (y .stands) w (y .label) (omega arith)))
+module _ (b : List ℕ) (s : State) (w l : ℕ) (at : l ≡ placeAt s (s .depth - 2)) where
+  leads : (bit : ℕ) → bit ≡ pick (resultOf (labelAt (tableImage b) l .called) (s .bits)) 1 0
+      → firstRow l w bit (tableImage b .rows) ≡ beneath (tableImage b) s w
+  leads bit e =
+      ap (λ (k : ℕ). firstRow l w k (tableImage b .rows)) e ∙ ap (λ (k : ℕ). rowOf (tableImage b) (s .bits) k w) at
 
-  module _ (l : ℕ) (at : l ≡ placeAt s (s .depth - 2)) where
-    leads : (bit : ℕ) → bit ≡ pick (resultOf (labelAt (tableImage b) l .called) (s .bits)) 1 0
-        → firstRow l w bit (tableImage b .rows) ≡ beneath (tableImage b) s w
-    leads bit e =
-        ap (λ (k : ℕ). firstRow l w k (tableImage b .rows)) e ∙ ap (λ (k : ℕ). rowOf (tableImage b) (s .bits) k w) at
+  pub beneath-low : l < 2 → 256 ≡ nextOf (beneath (tableImage b) s w)
+  beneath-low h = ap nextOf (sym (row-none b l w _ h) ∙ leads _ refl)
 
-    pub beneath-low : l < 2 → 256 ≡ nextOf (beneath (tableImage b) s w)
-    beneath-low h = ap nextOf (sym (row-none b l w _ h) ∙ leads _ refl)
+  pub beneath-high : lastLabel b < l → 256 ≡ nextOf (beneath (tableImage b) s w)
+  beneath-high h = ap nextOf (sym (row-above b l w _ h) ∙ leads _ refl)
 
-    pub beneath-high : lastLabel b < l → 256 ≡ nextOf (beneath (tableImage b) s w)
-    beneath-high h = ap nextOf (sym (row-above b l w _ h) ∙ leads _ refl)
+  pub beneath-row : Numbered b l → (z : declared.Label) → asLabel z ≡ labelOf b l → (bit : ℕ) → bit ≡ bitOf (z .kind) (z .called) (s .bits)
+      → (n : ℕ) → n ≡ nextOf (firstRow l w bit (tableImage b .rows)) → n ≡ nextOf (beneath (tableImage b) s w)
+  beneath-row g z read bit e n q = q ∙ ap nextOf (go (ℕ-discrete (z .kind) 2))
+    where
+      called : z .called ≡ labelAt (tableImage b) l .called
+      called = ap (λ (k : Label). k .called) (read ∙ sym (label-at b l))
 
-    pub beneath-row : Numbered b l → (z : declared.Label) → asLabel z ≡ labelOf b l → (bit : ℕ) → bit ≡ bitOf (z .kind) (z .called) (s .bits)
-        → (n : ℕ) → n ≡ nextOf (firstRow l w bit (tableImage b .rows)) → n ≡ nextOf (beneath (tableImage b) s w)
-    beneath-row g z read bit e n q = q ∙ ap nextOf (go (ℕ-discrete (z .kind) 2))
-      where
-        called : z .called ≡ labelAt (tableImage b) l .called
-        called = ap (λ (k : Label). k .called) (read ∙ sym (label-at b l))
-
-        go : Dec (z .kind ≡ 2) → firstRow l w bit (tableImage b .rows) ≡ beneath (tableImage b) s w
-        go (yes k) = leads bit (bit-called b l z read (s .bits) bit e k ∙ ap (λ (h : ℕ). pick (resultOf h (s .bits)) 1 0) called)
-        go (no k) = any-row b l w bit _ (λ m. k (ap (λ (x : Label). x .kind) read ∙ m)) (g .low) (g .high) ∙ leads _ refl
+      go : Dec (z .kind ≡ 2) → firstRow l w bit (tableImage b .rows) ≡ beneath (tableImage b) s w
+      go (yes k) = leads bit (bit-called b l z read (s .bits) bit e k ∙ ap (λ (h : ℕ). pick (resultOf h (s .bits)) 1 0) called)
+      go (no k) = any-row b l w bit _ (λ m. k (ap (λ (x : Label). x .kind) read ∙ m)) (g .low) (g .high) ∙ leads _ refl

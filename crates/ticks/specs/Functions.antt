@@ -1,16 +1,16 @@
 -- A call leaves the bit of the scheme called 0, and a function's label takes its row for bit 0 if nothing writes 1 to that bit between its call
 -- and its return: said of the machine's ticks, on any accepted image.
-use Prim.Native.Nat.{ℕ, suc, _-_}
+use Prim.Native.Nat.{ℕ, suc, _-_, _≤_}
 use mathlib.Core.Bool.{Bool, true, false, _&&_}
 use mathlib.Core.Path.{_≡_}
 use mathlib.Core.List.{List}
 use lib.Dec.{leb, eqb}
 use lib.ListN.{length, set}
 use Rattle.lists.specs.Pick.{pick}
-use Rattle.bits.specs.Results.{resultOf}
+use Rattle.bits.specs.Results.{resultOf, withResult}
 use Rattle.frames.specs.Frame.{contents}
 use Rattle.frames.specs.Verdict.{fine}
-use Rattle.image.specs.Image.{Image}
+use Rattle.image.specs.Image.{Image, Label}
 use Rattle.image.specs.Decode.{decoded}
 use Rattle.image.specs.Check.{imageVerdict}
 use Rattle.rows.specs.Rows.{Found, firstRow}
@@ -29,6 +29,20 @@ CallClears =
     (i : Image) (s : State) → let x = labelAt i (topOf s) in isCall x ≡ true → (w m code : ℕ) (t : State) → tick i s w ≡ ticked m code t
     → resultOf (pick (findsFull i s) (i .handler) (x .called)) (t .bits) ≡ false
 
+-- a drop emits the caller's mask with code 60 hexadecimal and leaves one scheme open; the handler's bit is then 0, and every other bit, that of
+-- the scheme called too, is as the caller's result left it
+pub record Drop (i : Image) (x : Label) (s : State) (m code : ℕ) (t : State) : Type 0 where
+  pub mask : m ≡ x .mask
+  pub coded : code ≡ 96
+  pub alone : t .depth ≡ 1
+  pub cleared : resultOf (i .handler) (t .bits) ≡ false
+  pub kept : (h : ℕ) → 1 ≤ h → (h ≡ i .handler → ⊥) → resultOf h (t .bits) ≡ resultOf h (withResult (x .result) (x .owner) (s .bits))
+
+unfoldable pub Drops : Type 0
+Drops =
+    (i : Image) (s : State) → findsFull i s ≡ true → (w m code : ℕ) (t : State) → tick i s w ≡ ticked m code t
+    → Drop i (labelAt i (topOf s)) s m code t
+
 -- the tick on s writes 1 to the bit of scheme h: it is made at a label of owner h with result 2
 abbrev pub writesOne : Image → ℕ → State → Bool
 writesOne i h s = eqb (labelAt i (topOf s) .owner) h && eqb (labelAt i (topOf s) .result) 2
@@ -43,7 +57,7 @@ pub data Unwritten (i : Image) (h d : ℕ) : State → State → Type 0 where
   more : (w : ℕ) {s t u : State} {m code : ℕ} → tick i s w ≡ ticked m code t → findsFull i s ≡ false → returnsAt i d s ≡ false
       → writesOne i h s ≡ false → Unwritten i h d t u → Unwritten i h d s u
 
--- a return: the top is dropped, and the label beneath goes where its row leads, or there is none
+-- a return: the top is taken off, and the label beneath goes where its row leads, or there is none
 abbrev pub returned : State → Found → Ticked
 returned s row = moved 0 3 s (s .depth - 2) (s .depth - 1) (set (s .places) (s .depth - 1) 0) (s .bits) row
 

@@ -1,6 +1,6 @@
 -- What the functions of a tick on a prepared table and on the fifty bytes of a state ask and promise.
 use Prim.Native.Nat.{ℕ, _-_, _≤_}
-use mathlib.Core.Bool.{false}
+use mathlib.Core.Bool.{Bool, false, _||_}
 use mathlib.Core.Path.{_≡_}
 use mathlib.Core.List.{List}
 use lib.Dec.{eqb}
@@ -12,7 +12,7 @@ use Rattle.tables.specs.Table.{Whole, labelOf, tableImage}
 use Rattle.tables.specs.Labels.{Numbered}
 use Rattle.rows.specs.Rows.{Found}
 use Rattle.state.specs.declared.State.{State}
-use Rattle.state.specs.State.{placeAt, badDepth}
+use Rattle.state.specs.State.{placeAt, ofHandler, badDepth}
 use Rattle.state.specs.Bytes.{stateOf}
 use Rattle.ticks.specs.declared.Stepped.{Stepped}
 use Rattle.ticks.specs.Tick.{rowOf, Ticked, ticked, stopped, tick}
@@ -42,6 +42,11 @@ pub record TopReturn (b : List ℕ) (s : State) : Type 0 where
   pub stands : Stands b s
   pub label : topOf s ≡ 1
 
+-- a return that has a label beneath it
+pub record TopBack (b : List ℕ) (s : State) : Type 0 where
+  pub top : TopReturn b s
+  pub deep : 2 ≤ s .depth
+
 pub record TopNumbered (b : List ℕ) (s : State) : Type 0 where
   pub stands : Stands b s
   pub low : 2 ≤ topOf s
@@ -53,10 +58,19 @@ pub record TopCalls (b : List ℕ) (s : State) : Type 0 where
   pub low : 1 ≤ topKind b s
   pub high : topKind b s ≤ 2
 
+-- a call with no place free
+pub record TopFull (b : List ℕ) (s : State) : Type 0 where
+  pub calls : TopCalls b s
+  pub full : s .size ≤ s .depth
+
 pub record TopPlain (b : List ℕ) (s : State) : Type 0 where
   pub stands : Stands b s
   pub label : Numbered b (topOf s)
   pub kind : topKind b s ≡ 0
+
+-- a full stack is kept: there is no handler, or it is at the bottom
+abbrev pub keepsFull : Image → State → Bool
+keepsFull i s = eqb (i .handler) 0 || ofHandler i (placeAt s 0)
 
 -- where the label beneath the top leads
 abbrev pub beneath : Image → State → ℕ → Found

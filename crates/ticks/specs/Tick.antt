@@ -31,13 +31,13 @@ abbrev pub full : Image → State → ℕ → Results → Ticked
 full i s m b = pick (eqb (i .handler) 0 || ofHandler i (placeAt s 0)) (stopped 17)
     (ticked m 96 (record { size = s .size; depth = 1; places = set noPlaces 0 (entryAt i (i .handler)); bits = cleared (i .handler) b }))
 
--- the entry of scheme h is put above the top and the bit of h cleared
+-- a call of scheme h, at depth Σ as above: else the entry of h is put above the top and the bit of h cleared
 abbrev pub pushed : Image → State → ℕ → ℕ → ℕ → Results → Bool → Ticked
 pushed i s m code h b true = full i s m b
 pushed i s m code h b false =
     ticked m code (record { size = s .size; depth = suc (s .depth); places = set (s .places) (s .depth) (entryAt i h); bits = cleared h b })
 
--- a return: the top is dropped and the label beneath takes its row; at depth 1, where the handler ends, label 0 follows
+-- a return: the top is taken off and the label beneath takes its row; at depth 1, to which a handler brings it, label 0 follows
 abbrev pub popped : Image → State → ℕ → ℕ → Results → Bool → Ticked
 popped i s w m b true = moved m 3 s 0 1 (s .places) b (found 0)
 popped i s w m b false =

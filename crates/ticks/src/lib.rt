@@ -1,4 +1,5 @@
 // One tick of the stack machine, on a prepared table and the fifty bytes of a state.
+mod full;
 mod ticks;
 
 pub use ticks::tick_on;

@@ -1,5 +1,6 @@
 // One tick on a prepared table and the fifty bytes of a state, in place.
 use super::Stepped;
+use crate::full::tick_full;
 use codes::code_of;
 use rows::next_row;
 use state::depth_of;
@@ -18,7 +19,7 @@ ghost use Rattle.image.specs.Decode.{schemeCount};
 ghost use Rattle.tables.specs.Table.{tableImage};
 ghost use Rattle.state.specs.Bytes.{stateOf};
 ghost use Rattle.ticks.specs.Tick.{stopped};
-ghost use Rattle.ticks.specs.Parts.{Stands, Header, TopNumbered, TopCalls, TopPlain, TopReturn, TopHome, beneath, bitOf, stepOf, Steps};
+ghost use Rattle.ticks.specs.Parts.{Stands, Header, TopNumbered, TopCalls, TopPlain, TopReturn, TopBack, TopHome, beneath, bitOf, stepOf, Steps};
 
 // The bit that decides among the rows of a label: the result of the scheme that it calls, where that is a function, else 2.
 fn bit_of(bytes: &[u8; 50], kind: u8, called: u8) -> u8
@@ -63,17 +64,13 @@ fn tick_plain(table: &[u8], schemes: u8, bytes: &mut [u8; 50], word: u16) -> Ste
     }
 }
 
-// Where the label beneath the top leads, or 256 where there is no such label or no row of it matches.
+// Where the label beneath the top leads, or 256 where no row of it matches.
 fn next_beneath(table: &[u8], schemes: u8, last: u8, bytes: &[u8; 50], word: u16) -> u16
-    requires { ⌜ TopReturn (now table) (stateOf (now bytes)) ⌝ }
+    requires { ⌜ TopBack (now table) (stateOf (now bytes)) ⌝ }
     requires { ⌜ Header (now table) schemes last ⌝ }
     ensures { λ r. ⌜ r ≡ nextOf (beneath (tableImage (now (table .entry))) (stateOf (now (bytes .entry))) word) ⌝ }
 {
-    let depth = depth_of(bytes);
-    if depth < 2 {
-        return 256;
-    }
-    let l = place_of(bytes, (depth as usize) - 2);
+    let l = place_of(bytes, (depth_of(bytes) as usize) - 2);
     if l < 2 {
         return 256;
     }
@@ -85,17 +82,25 @@ fn next_beneath(table: &[u8], schemes: u8, last: u8, bytes: &[u8; 50], word: u16
     next_row(table, schemes, l as usize, word, bit)
 }
 
-// A return: the top is dropped, and the label beneath takes its row.
+// A return: the top is dropped, and the label beneath takes its row; at depth 1, where the handler ends, label 0 follows.
 fn tick_back(table: &[u8], schemes: u8, last: u8, bytes: &mut [u8; 50], word: u16) -> Stepped
     requires { ⌜ TopReturn (now table) (stateOf (now bytes)) ⌝ }
     requires { ⌜ Header (now table) schemes last ⌝ }
     ensures { λ r. ⌜ Steps (now (table .entry)) (now (bytes .entry)) word r (now (bytes .exit)) ⌝ }
 {
+    let depth = depth_of(bytes);
+    if depth < 2 {
+        put_place(bytes, 0, 0);
+        return Stepped {
+            number: 0,
+            mask: 0,
+            code: 3,
+        };
+    }
     let next = next_beneath(table, schemes, last, bytes, word);
     if 256 <= next {
         return no_row();
     }
-    let depth = depth_of(bytes);
     put_place(bytes, (depth as usize) - 1, 0);
     put_place(bytes, (depth as usize) - 2, next as u8);
     put_depth(bytes, depth - 1);
@@ -106,8 +111,7 @@ fn tick_back(table: &[u8], schemes: u8, last: u8, bytes: &mut [u8; 50], word: u1
     }
 }
 
-// A call: the entry of the called scheme goes above the top, and its bit is cleared after the caller's result is written; at a full stack
-// nothing is done.
+// A call: the entry of the called scheme goes above the top, and its bit is cleared after the caller's result is written.
 fn tick_call(table: &[u8], schemes: u8, bytes: &mut [u8; 50], word: u16) -> Stepped
     requires { ⌜ TopCalls (now table) (stateOf (now bytes)) ⌝ }
     requires { ⌜ schemes ≡ schemeCount (now table) ⌝ }
@@ -115,11 +119,7 @@ fn tick_call(table: &[u8], schemes: u8, bytes: &mut [u8; 50], word: u16) -> Step
 {
     let depth = depth_of(bytes);
     if size_of(bytes) <= depth {
-        return Stepped {
-            number: 17,
-            mask: 0,
-            code: 0,
-        };
+        return tick_full(table, schemes, bytes, word);
     }
     let label = label_read(
         table,

@@ -128,7 +128,8 @@ module _ (c : Chart) where
       → imageText (table c) ≡ parts highest (own + 1) n
   unfolding imageText imageFrames table
   image-parts highest own n eh eo en =
-      let h : headerText (length (table c .entries)) (length (table c .labels) - 1) (length (table c .rows)) (handler c) ≡ headerText highest (own + 1) n (handler c) =
+      let h : headerText (length (table c .entries)) (length (table c .labels) - 1) (length (table c .rows)) (handler c)
+      ≡ headerText highest (own + 1) n (handler c) =
       ap (λ (k : ℕ). headerText k (length (table c .labels) - 1) (length (table c .rows)) (handler c)) (length-entries c ∙ sym eh)
       ∙ ap₂ (λ (k m : ℕ). headerText highest k m (handler c)) (omega (arith, length-labels c)) (sym en) in
       concat-cons frameText _ _
@@ -233,25 +234,26 @@ module _ (c : Chart) (highest own n : ℕ) (s : Sizes c highest own n) where
   pub rows-put : (row end : ℕ) → end ≡ row + length (upTo (nodeRowsText c) (size c)) → (end - row) / 23 ≡ n
   rows-put row end e = omega (arith, rows-long c, s .rowed)
 
-  module _ (out o₁ o₂ o₃ o₄ o₅ : List ℕ) (end m : ℕ) (room : 23 * (3 + highest + own + n) ≤ length out) (em : m ≡ n) where
+  module _ (out o₁ o₂ o₃ o₄ o₅ : List ℕ) (end m h : ℕ) (room : 23 * (3 + highest + own + n) ≤ length out) (em : m ≡ n)
+      (eh : h ≡ handler c) where
     pub image-put : o₁ ≡ written out 23 (upTo (entryText c) highest) → o₂ ≡ written o₁ (23 + 23 * highest) fixedText
         → o₃ ≡ written o₂ (23 + 23 * highest + 46) (upTo (nodeLabelText c) (size c))
         → Put o₃ (23 + 23 * highest + 46 + 23 * own) (upTo (nodeRowsText c) (size c)) end o₄
-        → o₅ ≡ written o₄ 0 (headerText highest (own + 1) m) → Put out 0 (imageText (table c)) end o₅
+        → o₅ ≡ written o₄ 0 (headerText highest (own + 1) m h) → Put out 0 (imageText (table c)) end o₅
     image-put e₁ e₂ e₃ put e₅ =
-        let a : length (headerText highest (own + 1) n) ≡ 23 =
-        length-frame (15 ∷ highest ∷ (own + 1) ∷ n / 256 ∷ n % 256 ∷ 0 ∷ 0 ∷ 0 ∷ 0 ∷ 0 ∷ []) refl in
+        let a : length (headerText highest (own + 1) n (handler c)) ≡ 23 =
+        length-frame (15 ∷ highest ∷ (own + 1) ∷ n / 256 ∷ n % 256 ∷ handler c ∷ 0 ∷ 0 ∷ 0 ∷ 0 ∷ []) refl in
         let b : length (upTo (entryText c) highest) ≡ 23 * highest = entries-long c highest in
         let d : length (upTo (nodeLabelText c) (size c)) ≡ 23 * own = labels-long c ∙ ap (λ (k : ℕ). 23 * k) (sym (s .owned)) in
         let e : length (upTo (nodeRowsText c) (size c)) ≡ 23 * n = rows-long c ∙ ap (λ (k : ℕ). 23 * k) (sym (s .rowed)) in
         record {
           ends = omega (arith, put .ends, image-long);
           holds =
-              chain out o₁ o₂ o₃ o₄ o₅ (headerText highest (own + 1) n) (upTo (entryText c) highest) fixedText
+              chain out o₁ o₂ o₃ o₄ o₅ (headerText highest (own + 1) n (handler c)) (upTo (entryText c) highest) fixedText
               (upTo (nodeLabelText c) (size c)) (upTo (nodeRowsText c) (size c))
               23 (23 + 23 * highest) (23 + 23 * highest + 46) (23 + 23 * highest + 46 + 23 * own)
               (omega arith) (omega arith) (omega (arith, fixed-long)) (omega arith) (omega (arith, fixed-long)) e₁ e₂ e₃ (put .holds)
-              (e₅ ∙ ap (λ (k : ℕ). written o₄ 0 (headerText highest (own + 1) k)) em)
+              (e₅ ∙ ap₂ (λ (k x : ℕ). written o₄ 0 (headerText highest (own + 1) k x)) em eh)
               ∙ ap (written out 0) (sym (image-parts c highest own n (s .schemed) (s .owned) (s .rowed)));
         }
 

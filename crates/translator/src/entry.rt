@@ -6,7 +6,7 @@ use frames::Answer;
 ghost use Rattle.frames.specs.Answer.{Lends};
 ghost use Rattle.translator.specs.Entry.{translate};
 
-// Refusals 1 to 10 and 16, else the number of characters. Nothing is written before every refusal is settled.
+// Refusals 1 to 10, 19 after 5, and 16, else the number of characters. Nothing is written before every refusal is settled.
 pub fn translate(text: &[u8], out: &mut [u8]) -> Answer
     ensures { λ r. ⌜ Lends (translate (now (text .entry)) (now (out .entry))) r (now (out .exit)) ⌝ }
 {

@@ -2,6 +2,7 @@
 use chart_rows::bound_rows;
 use chart_rows::count_rows;
 use chart_rows::note_nodes;
+use charts::handler_scheme;
 use frames::Answer;
 use frames::refused;
 use label_text::put_entries;
@@ -56,7 +57,8 @@ fn put_image(records: &[u8], notes: &[u8], highest: u8, own: usize, out: &mut [u
     put_labels(records, notes, out, first);
     let row = first + 23 * own;
     let end = put_rows(records, notes, out, row);
-    put_header(out, highest, (own + 1) as u8, (end - row) / 23);
+    let handler = handler_scheme(records);
+    put_header(out, highest, (own + 1) as u8, (end - row) / 23, handler);
     end
 }
 

@@ -9,7 +9,7 @@ use Rattle.bits.specs.Results.{Results, noResults, resultOf, withResult, cleare
 use Rattle.charts.specs.Chart.{Chart, scheme, argument, result, mask, handler, end}
 use Rattle.walk.specs.Stops.{start, Stop, plain, call, function, test, home, back, stopAt}
 use Rattle.walk.specs.Walk.{Tick, tick, Course, spent, ended, after, Performer, resume, calls, act, perform, drops}
-use Rattle.walk.specs.Walk.{then, walkFrom, walk}
+use Rattle.walk.specs.Walk.{carriedOn, walkFrom, walk}
 use Rattle.walk.specs.Unbounded as unbounded
 use Rattle.walk.proofs.Facts.{StopOf, Facts}
 use Rattle.walk.proofs.Views.{View, a-plain, a-call, a-function, a-home, a-back, a-begin, a-condition, view}
@@ -103,16 +103,16 @@ module _ (c : Chart) (facts : Facts c) where
   no-drop : (n : ℕ) → handler c ≡ 0 → (o : ℕ) → drops n c false o ≡ false
   no-drop n h o = rw h refl
 
-  then-ticks : (go : Bool → ℕ → List ℕ → Results → List Tick) (r : unbounded.Course) → Endless r → then go c (alike r) ≡ unbounded.ticksOf r
-  then-ticks go r (endless-spent ts) = refl
+  carried-ticks : (go : Bool → ℕ → List ℕ → Results → List Tick) (r : unbounded.Course) → Endless r → carriedOn go c (alike r) ≡ unbounded.ticksOf r
+  carried-ticks go r (endless-spent ts) = refl
 
   pub no-handler : handler c ≡ 0 → (n : ℕ) (ws : List ℕ) → walk n c ws ≡ unbounded.walk c ws
   unfolding walk walkFrom unbounded.walk unbounded.perform
   no-handler h n [] = refl
   no-handler h n (w ∷ ws) =
       let k : ℕ = suc (length ws) in
-      ap (then (walkFrom (length ws) n c) c) (alike-perform k c (drops n c false) (no-drop n h) 1 (end c 1) (w ∷ ws) noResults)
-      ∙ then-ticks (walkFrom (length ws) n c) (unbounded.perform k c 1 (end c 1) (w ∷ ws) noResults)
+      ap (carriedOn (walkFrom (length ws) n c) c) (alike-perform k c (drops n c false) (no-drop n h) 1 (end c 1) (w ∷ ws) noResults)
+      ∙ carried-ticks (walkFrom (length ws) n c) (unbounded.perform k c 1 (end c 1) (w ∷ ws) noResults)
       (endless k 1 (end c 1) (w ∷ ws) noResults (home-stop c facts))
 
   pub any-places : handler c ≡ 0 → (n m : ℕ) (ws : List ℕ) → walk n c ws ≡ walk m c ws

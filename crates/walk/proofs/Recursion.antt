@@ -11,7 +11,7 @@ use Rattle.bits.specs.Results.{Results, noResults, cleared}
 use Rattle.charts.specs.Chart.{Chart, handler, end}
 use Rattle.walk.specs.Stops.{start, Stop, plain, call, function, test, home, back, stopAt}
 use Rattle.walk.specs.Walk.{Tick, tick, Course, spent, ended, dropped, after, Performer, resume, calls, act, perform, drops}
-use Rattle.walk.specs.Walk.{then, walkFrom, walk}
+use Rattle.walk.specs.Walk.{carriedOn, walkFrom, walk}
 use Rattle.walk.proofs.Trace.{at, one, tickOf, resumedBy, resumed, returned, handling, called, movedBy, trace, atHome}
 
 -- ---- a scheme that has ended, or was dropped, leaves fewer than n words
@@ -139,7 +139,7 @@ module _ (n : ℕ) (c : Chart) where
     where
       go : (r : Course) → Shorter (length ws) r
           → ((f : Bool) (v : ℕ) (ws : List ℕ) (b : Results) → length ws ≤ k → walkFrom k n c f v ws b ≡ trace n c ws (at v [] b f))
-          → then (walkFrom k n c) c r ≡ onward [] f r
+          → carriedOn (walkFrom k n c) c r ≡ onward [] f r
       go (spent ts) s ih = refl
       go (ended ts w us d) s ih = ap (λ (xs : List Tick). ts ++ xs) (ih false (end c 1) us d (omega arith))
       go (dropped ts us d) s ih = ap (λ (xs : List Tick). ts ++ xs) (ih true (start c (handler c)) us d (omega arith))

@@ -73,15 +73,16 @@ abbrev pub drops : ℕ → Chart → Bool → ℕ → Bool
 drops n c first o = not first && not (eqb (handler c) 0) && eqb o n
 
 -- what follows the course of the first open scheme: after a drop the handler, which is then the first, and after the handler's End home
-abbrev pub then : (Bool → ℕ → List ℕ → Results → List Tick) → Chart → Course → List Tick
-then go c (spent ts) = ts
-then go c (ended ts w ws b) = ts ++ go false (end c 1) ws b
-then go c (dropped ts ws b) = ts ++ go true (start c (handler c)) ws b
+abbrev pub carriedOn : (Bool → ℕ → List ℕ → Results → List Tick) → Chart → Course → List Tick
+carriedOn go c (spent ts) = ts
+carriedOn go c (ended ts w ws b) = ts ++ go false (end c 1) ws b
+carriedOn go c (dropped ts ws b) = ts ++ go true (start c (handler c)) ws b
 
--- from stop v of the first open scheme on, which is the handler or scheme 1; k is at least the number of words
+-- with n places, from stop v of the first open scheme on, which is the handler where `first` is true and else scheme 1; k is at least the
+-- number of words
 unfoldable pub walkFrom : ℕ → ℕ → Chart → Bool → ℕ → List ℕ → Results → List Tick
 walkFrom zero n c first v ws b = []
-walkFrom (suc k) n c first v ws b = then (walkFrom k n c) c (perform (length ws) c (drops n c first) 1 v ws b)
+walkFrom (suc k) n c first v ws b = carriedOn (walkFrom k n c) c (perform (length ws) c (drops n c first) 1 v ws b)
 
 -- with n places, from the home tick on, every result bit 0
 unfoldable pub walk : ℕ → Chart → List ℕ → List Tick

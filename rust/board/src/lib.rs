@@ -211,6 +211,7 @@ impl Library for Board<'_> {
             (2, scheme) => Meaning::FunctionCall(scheme),
             (3, 0) => Meaning::Return,
             (4, 0) => Meaning::Home,
+            (5, 0) => Meaning::Drop,
             (255, 0) => Meaning::Unknown,
             other => panic!("code {code:02X} stands for {other:?}"),
         }

@@ -180,6 +180,7 @@ impl Library for Proved {
             2 => Meaning::FunctionCall(called),
             3 => Meaning::Return,
             4 => Meaning::Home,
+            5 => Meaning::Drop,
             _ => Meaning::Unknown,
         }
     }

@@ -10,7 +10,7 @@ fn all_256_codes_have_the_meaning_that_the_reference_gives() {
     }
 }
 
-/// The tick kind as an image has it, 255 for none, and the scheme called, 0 for none.
+/// The tick kind as an image has it, 5 for a drop, 255 for none, and the scheme called, 0 for none.
 fn numbers(meaning: Meaning) -> (u8, u8) {
     match meaning {
         Meaning::Plain => (0, 0),
@@ -18,6 +18,7 @@ fn numbers(meaning: Meaning) -> (u8, u8) {
         Meaning::FunctionCall(scheme) => (2, scheme),
         Meaning::Return => (3, 0),
         Meaning::Home => (4, 0),
+        Meaning::Drop => (5, 0),
         Meaning::Unknown => (255, 0),
     }
 }

@@ -1,5 +1,5 @@
-//! Damage at every byte: each character of chart P, of its image and of the example charts, each byte of their frames
-//! with the sums right again, and each character of the largest image.
+//! Damage at every byte: each character of chart P, of a chart with a handler, of their images and of the example charts, each
+//! byte of their frames with the sums right again, and each character of the largest image.
 
 use std::fs;
 use std::path::Path;
@@ -20,7 +20,11 @@ fn hold_chart(text: &[u8]) {
 }
 
 fn hold_image(text: &[u8]) {
-    let state = fresh_state(3).expect("a good size");
+    (2..=3).for_each(|size| hold_run(text, size));
+}
+
+fn hold_run(text: &[u8], size: usize) {
+    let state = fresh_state(size).expect("a good size");
     let (mut masks, mut codes) = ([7; WORDS.len()], [7; WORDS.len()]);
     let wanted = entry::run(text, &state, &WORDS, &mut masks, &mut codes);
     let (mut given_masks, mut given_codes) = ([7; WORDS.len()], [7; WORDS.len()]);
@@ -65,14 +69,22 @@ fn any_character(_: u8) -> Vec<u8> {
     (0..=255).collect()
 }
 
+fn each_of_chart_and_image(records: &[Frame]) {
+    let image = translated(&text_of(records)).expect("a valid chart");
+    each_character(&text_of(records), any_character, hold_chart);
+    each_character(&image, any_character, hold_image);
+    each_byte(records, hold_chart);
+    each_byte(&frames_of(&image), hold_image);
+}
+
 #[test]
 fn every_byte_of_chart_p_and_its_image() {
-    let records = samples::chart_p();
-    let image = translated(&text_of(&records)).expect("a valid chart");
-    each_character(&text_of(&records), any_character, hold_chart);
-    each_character(&image, any_character, hold_image);
-    each_byte(&records, hold_chart);
-    each_byte(&frames_of(&image), hold_image);
+    each_of_chart_and_image(&samples::chart_p());
+}
+
+#[test]
+fn every_byte_of_a_chart_with_a_handler_and_its_image() {
+    each_of_chart_and_image(&samples::drawn_back());
 }
 
 #[test]

@@ -1,5 +1,5 @@
 //! Live runs and ticks of the proved library: on prepared tables they are runs and ticks, and each byte of chart P's table
-//! at each of its values is answered for as the reference does.
+//! at each of its values, with a handler and without, is answered for as the reference does.
 
 use fairleadow::{Library, Proved};
 use reference::compare::live_alike;
@@ -27,7 +27,17 @@ fn table_p() -> Vec<u8> {
     table
 }
 
-/// Fresh, deep in calls before a plain tick, before a return, and full.
+/// Chart P's table as it is, and with scheme 2 as the handler.
+fn tables_p() -> [Vec<u8>; 2] {
+    [0, 2].map(|handler| {
+        let mut table = table_p();
+        table[5] = handler;
+        table
+    })
+}
+
+/// Fresh, deep in calls before a plain tick, before a return, and full; then scheme 2 at the bottom before its return, alone, and
+/// full.
 fn starts() -> Vec<State> {
     let deep = |places: &[u8], size: u8| {
         let mut state = State { size, depth: places.len() as u8, ..State::NONE };
@@ -46,6 +56,9 @@ fn starts() -> Vec<State> {
         deep(&[2, 4, 4, 1], 32),
         deep(&full, 32),
         deep(&returning, 32),
+        deep(&[1], 1),
+        deep(&[3], 2),
+        deep(&[4, 4], 2),
     ]
 }
 
@@ -69,15 +82,16 @@ fn hold_ticks(table: &[u8], state: &State) {
 
 #[test]
 fn every_byte_of_the_table_of_chart_p_at_every_value() {
-    let whole = table_p();
     let starts = starts();
-    for at in 0..whole.len() {
-        let mut table = whole.clone();
-        for byte in 0..=255 {
-            table[at] = byte;
-            for state in &starts {
-                hold_run(&table, state);
-                hold_ticks(&table, state);
+    for whole in tables_p() {
+        for at in 0..whole.len() {
+            let mut table = whole.clone();
+            for byte in 0..=255 {
+                table[at] = byte;
+                for state in &starts {
+                    hold_run(&table, state);
+                    hold_ticks(&table, state);
+                }
             }
         }
     }
@@ -85,12 +99,13 @@ fn every_byte_of_the_table_of_chart_p_at_every_value() {
 
 #[test]
 fn every_length_of_the_table_of_chart_p() {
-    let mut bytes = table_p();
-    bytes.extend([0x12, 2, 0, 0, 0, 0, 2, 3, 0, 0].repeat(3));
-    for length in 0..=bytes.len() {
-        for state in &starts() {
-            hold_run(&bytes[..length], state);
-            hold_ticks(&bytes[..length], state);
+    for mut bytes in tables_p() {
+        bytes.extend([0x12, 2, 0, 0, 0, 0, 2, 3, 0, 0].repeat(3));
+        for length in 0..=bytes.len() {
+            for state in &starts() {
+                hold_run(&bytes[..length], state);
+                hold_ticks(&bytes[..length], state);
+            }
         }
     }
 }

@@ -14,6 +14,8 @@ use reference::samples;
 const MEMORY: usize = 65_536;
 const STACK: usize = 1 << 20;
 const FILL: u8 = 0xA5;
+/// The words of a run: so many that the chart with a handler is left before a drop.
+const WORDS: usize = 522;
 
 /// Runs a job on a filled stack and returns how many bytes of it were written to, from the top down.
 fn depth<T>(job: &mut T, run: extern "C" fn(&mut T)) -> usize {
@@ -140,19 +142,19 @@ run_job!(live_run, c::fairleadow_live_run);
 tick_job!(tick, c::fairleadow_tick);
 tick_job!(live_tick, c::fairleadow_live_tick);
 
-/// Large charts, those with the longest paths, slow ones, most of which are refused, and random ones.
+/// Large charts, those with the longest paths, slow ones, most of which are refused, one with a handler, and random ones.
 fn worst_charts() -> Vec<Vec<Frame>> {
     let samples = samples::named_charts().into_iter().map(|(_, records)| records);
     let random = (0..300).map(|seed| charts::chart(&mut Random::new(seed)));
-    samples.chain(random).collect()
+    samples.chain([samples::drawn_back()]).chain(random).collect()
 }
 
 fn ticks(ground: Vec<u8>) -> Ticks {
     let (mut index, mut count) = (0, 0);
     let mut state = c::State::NONE;
     unsafe { c::fairleadow_fresh(32, &mut state, &mut index, &mut count) };
-    let words = (0..500u16).map(|k| k.wrapping_mul(40_503)).collect();
-    Ticks { ground, state, words, masks: vec![0; 500], codes: vec![0; 500], number: 0 }
+    let words = (0..WORDS as u16).map(|k| k.wrapping_mul(40_503)).collect();
+    Ticks { ground, state, words, masks: vec![0; WORDS], codes: vec![0; WORDS], number: 0 }
 }
 
 /// Writes to 10,000 bytes of its stack.
@@ -193,7 +195,7 @@ fn deepest(
     run: extern "C" fn(&mut Ticks),
     tick: extern "C" fn(&mut Ticks),
 ) -> [usize; 2] {
-    let mut deepest = [0; 2];
+    let (mut deepest, mut drops) = ([0; 2], false);
     for ground in grounds {
         let mut job = ticks(ground.clone());
         deepest[0] = deepest[0].max(depth(&mut job, run));
@@ -201,10 +203,12 @@ fn deepest(
         // the state is deep in calls now where there are any
         deepest[1] = deepest[1].max(depth(&mut job, tick));
         assert!(matches!(job.number, 0 | 17));
+        drops |= job.codes[0] == 0x60;
         let mut job = ticks(job.ground);
         deepest[1] = deepest[1].max(depth(&mut job, tick));
         assert_eq!(job.number, 0);
     }
+    assert!(drops, "no tick dropped the stack");
     deepest
 }
 

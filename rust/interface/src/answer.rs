@@ -52,7 +52,7 @@ pub struct Refusal {
 }
 
 /// What each refusal is about, number 1 first, as include/fairleadow.h says it.
-const SENSES: [&str; 18] = [
+const SENSES: [&str; 19] = [
     "the length of the text or of the records",
     "a character other than 0-9, A-F and line feed",
     "the sum of a frame",
@@ -69,8 +69,9 @@ const SENSES: [&str; 18] = [
     "a stack size other than 1 to 32",
     "a state that does not fit the image",
     "an output buffer that is too short",
-    "a call when the stack is full",
+    "a call that finds the stack full, with no handler to drop to",
     "no row for the word",
+    "a handler's mark on scheme 1, or a second one",
 ];
 
 impl Refusal {
@@ -79,9 +80,9 @@ impl Refusal {
     /// ```
     /// use interface::Refusal;
     ///
-    /// let refusal = Refusal { number: 17, index: 0, count: 3 };
-    /// assert_eq!(refusal.sense(), "a call when the stack is full");
-    /// assert_eq!(refusal.to_string(), "refusal 17 after 3 ticks: a call when the stack is full");
+    /// let refusal = Refusal { number: 18, index: 0, count: 3 };
+    /// assert_eq!(refusal.sense(), "no row for the word");
+    /// assert_eq!(refusal.to_string(), "refusal 18 after 3 ticks: no row for the word");
     /// ```
     pub fn sense(&self) -> &'static str {
         let place = usize::from(self.number).checked_sub(1);
@@ -116,11 +117,11 @@ mod tests {
     #[test]
     fn every_refusal_has_a_sense_of_its_own() {
         let mut senses: Vec<_> =
-            (1..=18).map(|number| Refusal { number, index: 0, count: 0 }.sense()).collect();
+            (1..=19).map(|number| Refusal { number, index: 0, count: 0 }.sense()).collect();
         senses.sort_unstable();
         senses.dedup();
-        assert_eq!(senses.len(), 18);
-        for number in [0, 19, 255] {
+        assert_eq!(senses.len(), 19);
+        for number in [0, 20, 255] {
             let refusal = Refusal { number, index: 0, count: 0 };
             assert_eq!(refusal.sense(), "a number that is no refusal");
         }
@@ -129,7 +130,7 @@ mod tests {
     #[test]
     fn only_some_numbers_name_a_frame() {
         let named = |number: &u8| Refusal { number: *number, index: 9, count: 0 }.frame() == Some(9);
-        let numbers: Vec<u8> = (0..=19).filter(named).collect();
+        let numbers: Vec<u8> = (0..=20).filter(named).collect();
         assert_eq!(numbers, [2, 3, 4, 6, 7, 8, 9, 12, 13]);
     }
 }

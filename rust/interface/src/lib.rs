@@ -30,7 +30,8 @@ pub struct Ticked {
     pub code: u8,
 }
 
-/// What a tick's code stands for; a call has the scheme called, and Unknown is a code that no tick has.
+/// What a tick's code stands for; a call has the scheme called, a Drop is a call that finds the stack full and starts the
+/// handler instead, and Unknown is a code that no tick has.
 #[derive(Clone, Copy, Debug, PartialEq, Eq)]
 pub enum Meaning {
     Plain,
@@ -38,19 +39,20 @@ pub enum Meaning {
     FunctionCall(u8),
     Return,
     Home,
+    Drop,
     Unknown,
 }
 
-/// The entry points of paper 01, and those for a controller that keeps an image prepared. Counts are records, characters,
+/// The entry points of papers 01 and 02, and those for a controller that keeps an image prepared. Counts are records, characters,
 /// bytes of a table and ticks; an accepted image and a fresh state count 0.
 pub trait Library {
-    /// Chart lines to node records of ten bytes each. Tries 1 to 9 and 16; counts records.
+    /// Chart lines to node records of ten bytes each. Tries 1 to 9, with 19 after 5, and 16; counts records.
     fn read_chart(&self, text: &[u8], out: &mut [u8]) -> Answer;
 
-    /// Node records to chart lines. Tries 1, 4 to 9 and 16; counts characters.
+    /// Node records to chart lines. Tries 1, 4 to 9, with 19 after 5, and 16; counts characters.
     fn write_chart(&self, records: &[u8], out: &mut [u8]) -> Answer;
 
-    /// Chart lines to the image's lines. Tries 1 to 10 and 16; counts characters.
+    /// Chart lines to the image's lines. Tries 1 to 10, with 19 after 5, and 16; counts characters.
     fn translate(&self, text: &[u8], out: &mut [u8]) -> Answer;
 
     /// Whether an image is in order. Tries 1 to 3 and 11 to 13.

@@ -1,9 +1,10 @@
 //! An accepted chart as nodes, made of the records that the proved reader hands out.
 
-/// A node by its kind, with the fields that the kind uses. Nodes are named by their index.
+/// A node by its kind, with the fields that the kind uses. Nodes are named by their index. A Begin may mark its scheme as
+/// the handler, which is performed when the stack is full.
 #[derive(Clone, Copy, Debug, PartialEq, Eq)]
 pub enum Node {
-    Begin { scheme: u8, next: usize },
+    Begin { scheme: u8, handler: bool, next: usize },
     End { scheme: u8 },
     Operation { scheme: u8, called: u8, next: usize, result: u8, mask: u32 },
     Condition { scheme: u8, number: u8, next0: usize, next1: usize },
@@ -16,7 +17,7 @@ impl Node {
         let (scheme, argument) = (record[1], record[2]);
         let (next0, next1) = (usize::from(record[3]), usize::from(record[4]));
         match record[0] {
-            0 => Node::Begin { scheme, next: next0 },
+            0 => Node::Begin { scheme, handler: argument != 0, next: next0 },
             1 => Node::End { scheme },
             2 => {
                 let mask = u32::from_be_bytes([record[6], record[7], record[8], record[9]]);

@@ -104,7 +104,7 @@ fn call(plan: &Plan, coverage: Option<&Coverage>, at: usize) -> String {
         return String::new();
     }
     let begin = node_id(plan.marking.begin(scheme));
-    let taken = coverage.map(|coverage| coverage.node_taken(at));
+    let taken = coverage.map(|coverage| coverage.call_taken(at));
     format!("    {} -> {begin} [{}];\n", node_id(at), marks(&call_id(at), "call", taken))
 }
 

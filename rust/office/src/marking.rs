@@ -18,6 +18,12 @@ pub fn called(node: &Node) -> u8 {
     }
 }
 
+/// The scheme that is performed when the stack is full, 0 for none.
+pub fn handler(nodes: &[Node]) -> u8 {
+    let begin = nodes.iter().find(|node| matches!(node, Node::Begin { handler: true, .. }));
+    begin.map_or(0, Node::scheme)
+}
+
 /// How many schemes a chart has.
 pub fn schemes(nodes: &[Node]) -> u8 {
     nodes.iter().map(Node::scheme).max().unwrap_or(0)
@@ -29,7 +35,7 @@ fn position(nodes: &[Node], wanted: impl Fn(&Node) -> bool) -> usize {
 
 /// Whether the Begin of scheme 1 leads to this node.
 fn starts(nodes: &[Node], at: usize) -> bool {
-    nodes.iter().any(|node| matches!(node, Node::Begin { scheme: 1, next } if *next == at))
+    nodes.iter().any(|node| matches!(node, Node::Begin { scheme: 1, next, .. } if *next == at))
 }
 
 /// Whether a node has a label of its own, 2 or higher: operations, functions, the condition that scheme 1 begins with,
@@ -38,7 +44,7 @@ fn has_own_label(nodes: &[Node], at: usize) -> bool {
     match nodes[at] {
         Node::Operation { .. } | Node::Function { .. } => true,
         Node::Condition { scheme, .. } => scheme == 1 && starts(nodes, at),
-        Node::Begin { scheme, next } => scheme != 1 && matches!(nodes[next], Node::Condition { .. }),
+        Node::Begin { scheme, next, .. } => scheme != 1 && matches!(nodes[next], Node::Condition { .. }),
         Node::End { .. } => false,
     }
 }

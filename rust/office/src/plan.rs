@@ -34,6 +34,11 @@ impl Plan {
         marking::schemes(&self.nodes)
     }
 
+    /// The scheme that is performed when the stack is full, 0 for none.
+    pub fn handler(&self) -> u8 {
+        marking::handler(&self.nodes)
+    }
+
     /// How many arcs the chart has.
     pub fn arc_count(&self) -> usize {
         self.nodes.iter().map(|node| node.arcs().len()).sum()

@@ -2,7 +2,7 @@
 
 use crate::chart::Node;
 use crate::plan::Plan;
-use crate::trace::{Arc, Happening};
+use crate::trace::{Arc, Happening, Tick};
 
 /// What stands where a list is empty.
 pub const NONE: &str = "-";
@@ -74,12 +74,17 @@ impl Plan {
         ones.map(|scheme| self.names.scheme(scheme)).collect()
     }
 
-    pub fn happening(&self, happening: Happening) -> String {
-        match happening {
-            Happening::Plain => "plain".to_string(),
-            Happening::Return => "return".to_string(),
-            Happening::Home => "home".to_string(),
-            Happening::Call(scheme) => format!("call of {}", self.names.scheme(scheme)),
+    /// What a tick does. Which schemes a drop drops is told by those that are open.
+    pub fn happening(&self, tick: &Tick) -> String {
+        match (tick.happening(), tick.stack.len()) {
+            (Happening::Plain, _) => "plain".to_string(),
+            (Happening::Return, 1) => "return to home".to_string(),
+            (Happening::Return, _) => "return".to_string(),
+            (Happening::Home, _) => "home".to_string(),
+            (Happening::Call(scheme), _) => format!("call of {}", self.names.scheme(scheme)),
+            (Happening::Drop, open) => {
+                format!("drop of {open}, start of {}", self.names.scheme(self.handler()))
+            }
         }
     }
 

@@ -34,6 +34,7 @@ fn main() {
         ("bore.txt", "2", "count", "40"),
         ("finishing.chart", "32", "0,2,0x12", "30"),
         ("paper.chart", "6", "1", "20"),
+        ("full_stack.txt", "2", "0,0,4,4,4,0,0", "30"),
     ] {
         let case = Case::make(chart, places, words, ticks);
         case.opens(browser);

@@ -56,7 +56,7 @@ fn each_line_that_the_page_explains_has_its_sum() {
     let lines: Vec<&str> =
         quoted.into_iter().filter(|word| word.bytes().all(|b| b.is_ascii_hexdigit())).collect();
     assert!(lines.len() >= 7);
-    let charts = ["bore", "roughing"].map(|name| format!("examples/{name}.chart"));
+    let charts = ["bore", "full_stack", "roughing"].map(|name| format!("examples/{name}.chart"));
     let charts = charts.map(|chart| fs::read_to_string(top().join(chart)).expect("an example"));
     for line in lines {
         assert!(charts.iter().any(|chart| chart.lines().any(|own| own == line)), "{line}");

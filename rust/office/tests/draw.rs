@@ -60,6 +60,23 @@ fn a_trace_marks_what_it_took() {
 }
 
 #[test]
+fn the_handler_is_shown_and_a_dropped_call_was_not_made() {
+    let text = drawn("full_stack.chart", &[]).printed;
+    assert!(line(&text, "n9").contains("Begin <B>n9</B><BR/>when the stack is full>"));
+    assert_eq!(text.matches("when the stack is full").count(), 1);
+    let ran = drawn("full_stack.chart", &["--trace", "--places", "2", "--words", "0,0,4,4,4,0,0"]);
+    assert_eq!((ran.status, ran.said.as_str()), (0, ""));
+    for id in ["n1_call", "n9_0", "n10_0", "n11_0", "n11_1"] {
+        assert!(line(&ran.printed, id).contains("taken\""), "{id}");
+    }
+    assert!(line(&ran.printed, "n7").contains("taken\"") && line(&ran.printed, "n12").contains("taken\""));
+    assert!(line(&ran.printed, "n7_call").contains("never\""));
+    let ran = drawn("full_stack.chart", &["--trace", "--words", "0,0,4,4,4,0,0"]);
+    assert!(line(&ran.printed, "n7_call").contains("taken\""));
+    assert!(line(&ran.printed, "n9").contains("never\""));
+}
+
+#[test]
 fn a_trace_that_is_refused_is_drawn_and_told() {
     let ran = drawn("paper.chart", &["--trace", "--places", "1"]);
     assert_eq!(ran.status, 1);

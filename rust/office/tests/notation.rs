@@ -27,6 +27,26 @@ fn a_good_line_is_accepted() {
     }
 }
 
+/// The Begin of scheme 2 with other words.
+fn with_begin(line: &str) -> String {
+    with("more: if wood then start else end").replace("begin -> cut", line)
+}
+
+#[test]
+fn a_begin_marks_the_handler() {
+    let records =
+        |text: &str| source::from_notation(text).expect("accepted").notation.expect("it was").records;
+    let plain = records(&with_begin("begin -> cut"));
+    for line in ["begin when the stack is full -> cut", "full: begin\twhen the stack is full->cut # so"] {
+        let marked = records(&with_begin(line));
+        let changed: Vec<usize> = (0..plain.len()).filter(|at| plain[*at] != marked[*at]).collect();
+        assert_eq!((changed, marked[42]), (vec![42], 1), "{line}");
+    }
+    // the words are no names that are taken away
+    let text = with("when: do y1 -> full\nfull: if wood then start else end").replace("more", "when");
+    assert!(source::from_notation(&text).is_ok());
+}
+
 #[test]
 fn files_of_other_editors_are_read() {
     let text = with("more: if wood then start else end");
@@ -124,6 +144,19 @@ fn faults_of_a_line() {
 }
 
 #[test]
+fn faults_of_a_begin() {
+    for (line, words) in [
+        ("begin when full -> cut", "column 12: 'full', where 'the' belongs"),
+        ("begin when the stack is ful -> cut", "column 25: 'ful', where 'full' belongs"),
+        ("begin when the stack is full", "column 29: the line ends, where '->' belongs"),
+        ("begin full -> cut", "column 7: 'full', where '->' belongs"),
+        ("end when the stack is full", "column 5: 'when' after the end of the statement"),
+    ] {
+        assert_eq!(told(&with_begin(line)), format!("line 12, {words}"));
+    }
+}
+
+#[test]
 fn numbers_that_are_no_names_are_told_by_their_range() {
     for (line, names) in [
         ("more: do y32 -> end", "outputs without a name are y0 to y31"),
@@ -187,6 +220,23 @@ fn refusals_in_the_notations_words() {
     assert_eq!(told(&labelled), "line 9 (node more): the next node is again (line 5), a Begin");
 }
 
+/// Refusal 19 by the begin lines that bear the mark.
+#[test]
+fn a_wrong_mark_is_told_by_its_line() {
+    let full = "begin when the stack is full";
+    let first = with_begin(&format!("{full} -> cut"));
+    let problem = source::from_notation(&first.replace("begin -> start", &format!("{full} -> start")));
+    let problem = problem.expect_err("a mark on scheme 1");
+    let words = "line 5 (begin): scheme shaping cannot be the handler; marked Begins: line 5 and line 12";
+    assert_eq!((problem.words.as_str(), problem.line, problem.column), (words, Some(5), Some(7)));
+    assert_eq!(problem.excerpt.as_deref(), Some("begin when the stack is full -> start"));
+    assert_eq!(problem.refusal.map(|refusal| refusal.number), Some(19));
+    let third = format!("{first}scheme 3\nback: begin\twhen  the stack is full -> end\nend\n");
+    let problem = source::from_notation(&third).expect_err("a second mark");
+    let words = "line 16 (node back): a second handler; marked Begins: line 12 and back (line 16)";
+    assert_eq!((problem.words.as_str(), problem.line, problem.column), (words, Some(16), Some(13)));
+}
+
 #[test]
 fn too_many_rows_are_told_by_names() {
     let mut text = String::from("scheme 1\nbegin -> stop\nstop: do y0 -> c0\n");
@@ -206,7 +256,7 @@ fn too_many_rows_are_told_by_names() {
 fn garbled_notations_are_told() {
     use office::notation::Notation;
     use reference::generate::Random;
-    let text = with("more: if wood then start else end").replace("y1", "y2");
+    let text = with_begin("begin when the stack is full -> cut");
     let characters: Vec<char> = text.chars().collect();
     let (mut read, mut refused) = (0, 0);
     for seed in 0..50_000 {

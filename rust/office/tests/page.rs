@@ -52,6 +52,25 @@ fn every_tick_has_a_row_with_what_it_lights() {
     assert!(!page.contains("<?xml") && !page.contains("<!DOCTYPE svg"));
 }
 
+/// A drop lights what it drops and the handler's first arc, and not the call, which was not made.
+#[test]
+fn a_drop_has_a_row_and_the_handler_follows() {
+    let (plan, trace) = traced(source("full_stack.chart"), 2, &[0, 0, 4, 4, 4, 0, 0, 0]);
+    let page = page(&plan, &trace, "full_stack.chart", "", SVG);
+    for (tick, stack, lines, happens) in [
+        (2, "n1 n4", "n4_0 n5_1", "plain"),
+        (3, "n1 n7", "n9_0", "drop of 2, start of s3"),
+        (4, "n10", "n10_0 n11_1", "plain"),
+        (5, "n10", "n10_0 n11_0", "plain"),
+        (6, "n12", "", "return to home"),
+        (7, "n3", "n0_0", "home"),
+    ] {
+        let row = line(&page, &format!("<tr id=\"tick-{tick}\""));
+        assert!(row.contains(&format!("data-stack=\"{stack}\" data-lines=\"{lines}\"")), "{row}");
+        assert!(row.contains(&format!("<td>{happens}</td>")), "{row}");
+    }
+}
+
 #[test]
 fn a_refusal_and_what_was_never_taken_stand_in_the_page() {
     let (plan, trace) = traced(source("paper.chart"), 2, &[0, 0, 1, 0, 0]);

@@ -1,67 +1,9 @@
-//! The words of each refusal, on chart P of the paper and its image with one fault each.
+//! The words of each refusal of charts and runs, on chart P of the paper and its image with one fault each.
+
+mod shared;
 
 use office::check::checked;
-
-const CHART: &str = "\
-00010001000000000000FE
-02010202000000000001F8
-01010000000000000000FE
-00020004000000000000FA
-03020005060000000000F0
-01020000000000000000FD
-02020205000000000002F3
-";
-
-const IMAGE: &str = "\
-0F020400040000000000E7
-10010200000000000000ED
-10020300000000000000EB
-11000400010000000000EA
-11010300000000000000EB
-11020102010000000001E8
-11030000020000000000EA
-11040102020000000002E4
-12020000000002000000EA
-12030001000002010000E7
-12030001000102040000E3
-12040000000002010000E7
-";
-
-/// A line of twenty digits with its sum.
-fn summed(line: &str) -> String {
-    let bytes = (0..10).map(|k| u8::from_str_radix(&line[2 * k..2 * k + 2], 16).expect("digits"));
-    let sum = bytes.fold(0u8, |sum, byte| sum.wrapping_sub(byte));
-    format!("{}{sum:02X}\n", &line[..20])
-}
-
-fn lines(records: &[&str]) -> String {
-    records.iter().map(|record| summed(record)).collect()
-}
-
-/// The text with these digits at a line and a column, and its sums made right.
-fn edited(text: &str, line: usize, column: usize, digits: &str) -> String {
-    let edit = |(at, stands): (usize, &str)| {
-        let mut stands = stands.to_string();
-        if at + 1 == line {
-            stands.replace_range(column - 1..column - 1 + digits.len(), digits);
-        }
-        summed(&stands)
-    };
-    text.lines().enumerate().map(edit).collect()
-}
-
-/// The refusal's number and the first line of its words.
-fn told(text: impl AsRef<[u8]>) -> (u8, String) {
-    let problem = checked(text.as_ref()).expect_err("a refusal");
-    (problem.refusal.expect("a number").number, problem.words)
-}
-
-/// Each text is refused with this number, in these words.
-fn each(number: u8, cases: &[(String, &str)]) {
-    for (text, words) in cases {
-        assert_eq!(told(text), (number, words.to_string()), "{}", text.escape_debug());
-    }
-}
+use shared::sheets::{each, edited, lines, told, CHART, IMAGE};
 
 #[test]
 fn the_sheets_are_accepted() {
@@ -69,6 +11,10 @@ fn the_sheets_are_accepted() {
     assert_eq!(checked(CHART.as_bytes()).unwrap(), words);
     assert_eq!(checked(IMAGE.as_bytes()).unwrap(), "accepted: an image of 2 schemes, 5 labels and 4 rows");
     assert_eq!(edited(CHART, 1, 1, "00"), CHART);
+    let with_handler = format!("{words}; scheme 2 is the handler");
+    assert_eq!(checked(edited(CHART, 4, 5, "01").as_bytes()).unwrap(), with_handler);
+    let with_handler = "accepted: an image of 2 schemes, 5 labels and 4 rows; scheme 2 is the handler";
+    assert_eq!(checked(edited(IMAGE, 1, 11, "02").as_bytes()).unwrap(), with_handler);
 }
 
 #[test]
@@ -160,7 +106,10 @@ fn refusal_4_a_field() {
                 .into(),
         ),
         ((2, 9, "05"), format!("line 2, column 9: 05 stands here, but an operation {in_use}")),
-        ((1, 5, "01"), format!("line 1, column 5: 01 stands here, but a Begin {in_use}")),
+        ((1, 5, "02"), "line 1, column 5: the mark is 02; it should be 00 (none) or 01 (the handler)".into()),
+        ((4, 5, "FF"), "line 4, column 5: the mark is FF; it should be 00 (none) or 01 (the handler)".into()),
+        ((1, 9, "01"), format!("line 1, column 9: 01 stands here, but a Begin {in_use}")),
+        ((3, 5, "01"), format!("line 3, column 5: 01 stands here, but an End {in_use}")),
         ((3, 7, "02"), format!("line 3, column 7: 02 stands here, but an End {in_use}")),
         ((5, 19, "F0"), format!("line 5, column 19: F0 stands here, but a condition {in_use}")),
     ];
@@ -280,90 +229,6 @@ fn refusal_10_rows() {
     each(10, &[(lines(&records), words)]);
 }
 
-#[test]
-fn refusal_11_the_header() {
-    let fewer: String = IMAGE.split_inclusive('\n').take(11).collect();
-    let count = "3 that begin with 12, the rows, where the first line says 4";
-    each(
-        11,
-        &[
-            (edited(IMAGE, 1, 1, "0E"), "line 1, column 1: an image begins with 0F, not 0E"),
-            (
-                edited(IMAGE, 1, 3, "00"),
-                "line 1, column 3: the number of schemes is 00; it should be 01 to 10, 1 to 16 in decimal",
-            ),
-            (
-                edited(IMAGE, 1, 5, "00"),
-                "line 1, column 5: the highest label is 00; it should be 01 at least, for label 1 is in every image",
-            ),
-            (
-                edited(IMAGE, 1, 7, "0401"),
-                "line 1, column 7: the number of rows is 0401, 1,025 in decimal; it should be 0400 at most",
-            ),
-            (
-                edited(IMAGE, 1, 11, "01"),
-                "line 1, column 11: 01 stands here, but the first line has no use for this byte: it should be 00",
-            ),
-            (
-                fewer,
-                &format!("line 1, column 7: the first line makes the image 12 lines, but there are 11: {count}"),
-            ),
-        ],
-    );
-}
-
-#[test]
-fn refusal_12_a_place() {
-    let order = "rows stand in the order of their labels";
-    each(
-        12,
-        &[
-            (
-                edited(IMAGE, 3, 3, "01"),
-                "line 3, column 3: the entry of scheme 2 belongs here, which begins with 1002, not 1001",
-            ),
-            (edited(IMAGE, 5, 1, "12"), "line 5, column 1: label 1 belongs here, which begins with 1101, not 1201"),
-            (edited(IMAGE, 9, 1, "13"), "line 9, column 1: a row belongs here, which begins with 12, not 13"),
-            (
-                edited(IMAGE, 12, 3, "02"),
-                &format!(
-                    "line 12, column 3: this row leaves label 02, but the row before it leaves label 03; {order}"
-                ),
-            ),
-        ],
-    );
-}
-
-#[test]
-fn refusal_13_an_image_field() {
-    let of_1 = "which belongs to scheme 1 (byte 4 of line 6)";
-    let entry = "line 3, column 5: the entry of scheme 2 is label";
-    let home = "line 4, column 9: the home label, 0, is 11000400010000000000EA in every image";
-    let cases = [
-        ((3, 5, "02"), format!("{entry} 02, {of_1}")),
-        ((3, 5, "09"), format!("{entry} 09, but the highest label is 04")),
-        ((3, 5, "00"), format!("{entry} 00, which is the home label of scheme 1 (line 4)")),
-        ((2, 9, "01"), "line 2, column 9: 01 stands here, but an entry has no use for this byte: it should be 00".into()),
-        ((4, 9, "02"), format!("{home}: this byte should be 01, not 02")),
-        ((6, 5, "03"), "line 6, column 5: the kind of the label is 03; from label 2 up it should be 00 plain, 01 or 02 a call".into()),
-        ((6, 7, "05"), "line 6, column 7: the scheme called is 05; it should be 02".into()),
-        ((7, 7, "01"), "line 7, column 7: a plain label calls nothing: this byte should be 00, not 01".into()),
-        ((8, 9, "05"), "line 8, column 9: the owner is scheme 05; it should be 01 to 02".into()),
-        ((7, 11, "05"), "line 7, column 11: the result is 05; it should be 00 (keep), 01 (write 0) or 02 (write 1)".into()),
-        ((9, 3, "01"), "line 9, column 3: a row leaves label 02 or one above it, not 01".into()),
-        ((12, 3, "05"), "line 12, column 3: the label that this row leaves is label 05, but the highest label is 04".into()),
-        ((10, 11, "02"), "line 10, column 11: the values are 02, but the care mask two bytes before has only 01".into()),
-        ((10, 13, "01"), "line 10, column 13: the function bit is 01, but label 03 (line 7) calls no function".into()),
-        ((10, 13, "03"), "line 10, column 13: the function bit is 03; it should be 00, 01, or 02 for none".into()),
-        ((10, 15, "02"), format!("line 10, column 15: the next label is 02, {of_1}, but the row leaves a label of scheme 2")),
-        ((10, 15, "07"), "line 10, column 15: the next label is label 07, but the highest label is 04".into()),
-        ((12, 17, "01"), "line 12, column 17: 01 stands here, but a row has no use for this byte: it should be 00".into()),
-    ];
-    for ((line, column, digits), words) in cases {
-        assert_eq!(told(edited(IMAGE, line, column, digits)), (13, words));
-    }
-}
-
 /// Refusals of states and runs name no line; their words tell the ticks.
 #[test]
 fn refusals_14_to_18() {
@@ -380,6 +245,46 @@ fn refusals_14_to_18() {
     assert_eq!(told(run(IMAGE, &state, 4)), "after 3 ticks a call finds the stack full");
     let patched = edited(&IMAGE.replace("12030001000102040000E3\n", ""), 1, 9, "03");
     assert_eq!(told(run(&patched, &state, 4)), "after 2 ticks no row of the label matches the word");
+}
+
+#[test]
+fn refusal_19_the_mark() {
+    let three = format!("{CHART}{}", lines(&["00030108000000000000", "01030000000000000000"]));
+    let second = edited(&three, 4, 5, "01");
+    let cannot = "line 1, column 5: scheme 1 cannot be the handler; marked Begins:";
+    each(
+        19,
+        &[
+            (edited(CHART, 1, 5, "01"), &format!("{cannot} line 1")),
+            (edited(&second, 1, 5, "01"), &format!("{cannot} line 1, line 4 and line 8")),
+            (second, "line 8, column 5: a second handler; marked Begins: line 4 and line 8"),
+        ],
+    );
+    // tried between 5 and 6
+    let marked = edited(CHART, 1, 5, "01");
+    assert_eq!(told(edited(&marked, 6, 1, "02")).0, 5);
+    assert_eq!(told(edited(&marked, 2, 7, "09")).0, 19);
+}
+
+/// The first full stack starts the handler, the second is met with the handler at the bottom.
+#[test]
+fn a_full_stack_is_refused_while_the_handler_is_at_the_bottom() {
+    use fairleadow::{Library, Proved, State};
+    let chart = edited(CHART, 4, 5, "01");
+    let mut image = vec![0; fairleadow::IMAGE_TEXT];
+    let length = Proved.translate(chart.as_bytes(), &mut image).ok().expect("an image");
+    assert_eq!(image[..length], *edited(IMAGE, 1, 11, "02").as_bytes());
+    let (mut masks, mut codes) = ([0; 9], [0; 9]);
+    let words = [0, 0, 1, 0, 1, 1, 1, 0, 0];
+    let (answer, after) = Proved.run(&image[..length], &Proved.fresh(2).1, &words, &mut masks, &mut codes);
+    assert_eq!((answer.number(), answer.count()), (17, 7));
+    assert_eq!(codes[..7], [0x04, 0x12, 0x00, 0x60, 0x00, 0x12, 0x00]);
+    assert_eq!(masks[..7], [0, 1, 0, 2, 0, 2, 0]);
+    assert_eq!((after.depth, &after.places[..3]), (2, &[4, 4, 0][..]));
+    // the handler at the bottom fits an image with this handler alone
+    let answer = |image: &str, state: &State| Proved.run(image.as_bytes(), state, &[], &mut [], &mut []).0;
+    assert_eq!(answer(IMAGE, &after).number(), 15);
+    assert_eq!(answer(&edited(IMAGE, 1, 11, "02"), &after).number(), 0);
 }
 
 #[test]

@@ -61,9 +61,13 @@ fn examples_in_the_notation_give_their_charts() {
 
 #[test]
 fn random_charts_shown_and_composed() {
+    let mut marked = 0;
     for seed in 0..5_000 {
-        show_then_compose(&text_of(&charts::chart(&mut Random::new(seed))));
+        let chart = text_of(&charts::chart(&mut Random::new(seed)));
+        show_then_compose(&chart);
+        marked += usize::from(shown(&chart).contains("begin when the stack is full -> "));
     }
+    assert!(marked > 1_000, "{marked} with a handler");
 }
 
 /// Some letters that are no name of a number.

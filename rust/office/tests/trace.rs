@@ -52,9 +52,9 @@ fn a_full_stack_is_told_with_the_call_that_met_it() {
     assert_eq!(ran.said, format!("{}: ended by refusal 17 after 3 ticks\n", example("paper.chart")));
     let told = [
         "tick 3, word 0000, node n6 of s2: the call of s2 finds the stack full, all 2 places in use (2: s1 > s2)",
-        "  refusal 17: a call needs a free place of the stack",
-        "  look for: a chart that calls deeper than the stack has places: give it more (32 at most), or let it call \
-         less deep",
+        "  refusal 17: a call needs a free place of the stack, or a handler that is not at the bottom of it",
+        "  look for: a chart or a handler that calls deeper than the stack has places: give it more (32 at most), or let it \
+         call less deep",
         "",
     ];
     let left = [
@@ -67,6 +67,53 @@ fn a_full_stack_is_told_with_the_call_that_met_it() {
     ];
     assert_eq!(after(&ran)[..4], told);
     assert_eq!(after(&ran)[4..], left);
+}
+
+/// The same words with a stack that is too short and with one that is not, as the examples have them.
+#[test]
+fn a_handler_starts_where_the_stack_is_full() {
+    let words = "0,0,4,4,4,0,0,0,0,0,0,0,0,0";
+    for places in ["2", "32"] {
+        let ran = traced("full_stack.txt", &["--places", places, "--words", words]);
+        assert_eq!((ran.status, ran.said.as_str()), (0, ""));
+        let expected = example(&format!("full_stack.{places}.trace"));
+        assert_eq!(ran.printed, std::fs::read_to_string(expected).expect("the example's trace"));
+    }
+}
+
+/// What happens, and how many schemes are open.
+fn happens_and_open(row: &str) -> (String, usize) {
+    let cells: Vec<&str> = row.split("  ").map(str::trim).filter(|cell| !cell.is_empty()).collect();
+    let open = cells[7].split(':').next().and_then(|count| count.parse().ok());
+    (cells[5].to_string(), open.expect("a number of schemes"))
+}
+
+#[test]
+fn thirty_two_places_are_full_too() {
+    let ran = traced("full_stack.chart", &["--words", "4", "--ticks", "66"]);
+    let rows: Vec<(String, usize)> = rows(&ran).into_iter().map(happens_and_open).collect();
+    assert_eq!(ran.status, 0);
+    assert_eq!(rows[61], ("call of s2".to_string(), 31));
+    assert_eq!(rows[63], ("drop of 32, start of s3".to_string(), 32));
+    assert_eq!(rows[64..], [("plain".to_string(), 1), ("plain".to_string(), 1)]);
+}
+
+#[test]
+fn a_handler_that_calls_too_deep_is_refused() {
+    let text = "scheme 1\nbegin -> a\na: call s2 -> end\nend\nscheme 2\nbegin when the stack is full -> b\n\
+                b: write 1; call s2 -> end\nend\n";
+    let chart = file("deep_handler.txt", text.as_bytes());
+    let ran = run(&["trace", &chart.to_string_lossy(), "--places", "2", "--words", "0", "--ticks", "9"]);
+    assert_eq!((ran.status, rows(&ran).len()), (1, 4));
+    let seen: Vec<(String, usize)> = rows(&ran).into_iter().map(happens_and_open).collect();
+    let seen: Vec<(&str, usize)> = seen.iter().map(|(happens, open)| (happens.as_str(), *open)).collect();
+    assert_eq!(seen, [("home", 1), ("call of s2", 1), ("drop of 2, start of s2", 2), ("call of s2", 1)]);
+    let told = "tick 4, word 0000, node b of s2: the call of s2 finds the stack full, all 2 places in use (2: s2 x2), with \
+                the handler at the bottom";
+    assert_eq!(after(&ran)[0], told);
+    assert!(after(&ran)[1].starts_with("  refusal 17: "), "{}", ran.printed);
+    // the drop writes 1 for its scheme and then clears it as the handler's
+    assert!(rows(&ran)[2].ends_with("  -") && rows(&ran)[3].ends_with("  -"), "{}", ran.printed);
 }
 
 #[test]
@@ -109,7 +156,7 @@ fn without_options_the_words_are_random_and_the_ticks_64() {
 
 #[test]
 fn counted_words_are_those_of_the_run_program() {
-    for name in ["bore", "finishing", "home", "paper", "roughing", "two_blocks"] {
+    for name in ["bore", "finishing", "full_stack", "home", "paper", "roughing", "two_blocks"] {
         let ran = traced(&format!("{name}.chart"), &["--words", "count"]);
         let codes = std::fs::read_to_string(example(&format!("{name}.codes"))).expect("the example's codes");
         let happenings = ["plain", "return", "home", "call of s2"];

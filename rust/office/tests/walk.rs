@@ -2,7 +2,7 @@
 
 use office::plan::Plan;
 use office::source::from_bytes;
-use office::trace::{trace, Trace};
+use office::trace::{trace, Happening, Trace};
 use reference::chart::Chart;
 use reference::entry::chart_from_text;
 use reference::frames::text_of;
@@ -20,7 +20,7 @@ fn bounded(ticks: Vec<Tick>, places: usize) -> (Vec<Tick>, bool) {
 }
 
 fn compared(chart: &Chart, traced: &Trace, words: &[u16]) {
-    let (expected, full) = bounded(walk(chart, words), traced.places);
+    let (expected, full) = bounded(walk(chart, traced.places, words), traced.places);
     let ticks = traced.ticks.iter().map(|tick| Tick {
         node: tick.node(),
         mask: tick.mask,
@@ -56,7 +56,7 @@ fn arcs_join(plan: &Plan, traced: &Trace) {
 #[test]
 fn traces_are_the_walk() {
     let mut random = Random::new(14);
-    let (mut traced_charts, mut ticks, mut full) = (0, 0, 0);
+    let (mut traced_charts, mut ticks, mut full, mut drops) = (0, 0, 0, 0);
     for _ in 0..CHARTS {
         let text = text_of(&charts::chart(&mut random));
         let chart = chart_from_text(&text).expect("an accepted chart");
@@ -77,9 +77,12 @@ fn traces_are_the_walk() {
         traced_charts += 1;
         ticks += traced.ticks.len();
         full += usize::from(traced.stopped.is_some());
+        drops += traced.ticks.iter().filter(|tick| tick.happening() == Happening::Drop).count();
     }
-    println!("{traced_charts} charts, {ticks} ticks, {full} ended by 17");
-    assert!(traced_charts > CHARTS * 9 / 10 && ticks > 40 * CHARTS && full > CHARTS / 20);
+    println!("{traced_charts} charts, {ticks} ticks, {drops} drops, {full} ended by 17");
+    assert!(
+        traced_charts > CHARTS * 9 / 10 && ticks > 40 * CHARTS && full > CHARTS / 20 && drops > CHARTS / 20
+    );
 }
 
 #[test]

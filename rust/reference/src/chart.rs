@@ -11,7 +11,7 @@ pub enum Kind {
     Function,
 }
 
-/// One node. `argument` is the scheme called, or a condition's number.
+/// One node. `argument` is the scheme called, a condition's number, or 1 in a Begin that is marked.
 #[derive(Clone, Copy, Debug)]
 pub struct Node {
     pub kind: Kind,
@@ -63,6 +63,11 @@ impl Node {
         }
     }
 
+    /// Whether this node marks its scheme as the handler.
+    pub fn marks(&self) -> bool {
+        self.kind == Kind::Begin && self.argument == 1
+    }
+
     /// What a word says of this condition.
     pub fn tested(&self, word: u16) -> bool {
         word >> self.argument & 1 == 1
@@ -92,6 +97,11 @@ impl Chart {
 
     pub fn end(&self, scheme: u8) -> usize {
         self.only(Kind::End, scheme)
+    }
+
+    /// The scheme that is marked as the handler; only for charts past refusal 19.
+    pub fn handler(&self) -> Option<u8> {
+        self.nodes.iter().find(|node| node.marks()).map(|node| node.scheme)
     }
 
     /// Whether the Begin of this scheme leads to a condition.

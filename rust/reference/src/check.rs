@@ -1,16 +1,17 @@
-//! Refusals 4 to 9, tried on node records.
+//! Refusals 4 to 9, tried on node records, with 19 after 5.
 
 use crate::answer::{refuse_if, refuse_lowest, Refusal};
 use crate::chart::{Chart, Kind, Node};
 use crate::frames::Frame;
 
-/// The chart of these records, or the first of refusals 4 to 9.
+/// The chart of these records, or the first of refusals 4, 5, 19 and 6 to 9.
 pub fn chart_of(records: &[Frame]) -> Result<Chart, Refusal> {
     refuse_lowest(4, records.len(), |f| !fields_stand(&records[f]))?;
     let nodes = records.iter().map(|r| Node::of(r).expect("a kind"));
     let chart = Chart { nodes: nodes.collect() };
     let count = chart.nodes.len();
     refuse_if(5, (1..=chart.schemes()).any(|h| !one_of_each(&chart, h)))?;
+    refuse_if(19, bad_marks(&chart))?;
     refuse_lowest(6, count, |v| bad_arc(&chart, v))?;
     refuse_lowest(7, count, |v| bad_call(&chart, v))?;
     refuse_lowest(8, count, |v| on_circle(&chart, v))?;
@@ -27,12 +28,13 @@ fn fields_stand(record: &Frame) -> bool {
         return false;
     };
     let unused: &[usize] = match node.kind {
-        Kind::Begin => &[2, 4, 5, 6, 7, 8, 9],
+        Kind::Begin => &[4, 5, 6, 7, 8, 9],
         Kind::End => &[2, 3, 4, 5, 6, 7, 8, 9],
         Kind::Operation => &[4],
         Kind::Condition | Kind::Function => &[5, 6, 7, 8, 9],
     };
     (1..=16).contains(&node.scheme)
+        && (node.kind != Kind::Begin || node.argument <= 1)
         && (node.kind != Kind::Condition || node.argument <= 15)
         && (node.kind != Kind::Operation || node.result <= 2)
         && unused.iter().all(|k| record[*k] == 0)
@@ -44,6 +46,12 @@ fn one_of_each(chart: &Chart, scheme: u8) -> bool {
         chart.nodes.iter().filter(wanted).count()
     };
     count(Kind::Begin) == 1 && count(Kind::End) == 1
+}
+
+/// Whether scheme 1 is marked as the handler, or two schemes are.
+fn bad_marks(chart: &Chart) -> bool {
+    let marked: Vec<u8> = chart.nodes.iter().filter(|node| node.marks()).map(|node| node.scheme).collect();
+    marked.contains(&1) || marked.len() > 1
 }
 
 fn bad_arc(chart: &Chart, at: usize) -> bool {

@@ -4,7 +4,8 @@ use interface::Meaning;
 
 /// Each kind of tick with its code; only schemes 2 to 16 are called.
 fn ticks() -> impl Iterator<Item = (u8, Meaning)> {
-    let alone = [(0x00, Meaning::Plain), (0x03, Meaning::Return), (0x04, Meaning::Home)];
+    let alone =
+        [(0x00, Meaning::Plain), (0x03, Meaning::Return), (0x04, Meaning::Home), (0x60, Meaning::Drop)];
     let calls = |h| [(0x10 + h, Meaning::OperationCall(h)), (0x40 + h, Meaning::FunctionCall(h))];
     alone.into_iter().chain((2..=16).flat_map(calls))
 }

@@ -35,15 +35,46 @@ impl fmt::Display for Difference {
     }
 }
 
-/// How often each call gave each answer (0 for success).
+/// How often each call gave each answer (0 for success), and how often its ticks dropped the stack and returned at the bottom.
 #[derive(Debug, Default)]
 pub struct Summary {
     pub answers: BTreeMap<(&'static str, u8), usize>,
+    pub handled: BTreeMap<&'static str, Handled>,
+}
+
+/// Drops to the handler, and returns at the bottom: the handler's, or those that a damaged table leads to.
+#[derive(Clone, Copy, Debug, Default)]
+pub struct Handled {
+    pub drops: usize,
+    pub returns: usize,
 }
 
 impl Summary {
     pub fn count(&self, call: &'static str, number: u8) -> usize {
         self.answers.get(&(call, number)).copied().unwrap_or(0)
+    }
+
+    pub fn handled(&self, call: &'static str) -> Handled {
+        self.handled.get(call).copied().unwrap_or_default()
+    }
+
+    /// Follows the depth by the codes of finished ticks, and hands back the depth after them.
+    fn note_codes(&mut self, call: &'static str, depth: usize, codes: &[u8]) -> usize {
+        let handled = self.handled.entry(call).or_default();
+        let mut depth = depth;
+        for code in codes {
+            match code {
+                0x10..=0x20 | 0x40..=0x50 => depth += 1,
+                0x03 if depth == 1 => handled.returns += 1,
+                0x03 => depth -= 1,
+                0x60 => {
+                    handled.drops += 1;
+                    depth = 1;
+                }
+                _ => {}
+            }
+        }
+        depth
     }
 }
 
@@ -51,6 +82,9 @@ impl fmt::Display for Summary {
     fn fmt(&self, f: &mut fmt::Formatter) -> fmt::Result {
         for ((call, number), count) in &self.answers {
             writeln!(f, "{call:>12} {number:>3} {count:>8}")?;
+        }
+        for (call, Handled { drops, returns }) in &self.handled {
+            writeln!(f, "{call:>12} {drops:>8} drops, {returns:>8} returns at the bottom")?;
         }
         Ok(())
     }

@@ -30,7 +30,7 @@ pub struct Outcome {
 /// The outcome of each run of a list that starts with a fresh state of this size.
 pub fn expected(chart: &Chart, size: usize, runs: &[Run]) -> Vec<Outcome> {
     let joined: Vec<u16> = runs.iter().filter(|r| r.joins()).flat_map(|r| r.words.clone()).collect();
-    let ticks = walk(chart, &joined);
+    let ticks = walk(chart, size, &joined);
     let full = |tick: &Tick| tick.calls() && tick.open == size;
     let bound = ticks.iter().position(full).unwrap_or(ticks.len());
     let mut first = 0;

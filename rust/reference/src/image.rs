@@ -37,9 +37,10 @@ pub struct Row {
     pub next: u8,
 }
 
-/// `entries[h - 1]` is the entry of scheme h; `labels[l]` is label l.
+/// `handler` is the scheme for a full stack, 0 for none; `entries[h - 1]` is the entry of scheme h; `labels[l]` is label l.
 #[derive(Clone, Debug, PartialEq, Eq)]
 pub struct Image {
+    pub handler: u8,
     pub entries: Vec<u8>,
     pub labels: Vec<Label>,
     pub rows: Vec<Row>,
@@ -62,7 +63,7 @@ impl Image {
     fn header(&self) -> Frame {
         let last = (self.labels.len() - 1) as u8;
         let [high, low] = (self.rows.len() as u16).to_be_bytes();
-        [0x0F, self.entries.len() as u8, last, high, low, 0, 0, 0, 0, 0]
+        [0x0F, self.entries.len() as u8, last, high, low, self.handler, 0, 0, 0, 0]
     }
 }
 
@@ -122,8 +123,9 @@ pub fn image_of(frames: &[Frame]) -> Result<Image, Refusal> {
     let schemes = usize::from(header[1]);
     let last = usize::from(header[2]);
     let rows = usize::from(u16::from_be_bytes([header[3], header[4]]));
-    refuse_if(11, header[0] != 0x0F || header[5..].iter().any(|b| *b != 0))?;
+    refuse_if(11, header[0] != 0x0F || header[6..].iter().any(|b| *b != 0))?;
     refuse_if(11, !(1..=16).contains(&schemes) || last == 0 || rows > ROWS)?;
+    refuse_if(11, !handler_stands(header[5], schemes))?;
     refuse_if(11, frames.len() != 1 + schemes + (last + 1) + rows)?;
     let parts = Parts { schemes, last };
     refuse_lowest(12, frames.len(), |f| misplaced(frames, &parts, f))?;
@@ -134,6 +136,11 @@ pub fn image_of(frames: &[Frame]) -> Result<Image, Refusal> {
         Part::Row(_) => !row_stands(frames, &parts, &frames[f]),
     })?;
     Ok(decoded(frames, &parts))
+}
+
+/// Whether a header may name this scheme as the handler: none, or one that can be called.
+pub fn handler_stands(handler: u8, schemes: usize) -> bool {
+    handler == 0 || (2..=schemes).contains(&usize::from(handler))
 }
 
 fn misplaced(frames: &[Frame], parts: &Parts, index: usize) -> bool {
@@ -219,6 +226,7 @@ fn decoded(frames: &[Frame], parts: &Parts) -> Image {
     let (entries, rest) = frames[1..].split_at(parts.schemes);
     let (labels, rows) = rest.split_at(parts.last + 1);
     Image {
+        handler: frames[0][5],
         entries: entries.iter().map(|f| f[2]).collect(),
         labels: labels.iter().map(label_of).collect(),
         rows: rows.iter().map(row_of).collect(),

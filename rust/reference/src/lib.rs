@@ -1,5 +1,6 @@
-//! A plain implementation of paper 01 and of live ticks, for tests only. It was written from the rules, not from the
-//! proved library, so that the two can be compared. It prefers the obvious way over the fast one.
+//! A plain implementation of paper 01, of the changes that paper 02 has made to it and of live ticks, for tests only. It was
+//! written from the rules, not from the proved library, so that the two can be compared. It prefers the obvious way over
+//! the fast one.
 
 pub mod answer;
 pub mod chart;

@@ -3,13 +3,14 @@
 
 use crate::answer::{refuse_if, Refusal};
 use crate::frames::Frame;
-use crate::image::{Label, Row, FUNCTION_CALL, HOME, OPERATION_CALL, PLAIN, RETURN, ROWS};
+use crate::image::{handler_stands, Label, Row, FUNCTION_CALL, HOME, OPERATION_CALL, PLAIN, RETURN, ROWS};
 use crate::machine::Advanced;
 use crate::state::State;
 
-/// The image that a table holds; `rows[l]` are the rows of label l.
+/// The image that a table holds; `handler` is 0 for none, `rows[l]` are the rows of label l.
 #[derive(Clone, Debug)]
 pub struct Held {
+    pub handler: u8,
     pub entries: Vec<u8>,
     pub labels: Vec<Label>,
     pub rows: Vec<Vec<Row>>,
@@ -18,24 +19,27 @@ pub struct Held {
 /// What is found of a label that there is not.
 const NOTHING: Label = Label { kind: PLAIN, called: 0, owner: 0, result: 0, mask: 0 };
 
-/// How many schemes and rows a table's header tells, and its highest label.
-struct Counts {
+/// How many schemes and rows a table's header tells, its highest label, and the handler.
+struct Header {
     schemes: usize,
     last: usize,
     rows: usize,
+    handler: u8,
 }
 
-impl Counts {
-    fn of(header: &Frame) -> Counts {
-        Counts {
+impl Header {
+    fn of(header: &Frame) -> Header {
+        Header {
             schemes: usize::from(header[1]),
             last: usize::from(header[2]),
             rows: usize::from(u16::from_be_bytes([header[3], header[4]])),
+            handler: header[5],
         }
     }
 
-    fn stand(&self) -> bool {
-        (1..=16).contains(&self.schemes) && self.last > 0 && self.rows <= ROWS
+    fn stands(&self) -> bool {
+        let counts = (1..=16).contains(&self.schemes) && self.last > 0 && self.rows <= ROWS;
+        counts && handler_stands(self.handler, self.schemes)
     }
 
     /// How many frames the table has.
@@ -49,13 +53,14 @@ impl Held {
     pub fn of(bytes: &[u8]) -> Result<Held, Refusal> {
         let (frames, _) = bytes.as_chunks::<10>();
         refuse_if(11, frames.is_empty())?;
-        let counts = Counts::of(&frames[0]);
-        refuse_if(11, !counts.stand() || frames.len() < counts.end())?;
-        let table = &frames[..counts.end()];
-        let labels = &table[1 + counts.schemes..][..counts.last + 1];
+        let header = Header::of(&frames[0]);
+        refuse_if(11, !header.stands() || frames.len() < header.end())?;
+        let table = &frames[..header.end()];
+        let labels = &table[1 + header.schemes..][..header.last + 1];
         Ok(Held {
-            entries: table[1..=counts.schemes].iter().map(|frame| frame[2]).collect(),
-            labels: (0..labels.len()).map(|l| label_of(l, &labels[l], counts.schemes)).collect(),
+            handler: header.handler,
+            entries: table[1..=header.schemes].iter().map(|frame| frame[2]).collect(),
+            labels: (0..labels.len()).map(|l| label_of(l, &labels[l], header.schemes)).collect(),
             rows: (0..labels.len()).map(|l| rows_of(l, labels, table)).collect(),
         })
     }
@@ -76,8 +81,13 @@ impl Held {
             && (1..=size).contains(&depth)
             && state.places[depth..].iter().all(|place| *place == 0)
             && (0..depth).all(|at| usize::from(state.places[at]) < self.labels.len())
-            && self.label(state.places[0]).owner == 1
+            && (self.label(state.places[0]).owner == 1 || self.handles(state.places[0]))
             && (1..depth).all(|at| self.stands_on(state.places[at], state.places[at - 1]))
+    }
+
+    /// Whether there is a handler and this label at the bottom means that it is there: its own label, or label 1.
+    pub fn handles(&self, bottom: u8) -> bool {
+        self.handler != 0 && (bottom == 1 || self.label(bottom).owner == self.handler)
     }
 
     /// Whether a label may stand above another: the other calls, and this one is 1 or of the scheme called.
@@ -100,19 +110,29 @@ impl Held {
     }
 
     /// One tick of a state with a depth of 1 to its size, or 17 or 18. A call clears the bit of the scheme called; 0 counts as 1.
+    /// Where there is a handler, a call that finds the stack full drops all for it. A return at the bottom leads to label 0, also in
+    /// a table without a handler, where only damage leads to one.
     pub fn tick(&self, state: &State, word: u16) -> Result<Advanced, u8> {
         let top = usize::from(state.depth) - 1;
         let here = self.label(state.places[top]);
         let mut after = State { results: results_after(&here, &state.results), ..*state };
         match here.kind {
             HOME => after.places[top] = self.entry(1),
-            OPERATION_CALL | FUNCTION_CALL if state.depth == state.size => return Err(17),
+            OPERATION_CALL | FUNCTION_CALL if state.depth == state.size => {
+                if self.handler == 0 || self.handles(state.places[0]) {
+                    return Err(17);
+                }
+                (after.depth, after.places) = (1, [0; 32]);
+                after.places[0] = self.entry(self.handler);
+                after.results[usize::from(self.handler) - 1] = false;
+                return Ok(Advanced { mask: here.mask, code: 0x60, state: after });
+            }
             OPERATION_CALL | FUNCTION_CALL => {
                 after.places[top + 1] = self.entry(here.called);
                 after.depth += 1;
                 after.results[usize::from(here.called).max(1) - 1] = false;
             }
-            RETURN if top == 0 => return Err(18),
+            RETURN if top == 0 => after.places[0] = 0,
             RETURN => {
                 after.places[top - 1] = self.next(state.places[top - 1], &after.results, word)?;
                 after.places[top] = 0;

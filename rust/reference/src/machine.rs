@@ -20,8 +20,13 @@ pub fn fits(image: &Image, state: &State) -> bool {
     let (filled, above) = state.places.split_at(depth);
     filled.iter().all(|l| usize::from(*l) < image.labels.len())
         && above.iter().all(|l| *l == 0)
-        && label(image, filled[0]).owner == 1
+        && (label(image, filled[0]).owner == 1 || handles(image, filled[0]))
         && filled.windows(2).all(|pair| stands_above(image, pair[0], pair[1]))
+}
+
+/// Whether this label at the bottom means that the handler is there: it is the handler's, or its End's.
+pub fn handles(image: &Image, bottom: u8) -> bool {
+    image.handler != 0 && (bottom == 1 || label(image, bottom).owner == image.handler)
 }
 
 /// Whether the kept label is a call and the one above it belongs to the scheme called.
@@ -47,7 +52,7 @@ fn next_label(image: &Image, results: &[bool; 16], from: u8, word: u16) -> Optio
     matching.map(|row| row.next)
 }
 
-/// One tick of a fitting state, or 17 or 18. A finished call sets the bit of the scheme called to 0, after its own result is written.
+/// One tick of a fitting state, or 17 or 18. A call's own result is written before it clears a bit.
 pub fn tick(image: &Image, state: &State, word: u16) -> Result<Advanced, u8> {
     let top = usize::from(state.depth) - 1;
     let at = state.places[top];
@@ -59,6 +64,11 @@ pub fn tick(image: &Image, state: &State, word: u16) -> Result<Advanced, u8> {
             after.places[top] = entry(image, 1);
             0x04
         }
+        // the handler's own End: the word goes unread, and a home tick follows
+        RETURN if top == 0 => {
+            after.places[0] = 0;
+            0x03
+        }
         RETURN => {
             let beneath = state.places[top - 1];
             let next = next_label(image, &state.results, beneath, word).ok_or(18)?;
@@ -67,10 +77,8 @@ pub fn tick(image: &Image, state: &State, word: u16) -> Result<Advanced, u8> {
             after.depth -= 1;
             0x03
         }
+        OPERATION_CALL | FUNCTION_CALL if state.depth == state.size => drop_all(image, &mut after)?,
         OPERATION_CALL | FUNCTION_CALL => {
-            if state.depth == state.size {
-                return Err(17);
-            }
             after.places[top + 1] = entry(image, here.called);
             after.depth += 1;
             after.results[usize::from(here.called) - 1] = false;
@@ -83,6 +91,18 @@ pub fn tick(image: &Image, state: &State, word: u16) -> Result<Advanced, u8> {
         }
     };
     Ok(Advanced { mask: here.mask, code, state: after })
+}
+
+/// Empties a full stack and starts the handler at the bottom with its bit at 0; or 17, where there is none or it is there already.
+fn drop_all(image: &Image, state: &mut State) -> Result<u8, u8> {
+    if image.handler == 0 || handles(image, state.places[0]) {
+        return Err(17);
+    }
+    state.places = [0; 32];
+    state.places[0] = entry(image, image.handler);
+    state.depth = 1;
+    state.results[usize::from(image.handler) - 1] = false;
+    Ok(0x60)
 }
 
 fn write_result(state: &mut State, here: &Label) {

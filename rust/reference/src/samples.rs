@@ -23,6 +23,22 @@ pub fn chart_p() -> Vec<Frame> {
     ]
 }
 
+/// Scheme 1 calls scheme 2 with mask 1, and scheme 2 calls itself with mask 2; scheme 3 is the handler, one operation with mask 4.
+/// Each operation writes 1.
+pub fn drawn_back() -> Vec<Frame> {
+    vec![
+        [0, 1, 0, 1, 0, 0, 0, 0, 0, 0],
+        [2, 1, 2, 2, 0, 2, 0, 0, 0, 1],
+        [1, 1, 0, 0, 0, 0, 0, 0, 0, 0],
+        [0, 2, 0, 4, 0, 0, 0, 0, 0, 0],
+        [2, 2, 2, 5, 0, 2, 0, 0, 0, 2],
+        [1, 2, 0, 0, 0, 0, 0, 0, 0, 0],
+        [0, 3, 1, 7, 0, 0, 0, 0, 0, 0],
+        [2, 3, 0, 8, 0, 2, 0, 0, 0, 4],
+        [1, 3, 0, 0, 0, 0, 0, 0, 0, 0],
+    ]
+}
+
 fn begin(records: &mut Vec<Frame>, scheme: u8) {
     let next = records.len() as u8 + 1;
     records.push([0, scheme, 0, next, 0, 0, 0, 0, 0, 0]);

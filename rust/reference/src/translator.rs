@@ -8,6 +8,7 @@ use crate::image::{Image, Label, Row, FUNCTION_CALL, OPERATION_CALL, PLAIN, ROWS
 pub fn image_of(chart: &Chart) -> Result<Image, Refusal> {
     let labels = Labels::of(chart);
     Ok(Image {
+        handler: chart.handler().unwrap_or(0),
         entries: (1..=chart.schemes()).map(|h| labels.entry(chart, h)).collect(),
         labels: labels.described(chart),
         rows: rows_of(chart, &labels)?,

@@ -1,4 +1,4 @@
-//! The walk: a chart performed by recursion, one word a tick. It knows no label, no row and no stack.
+//! The walk: a chart performed by recursion, one word a tick. It knows no label, no row and no stack, only the number of places.
 
 use crate::chart::{Chart, Kind};
 
@@ -12,45 +12,66 @@ pub struct Tick {
 }
 
 impl Tick {
-    /// Whether this tick calls a scheme: 12 to 20 and 42 to 50, hexadecimal.
+    /// Whether this tick calls a scheme: 12 to 20 and 42 to 50, hexadecimal. A drop, 60, is no call.
     pub fn calls(&self) -> bool {
         (0x12..=0x20).contains(&self.code) || (0x42..=0x50).contains(&self.code)
     }
 }
 
-/// The words ran out.
-struct OutOfWords;
+/// Why performing a scheme ends before its End.
+enum Ended {
+    OutOfWords,
+    /// All open schemes are dropped, and this one handles the full stack.
+    Dropped(u8),
+}
 
 struct Walk<'a> {
     chart: &'a Chart,
+    places: usize,
     words: std::slice::Iter<'a, u16>,
+    /// The first of the open schemes.
+    first: u8,
     results: [bool; 17],
     ticks: Vec<Tick>,
 }
 
 /// The ticks of the walk over these words, as many as there are words.
-pub fn walk(chart: &Chart, words: &[u16]) -> Vec<Tick> {
-    let mut walk = Walk { chart, words: words.iter(), results: [false; 17], ticks: Vec::new() };
+pub fn walk(chart: &Chart, places: usize, words: &[u16]) -> Vec<Tick> {
+    let mut walk =
+        Walk { chart, places, words: words.iter(), first: 1, results: [false; 17], ticks: Vec::new() };
     while walk.round().is_ok() {}
     walk.ticks
 }
 
 impl Walk<'_> {
     /// One tick: takes a word and notes what is emitted.
-    fn tick(&mut self, node: usize, mask: u32, code: u8, open: usize) -> Result<u16, OutOfWords> {
-        let word = *self.words.next().ok_or(OutOfWords)?;
+    fn tick(&mut self, node: usize, mask: u32, code: u8, open: usize) -> Result<u16, Ended> {
+        let word = *self.words.next().ok_or(Ended::OutOfWords)?;
         self.ticks.push(Tick { node, mask, code, open });
         Ok(word)
     }
 
-    /// A home tick, then scheme 1 up to its End.
-    fn round(&mut self) -> Result<(), OutOfWords> {
+    /// A home tick, then scheme 1 up to its End, or up to a drop and the handler up to its own.
+    fn round(&mut self) -> Result<(), Ended> {
         self.tick(self.chart.end(1), 0, 0x04, 1)?;
-        self.perform(1, 1)
+        match self.begin(1) {
+            Err(Ended::Dropped(handler)) => {
+                self.begin(handler)?;
+                self.tick(self.chart.end(handler), 0, 0x03, 1)?;
+                Ok(())
+            }
+            performed => performed,
+        }
+    }
+
+    /// Performs a scheme as the first of the open ones.
+    fn begin(&mut self, scheme: u8) -> Result<(), Ended> {
+        self.first = scheme;
+        self.perform(scheme, 1)
     }
 
     /// Performs a scheme up to its End, whose tick is left to the caller.
-    fn perform(&mut self, scheme: u8, open: usize) -> Result<(), OutOfWords> {
+    fn perform(&mut self, scheme: u8, open: usize) -> Result<(), Ended> {
         let mut at = self.chart.start(scheme);
         while self.chart.nodes[at].kind != Kind::End {
             at = self.stop(at, open)?;
@@ -58,31 +79,49 @@ impl Walk<'_> {
         Ok(())
     }
 
-    /// Clears the result of a called scheme, performs it and makes the return tick of its End, whose word it hands back.
-    fn call(&mut self, scheme: u8, open: usize) -> Result<u16, OutOfWords> {
-        self.results[usize::from(scheme)] = false;
-        self.perform(scheme, open + 1)?;
-        self.tick(self.chart.end(scheme), 0, 0x03, open + 1)
+    /// The handler that a call drops to when it finds so many schemes open: there is none unless all places are taken, and
+    /// none for a handler that is first itself.
+    fn handler(&self, open: usize) -> Option<u8> {
+        self.chart.handler().filter(|handler| open == self.places && *handler != self.first)
+    }
+
+    /// An operation or function that calls. The call clears the result of the scheme called, performs it and makes the
+    /// return tick of its End, whose word it hands back; or it drops all, and then clears the handler's result alone.
+    fn call(&mut self, at: usize, open: usize) -> Result<u16, Ended> {
+        let node = self.chart.nodes[at];
+        let called = node.argument;
+        let handler = self.handler(open);
+        let code = match (handler, node.kind) {
+            (Some(_), _) => 0x60,
+            (None, Kind::Operation) => 0x10 + called,
+            (None, _) => 0x40 + called,
+        };
+        self.tick(at, node.mask, code, open)?;
+        self.write(node.scheme, node.result);
+        self.results[usize::from(handler.unwrap_or(called))] = false;
+        if let Some(handler) = handler {
+            return Err(Ended::Dropped(handler));
+        }
+        self.perform(called, open + 1)?;
+        self.tick(self.chart.end(called), 0, 0x03, open + 1)
     }
 
     /// One stop that is no End, with all that it calls; hands back the next stop.
-    fn stop(&mut self, at: usize, open: usize) -> Result<usize, OutOfWords> {
+    fn stop(&mut self, at: usize, open: usize) -> Result<usize, Ended> {
         let node = self.chart.nodes[at];
-        let called = node.argument;
         match node.kind {
+            Kind::Operation if node.argument != 0 => {
+                let word = self.call(at, open)?;
+                Ok(self.follow(node.on0, word))
+            }
             Kind::Operation => {
-                let code = if called == 0 { 0x00 } else { 0x10 + called };
-                let mut word = self.tick(at, node.mask, code, open)?;
+                let word = self.tick(at, node.mask, 0x00, open)?;
                 self.write(node.scheme, node.result);
-                if called != 0 {
-                    word = self.call(called, open)?;
-                }
                 Ok(self.follow(node.on0, word))
             }
             Kind::Function => {
-                self.tick(at, 0, 0x40 + called, open)?;
-                let word = self.call(called, open)?;
-                let result = self.results[usize::from(called)];
+                let word = self.call(at, open)?;
+                let result = self.results[usize::from(node.argument)];
                 Ok(self.follow(node.arc(result), word))
             }
             Kind::Begin => {

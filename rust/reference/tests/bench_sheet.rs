@@ -1,6 +1,7 @@
-//! The bench sheet, B1 to B10, run on the reference.
+//! The bench sheet, B1 to B10, and the cases that requests add, run on the reference.
 
 use reference::frames::{text_of, Frame, IMAGE_TEXT};
+use reference::samples::drawn_back;
 use reference::{entry, fresh_state, programs, walk, Answer};
 
 const CHART_P: &str = "\
@@ -65,7 +66,7 @@ fn b2_three_places() {
 #[test]
 fn b2_by_the_walk() {
     let chart = entry::chart_from_text(CHART_P.as_bytes()).unwrap();
-    let ticks = walk::walk(&chart, &W);
+    let ticks = walk::walk(&chart, 3, &W);
     let codes: Vec<u8> = ticks.iter().map(|t| t.code).collect();
     let masks: Vec<u32> = ticks.iter().map(|t| t.mask).collect();
     let open: Vec<usize> = ticks.iter().map(|t| t.open).collect();
@@ -207,6 +208,60 @@ fn a_call_clears_after_it_writes() {
     assert_eq!(bit_after(&image, 3, &[0; 2]), (Answer::Done(2), false));
     assert_eq!(bit_after(&image, 3, &[0; 3]), (Answer::Done(3), false));
     assert_eq!(bit_after(&image, 1, &[0; 2]), (refused(17, 0, 1), true));
+}
+
+const CHART_D: &str = "\
+00010001000000000000FE
+02010202000200000001F6
+01010000000000000000FE
+00020004000000000000FA
+02020205000200000002F1
+01020000000000000000FD
+00030107000000000000F5
+02030008000200000004ED
+01030000000000000000FC
+";
+
+const IMAGE_D: &str = "\
+0F030400030300000000E4
+10010200000000000000ED
+10020300000000000000EB
+10030400000000000000E9
+11000400010000000000EA
+11010300000000000000EB
+11020102010200000001E6
+11030102020200000002E3
+11040000030200000004E2
+12020000000002000000EA
+12030000000002010000E8
+12040000000002010000E7
+";
+
+/// Chart D, with scheme 3 as the handler, gives this image, and without the mark the same but for byte 5 of its header.
+#[test]
+fn the_header_names_the_handler() {
+    assert_eq!(text_of(&drawn_back()), CHART_D.as_bytes());
+    assert_eq!(programs::translate(CHART_D.as_bytes()), IMAGE_D.as_bytes());
+    let mut unmarked = drawn_back();
+    unmarked[6][2] = 0;
+    let image = programs::translate(&text_of(&unmarked));
+    assert_eq!(&image[..23], b"0F030400030000000000E7\n");
+    assert_eq!(image[23..], IMAGE_D.as_bytes()[23..]);
+}
+
+/// The second call of scheme 2 finds both places taken: its mask comes with code 60, scheme 3 follows, and then a home tick.
+#[test]
+fn the_handler_follows_a_full_stack() {
+    let wanted = [0x04, 0x12, 0x60, 0x00, 0x03, 0x04, 0x12, 0x60, 0x00, 0x03];
+    let (answer, masks, codes) = run(IMAGE_D.as_bytes(), 2, &[0; 10]);
+    assert_eq!(answer, Answer::Done(10));
+    assert_eq!(codes, wanted);
+    assert_eq!(masks, [0, 1, 2, 4, 0, 0, 1, 2, 4, 0]);
+    let ticks = walk::walk(&entry::chart_from_text(CHART_D.as_bytes()).unwrap(), 2, &[0; 10]);
+    let told = |t: &walk::Tick| (t.code, t.mask, t.open);
+    let open = [1, 1, 2, 1, 1, 1, 1, 2, 1, 1];
+    let expected: Vec<_> = (0..10).map(|k| (wanted[k], masks[k], open[k])).collect();
+    assert_eq!(ticks.iter().map(told).collect::<Vec<_>>(), expected);
 }
 
 #[test]

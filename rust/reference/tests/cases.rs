@@ -37,9 +37,15 @@ fn translate_cases_expects_what_the_reference_prints() {
 
 #[test]
 fn the_examples_are_what_the_reference_prints() {
-    for name in ["bore", "finishing", "home", "paper", "roughing", "two_blocks"] {
-        let example = |kind: &str| file(&folder("examples").join(name).with_extension(kind));
-        assert!(programs::translate(&example("chart")) == example("image"), "{name}");
-        assert!(programs::run(&example("image")) == example("codes"), "{name}");
+    let mut charts = 0;
+    for entry in fs::read_dir(folder("examples")).expect("the examples") {
+        let path = entry.expect("a file").path();
+        if path.extension().is_some_and(|extension| extension == "chart") {
+            let example = |kind: &str| file(&path.with_extension(kind));
+            assert!(programs::translate(&example("chart")) == example("image"), "{}", path.display());
+            assert!(programs::run(&example("image")) == example("codes"), "{}", path.display());
+            charts += 1;
+        }
     }
+    assert!(charts >= 6);
 }

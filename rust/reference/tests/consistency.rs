@@ -59,7 +59,7 @@ fn invented_states_fit() {
     for seed in 0..CASES {
         let mut random = Random::new(seed);
         let image = images::accepted(&mut random);
-        let state = states::fitting(&mut random, &image.labels);
+        let state = states::fitting(&mut random, &image.labels, image.handler);
         assert!(machine::fits(&image, &state), "seed {seed}");
     }
 }
@@ -72,7 +72,7 @@ fn a_tick_keeps_a_fitting_state_fitting() {
         if image::image_of(&image.frames()).is_err() {
             continue;
         }
-        let mut state = states::fitting(&mut random, &image.labels);
+        let mut state = states::fitting(&mut random, &image.labels, image.handler);
         for word in runs::words(&mut random, 100) {
             let Ok(advanced) = machine::tick(&image, &state, word) else {
                 break;
@@ -105,7 +105,7 @@ fn exactly_one_row_of_a_translated_image_matches() {
 
 #[test]
 fn lists_of_runs_tick_as_the_walk_does() {
-    let mut full = 0;
+    let (mut full, mut drops) = ([0; 2], 0);
     for seed in 0..CASES {
         let mut random = Random::new(seed);
         let (records, image) = images::translated(&mut random);
@@ -119,8 +119,11 @@ fn lists_of_runs_tick_as_the_walk_does() {
             let (answer, after) = entry::run(&text, &state, &run.words, &mut masks, &mut codes);
             state = after;
             assert_eq!(&Outcome { answer, masks, codes }, wanted, "seed {seed}");
-            full += usize::from(answer.number() == 17);
+            full[usize::from(image.handler != 0)] += usize::from(answer.number() == 17);
+            drops += wanted.codes[..answer.count()].iter().filter(|code| **code == 0x60).count();
         }
     }
-    assert!(full > 100, "too few runs met a full stack: {full}");
+    assert!(full[0] > 100, "too few runs met a full stack without a handler: {full:?}");
+    assert!(full[1] > 100, "too few runs met a full stack with the handler at the bottom: {full:?}");
+    assert!(drops > 500, "too few ticks dropped the stack: {drops}");
 }

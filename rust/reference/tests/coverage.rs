@@ -4,17 +4,18 @@ use std::collections::BTreeMap;
 
 use reference::chart::{Chart, Kind};
 use reference::check::chart_of;
-use reference::compare::compare;
-use reference::generate::{charts, Random};
-use reference::image::ROWS;
+use reference::compare::{compare, Handled};
+use reference::generate::{charts, images, runs, states, Random};
+use reference::image::{image_of, Image, FUNCTION_CALL, RETURN, ROWS};
+use reference::machine::{self, handles};
 use reference::translator;
-use reference::Reference;
+use reference::{Reference, State};
 
 /// Which refusals each call may give; 0 is success.
 const TRIED: [(&str, &[u8]); 13] = [
-    ("read_chart", &[0, 1, 2, 3, 4, 5, 6, 7, 8, 9, 16]),
-    ("write_chart", &[0, 1, 4, 5, 6, 7, 8, 9, 16]),
-    ("translate", &[0, 1, 2, 3, 4, 5, 6, 7, 8, 9, 10, 16]),
+    ("read_chart", &[0, 1, 2, 3, 4, 5, 6, 7, 8, 9, 16, 19]),
+    ("write_chart", &[0, 1, 4, 5, 6, 7, 8, 9, 16, 19]),
+    ("translate", &[0, 1, 2, 3, 4, 5, 6, 7, 8, 9, 10, 16, 19]),
     ("check_image", &[0, 1, 2, 3, 11, 12, 13]),
     ("fresh", &[0, 14]),
     ("run", &[0, 1, 2, 3, 11, 12, 13, 15, 16, 17, 18]),
@@ -31,15 +32,81 @@ const TRIED: [(&str, &[u8]); 13] = [
 fn every_answer_is_met_and_no_other() {
     let summary = compare(&Reference, 77, 8_000).unwrap_or_else(|difference| panic!("{difference}"));
     for (call, numbers) in TRIED {
-        for number in 0..=18 {
+        for number in 0..=19 {
             let met = summary.count(call, number) > 0;
             assert_eq!(met, numbers.contains(&number), "{call} {number}\n{summary}");
         }
     }
 }
 
+/// Each kind of run and tick drops the stack and goes home from the handler's End often enough to tell.
+#[test]
+fn every_call_that_ticks_meets_the_handler() {
+    let summary = compare(&Reference, 78, 8_000).unwrap_or_else(|difference| panic!("{difference}"));
+    for call in ["run", "tick", "runs", "live_run", "live_tick", "live_runs", "mixture"] {
+        let Handled { drops, returns } = summary.handled(call);
+        assert!(drops > 20 && returns > 20, "{call}\n{summary}");
+    }
+}
+
+/// What the handler brings into a tick of a fitting state, and whether this tick has it.
+fn events(image: &Image, state: &State, word: u16) -> [(&'static str, bool); 14] {
+    let top = usize::from(state.depth) - 1;
+    let here = image.labels[usize::from(state.places[top])];
+    let handler = image.handler;
+    let bit = |scheme: u8| state.results[usize::from(scheme) - 1];
+    let at_bottom = handles(image, state.places[0]);
+    let kept = &state.places[..top];
+    let open = kept.iter().any(|label| image.labels[usize::from(*label)].called == handler);
+    let ticked = machine::tick(image, state, word);
+    let drops = ticked.as_ref().is_ok_and(|advanced| advanced.code == 0x60);
+    let full = ticked.is_err_and(|number| number == 17);
+    [
+        ("a drop of one place", drops && top == 0),
+        ("a drop of more than three places", drops && top > 2),
+        ("a drop by a function", drops && here.kind == FUNCTION_CALL),
+        (
+            "a drop by the handler's scheme, which writes 1",
+            drops && here.owner == handler && here.result == 2,
+        ),
+        ("a drop by a call of the handler's scheme", drops && here.called == handler),
+        ("a drop with the handler's bit at 1", drops && bit(handler)),
+        ("a drop that leaves a 1 of the scheme called", drops && here.called != handler && bit(here.called)),
+        ("a drop with the handler's scheme called and open", drops && open),
+        ("a drop to a handler that is Begin to End", drops && image.entries[usize::from(handler) - 1] == 1),
+        ("17 with the handler at the bottom, alone", full && at_bottom && top == 0),
+        ("17 with the handler at the bottom, under others", full && at_bottom && top > 0),
+        ("17 without a handler", full && handler == 0),
+        ("a call of the handler's scheme", !full && !drops && here.calls() && here.called == handler),
+        ("a return at the bottom", here.kind == RETURN && top == 0),
+    ]
+}
+
+#[test]
+fn ticks_have_every_event() {
+    let mut found = BTreeMap::new();
+    for seed in 0..10_000 {
+        let random = &mut Random::new(seed);
+        let image = images::accepted(random);
+        let mut state = states::state(random, &image.labels, image.handler);
+        if image_of(&image.frames()).is_err() || !machine::fits(&image, &state) {
+            continue;
+        }
+        for word in runs::words(random, 12) {
+            for (event, met) in events(&image, &state, word) {
+                *found.entry(event).or_insert(0) += usize::from(met);
+            }
+            let Ok(advanced) = machine::tick(&image, &state, word) else { break };
+            state = advanced.state;
+        }
+    }
+    println!("{found:?}");
+    let rare: Vec<_> = found.iter().filter(|(_, count)| **count < 40).collect();
+    assert!(rare.is_empty(), "too few ticks have {rare:?}");
+}
+
 /// Each feature that some generated chart must have, and whether this one has it.
-fn features(chart: &Chart) -> [(&'static str, bool); 17] {
+fn features(chart: &Chart) -> [(&'static str, bool); 20] {
     let nodes = &chart.nodes;
     let any = |test: &dyn Fn(usize) -> bool| (0..nodes.len()).any(test);
     let first = nodes[chart.begin(1)].on0;
@@ -65,12 +132,19 @@ fn features(chart: &Chart) -> [(&'static str, bool); 17] {
         ("too many rows", rows > ROWS),
         ("256 labels", labels == 256),
         ("no label from 2 up", labels == 2),
+        ("no handler among many schemes", chart.schemes() > 1 && chart.handler().is_none()),
+        ("a handler that calls", any(&|v| Some(nodes[v].scheme) == chart.handler() && calls_any(chart, v))),
+        ("a handler that is called", chart.handler().is_some_and(|h| any(&|v| calls(chart, v, h)))),
     ]
 }
 
 fn calls(chart: &Chart, at: usize, scheme: u8) -> bool {
     let node = &chart.nodes[at];
     matches!(node.kind, Kind::Operation | Kind::Function) && node.argument == scheme
+}
+
+fn calls_any(chart: &Chart, at: usize) -> bool {
+    (2..=chart.schemes()).any(|scheme| calls(chart, at, scheme))
 }
 
 /// Whether an operation writes 1 and calls its own scheme.

@@ -67,7 +67,7 @@ impl Faulty {
             let bit = state.results[usize::from(label.called) - 1];
             self.calls.borrow_mut()[top] = (word, bit);
         }
-        if label.kind == RETURN {
+        if label.kind == RETURN && top > 0 {
             return self.return_of(image, state, word);
         }
         let full = label.calls() && state.depth + 1 == state.size;
@@ -78,7 +78,7 @@ impl Faulty {
         if self.fault == ReturnsFromSchemeOne && label.kind == HOME {
             advanced.code = 0x03;
         }
-        if label.calls() {
+        if label.calls() && advanced.code != 0x60 {
             self.clear(&label, state, &mut advanced.state);
         }
         Ok(advanced)

@@ -54,7 +54,7 @@ fn live_runs_and_ticks_are_runs_and_ticks() {
     for library in [&Reference as &dyn Library, &Fast] {
         let summary = live_alike(library, IMAGES, STATES);
         for (call, numbers) in [("live_run", &[0, 15, 16, 17, 18][..]), ("live_tick", &[0, 15, 17, 18])] {
-            for number in 0..=18 {
+            for number in 0..=19 {
                 let met = summary.count(call, number) > 0;
                 assert_eq!(met, numbers.contains(&number), "{call} {number}\n{summary}");
             }
@@ -70,7 +70,7 @@ fn a_kept_machine_ticks_as_the_reference_does() {
         let text = text_of(&image.frames());
         let Ok(kept) = Kept::new(&text) else { continue };
         for _ in 0..STATES {
-            let state = states::state(random, &image.labels);
+            let state = states::state(random, &image.labels, image.handler);
             let word = random.number() as u16;
             let (mut wanted, mut given) = (state, state);
             let ticked = Reference.tick(&text, &mut wanted, word);
@@ -80,18 +80,32 @@ fn a_kept_machine_ticks_as_the_reference_does() {
 }
 
 /// What only a table at fault can show at a tick, and whether this one does.
-fn oddities(held: &Held, state: &State, word: u16) -> [(&'static str, bool); 12] {
+fn oddities(held: &Held, state: &State, word: u16) -> [(&'static str, bool); 17] {
     let top = usize::from(state.depth) - 1;
     let number = state.places[top];
     let here = held.labels.get(usize::from(number));
     let is = |test: &dyn Fn(&Label) -> bool| here.is_some_and(test);
-    let made = held.tick(state, word).is_ok();
+    let ticked = held.tick(state, word);
+    let made = ticked.is_ok();
+    let drops = ticked.is_ok_and(|advanced| advanced.code == 0x60);
+    let entry = |scheme: u8| held.entries[usize::from(scheme).max(1) - 1];
     let taken = |row: &Row| word & row.care == row.values;
     let first = || held.rows[usize::from(number)].iter().find(|row| taken(row));
     let bit_ignored = |label: &Label| label.kind == PLAIN && first().is_some_and(|row| row.function_bit != 2);
     [
         ("a label above the last", here.is_none()),
-        ("a return at the bottom", top == 0 && is(&|l| l.kind == RETURN)),
+        (
+            "a return at the bottom, with no handler",
+            top == 0 && held.handler == 0 && is(&|l| l.kind == RETURN),
+        ),
+        (
+            "a return at the bottom, with a handler",
+            top == 0 && held.handler != 0 && is(&|l| l.kind == RETURN),
+        ),
+        ("a drop at a call of scheme 0", drops && is(&|l| l.called == 0)),
+        ("a drop by owner 0, which writes", drops && is(&|l| l.owner == 0 && l.result != 0)),
+        ("a drop to an entry that is not the handler's", drops && !held.handles(entry(held.handler))),
+        ("a drop to an entry above the last", drops && usize::from(entry(held.handler)) >= held.labels.len()),
         ("home above the bottom", top > 0 && is(&|l| l.kind == HOME)),
         ("a call of scheme 0", is(&|l| l.calls() && l.called == 0)),
         ("a call of scheme 1", is(&|l| l.calls() && l.called == 1)),
@@ -155,11 +169,11 @@ fn the_header_alone_decides_on_11() {
     assert_eq!(ran(&[], &[0]).0, refused);
     let table = changed(&[]);
     assert_eq!(ran(&table[..119], &[0]).0, refused);
-    for (k, byte) in [(1, 0), (1, 17), (1, 3), (2, 0), (2, 5), (3, 4), (4, 5)] {
+    for (k, byte) in [(1, 0), (1, 17), (1, 3), (2, 0), (2, 5), (3, 4), (4, 5), (5, 1), (5, 3), (5, 255)] {
         assert_eq!(ran(&changed(&[(0, k, byte)]), &[0]).0, refused, "byte {k} is {byte}");
     }
-    for k in [0, 5, 6, 7, 8, 9] {
-        assert_eq!(ran(&changed(&[(0, k, 77)]), &[0]), (Answer::Done(1), vec![0x04]));
+    for (k, byte) in [(0, 77), (5, 2), (6, 77), (7, 77), (8, 77), (9, 77)] {
+        assert_eq!(ran(&changed(&[(0, k, byte)]), &[0]), (Answer::Done(1), vec![0x04]));
     }
     assert_eq!(ran(&[table, vec![1; 15]].concat(), &[0]).0, Answer::Done(1));
 }
@@ -167,9 +181,11 @@ fn the_header_alone_decides_on_11() {
 #[test]
 fn ticks_on_faulty_tables_keep_the_rules() {
     let refused = |number, count| Answer::Refused { number, index: 0, count };
-    // a return at the bottom has no row
-    let plain_to_return = [(5, 2, 0), (8, 7, 1)];
-    assert_eq!(ran(&changed(&plain_to_return), &[0, 0, 0]), (refused(18, 2), vec![0x04, 0x00]));
+    // a return at the bottom leads to label 0, with a handler and without
+    for handler in [0, 2] {
+        let to_return = [(0, 5, handler), (5, 2, 0), (8, 7, 1)];
+        assert_eq!(ran(&changed(&to_return), &[0; 4]), (Answer::Done(4), vec![0x04, 0x00, 0x03, 0x04]));
+    }
     // a row to a label above the last
     let to_nothing = [(5, 2, 0), (8, 7, 5)];
     assert_eq!(ran(&changed(&to_nothing), &[0, 0, 0]), (refused(18, 2), vec![0x04, 0x00]));
@@ -179,4 +195,8 @@ fn ticks_on_faulty_tables_keep_the_rules() {
     // a call of a scheme above the last is one of scheme 0, which takes the entry of scheme 1
     let call_above = [(5, 3, 3)];
     assert_eq!(ran(&changed(&call_above), &[0; 4]), (refused(17, 3), vec![0x04, 0x10, 0x10]));
+    // where that fills the stack the handler follows, by an entry that may be scheme 1's, whose call drops again
+    let handled = [(0, 5, 2), (2, 2, 2), (5, 3, 3)];
+    let codes = vec![0x04, 0x10, 0x10, 0x60, 0x10, 0x10, 0x60];
+    assert_eq!(ran(&changed(&handled), &[0; 7]), (Answer::Done(7), codes));
 }

@@ -16,7 +16,8 @@ pub const COMMAND: Command = Command {
     details: &[
         "
 Each tick has a line: the word, the node, what happens, the micro operations, the open schemes and the result bits
-after it. Of the conditions at 1 those are named that the chart tests. Status 1 means that a refusal ended it.",
+after it. Of the conditions at 1 those are named that the chart tests. A call that finds the stack full drops all that
+is open and starts the handler, if the chart marks one. Status 1 means that a refusal ended it.",
         TRACING_HELP,
     ],
     run,

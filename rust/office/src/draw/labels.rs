@@ -2,6 +2,7 @@
 
 use crate::chart::Node;
 use crate::escape::escaped;
+use crate::notation::WHEN_FULL;
 use crate::plan::Plan;
 use crate::wording::kind;
 
@@ -12,6 +13,9 @@ const LONGEST: usize = 26;
 pub fn label(plan: &Plan, at: usize) -> String {
     let name = escaped(&plan.names.node(at));
     let mut lines = match plan.nodes[at] {
+        Node::Begin { handler: true, .. } => {
+            vec![edge_of_scheme(kind(&plan.nodes[at]), &name), WHEN_FULL.to_string()]
+        }
         Node::Begin { .. } | Node::End { .. } => vec![edge_of_scheme(kind(&plan.nodes[at]), &name)],
         Node::Condition { number, .. } => {
             vec![format!("<B>{}</B> ?", escaped(&plan.names.condition(number))), small(&name)]

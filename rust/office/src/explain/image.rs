@@ -6,12 +6,13 @@ use crate::problem::{counted, thousands, Problem};
 
 pub type Frame = [u8; 10];
 
-/// What the header says: the number of schemes, the highest label, the number of rows.
+/// What the header says: the number of schemes, the highest label, the number of rows, and the handler, 0 for none.
 #[derive(Clone, Copy)]
 pub struct Header {
     pub schemes: usize,
     pub last: usize,
     pub rows: usize,
+    pub handler: u8,
 }
 
 /// What a frame is, by its position.
@@ -25,7 +26,7 @@ pub enum Part {
 impl Header {
     pub fn of(frame: &Frame) -> Header {
         let rows = usize::from(u16::from_be_bytes([frame[3], frame[4]]));
-        Header { schemes: usize::from(frame[1]), last: usize::from(frame[2]), rows }
+        Header { schemes: usize::from(frame[1]), last: usize::from(frame[2]), rows, handler: frame[5] }
     }
 
     /// The index of label 0.
@@ -54,6 +55,15 @@ impl Header {
     }
 }
 
+/// What a scheme's number should be.
+pub fn numbers(low: usize, high: usize) -> String {
+    if high == low {
+        format!("it should be {low:02X}")
+    } else {
+        format!("it should be {low:02X} to {high:02X}")
+    }
+}
+
 /// A problem at a byte of a frame.
 pub fn at(index: usize, byte: usize, what: &str, advice: &str) -> Problem {
     Problem::at(index + 1, 2 * byte + 1, what).advice(advice)
@@ -62,11 +72,15 @@ pub fn at(index: usize, byte: usize, what: &str, advice: &str) -> Problem {
 /// Refusal 11: the first line.
 pub fn header(frames: &[Frame]) -> Option<Problem> {
     let frame = frames.first()?;
-    header_field(frame).or_else(|| line_count(frames, Header::of(frame)))
+    let header = Header::of(frame);
+    header_field(frame)
+        .or_else(|| wrong_handler(header))
+        .or_else(|| needless_byte(frame))
+        .or_else(|| line_count(frames, header))
 }
 
 fn header_field(frame: &Frame) -> Option<Problem> {
-    let Header { schemes, last, rows } = Header::of(frame);
+    let Header { schemes, last, rows, .. } = Header::of(frame);
     let here = |byte: usize, what: String, advice: &str| Some(at(0, byte, &what, advice));
     if frame[0] != 0x0F {
         return here(
@@ -91,17 +105,36 @@ fn header_field(frame: &Frame) -> Option<Problem> {
         );
         return here(3, what, "a count whose two bytes are swapped");
     }
-    let byte = (5..10).find(|byte| frame[*byte] != 0)?;
+    None
+}
+
+/// The handler is none, or a scheme that can be called.
+fn wrong_handler(header: Header) -> Option<Problem> {
+    let Header { schemes, handler, .. } = header;
+    if handler == 0 || (2..=schemes).contains(&usize::from(handler)) {
+        return None;
+    }
+    let wanted = match schemes {
+        1 => "with one scheme it should be 00".to_string(),
+        _ => format!("{}, or 00 for none", numbers(2, schemes)),
+    };
+    let what = format!("the handler is scheme {handler:02X}; {wanted}");
+    Some(at(0, 5, &what, "a wrong number of schemes; scheme 1, which is never the handler"))
+}
+
+/// The bytes after the handler, which are 0.
+fn needless_byte(frame: &Frame) -> Option<Problem> {
+    let byte = (6..10).find(|byte| frame[*byte] != 0)?;
     let what = format!(
         "{:02X} stands here, but the first line has no use for this byte: it should be 00",
         frame[byte]
     );
-    here(byte, what, "digits shifted by two")
+    Some(at(0, byte, &what, "digits shifted by two"))
 }
 
 /// How many lines follow the first against what it says.
 fn line_count(frames: &[Frame], header: Header) -> Option<Problem> {
-    let Header { schemes, last, rows } = header;
+    let Header { schemes, last, rows, .. } = header;
     let wanted = 1 + schemes + last + 1 + rows;
     if frames.len() == wanted {
         return None;

@@ -2,7 +2,7 @@
 
 use crate::problem::Problem;
 
-use super::image::{at, Frame, Header, Part};
+use super::image::{at, numbers, Frame, Header, Part};
 
 /// The byte of a label that holds its owner.
 const OWNER: usize = 4;
@@ -79,15 +79,6 @@ fn fixed_label(frame: &Frame, label: usize) -> Option<Wrong> {
         wanted[byte], frame[byte]
     );
     Some((byte, what, "an owner, a result or a mask put in the wrong label"))
-}
-
-/// What a scheme's number should be.
-fn numbers(low: usize, high: usize) -> String {
-    if high == low {
-        format!("it should be {low:02X}")
-    } else {
-        format!("it should be {low:02X} to {high:02X}")
-    }
 }
 
 fn label_field(frame: &Frame, header: Header) -> Option<Wrong> {

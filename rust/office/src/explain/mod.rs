@@ -36,7 +36,7 @@ fn reason(text: &[u8], asked: Kind, refusal: &Refusal) -> Option<Problem> {
         1 => lines::length(text, asked, CHART_TEXT),
         2 => lines::character_of(text, index),
         3 => lines::sum(text, index),
-        4..=10 => of_records(&frames(text)?, refusal, Voice::Lines),
+        4..=10 | 19 => of_records(&frames(text)?, refusal, Voice::Lines),
         11 => image::header(&frames(text)?),
         12 => image::place(&frames(text)?, index),
         13 => image_fields::field(&frames(text)?, index),
@@ -53,7 +53,7 @@ pub fn composed(records: &[u8], names: &Names, lines: &[usize], answer: Answer) 
         records.chunks_exact(RECORD).map(|record| record.try_into().expect("ten bytes")).collect();
     let problem = match refusal.number {
         1 => Some(node_count(records.len(), lines)),
-        4..=10 => of_records(&records, &refusal, Voice::Notation { names, lines }),
+        4..=10 | 19 => of_records(&records, &refusal, Voice::Notation { names, lines }),
         _ => of_run(&refusal),
     };
     problem.unwrap_or_else(|| Problem::new(UNEXPLAINED)).refused(refusal)
@@ -83,6 +83,7 @@ fn of_records(records: &[[u8; RECORD]], refusal: &Refusal, voice: Voice) -> Opti
         7 => nodes::call(records, index, voice),
         8 => paths::on_circle(records, index, voice),
         9 => paths::cut_off(records, index, voice),
+        19 => nodes::marks(records, voice),
         _ => rows::rows(records, voice),
     }
 }
@@ -96,7 +97,8 @@ fn of_run(refusal: &Refusal) -> Option<Problem> {
         16 => ("a buffer is too short for the answer".to_string(), "the caller's buffers"),
         17 => (
             format!("after {ticks} a call finds the stack full"),
-            "a chart that calls deeper than the stack has places: give it more (32 at most), or let it call less deep",
+            "a chart or a handler that calls deeper than the stack has places: give it more (32 at most), or let it call \
+             less deep",
         ),
         18 => (
             format!("after {ticks} no row of the label matches the word"),
@@ -114,13 +116,17 @@ pub fn accepted(nodes: Option<usize>, image: &[u8]) -> String {
     };
     let schemes = counted(header.schemes, "scheme");
     let (labels, rows) = (thousands(header.last + 1), counted(header.rows, "row"));
+    let handler = match header.handler {
+        0 => String::new(),
+        scheme => format!("; scheme {scheme} is the handler"),
+    };
     match nodes {
         Some(nodes) => {
             format!(
-                "accepted: a chart of {} in {schemes}; its image has {labels} labels and {rows}",
+                "accepted: a chart of {} in {schemes}; its image has {labels} labels and {rows}{handler}",
                 counted(nodes, "node")
             )
         }
-        None => format!("accepted: an image of {schemes}, {labels} labels and {rows}"),
+        None => format!("accepted: an image of {schemes}, {labels} labels and {rows}{handler}"),
     }
 }

@@ -1,4 +1,4 @@
-//! Refusals 4 to 7: fields, schemes, arcs and calls of node records.
+//! Refusals 4 to 7 and 19: fields, schemes, arcs, calls and the handler's mark of node records.
 
 use crate::problem::{listed, Problem};
 
@@ -76,6 +76,10 @@ fn wrong_scheme(record: &Record) -> Option<Wrong> {
 
 fn wrong_number(record: &Record) -> Option<Wrong> {
     match (record[0], record[ARGUMENT], record[RESULT]) {
+        (BEGIN, mark @ 2.., _) => {
+            let what = format!("the mark is {mark:02X}; it should be 00 (none) or 01 (the handler)");
+            Some((ARGUMENT, what, "the number of a scheme or of a node one byte too early"))
+        }
         (CONDITION, number @ 16.., _) => {
             let what = format!("the condition's number is {}; it should be 00 to 0F", both(number));
             Some((ARGUMENT, what, "a number typed in decimal: condition 10 is 0A"))
@@ -92,7 +96,7 @@ fn wrong_number(record: &Record) -> Option<Wrong> {
 /// The bytes that a kind has no use for.
 fn unused(kind: u8) -> &'static [usize] {
     match kind {
-        BEGIN => &[2, 4, 5, 6, 7, 8, 9],
+        BEGIN => &[4, 5, 6, 7, 8, 9],
         END => &[2, 3, 4, 5, 6, 7, 8, 9],
         OPERATION => &[4],
         _ => &[5, 6, 7, 8, 9],
@@ -175,6 +179,24 @@ fn those(nodes: &[usize], voice: Voice) -> String {
     }
     let are = if nodes.len() == 1 { "node is" } else { "nodes are" };
     format!("{are} {}", listed(&shown))
+}
+
+/// Refusal 19: the Begin of scheme 1 where that is marked, else the second that is; all of them are named.
+pub fn marks(records: &[Record], voice: Voice) -> Option<Problem> {
+    let marked = nodes_of(records, |record| record[0] == BEGIN && record[ARGUMENT] != 0);
+    let of_scheme_1 = marked.iter().find(|node| records[**node][SCHEME] == 1);
+    let (at, what) = match (of_scheme_1, &marked[..]) {
+        (Some(at), _) => (*at, format!("{} cannot be the handler", voice.scheme(1))),
+        (None, [_, second, ..]) => (*second, "a second handler".to_string()),
+        _ => return None,
+    };
+    let begins: Vec<String> = marked.iter().map(|node| voice.node(*node)).collect();
+    let what = format!("{what}; marked Begins: {}", listed(&begins));
+    let advice = voice.either(
+        "byte 2 of a Begin, which is 01 for the handler alone",
+        "the words 'when the stack is full', which stand in the begin line of the handler alone",
+    );
+    Some(voice.problem(at, ARGUMENT, &what).advice(advice))
 }
 
 /// The bytes that hold a record's arcs, and how a message calls each.

@@ -2,8 +2,8 @@
 
 use fairleadow::Refusal;
 
-/// The rules of refusals 1 to 18, in that order.
-const RULES: [&str; 18] = [
+/// The rules of refusals 1 to 19, in that order.
+const RULES: [&str; 19] = [
     "a chart has 1 to 256 nodes, each a line of 22 digits and a line feed; an image has at most 1,297 such lines",
     "a line is 22 digits, 0-9 and A-F, and a line feed",
     "the eleven bytes of a line sum to 0 modulo 256; the last byte is there for that",
@@ -14,14 +14,15 @@ const RULES: [&str; 18] = [
     "no circle has conditions only, for the machine could go round it and never tick",
     "arcs join each node to the Begin of its scheme",
     "a chart has at most 1,024 rows: the paths from its stops through conditions to the next stops",
-    "the first line of an image is 0F, the schemes, the highest label, the rows and 00, and as many lines follow",
+    "the first line of an image is 0F, the schemes, the highest label, the rows, the handler and 00, and as many lines follow",
     "after its first line an image has the entries, the labels and the rows, each in the order of their numbers",
     "each field of an image line has one of its values, and a byte without a use is 00",
     "a stack has 1 to 32 places",
     "a state belongs to the image that it is run with",
     "a buffer has room for the whole answer",
-    "a call needs a free place of the stack",
+    "a call needs a free place of the stack, or a handler that is not at the bottom of it",
     "a label has a row for each word that it meets",
+    "one scheme at most is the handler, which is performed when the stack is full, and that is not scheme 1",
 ];
 
 /// The rule of a refusal.

@@ -3,7 +3,7 @@
 use crate::chart::{nodes, Node};
 use crate::names::Names;
 
-use super::{Line, Notation, Part};
+use super::{Line, Notation, Part, WHEN_FULL};
 
 /// Labels longer than this push their line out.
 const WIDEST: usize = 20;
@@ -59,6 +59,7 @@ impl Page<'_> {
     fn step(&self, node: &Node) -> String {
         let to = |node: usize| self.names.node(node);
         match *node {
+            Node::Begin { handler: true, next, .. } => format!("begin {WHEN_FULL} -> {}", to(next)),
             Node::Begin { next, .. } => format!("begin -> {}", to(next)),
             Node::End { .. } => "end".to_string(),
             Node::Operation { called, next, result, mask, .. } => {

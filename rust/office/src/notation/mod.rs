@@ -19,6 +19,10 @@
 //!
 //! The lines of nodes stand in the order of the chart's lines. Outputs are the micro operations of the mask. What has no
 //! name is called by its number: x2 is condition 2, y0 output 0, s2 scheme 2.
+//!
+//! `begin when the stack is full -> back` marks a scheme as the handler. It stands on the Begin because the chart has its
+//! mark there, so a line of either stays a line of the other, and what the library refuses is told by this line. It says
+//! when the scheme begins, so nobody needs to know the word, and it takes no name away: these words mean nothing elsewhere.
 
 mod layout;
 mod near;
@@ -34,6 +38,9 @@ use crate::names::Names;
 use crate::problem::{Problem, LONE_RETURNS};
 
 use statement::Statement;
+
+/// What the Begin of the handler says.
+pub const WHEN_FULL: &str = "when the stack is full";
 
 /// The first words of statements, by which a file is known as notation.
 pub const KEYWORDS: [&str; 9] =
@@ -138,11 +145,19 @@ impl Notation {
         }
     }
 
-    /// A refusal of the library, told by the lines and names of this notation.
+    /// A refusal of the library, told by the lines and names of this notation; a mark that is refused has a column too.
     pub fn problem(&self, answer: Answer) -> Problem {
-        let problem = explain::composed(&self.records, &self.names, &self.node_lines(), answer);
-        problem.excerpt(self.text.as_bytes())
+        let told = explain::composed(&self.records, &self.names, &self.node_lines(), answer);
+        let marked = told.line.filter(|_| answer.number() == 19);
+        let column = marked.and_then(|line| mark_column(self.text.lines().nth(line - 1)?));
+        Problem { column, ..told }.excerpt(self.text.as_bytes())
     }
+}
+
+/// Where a begin line marks the handler: at the word after its `begin`.
+fn mark_column(line: &str) -> Option<usize> {
+    let words = words::words(line).words;
+    words.windows(2).find(|pair| pair[0].text == "begin").map(|pair| pair[1].column)
 }
 
 /// What a statement is on its line; nodes are counted on.

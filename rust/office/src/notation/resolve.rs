@@ -209,7 +209,7 @@ impl Tables {
         let target = |to: &Word| self.target(line, node, to);
         let called = |name: &Word| self.schemes.number(&SCHEME, name, line);
         Ok(match step {
-            Step::Begin { next } => [0, scheme, 0, target(next)?, 0, 0, 0, 0, 0, 0],
+            Step::Begin { handler, next } => [0, scheme, u8::from(*handler), target(next)?, 0, 0, 0, 0, 0, 0],
             Step::End => [1, scheme, 0, 0, 0, 0, 0, 0, 0, 0],
             Step::Operation { outputs, result, called: name, next } => {
                 let [a, b, c, d] = self.mask(line, outputs)?.to_be_bytes();

@@ -3,6 +3,7 @@
 use crate::problem::Problem;
 
 use super::words::{Word, Words};
+use super::WHEN_FULL;
 
 #[derive(Clone, Debug, PartialEq, Eq)]
 pub enum Statement {
@@ -18,7 +19,7 @@ const STEPS: [&str; 6] = ["begin", "end", "do", "write", "call", "if"];
 /// What a node does.
 #[derive(Clone, Debug, PartialEq, Eq)]
 pub enum Step {
-    Begin { next: Word },
+    Begin { handler: bool, next: Word },
     End,
     Operation { outputs: Vec<Word>, result: u8, called: Option<Word>, next: Word },
     Condition { tested: Word, on1: Word, on0: Word },
@@ -154,7 +155,7 @@ impl Reader<'_> {
         match self.peek() {
             Some("begin") => {
                 self.expect("begin")?;
-                Ok(Step::Begin { next: self.arrow()? })
+                Ok(Step::Begin { handler: self.when_full()?, next: self.arrow()? })
             }
             Some("end") => {
                 self.expect("end")?;
@@ -165,6 +166,15 @@ impl Reader<'_> {
             _ if labelled => Err(self.wanted(&format!("one of: {}", STEPS.join(", ")))),
             _ => Err(self.wanted("a name and a colon, or one of: begin, end, condition, output, scheme,")),
         }
+    }
+
+    /// Whether this Begin is the handler's: after the first of those words all of them belong there.
+    fn when_full(&mut self) -> Result<bool, Problem> {
+        let handler = self.peek() == WHEN_FULL.split(' ').next();
+        if handler {
+            WHEN_FULL.split(' ').try_for_each(|word| self.expect(word))?;
+        }
+        Ok(handler)
     }
 
     fn arrow(&mut self) -> Result<Word, Problem> {

@@ -24,7 +24,7 @@ fn row(plan: &Plan, number: usize, tick: &Tick) -> String {
         chips(&plan.conditions(tick.word)),
         escaped(&plan.scheme_of(tick.node())),
         escaped(&plan.node_title(tick.node())),
-        escaped(&plan.happening(tick.happening())),
+        escaped(&plan.happening(tick)),
         chips(&plan.operations(tick.mask)),
         escaped(&plan.open_schemes(&tick.stack)),
         chips(&plan.results(&tick.results)),

@@ -36,6 +36,9 @@ pub fn path(plan: &Plan, happening: Happening, stack: &[usize], results: &[bool;
     match happening {
         Happening::Home => entered(plan, 1),
         Happening::Call(scheme) => entered(plan, scheme),
+        Happening::Drop => entered(plan, plan.handler()),
+        // the handler at the bottom: it leads home by no arc
+        Happening::Return if stack.len() == 1 => Path::start(plan.marking.end(1)),
         Happening::Return => followed(plan, stack[stack.len() - 2], results, word),
         Happening::Plain => followed(plan, top, results, word),
     }

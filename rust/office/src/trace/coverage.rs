@@ -1,13 +1,14 @@
 //! Which nodes and arcs the ticks of a trace took.
 
-use super::{Arc, Tick};
+use super::{Arc, Happening, Tick};
 use crate::plan::Plan;
 
-/// How often each node was taken, and each arc by node and side. A node is taken by its tick, or by an arc out of it
-/// where it takes no tick.
+/// How often each node was taken, each call, and each arc by node and side. A node is taken by its tick, or by an arc out
+/// of it where it takes no tick. A call that is dropped is not taken, though its node is.
 #[derive(Clone, Debug)]
 pub struct Coverage {
     nodes: Vec<usize>,
+    calls: Vec<usize>,
     arcs: Vec<Vec<usize>>,
 }
 
@@ -15,12 +16,14 @@ impl Coverage {
     pub(super) fn none(plan: &Plan) -> Coverage {
         Coverage {
             nodes: vec![0; plan.nodes.len()],
+            calls: vec![0; plan.nodes.len()],
             arcs: plan.nodes.iter().map(|node| vec![0; node.arcs().len()]).collect(),
         }
     }
 
     pub(super) fn note(&mut self, tick: &Tick) {
         self.nodes[tick.node()] += 1;
+        self.calls[tick.node()] += usize::from(matches!(tick.happening(), Happening::Call(_)));
         for arc in &tick.arcs {
             self.arcs[arc.from][arc.side] += 1;
         }
@@ -33,6 +36,11 @@ impl Coverage {
 
     pub fn node_taken(&self, at: usize) -> bool {
         self.times(at) > 0
+    }
+
+    /// Whether the call of a node was made.
+    pub fn call_taken(&self, at: usize) -> bool {
+        self.calls[at] > 0
     }
 
     pub fn arc_taken(&self, arc: Arc) -> bool {

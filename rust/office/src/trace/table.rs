@@ -29,7 +29,7 @@ pub fn cells(plan: &Plan, number: usize, tick: &Tick) -> [String; 9] {
         listed(&plan.conditions(tick.word)),
         plan.scheme_of(tick.node()),
         plan.node_title(tick.node()),
-        plan.happening(tick.happening()),
+        plan.happening(tick),
         listed(&plan.operations(tick.mask)),
         plan.open_schemes(&tick.stack),
         listed(&plan.results(&tick.results)),
@@ -83,7 +83,8 @@ pub fn problem(plan: &Plan, trace: &Trace, stopped: &Stopped) -> Problem {
         0 => format!("{place}: {}", told.words),
         scheme => {
             let (scheme, open) = (plan.names.scheme(scheme), plan.open_schemes(&stopped.stack));
-            format!("{place}: the call of {scheme} finds the stack full, {} ({open})", in_use(trace.places))
+            let (used, bottom) = (in_use(trace.places), at_bottom(plan));
+            format!("{place}: the call of {scheme} finds the stack full, {used} ({open}){bottom}")
         }
     };
     Problem { words, ..told }
@@ -93,6 +94,14 @@ fn in_use(places: usize) -> String {
     match places {
         1 => "its one place in use".to_string(),
         _ => format!("all {places} places in use"),
+    }
+}
+
+/// Why nothing is dropped where there is a handler: a full stack is refused only while it is at the bottom.
+fn at_bottom(plan: &Plan) -> &'static str {
+    match plan.handler() {
+        0 => "",
+        _ => ", with the handler at the bottom",
     }
 }
 

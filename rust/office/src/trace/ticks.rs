@@ -16,6 +16,8 @@ pub enum Happening {
     Return,
     Home,
     Call(u8),
+    /// A call that found the stack full: every open scheme is dropped, and the handler starts.
+    Drop,
 }
 
 impl Happening {
@@ -25,6 +27,7 @@ impl Happening {
             0x04 => Happening::Home,
             0x12..=0x20 => Happening::Call(code - 0x10),
             0x42..=0x50 => Happening::Call(code - 0x40),
+            0x60 => Happening::Drop,
             _ => Happening::Plain,
         }
     }
@@ -108,9 +111,10 @@ fn tick(plan: &Plan, image: &[u8], state: &mut State, word: u16) -> Result<Tick,
     Ok(Tick { word, stack, code: ticked.code, mask: ticked.mask, results, arcs: path.arcs })
 }
 
-/// The nodes of the labels that a state holds, the bottom first.
+/// The nodes of the labels that a state holds, the bottom first. An End at the bottom is scheme 1's by its own label, 0,
+/// or else the handler's.
 fn stack(plan: &Plan, state: &State) -> Vec<usize> {
-    let mut scheme = 1;
+    let mut scheme = plan.handler();
     let mut stack = Vec::new();
     for label in &state.places[..usize::from(state.depth)] {
         let node = plan.marking.node(*label, scheme);

@@ -4,15 +4,15 @@ use super::Summary;
 use crate::expectation::{Outcome, Run};
 use crate::frames::text_of;
 use crate::generate::{images, runs, states, Random};
-use crate::image::Label;
+use crate::image::Image;
 use crate::library::Library;
 use crate::state::State;
 
-/// An image that the library accepts, its table, and its labels.
+/// An image that the library accepts, its text, and its table.
 struct Prepared {
-    image: Vec<u8>,
+    image: Image,
+    text: Vec<u8>,
     table: Vec<u8>,
-    labels: Vec<Label>,
 }
 
 /// Holds the two against each other on so many images and, for each, so many states, fitting or not. Tells how often each
@@ -23,7 +23,7 @@ pub fn live_alike(library: &dyn Library, images: u64, states: usize) -> Summary 
         let random = &mut Random::new(seed);
         let prepared = prepared(library, random);
         for _ in 0..states {
-            let state = states::state(random, &prepared.labels);
+            let state = states::state(random, &prepared.image.labels, prepared.image.handler);
             let words = random.pick(&[1, 5, 30]);
             let run = runs::run(random, words);
             let numbers = [
@@ -44,7 +44,7 @@ fn prepared(library: &dyn Library, random: &mut Random) -> Prepared {
         let text = text_of(&image.frames());
         let mut table = vec![0; image.frames().len() * 10];
         if library.prepare(&text, &mut table).number() == 0 {
-            return Prepared { image: text, table, labels: image.labels };
+            return Prepared { image, text, table };
         }
     }
 }
@@ -56,7 +56,7 @@ fn same_run(library: &dyn Library, prepared: &Prepared, state: &State, run: &Run
         let (answer, after) = if live {
             library.live_run(&prepared.table, state, &run.words, &mut masks, &mut codes)
         } else {
-            library.run(&prepared.image, state, &run.words, &mut masks, &mut codes)
+            library.run(&prepared.text, state, &run.words, &mut masks, &mut codes)
         };
         (Outcome { answer, masks, codes }, after)
     };
@@ -68,7 +68,7 @@ fn same_run(library: &dyn Library, prepared: &Prepared, state: &State, run: &Run
 /// Makes both ticks and hands back the number answered.
 fn same_tick(library: &dyn Library, prepared: &Prepared, state: &State, word: u16, seed: u64) -> u8 {
     let (mut after, mut after_live) = (*state, *state);
-    let ticked = library.tick(&prepared.image, &mut after, word);
+    let ticked = library.tick(&prepared.text, &mut after, word);
     let live = library.live_tick(&prepared.table, &mut after_live, word);
     assert_eq!((ticked, after), (live, after_live), "seed {seed}, {state:?}");
     live.answer.number()

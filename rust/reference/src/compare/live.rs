@@ -37,7 +37,7 @@ impl<'a> Case<'a> {
     /// One state through runs and ticks on the text and on the table, in any order, refused ones too.
     pub(super) fn mixture(&mut self) -> Compared {
         let image = images::accepted(&mut self.random);
-        let mut state = states::state(&mut self.random, &image.labels);
+        let mut state = states::state(&mut self.random, &image.labels, image.handler);
         let (text, table) = (text_of(&image.frames()), table_of(&image).concat());
         let on_text = Ground { bytes: &text, shown: show::text };
         let on_table = Ground { bytes: &table, shown: show::bytes };

@@ -27,7 +27,7 @@ impl<'a> Case<'a> {
     /// An image text, mostly accepted, and a state for it.
     fn image_and_state(&mut self) -> (Vec<u8>, State) {
         let image = images::accepted(&mut self.random);
-        let state = states::state(&mut self.random, &image.labels);
+        let state = states::state(&mut self.random, &image.labels, image.handler);
         let frames = image.frames();
         let text = match self.random.below(10) {
             0 => text_of(&damage::image(&mut self.random, &frames)),
@@ -54,6 +54,8 @@ impl<'a> Case<'a> {
             call(library, ground.bytes, state, &run.words, masks, codes)
         };
         let (answer, after) = made(&Reference, &mut masks, &mut codes);
+        let finished = &codes[MARGIN..][..answer.count()];
+        self.summary.note_codes(name, state.depth.into(), finished);
         let (got, got_after) = made(self.library, &mut got_masks, &mut got_codes);
         let wanted = (answer, after, masks, codes);
         let given = (got, got_after, got_masks, got_codes);
@@ -75,6 +77,8 @@ impl<'a> Case<'a> {
     ) -> Result<(Answer, State), Box<Difference>> {
         let (mut state, mut given) = (*start, *start);
         let wanted = call(&Reference, ground.bytes, &mut state, word);
+        let finished = [wanted.code];
+        self.summary.note_codes(name, start.depth.into(), &finished[..wanted.answer.count()]);
         let got = call(self.library, ground.bytes, &mut given, word);
         self.hold(name, wanted.answer, &(wanted, state), &(got, given), || {
             let on = (ground.shown)(ground.bytes);
@@ -134,6 +138,7 @@ impl<'a> Case<'a> {
         let table = self.made("prepare", <dyn Library>::prepare, &image_text, image.frames().len() * 10)?;
         let outcomes = expected(&chart, size, &list);
         let (_, mut state) = self.library.fresh(size);
+        let mut depth = 1;
         for (k, run) in list.iter().enumerate() {
             let (mut masks, mut codes) = (run.masks.clone(), run.codes.clone());
             let (answer, after) = if live && !self.random.once_in(3) {
@@ -142,6 +147,7 @@ impl<'a> Case<'a> {
                 self.library.run(&image_text, &state, &run.words, &mut masks, &mut codes)
             };
             state = after;
+            depth = self.summary.note_codes(name, depth, &outcomes[k].codes[..outcomes[k].answer.count()]);
             let outcome = Outcome { answer, masks, codes };
             self.hold(name, outcomes[k].answer, &outcomes[k], &outcome, || {
                 let shown: Vec<String> = list.iter().map(show_run).collect();

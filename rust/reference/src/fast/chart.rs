@@ -1,4 +1,4 @@
-//! Refusals 4 to 9 on records.
+//! Refusals 4 to 9 on records, with 19 after 5.
 
 use super::{refuse, NODES};
 use crate::answer::Refusal;
@@ -10,10 +10,11 @@ pub const OPERATION: u8 = 2;
 pub const CONDITION: u8 = 3;
 pub const FUNCTION: u8 = 4;
 
-/// How many schemes there are, and the Begin of each.
+/// How many schemes there are, the Begin of each, and the scheme whose Begin is marked, 0 for none.
 pub struct Begins {
     pub schemes: u8,
     pub begin: [u8; 17],
+    pub handler: u8,
 }
 
 pub fn check(records: &[Frame]) -> Result<Begins, Refusal> {
@@ -41,7 +42,7 @@ fn fields_stand(r: &Frame) -> bool {
     let tail = r[6] | r[7] | r[8] | r[9];
     scheme
         && match r[0] {
-            BEGIN => r[2] | r[4] | r[5] | tail == 0,
+            BEGIN => r[2] <= 1 && r[4] | r[5] | tail == 0,
             END => r[2] | r[3] | r[4] | r[5] | tail == 0,
             OPERATION => r[4] == 0 && r[5] <= 2,
             CONDITION => r[2] <= 15 && r[5] | tail == 0,
@@ -53,7 +54,7 @@ fn fields_stand(r: &Frame) -> bool {
 fn begins(records: &[Frame]) -> Result<Begins, Refusal> {
     let mut begin = [0; 17];
     let (mut starts, mut ends) = ([0u16; 17], [0u16; 17]);
-    let mut schemes = 0;
+    let (mut schemes, mut marks, mut handler) = (0, 0u16, 0);
     for (at, r) in records.iter().enumerate() {
         let scheme = usize::from(r[1]);
         schemes = schemes.max(scheme);
@@ -61,6 +62,10 @@ fn begins(records: &[Frame]) -> Result<Begins, Refusal> {
             BEGIN => {
                 starts[scheme] += 1;
                 begin[scheme] = at as u8;
+                if r[2] == 1 {
+                    marks += 1;
+                    handler = r[1];
+                }
             }
             END => ends[scheme] += 1,
             _ => {}
@@ -70,7 +75,10 @@ fn begins(records: &[Frame]) -> Result<Begins, Refusal> {
     if !starts[1..=schemes].iter().all(alone) || !ends[1..=schemes].iter().all(alone) {
         return refuse(5, 0);
     }
-    Ok(Begins { schemes: schemes as u8, begin })
+    if marks > 1 || handler == 1 {
+        return refuse(19, 0);
+    }
+    Ok(Begins { schemes: schemes as u8, begin, handler })
 }
 
 /// The ends of a record's arcs.

@@ -5,17 +5,18 @@ use crate::answer::Refusal;
 use crate::frames::Frame;
 use crate::image::ROWS;
 
-/// Where the parts of an accepted image are.
+/// Where the parts of an accepted image are, and its handler, 0 for none.
 pub struct Parts {
     pub schemes: usize,
     pub labels: usize,
+    pub handler: u8,
 }
 
 pub fn check(frames: &[Frame]) -> Result<Parts, Refusal> {
     let h = &frames[0];
     let rows = usize::from(u16::from_be_bytes([h[3], h[4]]));
-    let parts = Parts { schemes: usize::from(h[1]), labels: usize::from(h[2]) + 1 };
-    let bytes_stand = h[0] == 0x0F && h[5] | h[6] | h[7] | h[8] | h[9] == 0;
+    let parts = Parts { schemes: usize::from(h[1]), labels: usize::from(h[2]) + 1, handler: h[5] };
+    let bytes_stand = h[0] == 0x0F && h[5] != 1 && h[5] <= h[1] && h[6] | h[7] | h[8] | h[9] == 0;
     let counts_stand = (1..=16).contains(&parts.schemes) && parts.labels > 1 && rows <= ROWS;
     if !bytes_stand || !counts_stand || frames.len() != 1 + parts.schemes + parts.labels + rows {
         return refuse(11, 0);

@@ -44,6 +44,7 @@ pub struct Table<'a> {
     frames: &'a [Frame],
     schemes: u8,
     last: u8,
+    handler: u8,
 }
 
 #[derive(Clone, Copy)]
@@ -59,13 +60,14 @@ impl<'a> Table<'a> {
     pub fn of(bytes: &'a [u8]) -> Option<Table<'a>> {
         let (frames, _) = bytes.as_chunks::<10>();
         let header = frames.first()?;
-        let [_, schemes, last, high, low, ..] = *header;
+        let [_, schemes, last, high, low, handler, ..] = *header;
         let rows = usize::from(u16::from_be_bytes([high, low]));
-        if schemes == 0 || schemes > 16 || last == 0 || rows > ROWS {
+        let counts_stand = (1..=16).contains(&schemes) && last > 0 && rows <= ROWS;
+        if !counts_stand || handler == 1 || handler > schemes {
             return None;
         }
         let end = 2 + usize::from(schemes) + usize::from(last) + rows;
-        Some(Table { frames: frames.get(..end)?, schemes, last })
+        Some(Table { frames: frames.get(..end)?, schemes, last, handler })
     }
 
     fn frame(&self, label: u8) -> &Frame {
@@ -93,16 +95,22 @@ impl<'a> Table<'a> {
         self.frames[usize::from(scheme).max(1)][2]
     }
 
+    /// Whether the handler is at the bottom.
+    fn handles(&self, bottom: u8) -> bool {
+        self.handler != 0 && (bottom == 1 || self.label(bottom).owner == self.handler)
+    }
+
     pub fn fits(&self, state: &State) -> bool {
         let depth = usize::from(state.depth);
         if !(1..=32).contains(&state.size) || depth == 0 || state.depth > state.size {
             return false;
         }
         let (filled, above) = state.places.split_at(depth);
-        let (mut scheme, mut kept) = (1, true);
+        let handled = self.handles(filled[0]);
+        let (mut scheme, mut kept) = (if handled { self.handler } else { 1 }, true);
         for (k, place) in filled.iter().enumerate() {
             let label = self.label(*place);
-            let belongs = label.owner == scheme || (k > 0 && *place == 1);
+            let belongs = label.owner == scheme || (*place == 1 && (k > 0 || handled));
             if *place > self.last || !belongs || !kept {
                 return false;
             }
@@ -146,7 +154,7 @@ impl<'a> Table<'a> {
             }
             OPERATION_CALL | FUNCTION_CALL => {
                 if state.depth == state.size {
-                    return Err(17);
+                    return self.drop_all(state, &label);
                 }
                 state.places[top + 1] = self.entry(label.called);
                 state.depth += 1;
@@ -159,8 +167,12 @@ impl<'a> Table<'a> {
                 state.places[top] = self.entry(1);
                 0x04
             }
+            _ if top == 0 => {
+                state.places[0] = 0;
+                0x03
+            }
             _ => {
-                let below = top.checked_sub(1).ok_or(18)?;
+                let below = top - 1;
                 let bit = Self::bit(&state.results, &self.label(state.places[below]));
                 state.places[below] = self.next(state.places[below], bit, word)?;
                 state.places[top] = 0;
@@ -170,6 +182,19 @@ impl<'a> Table<'a> {
         };
         write_result(&mut state.results, &label);
         Ok((label.mask, code))
+    }
+
+    /// A call that finds the stack full: 17 or, for a handler that is not at the bottom, a drop.
+    #[cold]
+    fn drop_all(&self, state: &mut State, label: &Label) -> Result<(u32, u8), u8> {
+        if self.handler == 0 || self.handles(state.places[0]) {
+            return Err(17);
+        }
+        write_result(&mut state.results, label);
+        state.results[usize::from(self.handler) - 1] = false;
+        (state.depth, state.places) = (1, [0; 32]);
+        state.places[0] = self.entry(self.handler);
+        Ok((label.mask, 0x60))
     }
 
     /// Ticks until the words end, or 17 or 18. The buffers are as long as the words.

@@ -82,6 +82,7 @@ pub struct Machine {
     labels: [Label; 256],
     rows: [Row; ROWS],
     count: usize,
+    handler: u8,
 }
 
 impl Machine {
@@ -91,6 +92,7 @@ impl Machine {
             labels: [Label::default(); 256],
             rows: [Row::default(); ROWS],
             count: parts.labels,
+            handler: parts.handler,
         };
         let (entries, rest) = frames[1..].split_at(parts.schemes);
         let (labels, rows) = rest.split_at(parts.labels);
@@ -114,6 +116,11 @@ impl Machine {
         machine
     }
 
+    /// Whether the handler is at the bottom.
+    fn handles(&self, bottom: u8) -> bool {
+        self.handler != 0 && (bottom == 1 || self.labels[usize::from(bottom)].owner == self.handler)
+    }
+
     /// Refusal 15 is for states that do not fit.
     fn fits(&self, state: &State) -> bool {
         let depth = usize::from(state.depth);
@@ -121,13 +128,13 @@ impl Machine {
             return false;
         }
         let (filled, above) = state.places.split_at(depth);
-        let mut scheme = 1;
+        let mut scheme = if self.handles(filled[0]) { self.handler } else { 1 };
         for (k, place) in filled.iter().enumerate() {
             if usize::from(*place) >= self.count {
                 return false;
             }
             let label = &self.labels[usize::from(*place)];
-            let belongs = label.owner == scheme || (k > 0 && *place == 1);
+            let belongs = label.owner == scheme || (*place == 1 && scheme != 1);
             let calls = label.kind == OPERATION_CALL || label.kind == FUNCTION_CALL;
             if !belongs || (k + 1 < depth && !calls) {
                 return false;
@@ -187,6 +194,20 @@ impl Machine {
         Err(18)
     }
 
+    /// A call that finds the stack full: 17 or, for a handler that is not at the bottom, a drop.
+    #[cold]
+    fn drop_all<B: Bits>(&self, stack: &mut Stack<B>, label: &Label) -> Result<(u32, u8), u8> {
+        if self.handler == 0 || self.handles(stack.places[0]) {
+            return Err(17);
+        }
+        stack.write_result(label);
+        stack.bits.write(self.handler, false);
+        stack.places = [0; 32];
+        stack.places[0] = self.entries[usize::from(self.handler)];
+        stack.depth = 1;
+        Ok((label.mask, 0x60))
+    }
+
     // in a run the stack then stays in registers
     #[inline(always)]
     fn tick<B: Bits>(&self, stack: &mut Stack<B>, word: u16) -> Result<(u32, u8), u8> {
@@ -199,7 +220,7 @@ impl Machine {
             }
             OPERATION_CALL | FUNCTION_CALL => {
                 if stack.depth == stack.size {
-                    return Err(17);
+                    return self.drop_all(stack, &label);
                 }
                 stack.places[top + 1] = self.entries[usize::from(label.called)];
                 stack.depth += 1;
@@ -211,6 +232,10 @@ impl Machine {
             HOME => {
                 stack.places[top] = self.entries[1];
                 0x04
+            }
+            _ if top == 0 => {
+                stack.places[0] = 0;
+                0x03
             }
             _ => {
                 let beneath = self.labels[usize::from(stack.places[top - 1])];

@@ -64,7 +64,7 @@ pub fn fill<'a>(
     }
     let count = rows.count;
     let [high, low] = (count as u16).to_be_bytes();
-    image[0] = [0x0F, begins.schemes, labels.count as u8 + 1, high, low, 0, 0, 0, 0, 0];
+    image[0] = [0x0F, begins.schemes, labels.count as u8 + 1, high, low, begins.handler, 0, 0, 0, 0];
     for (k, begin) in begins.begin[1..=schemes].iter().enumerate() {
         image[1 + k] = [0x10, k as u8 + 1, labels.entry(records, *begin), 0, 0, 0, 0, 0, 0, 0];
     }

@@ -1,5 +1,5 @@
-//! Valid charts of all sizes. A scheme grows as a tree from its Begin, which joins every node; the arcs left over
-//! then go anywhere that makes no circle of conditions.
+//! Valid charts of all sizes, half of them with a handler. A scheme grows as a tree from its Begin, which joins every node;
+//! the arcs left over then go anywhere that makes no circle of conditions.
 
 use super::ladders;
 use super::Random;
@@ -72,6 +72,10 @@ fn build(random: &mut Random, bodies: &[usize]) -> Vec<Frame> {
     for (k, body) in bodies.iter().enumerate() {
         drafts.push(scheme(random, &settings, k + 1, *body));
     }
+    if bodies.len() > 1 && random.once_in(2) {
+        let handler = random.within(1, bodies.len() - 1);
+        drafts[handler][0].argument = 1;
+    }
     placed(random, &drafts)
 }
 
@@ -95,7 +99,7 @@ fn record(draft: &Draft, scheme: u8, to: impl Fn(usize) -> u8) -> Frame {
     let [a, b, c, d] = draft.mask.to_be_bytes();
     let argument = draft.argument;
     match draft.kind {
-        Kind::Begin => [0, scheme, 0, to(0), 0, 0, 0, 0, 0, 0],
+        Kind::Begin => [0, scheme, argument, to(0), 0, 0, 0, 0, 0, 0],
         Kind::End => [1, scheme, 0, 0, 0, 0, 0, 0, 0, 0],
         Kind::Operation => [2, scheme, argument, to(0), 0, draft.result, a, b, c, d],
         Kind::Condition => [3, scheme, argument, to(0), to(1), 0, 0, 0, 0, 0],

@@ -48,7 +48,7 @@ fn record_fault(random: &mut Random, records: &mut Vec<Frame>) {
     let at = random.below(count);
     let other = random.below(count);
     let schemes = records.iter().map(|r| r[1]).max().unwrap_or(1);
-    match random.below(14) {
+    match random.below(16) {
         0 => records[at][random.below(10)] = random.byte(),
         1 => records[at][random.below(10)] ^= 1 << random.below(8),
         2 => records[at][0] = random.below(6) as u8,
@@ -59,10 +59,23 @@ fn record_fault(random: &mut Random, records: &mut Vec<Frame>) {
         9 | 10 => circle(random, records),
         11 => records[at] = records[other],
         12 => records.swap(at, other),
+        13 | 14 => mark(random, records),
         _ if random.once_in(2) && count > 1 => {
             records.remove(at);
         }
         _ => records.insert(at, records[other]),
+    }
+}
+
+/// Marks some Begins, that of scheme 1 too, or puts more into byte 2 than a mark.
+fn mark(random: &mut Random, records: &mut [Frame]) {
+    let begins = records.iter_mut().filter(|record| record[0] == 0);
+    let mark = random.pick(&[1, 1, 1, 2, 255]);
+    let times = random.within(1, 4);
+    for begin in begins {
+        if random.once_in(times) {
+            begin[2] = mark;
+        }
     }
 }
 
@@ -112,7 +125,7 @@ fn image_fault(random: &mut Random, frames: &mut Vec<Frame>) {
     let row = random.within(row, count - 1);
     let any = random.below(count);
     let number = random.pick(&[0, 1, 2, 3, last, last.wrapping_add(1), schemes as u8, (schemes + 1) as u8]);
-    match random.below(16) {
+    match random.below(17) {
         0 => frames[0][random.below(10)] = number,
         1 => frames[0][random.below(5)] = random.byte(),
         2 => frames[any][0] = random.pick(&[0x0F, 0x10, 0x11, 0x12, 0x13]),
@@ -125,6 +138,7 @@ fn image_fault(random: &mut Random, frames: &mut Vec<Frame>) {
         12 => frames[row][random.within(6, 7)] = number,
         13 => frames.swap(any, row),
         14 => frames[any] = frames[row],
+        15 => frames[0][5] = number,
         _ if random.once_in(2) && count > 1 => {
             frames.remove(any);
         }

@@ -30,6 +30,9 @@ pub fn accepted(random: &mut Random) -> Image {
             for _ in 0..random.within(1, 6) {
                 patch(random, &mut image);
             }
+            if random.once_in(4) {
+                image.handler = handler(random, image.entries.len());
+            }
             image.rows.sort_by_key(|row| row.from);
             image
         }
@@ -91,6 +94,14 @@ fn row(random: &mut Random, image: &Image, from: u8) -> Row {
     }
 }
 
+/// None half of the time, or one of the schemes that can be called.
+pub fn handler(random: &mut Random, schemes: usize) -> u8 {
+    if schemes < 2 || random.once_in(2) {
+        return 0;
+    }
+    random.within(2, schemes) as u8
+}
+
 /// A label that belongs to a scheme, its End's label included.
 pub fn owned(random: &mut Random, labels: &[Label], scheme: u8) -> u8 {
     let end = if scheme == 1 { 0 } else { 1 };
@@ -127,7 +138,7 @@ fn with_labels(random: &mut Random, schemes: usize, last: usize) -> Image {
         labels.push(label(random, schemes));
     }
     let entries = (1..=schemes).map(|h| owned(random, &labels, h as u8)).collect();
-    let mut image = Image { entries, labels, rows: Vec::new() };
+    let mut image = Image { handler: handler(random, schemes), entries, labels, rows: Vec::new() };
     for from in 2..=last {
         for _ in 0..random.pick(&[0, 1, 2, 2, 3, 3]) {
             let row = row(random, &image, from as u8);

@@ -15,8 +15,9 @@ pub fn table_and_state(random: &mut Random) -> (Vec<u8>, State) {
     if random.once_in(3) {
         follow(random, &mut bytes);
     }
-    let labels = Held::of(&bytes).map_or(image.labels, |held| held.labels);
-    let state = states::state(random, &labels);
+    let (labels, handler) =
+        Held::of(&bytes).map_or((image.labels, image.handler), |held| (held.labels, held.handler));
+    let state = states::state(random, &labels, handler);
     (bytes, state)
 }
 
@@ -72,7 +73,8 @@ fn scattered(random: &mut Random, mut bytes: Vec<u8>) -> Vec<u8> {
 /// A header in order, and any bytes below it, most of them small.
 fn below_header(random: &mut Random) -> Vec<u8> {
     let (schemes, last, rows) = (random.within(1, 16), random.within(1, 30), random.below(40));
-    let mut bytes = vec![random.byte(), schemes as u8, last as u8, 0, rows as u8];
+    let handler = images::handler(random, schemes);
+    let mut bytes = vec![random.byte(), schemes as u8, last as u8, 0, rows as u8, handler];
     let small = random.pick(&[3, 20, 60]);
     while bytes.len() < 10 * (2 + schemes + last + rows) {
         let byte = if random.once_in(8) { random.byte() } else { random.below(small) as u8 };
@@ -93,9 +95,9 @@ fn fault(random: &mut Random, frames: &mut [Frame]) {
     let row = random.within(first_row, count - 1);
     let scheme = random.pick(&[0, 1, 2, 16, 17, 255, schemes, schemes.wrapping_add(1)]);
     let target = random.pick(&[0, 0, 1, 1, 2, last, last.wrapping_add(1), 255]);
-    match random.below(18) {
-        0 if random.once_in(4) => frames[0][random.within(1, 4)] = random.pick(&[0, 1, 2, 4, 5, 16, 17, 255]),
-        0 => frames[0][random.pick(&[0, 5, 6, 7, 8, 9])] = random.byte(),
+    match random.below(19) {
+        0 if random.once_in(4) => frames[0][random.within(1, 5)] = random.pick(&[0, 1, 2, 4, 5, 16, 17, 255]),
+        0 => frames[0][random.pick(&[0, 6, 7, 8, 9])] = random.byte(),
         1 => frames[label][5] = random.pick(&[0, 1, 2, 3, 255]),
         2 => frames[any][random.below(10)] = random.byte(),
         3 => frames[any][random.below(10)] ^= 1 << random.below(8),
@@ -112,6 +114,7 @@ fn fault(random: &mut Random, frames: &mut [Frame]) {
         13 => frames[entry][2] = target,
         14 => frames[row][6] = random.pick(&[0, 1, 2, 3, 255]),
         15 | 16 => frames[row][7] = target,
+        17 => frames[0][5] = if random.once_in(8) { scheme } else { images::handler(random, schemes.into()) },
         _ => frames[row][2..6].fill(random.pick(&[0, 0, 1, 255])),
     }
 }

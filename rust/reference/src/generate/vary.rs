@@ -23,7 +23,7 @@ pub fn drawn(random: &mut Random, entry: EntryPoint) -> Input {
         }
         _ => {
             let image = images::accepted(random);
-            let state = states::fitting(random, &image.labels);
+            let state = states::fitting(random, &image.labels, image.handler);
             Input { frames: image.frames(), state, words, value: 0 }
         }
     }

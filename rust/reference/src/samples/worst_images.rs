@@ -18,7 +18,7 @@ fn filled(kind: u8, owner: u8, row: impl Fn(usize) -> Row) -> Image {
     labels[usize::from(BOTTOM)].owner = 1;
     let mut entries = vec![1; 16];
     entries[0] = 0;
-    Image { entries, labels, rows: (0..ROWS).map(row).collect() }
+    Image { handler: 0, entries, labels, rows: (0..ROWS).map(row).collect() }
 }
 
 /// A row that any word matches.
@@ -96,6 +96,9 @@ pub fn worst_ticks() -> Vec<Ticks> {
     let deep = full_stack(BOTTOM, BUSY);
     let mut calling = State { depth: 31, ..deep };
     calling.places[31] = 0;
+    let mut full = deep;
+    full.places[31] = BUSY;
+    let handled = Image { handler: 16, ..function_rows() };
     vec![
         ("last of 1,024 plain rows", plain_rows(), at_top(BUSY), vec![0; WORDS]),
         ("no row of 1,024", plain_rows_only(), at_top(BUSY), vec![0; WORDS]),
@@ -103,6 +106,7 @@ pub fn worst_ticks() -> Vec<Ticks> {
         ("deep return, last of 1,024 function rows", function_rows(), deep, vec![1; WORDS]),
         ("deep call", function_rows(), calling, vec![1; WORDS]),
         ("deep return, operations", operation_rows(), deep, vec![0; WORDS]),
+        ("drop of a full stack", handled, full, vec![1; WORDS]),
     ]
 }
 

@@ -3,6 +3,7 @@
 #[macro_use]
 #[path = "../common/mod.rs"]
 mod common;
+mod handler;
 mod misread;
 
 use reference::answer::Refusal;
@@ -62,6 +63,20 @@ faults! {
     RefusesAReturnAtTheBottomAsUnfit,
     WritesTheResultOfAFullCall,
     WritesARefusedTick,
+    // what is made of the handler
+    PreparesNoHandler,
+    TakesAnyHandler,
+    TakesOwnerZeroForNoHandler,
+    TakesLabelOneForNoHandler,
+    RefusesTheHandlerAtTheBottom,
+    NeverDrops,
+    DropsTheHandlerToo,
+    KeepsTheHandlersBit,
+    ClearsTheCalledBit,
+    ForgetsTheCallersResult,
+    LeavesThePlacesAbove,
+    LooksForARowWithoutAHandler,
+    LooksForARowAtTheBottom,
 }
 
 /// The reference with one fault.
@@ -97,7 +112,7 @@ impl Faulty {
             AcceptsAnyPlaceAbove => state.places[depth..].fill(0),
             AcceptsAnyOwnerAbove => {
                 return filled[..depth - 1].iter().all(|kept| held.labels[usize::from(*kept)].calls())
-                    && held.labels[usize::from(filled[0])].owner == 1
+                    && (held.labels[usize::from(filled[0])].owner == 1 || held.handles(filled[0]))
                     && filled[depth..].iter().all(|place| *place == 0);
             }
             AcceptsAnyKept => {
@@ -105,7 +120,7 @@ impl Faulty {
                     held.labels[usize::from(*kept)].kind = 1;
                 }
             }
-            _ => {}
+            _ => self.misplace(&mut held, filled[0]),
         }
         held.fits(&state)
     }
@@ -153,7 +168,14 @@ impl Faulty {
         if self.0 == RefusesAReturnAtTheBottomAsUnfit && here.kind == RETURN && top == 0 {
             return Err(15);
         }
-        let mut advanced = self.spoilt(held).tick(state, word)?;
+        let mut advanced = match self.handled(held, here, state) {
+            Some(ticked) => ticked?,
+            None => self.spoilt(held).tick(state, word)?,
+        };
+        if advanced.code == 0x60 {
+            self.spoil_drop(held, here, state, &mut advanced.state);
+            return Ok(advanced);
+        }
         match self.0 {
             EmptiesTheStackAtHome if here.kind == HOME => {
                 let entry = advanced.state.places[top];
@@ -273,6 +295,9 @@ impl Library for Faulty {
         }
         let Answer::Done(count) = answer else { return answer };
         self.misnote(image, table);
+        if self.0 == PreparesNoHandler {
+            table[5] = 0;
+        }
         match self.0 {
             PreparesPastTheCount if count < table.len() => table[count] = !table[count],
             CountsFrames => return Answer::Done(count / 10),

@@ -69,6 +69,7 @@ impl Faulty {
             }
             CountsAPartFrame => bytes.resize(bytes.len().next_multiple_of(10), 0),
             TakesAnyRowCount if whole && bytes[3] >= 4 => (bytes[3], bytes[4]) = (4, 0),
+            TakesAnyHandler if whole && (bytes[5] == 1 || bytes[5] > bytes[1]) => bytes[5] = 0,
             _ => {}
         }
         let mut held = Held::of(&bytes).map_err(Answer::from)?;

@@ -22,7 +22,8 @@ marks-handler-requires c κs = search needs
 returns : tie.Need-returns Inv-loop μ-loop
 returns c =
     let tried = c .before .before in
-    marking-second _ _ _ _ (tried .before .before .loop .inv) (search needs) (sym (tried .marks-handler .ensures) ∙ c .before .if1 .taken) (c .if2 .taken)
+    marking-second _ _ _ _ (tried .before .before .loop .inv) (search needs) (sym (tried .marks-handler .ensures) ∙ c .before .if1 .taken)
+    (c .if2 .taken)
 
 field-requires : tie.Need-field-requires Inv-loop μ-loop
 field-requires c κs = search needs
@@ -31,7 +32,8 @@ returns-2 : tie.Need-returns-2 Inv-loop μ-loop
 returns-2 c =
     let marks = c .before .before .before in
     let tried = marks .before in
-    marking-first _ _ _ _ (tried .before .before .loop .inv) (search needs) (sym (tried .marks-handler .ensures) ∙ marks .if1 .taken) _ (c .before .field .ensures) (c .if3 .taken)
+    marking-first _ _ _ _ (tried .before .before .loop .inv) (search needs) (sym (tried .marks-handler .ensures) ∙ marks .if1 .taken) _
+    (c .before .field .ensures) (c .if3 .taken)
 
 add-v : tie.Need-add-v Inv-loop μ-loop
 add-v c = search needs

@@ -1,4 +1,4 @@
--- `ticks::ticks::next_beneath` meets its contract: no label lies beneath the top, it has no rows, or its row is looked for.
+-- `ticks::ticks::next_beneath` meets its contract: the label beneath the top has no rows, or its row is looked for.
 use borrow.Author.Needs.{needs}
 use mathlib.Core.Path.{_≡_, _∙_, ap}
 use Prim.Native.Nat.{ℕ, _-_}
@@ -7,7 +7,7 @@ use Rattle.tables.specs.Labels.{Numbered}
 use Rattle.state.specs.declared.State.{State}
 use Rattle.state.specs.State.{placeAt}
 use Rattle.state.specs.Bytes.{stateOf}
-use Rattle.ticks.proofs.TickCases.{depth-most, size-most, beneath-first, beneath-low, beneath-high, bit-decides, beneath-row}
+use Rattle.ticks.proofs.TickCases.{depth-most, size-most, beneath-low, beneath-high, bit-decides, beneath-row}
 use Rattle.ticks.proofs.ticks.next_beneath.Statement.{statement}
 use Rattle.ticks.proofs.ticks.next_beneath.Tie as tie
 
@@ -16,7 +16,7 @@ abbrev start : tie.After-depth-of → tie.Start
 start c = c .before .before
 
 abbrev depth : tie.After-place-of → tie.After-depth-of
-depth c = c .before .before
+depth c = c .before
 
 abbrev state : tie.After-depth-of → State
 state c = stateOf (start c .args .bytes .now)
@@ -29,43 +29,38 @@ under-read c = c .place-of .ensures ∙ ap (λ (n : ℕ). placeAt (state (depth 
 depth-of-requires : tie.Need-depth-of-requires
 depth-of-requires c κs = search needs
 
-returns : tie.Need-returns
-returns c = let d = c .before in beneath-first _ _ (start d .pre .0) _ _ (d .depth-of .ensures) (c .if1 .taken)
-
 cast-place-of : tie.Need-cast-place-of
 cast-place-of c = search needs
 
 sub-place-of : tie.Need-sub-place-of
-sub-place-of c = omega (arith, c .if1 .left)
+sub-place-of c = search needs
 
 place-of-requires : tie.Need-place-of-requires
 place-of-requires c κs =
-    let d = c .before in
-    let asked = start d .pre .0 .stands in
-    omega (arith, depth-most asked, size-most asked, d .depth-of .ensures, c .if1 .left)
+    let asked = start c .pre .0 in
+    omega (arith, depth-most (asked .top .stands), size-most (asked .top .stands), asked .deep, c .depth-of .ensures)
+
+returns : tie.Need-returns
+returns c = let p = c .before in beneath-low _ (state (depth p)) _ _ (under-read p) (omega (arith, c .if1 .taken))
 
 returns-2 : tie.Need-returns-2
-returns-2 c = let p = c .before in beneath-low _ _ (start (depth p) .pre .0) _ _ (under-read p) (omega (arith, c .if2 .taken))
-
-returns-3 : tie.Need-returns-3
-returns-3 c =
+returns-2 c =
     let p = c .before .before in
-    let asked = start (depth p) .pre in
-    beneath-high _ _ (asked .0) _ _ (under-read p) (omega (arith, asked .1 .last, c .if3 .taken))
+    beneath-high _ (state (depth p)) _ _ (under-read p) (omega (arith, start (depth p) .pre .1 .last, c .if2 .taken))
 
 cast-label-read : tie.Need-cast-label-read
 cast-label-read c = search needs
 
-abbrev place : tie.Else3 → tie.After-place-of
+abbrev place : tie.Else2 → tie.After-place-of
 place c = c .before .before
 
-numbered : (c : tie.Else3) → Numbered (start (depth (place c)) .args .table .now) (place c .place-of .result)
+numbered : (c : tie.Else2) → Numbered (start (depth (place c)) .args .table .now) (place c .place-of .result)
 numbered c =
     let asked = start (depth (place c)) .pre in
     record {
-      whole = asked .0 .stands .whole;
-      low = omega (arith, c .before .if2 .left);
-      high = omega (arith, asked .1 .last, c .if3 .left);
+      whole = asked .0 .top .stands .whole;
+      low = omega (arith, c .before .if1 .left);
+      high = omega (arith, asked .1 .last, c .if2 .left);
     }
 
 label-read-requires : tie.Need-label-read-requires
@@ -83,12 +78,12 @@ next-row-requires c κs =
     let d = depth (place other) in
     (bit-decides _ _ _ (c .before .label-read .ensures) (state d .bits) _ (c .bit-of .ensures) (numbered other), start d .pre .1 .schemes)
 
-returns-4 : tie.Need-returns-4
-returns-4 c =
+returns-3 : tie.Need-returns-3
+returns-3 c =
     let bit = c .before in
     let label = bit .before in
     let p = place (label .before) in
-    beneath-row _ _ (start (depth p) .pre .0) _ _ (under-read p) (numbered (label .before)) _ (label .label-read .ensures) _
+    beneath-row _ (state (depth p)) _ _ (under-read p) (numbered (label .before)) _ (label .label-read .ensures) _
     (bit .bit-of .ensures) _ (c .next-row .ensures)
 
 pub next-beneath-spec : {M : Type 1} → statement M
@@ -96,15 +91,14 @@ next-beneath-spec =
     tie.close
     (tie.spec
     depth-of-requires
-    returns
     cast-place-of
     sub-place-of
     place-of-requires
+    returns
     returns-2
-    returns-3
     cast-label-read
     label-read-requires
     bit-of-requires
     cast-next-row
     next-row-requires
-    returns-4)
+    returns-3)

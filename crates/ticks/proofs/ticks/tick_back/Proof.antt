@@ -1,96 +1,110 @@
--- `ticks::ticks::tick_back` meets its contract: the label beneath has no row, or it takes it and the top is dropped.
+-- `ticks::ticks::tick_back` meets its contract: the handler ends, the label beneath has no row, or it takes it and the top is dropped.
 use borrow.Author.Needs.{needs}
 use mathlib.Core.Path.{ap}
 use Prim.Native.Nat.{ℕ, _-_, _≤_}
 use native.Mathlib.Omega.{arith}
-use Rattle.ticks.proofs.TickCases.{depth-most, size-most, back-stop, back-deep, back-steps}
+use Rattle.state.specs.Bytes.{stateOf}
+use Rattle.ticks.specs.Parts.{TopBack}
+use Rattle.ticks.proofs.TickCases.{depth-most, size-most, last-steps, back-stop, back-steps}
 use Rattle.ticks.proofs.ticks.tick_back.Statement.{statement}
 use Rattle.ticks.proofs.ticks.tick_back.Tie as tie
 
--- ---- the stages: where the label beneath leads, then the depth
-abbrev start : tie.After-next-beneath → tie.Start
+-- ---- the stages: the depth, then where the label beneath leads
+abbrev start : tie.After-depth-of → tie.Start
 start c = c .before .before .before
 
-abbrev next : tie.After-depth-of → tie.After-next-beneath
-next c = c .before .before .before
+abbrev depth : tie.After-next-beneath → tie.After-depth-of
+depth c = c .before .before .before
 
 -- ---- the needs
+depth-of-requires : tie.Need-depth-of-requires
+depth-of-requires c κs = search needs
+
+put-place-requires : tie.Need-put-place-requires
+put-place-requires c κs = search needs
+
+returns : tie.Need-returns
+returns c =
+    let last = c .before .before in
+    let d = last .before in
+    last-steps _ _ _ (start d .pre .0) _ (d .depth-of .ensures) (last .if1 .taken) _ (c .put-place .ensures)
+
+-- a label lies beneath the top
+back : (c : tie.Else1) → TopBack (start (c .before) .args .table .now) (stateOf (start (c .before) .args .bytes .now))
+back c = let d = c .before in record { top = start d .pre .0; deep = omega (arith, d .depth-of .ensures, c .if1 .left) }
+
 next-beneath-requires : tie.Need-next-beneath-requires
-next-beneath-requires c κs = c .before .before .pre
+next-beneath-requires c κs = let other = c .before in (back other, start (other .before) .pre .1)
 
 no-row-requires : tie.Need-no-row-requires
 no-row-requires c κs = search needs
 
-returns : tie.Need-returns
-returns c =
+returns-2 : tie.Need-returns-2
+returns-2 c =
     let n = c .before .before in
-    back-stop _ _ _ (start n .pre .0) _ (n .next-beneath .ensures) (λ k. omega (arith, n .before .before .shared-slice-known .given k))
-    (c .before .if1 .taken) _ (c .no-row .ensures)
+    let other = n .before .before in
+    back-stop _ _ _ (back other) _ (n .next-beneath .ensures) (λ k. omega (arith, other .before .before .before .shared-slice-known .given k))
+    (c .before .if2 .taken) _ (c .no-row .ensures)
 
-depth-of-requires : tie.Need-depth-of-requires
-depth-of-requires c κs = search needs
-
--- a row was found, so that a label lies beneath the top
-two : (c : tie.After-depth-of) → 2 ≤ c .depth-of .result
-two c =
-    let n = next c in
-    omega (arith, back-deep _ _ _ (start n .pre .0) _ (n .next-beneath .ensures) (c .before .before .if1 .left), c .depth-of .ensures)
-
-most : (c : tie.After-depth-of) → c .depth-of .result ≤ 32
-most c = let asked = start (next c) .pre .0 .stands in omega (arith, depth-most asked, size-most asked, c .depth-of .ensures)
-
-sub-put-place : tie.Need-sub-put-place
-sub-put-place c = omega (arith, two (c .before))
+most : (c : tie.After-next-beneath) → depth c .depth-of .result ≤ 32
+most c =
+    let asked = start (depth c) .pre .0 .stands in
+    omega (arith, depth-most asked, size-most asked, depth c .depth-of .ensures)
 
 cast-put-place : tie.Need-cast-put-place
 cast-put-place c = search needs
 
-put-place-requires : tie.Need-put-place-requires
-put-place-requires c κs = let d = c .before in omega (arith, two d, most d)
+sub-put-place : tie.Need-sub-put-place
+sub-put-place c = search needs
 
-sub-put-place-2 : tie.Need-sub-put-place-2
-sub-put-place-2 c = let d = c .before .before .before in omega (arith, two d)
+put-place-requires-2 : tie.Need-put-place-requires-2
+put-place-requires-2 c κs = let n = c .before .before in omega (arith, most n, n .before .before .if1 .left)
 
 cast-put-place-2 : tie.Need-cast-put-place-2
 cast-put-place-2 c = search needs
 
-cast-put-place-3 : tie.Need-cast-put-place-3
-cast-put-place-3 c = let d = c .before .before .before in omega (arith, d .before .before .if1 .left)
+sub-put-place-2 : tie.Need-sub-put-place-2
+sub-put-place-2 c = search needs
 
-put-place-requires-2 : tie.Need-put-place-requires-2
-put-place-requires-2 c κs = let d = c .before .before .before in omega (arith, two d, most d)
+cast-put-place-3 : tie.Need-cast-put-place-3
+cast-put-place-3 c = search needs
+
+put-place-requires-3 : tie.Need-put-place-requires-3
+put-place-requires-3 c κs = let n = c .before .before .before .before in omega (arith, most n, n .before .before .if1 .left)
 
 sub-put-depth : tie.Need-sub-put-depth
-sub-put-depth c = let d = c .before .before .before .before .before in omega (arith, two d)
+sub-put-depth c = search needs
 
 put-depth-requires : tie.Need-put-depth-requires
 put-depth-requires c κs = search needs
 
-returns-2 : tie.Need-returns-2
-returns-2 c =
+returns-3 : tie.Need-returns-3
+returns-3 c =
     let second = c .before .before in
     let first = second .before .before in
-    let d = first .before .before in
-    let n = next d in
-    let is = d .depth-of .ensures in
-    back-steps _ _ _ (start n .pre .0) _ (n .next-beneath .ensures) (d .before .before .if1 .left) _ _ (ap (λ (k : ℕ). k - 1) is)
-    (ap (λ (k : ℕ). k - 2) is) _ _ _ (first .put-place .ensures) (second .put-place2 .ensures) (c .put-depth .ensures)
+    let some = first .before .before in
+    let n = some .before in
+    let is = depth n .depth-of .ensures in
+    back-steps _ _ _ (back (n .before .before)) _ (n .next-beneath .ensures) (some .if2 .left) _ _ (ap (λ (k : ℕ). k - 1) is)
+    (ap (λ (k : ℕ). k - 2) is) _ _ _ (first .put-place2 .ensures) (second .put-place3 .ensures) (c .put-depth .ensures)
 
 pub tick-back-spec : {M : Type 1} → statement M
 tick-back-spec =
     tie.close
     (tie.spec
+    depth-of-requires
+    put-place-requires
+    returns
     next-beneath-requires
     no-row-requires
-    returns
-    depth-of-requires
+    returns-2
     cast-put-place
     sub-put-place
-    put-place-requires
+    put-place-requires-2
     cast-put-place-2
     sub-put-place-2
     cast-put-place-3
-    put-place-requires-2
+    put-place-requires-3
     sub-put-depth
     put-depth-requires
-    returns-2)
+    returns-3)

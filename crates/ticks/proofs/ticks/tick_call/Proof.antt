@@ -1,4 +1,4 @@
--- `ticks::ticks::tick_call` meets its contract: there is a free place or none.
+-- `ticks::ticks::tick_call` meets its contract: the stack is full, or there is a free place.
 use borrow.Author.Needs.{needs}
 use mathlib.Core.Path.{_∙_, ap}
 use Prim.Native.Nat.{ℕ, _-_}
@@ -6,7 +6,7 @@ use native.Mathlib.Omega.{arith}
 use Rattle.image.specs.Image.{Label}
 use Rattle.state.specs.State.{placeAt}
 use Rattle.state.specs.Bytes.{stateOf}
-use Rattle.ticks.proofs.TickCases.{depth-some, depth-most, size-most, called-low, called-few, numbered-as, call-full, call-steps}
+use Rattle.ticks.proofs.TickCases.{depth-some, depth-most, size-most, called-low, called-few, numbered-as, call-steps}
 use Rattle.ticks.proofs.ticks.tick_call.Statement.{statement}
 use Rattle.ticks.proofs.ticks.tick_call.Tie as tie
 
@@ -27,10 +27,14 @@ depth-of-requires c κs = search needs
 size-of-requires : tie.Need-size-of-requires
 size-of-requires c κs = search needs
 
+tick-full-requires : tie.Need-tick-full-requires
+tick-full-requires c κs =
+    let size = c .before .before in
+    let asked = start size .pre in
+    (record { calls = asked .0; full = omega (arith, size .size-of .ensures, size .before .before .depth-of .ensures, c .before .if1 .taken) }, asked .1)
+
 returns : tie.Need-returns
-returns c =
-    let size = c .before in
-    call-full _ _ _ (start size .pre .0) (omega (arith, size .size-of .ensures, size .before .before .depth-of .ensures, c .if1 .taken))
+returns c = c .tick-full .ensures
 
 sub-place-of : tie.Need-sub-place-of
 sub-place-of c =
@@ -110,6 +114,7 @@ tick-call-spec =
     (tie.spec
     depth-of-requires
     size-of-requires
+    tick-full-requires
     returns
     cast-place-of
     sub-place-of

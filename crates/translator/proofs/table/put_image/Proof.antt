@@ -25,6 +25,9 @@ labels c = c .before .before .before .before
 abbrev begun : tie.After-put-fixed → tie.Start
 begun c = start (entries c)
 
+abbrev rows : tie.After-handler-scheme → tie.After-put-rows
+rows c = c .before .before .before
+
 abbrev asked : tie.After-put-rows → tie.Start
 asked c = begun (fixed (labels c))
 
@@ -72,12 +75,15 @@ put-rows-requires c κs =
       omega (arith, rows-long (begun here .args .records .now), pre .room, long here, put .put-labels .kept .1 .1 .0),
     )
 
+handler-scheme-requires : tie.Need-handler-scheme-requires
+handler-scheme-requires c κs = search needs
+
 add-put-header : tie.Need-add-put-header
 add-put-header c = search needs
 
 cast-put-header : tie.Need-cast-put-header
 cast-put-header c =
-    let pre = asked (c .before .before .before) .pre in
+    let pre = asked (rows (c .before)) .pre in
     let ready = pre .noted .chart .ready in
     omega (arith, few-numbered _ (ready-facts ready), ready .few, pre .sizes .owned)
 
@@ -86,7 +92,7 @@ sub-put-header c = search needs
 
 put-header-requires : tie.Need-put-header-requires
 put-header-requires c κs =
-    let put = c .before .before .before in
+    let put = rows (c .before) in
     let pre = asked put .pre in (
       omega (arith, longer put, pre .room),
       omega (arith, rows-put _ _ _ _ (pre .sizes) _ _ (put .put-rows .ensures .ends), pre .few),
@@ -98,9 +104,11 @@ same-length c = search needs
 returns : tie.Need-returns
 returns c =
     let header = c .before .before in
-    let put = header .before .before .before .before in
+    let handled = header .before .before in
+    let put = rows handled in
     let pre = asked put .pre in
-    image-put _ _ _ _ (pre .sizes) _ _ _ _ _ _ _ _ (pre .room) (rows-put _ _ _ _ (pre .sizes) _ _ (put .put-rows .ensures .ends))
+    image-put _ _ _ _ (pre .sizes) _ _ _ _ _ _ _ _ _ (pre .room) (rows-put _ _ _ _ (pre .sizes) _ _ (put .put-rows .ensures .ends))
+    (handled .handler-scheme .ensures)
     (entries (fixed (labels put)) .put-entries .ensures) (fixed (labels put) .put-fixed .ensures) (labels put .put-labels .ensures)
     (put .put-rows .ensures) (header .put-header .ensures)
 
@@ -117,6 +125,7 @@ put-image-spec =
     mul-row
     add-row
     put-rows-requires
+    handler-scheme-requires
     add-put-header
     cast-put-header
     sub-put-header
