@@ -6,3 +6,4 @@ pub mod ImageSteps
 pub mod Matching
 pub mod RowLaws
 pub mod EntrySteps
+pub mod Alike
