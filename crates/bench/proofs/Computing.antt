@@ -5,11 +5,11 @@ use Rattle.graph.specs.Reach.{reach}
 use Rattle.frames.specs.Digit.{digitOf, charOf}
 use Rattle.frames.specs.Frame.{contents, total, frameText, textOf}
 use Rattle.frames.specs.Check.{badForm, badSum, textVerdict}
-use Rattle.charts.specs.Chart.{nodeOf}
+use Rattle.charts.specs.Chart.{handler, nodeOf}
 use Rattle.charts.specs.Check.{badField, chartVerdict}
 use Rattle.charts.specs.Entry.{readVerdict, readChart, writeVerdict}
 use Rattle.walk.specs.Stops.{stops, start, follow, stopAt}
-use Rattle.walk.specs.Walk.{perform, walk}
+use Rattle.walk.specs.Walk.{perform, walkFrom, walk}
 use Rattle.image.specs.Image.{imageFrames, imageText}
 use Rattle.image.specs.Decode.{decoded}
 use Rattle.image.specs.Check.{badHeader, positionOf, stray, badContent, tableVerdict, imageVerdict}
@@ -30,11 +30,11 @@ framing = tt
 
 -- charts
 unfoldable pub charting : Unit {0}
-unfolding framing count highest reach nodeOf badField chartVerdict readVerdict readChart writeVerdict
+unfolding framing count highest reach handler nodeOf badField chartVerdict readVerdict readChart writeVerdict
 charting = tt
 
 unfoldable pub walking : Unit {0}
-unfolding charting stops start follow stopAt perform walk
+unfolding charting stops start follow stopAt perform walkFrom walk
 walking = tt
 
 unfoldable pub translating : Unit {0}

@@ -21,25 +21,22 @@ use Rattle.ticks.specs.Tick.{ticked, tick}
 use Rattle.ticks.specs.Functions.{Unwritten as UnwrittenTicks, none, more, ZeroRow}
 use Rattle.ticks.proofs.Functions.{zero-row}
 use Rattle.runs.specs.Run.{ticks}
-use Rattle.bench.specs.Bench.{chartBore, boreWords}
+use Rattle.bench.specs.Bench.{chartBore, boreWords, one}
 use Rattle.bench.proofs.Computing.{walking, running}
 use Rattle.bench.proofs.Tables.{imageBore, of-bore}
 
 -- ---- the walk
-abbrev one : ℕ → ℕ → ℕ → ℕ → Tick
-one v m k o = record { node = v; mask = m; code = k; opened = o }
-
 abbrev firstBlock : List Tick
 firstBlock = one 4 0 4 1 ∷ one 1 0 66 1 ∷ one 5 0 0 2 ∷ one 7 0 0 2 ∷ one 8 0 3 2 ∷ one 3 1 0 1 ∷ one 4 0 4 1 ∷ []
 
-bore-walk : walk (contents chartBore) boreWords
+bore-walk : walk 2 (contents chartBore) boreWords
     ≡ firstBlock ++ (one 1 0 66 1 ∷ ((one 5 0 0 2 ∷ []) ++ (one 8 0 3 2 ∷ (one 2 2 0 1 ∷ (one 4 0 4 1 ∷ [])))))
 unfolding walking chartBore boreWords
 bore-walk = refl
 
 bore-unwritten : Unwritten (contents chartBore) (one 1 0 66 1) (one 5 0 0 2 ∷ []) (one 8 0 3 2)
 unfolding walking some chartBore
-bore-unwritten = record { function = refl; inside = refl; own = refl; unwritten = refl }
+bore-unwritten = record { function = refl; made = refl; kept = refl; inside = refl; own = refl; unwritten = refl }
 
 bore-read : readVerdict chartBore ≡ fine
 unfolding walking chartBore
@@ -48,7 +45,8 @@ bore-read = refl
 pub bore-says-no : _≡_ {A = ℕ} 2 (byArc (contents chartBore) 0 (next0 (contents chartBore) 1))
 unfolding ZeroArc boreWords
 bore-says-no =
-    zero-arc chartBore bore-read boreWords firstBlock (one 5 0 0 2 ∷ []) (one 4 0 4 1 ∷ []) (one 1 0 66 1) (one 8 0 3 2) (one 2 2 0 1) bore-walk bore-unwritten
+    zero-arc chartBore bore-read 2 boreWords firstBlock (one 5 0 0 2 ∷ []) (one 4 0 4 1 ∷ []) (one 1 0 66 1) (one 8 0 3 2) (one 2 2 0 1)
+    bore-walk bore-unwritten
 
 -- in the first block the operation of scheme 2 does write 1
 pub bore-writes : some (writesOne (contents chartBore) 2) firstBlock ≡ true
@@ -70,10 +68,10 @@ bore-fits = refl
 
 bore-unwritten-ticks : UnwrittenTicks (decoded (contents imageBore)) 2 2 (stateAt 2 2 5 false) (stateAt 2 2 1 false)
 unfolding running imageBore
-bore-unwritten-ticks = more 0 refl refl refl none
+bore-unwritten-ticks = more 0 refl refl refl refl none
 
 pub bore-takes-zero : tick (decoded (contents imageBore)) (stateAt 2 2 1 false) 0 ≡ ticked 0 3 (stateAt 1 3 0 false)
 unfolding ZeroRow running imageBore
 bore-takes-zero =
-    zero-row imageBore (of-bore .passes) (stateAt 1 2 0 true) refl bore-fits refl 0 0 66 (stateAt 2 2 5 false) (stateAt 2 2 1 false) refl
+    zero-row imageBore (of-bore .passes) (stateAt 1 2 0 true) refl bore-fits refl 0 0 66 (stateAt 2 2 5 false) (stateAt 2 2 1 false) refl refl
     bore-unwritten-ticks refl 0

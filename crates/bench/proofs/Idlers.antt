@@ -1,11 +1,11 @@
 -- Functions that do too little: none that has one of these properties meets the equation of demand 2 or the statement of demand 3.
 use mathlib.Core.Path.{_≡_, refl, _∙_, ap, sym}
-use mathlib.Core.Bool.{Bool, true, false}
+use mathlib.Core.Bool.{Bool, true, false, _&&_}
 use mathlib.Core.List.{List, [], _∷_}
 use Prim.Native.Nat.{ℕ, _≤_, _<_}
 use native.Mathlib.Omega.{arith}
-use lib.Dec.{eqb}
-use lib.ListN.{length, take, getD, replicate}
+use lib.Dec.{leb, eqb}
+use lib.ListN.{length, take, getD, set, replicate}
 use Rattle.lists.specs.Pick.{pick}
 use Rattle.lists.specs.Sequences.{over}
 use Rattle.frames.specs.Verdict.{fine}
@@ -14,16 +14,17 @@ use Rattle.frames.proofs.Lent.{Success, lent-told, front}
 use Rattle.charts.specs.Entry.{readVerdict}
 use Rattle.translator.specs.Entry.{translateVerdict, translate}
 use Rattle.state.specs.declared.State.{State}
-use Rattle.state.specs.State.{fresh, freshState}
+use Rattle.state.specs.State.{entryAt, placeAt, fresh, freshState}
 use Rattle.ticks.specs.Tick.{ticked, tick}
 use Rattle.runs.specs.Run.{Run, runVerdict, run}
 use Rattle.agreement.specs.Agreement.{Runner, Translator, Asked, Told, chain, Agreement, Translates}
 use Rattle.agreement.proofs.Demand.{theorem}
 use Rattle.bench.specs.Bench.{chartP, imageP, words, chartHome}
+use Rattle.bench.specs.Handler.{imageHandler, dropWords}
 use Rattle.bench.proofs.Computing.{translating, running}
-use Rattle.bench.proofs.Tables.{imageHome}
-use Rattle.bench.proofs.Instances.{first, at-home, at-deep, at-twice}
-use Rattle.bench.proofs.Variants.{Step, ticksBy, runBy, codeAt}
+use Rattle.bench.proofs.Tables.{tableP, of-P, imageHome, tableHandler, of-handler}
+use Rattle.bench.proofs.Instances.{first, second, at-home, at-deep, at-twice, at-drop}
+use Rattle.bench.proofs.Variants.{Step, ticksBy, runBy, made, codeAt}
 
 -- ---- translators
 -- every chart is turned back, whatever the number
@@ -110,8 +111,50 @@ abbrev pub plainAfterCall : Step
 plainAfterCall i s w = pick (eqb (s .depth) 1) (tick i s w) (ticked 0 0 s)
 
 pub plain-run-fails : Agreement translate freshState (runBy plainAfterCall) → ⊥
-unfolding running ticksBy imageP words
-plain-run-fails claim = let z : _≡_ {A = ℕ} 0 18 = ap (codeAt 3) (at-deep (runBy plainAfterCall) claim) in omega arith
+unfolding running ticksBy tableP words
+plain-run-fails claim = let z : _≡_ {A = ℕ} 0 18 = ap (codeAt 3) (made of-P plainAfterCall 3 words (at-deep (runBy plainAfterCall) claim)) in omega arith
+
+-- after a drop no tick that it counts is a home tick
+abbrev pub StaysInHandler : Runner → Type 0
+StaysInHandler f = (image : List ℕ) (s : State) (ws masks codes : List ℕ) → let r = f image s ws masks codes in
+    (j k : ℕ) → j < k → k < count (r .reply) → getD (r .codes) j 0 ≡ 96 → getD (r .codes) k 0 ≡ 4 → ⊥
+
+pub stays-in-handler-fails : (f : Runner) → StaysInHandler f → Agreement translate freshState f → ⊥
+unfolding dropWords
+stays-in-handler-fails f idle claim =
+    let told = at-drop f claim in
+    let held : List ℕ = replicate 10 7 in
+    let r : Run = f imageHandler (fresh 2) dropWords held held in
+    let counted : count (r .reply) ≡ 10 = ap (λ (t : Told). count (t .reply)) told in
+    idle imageHandler (fresh 2) dropWords held held 3 6 (omega arith) (omega arith) (ap (codeAt 3) told) (ap (codeAt 6) told)
+
+-- such a run: the handler's return at the bottom starts the handler again
+abbrev pub staysInHandler : Step
+staysInHandler i s w = pick (leb (s .depth) 1 && eqb (placeAt s 0) 1)
+    (ticked 0 3 (record { size = s .size; depth = 1; places = set (s .places) 0 (entryAt i (i .handler)); bits = s .bits }))
+    (tick i s w)
+
+pub handler-run-fails : Agreement translate freshState (runBy staysInHandler) → ⊥
+unfolding running ticksBy tableHandler dropWords
+handler-run-fails claim =
+    let z : _≡_ {A = ℕ} 0 4 = ap (codeAt 6) (made of-handler staysInHandler 2 dropWords (at-drop (runBy staysInHandler) claim)) in
+    omega arith
+
+-- after a drop all ticks that it counts are home ticks
+abbrev pub HomeAfterDrop : Runner → Type 0
+HomeAfterDrop f = (image : List ℕ) (s : State) (ws masks codes : List ℕ) → let r = f image s ws masks codes in
+    (j k : ℕ) → j < k → k < count (r .reply) → getD (r .codes) j 0 ≡ 96 → getD (r .codes) k 0 ≡ 4
+
+pub home-after-drop-fails : (f : Runner) → HomeAfterDrop f → Agreement translate freshState f → ⊥
+unfolding dropWords
+home-after-drop-fails f idle claim =
+    let told = at-drop f claim in
+    let held : List ℕ = replicate 10 7 in
+    let r : Run = f imageHandler (fresh 2) dropWords held held in
+    let counted : count (r .reply) ≡ 10 = ap (λ (t : Told). count (t .reply)) told in
+    let z : _≡_ {A = ℕ} 0 4 = sym (ap (codeAt 4) told)
+    ∙ idle imageHandler (fresh 2) dropWords held held 3 4 (omega arith) (omega arith) (ap (codeAt 3) told) in
+    omega arith
 
 -- a run that changes nothing leaves its buffers and its state; either is too little
 abbrev pub WritesNothing : Runner → Type 0
@@ -124,10 +167,6 @@ writes-nothing-fails f idle claim =
 
 abbrev pub KeepsState : Runner → Type 0
 KeepsState f = (image : List ℕ) (s : State) (ws masks codes : List ℕ) → f image s ws masks codes .state ≡ s
-
-abbrev second : List Told → Told
-second [] = first []
-second (t ∷ ts) = first ts
 
 pub keeps-state-fails : (f : Runner) → KeepsState f → Agreement translate freshState f → ⊥
 unfolding chain

@@ -15,8 +15,10 @@ use Rattle.state.specs.State.{fresh, freshState}
 use Rattle.agreement.specs.Agreement.{Runner, Asked, Told, told, joined, chain, bound, expectedAll, Agreement}
 use Rattle.agreement.proofs.Chain.{fresh-is}
 use Rattle.bench.specs.Bench.{chartP, imageP, words, chartHome, chartFunction, chartBore, boreWords}
+use Rattle.bench.specs.Handler.{chartHandler, imageHandler, dropWords, bottomWords, ordinaryWords}
 use Rattle.bench.proofs.Computing.{walking}
-use Rattle.bench.proofs.Tables.{TranslatesTo, of-P, imageHome, of-home, imageFunction, of-function, chartChoice, imageChoice, of-choice, imageBore, of-bore}
+use Rattle.bench.proofs.Tables.{TranslatesTo, of-P, imageHome, of-home, imageFunction, of-function, chartChoice, imageChoice, of-choice}
+use Rattle.bench.proofs.Tables.{imageBore, of-bore, of-handler}
 
 -- one run with just room for its words; 7 is no code
 abbrev pub alone : List ℕ → Asked
@@ -25,15 +27,19 @@ alone ws = record { words = ws; masks = replicate (length ws) 7; codes = replica
 abbrev pub handed : Runner → List ℕ → ℕ → List ℕ → Told
 handed run image size ws = told (run image (fresh size) ws (alone ws .masks) (alone ws .codes))
 
--- the first run of a chain, and nothing where there is none
+-- the first run of a chain and the second, and nothing where there is none
 abbrev pub first : List Told → Told
 first [] = record { reply = success 0; masks = []; codes = [] }
 first (t ∷ ts) = t
 
+abbrev pub second : List Told → Told
+second [] = first []
+second (t ∷ ts) = first ts
+
 module _ (run : Runner) (claim : Agreement translate freshState run) where
   -- on the image of a chart, by the walk's ticks
   pub at-chart : {chart image : List ℕ} {i : Image} → TranslatesTo chart image i → (size : ℕ) → 1 ≤ size → size ≤ 32
-      → (asked : List Asked) (ts : List Tick) → walk (contents chart) (joined asked) ≡ ts
+      → (asked : List Asked) (ts : List Tick) → walk size (contents chart) (joined asked) ≡ ts
       → chain run image (fresh size) asked ≡ expectedAll (bound size ts) ts 0 asked
   unfolding Agreement
   at-chart {chart} {image} known size l h asked ts e =
@@ -97,3 +103,35 @@ module _ (run : Runner) (claim : Agreement translate freshState run) where
   }
   unfolding walking chartBore boreWords chain bound expectedAll
   at-bore = ap first (at-chart of-bore 2 (omega arith) (omega arith) (alone boreWords ∷ []) _ refl)
+
+  -- the chart with a handler and two places: two drops, 17 with the handler at the bottom, and a drop where the handler's scheme was called
+  pub at-drop : handed run imageHandler 2 dropWords ≡ record {
+    reply = success 10;
+    masks = 0 ∷ 0 ∷ 0 ∷ 2 ∷ 4 ∷ 0 ∷ 0 ∷ 0 ∷ 0 ∷ 2 ∷ [];
+    codes = 4 ∷ 66 ∷ 0 ∷ 96 ∷ 0 ∷ 3 ∷ 4 ∷ 66 ∷ 0 ∷ 96 ∷ [];
+  }
+  unfolding walking chartHandler dropWords chain bound expectedAll
+  at-drop = ap first (at-chart of-handler 2 (omega arith) (omega arith) (alone dropWords ∷ []) _ refl)
+
+  pub at-bottom : handed run imageHandler 2 bottomWords ≡ record {
+    reply = refusal 17 0 7;
+    masks = 0 ∷ 0 ∷ 0 ∷ 2 ∷ 4 ∷ 8 ∷ 0 ∷ 7 ∷ 7 ∷ [];
+    codes = 4 ∷ 66 ∷ 0 ∷ 96 ∷ 0 ∷ 18 ∷ 0 ∷ 7 ∷ 7 ∷ [];
+  }
+  unfolding walking chartHandler bottomWords chain bound expectedAll
+  at-bottom = ap first (at-chart of-handler 2 (omega arith) (omega arith) (alone bottomWords ∷ []) _ refl)
+
+  pub at-ordinary : handed run imageHandler 2 ordinaryWords ≡ record {
+    reply = success 10;
+    masks = 0 ∷ 0 ∷ 0 ∷ 0 ∷ 1 ∷ 4 ∷ 8 ∷ 4 ∷ 0 ∷ 0 ∷ [];
+    codes = 4 ∷ 66 ∷ 0 ∷ 3 ∷ 19 ∷ 0 ∷ 96 ∷ 0 ∷ 3 ∷ 4 ∷ [];
+  }
+  unfolding walking chartHandler ordinaryWords chain bound expectedAll
+  at-ordinary = ap first (at-chart of-handler 2 (omega arith) (omega arith) (alone ordinaryWords ∷ []) _ refl)
+
+  -- a run that ends with the drop, and one of a word after it
+  pub at-parted : chain run imageHandler (fresh 2) (alone (0 ∷ 0 ∷ 1 ∷ 0 ∷ []) ∷ alone (0 ∷ []) ∷ [])
+      ≡ record { reply = success 4; masks = 0 ∷ 0 ∷ 0 ∷ 2 ∷ []; codes = 4 ∷ 66 ∷ 0 ∷ 96 ∷ [] }
+      ∷ record { reply = success 1; masks = 4 ∷ []; codes = 0 ∷ [] } ∷ []
+  unfolding walking chartHandler chain bound expectedAll
+  at-parted = at-chart of-handler 2 (omega arith) (omega arith) (alone (0 ∷ 0 ∷ 1 ∷ 0 ∷ []) ∷ alone (0 ∷ []) ∷ []) _ refl

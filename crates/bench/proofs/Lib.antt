@@ -3,10 +3,12 @@ pub mod Tables
 pub mod Rounds
 pub mod BenchSheet
 pub mod Cases
+pub mod Handler
 pub mod Outputs
 pub mod Instances
 pub mod Variants
 pub mod Slips
+pub mod HandlerSlips
 pub mod Idlers
 pub mod Live
 pub mod Functions

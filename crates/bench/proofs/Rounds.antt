@@ -14,7 +14,7 @@ use Rattle.bits.specs.Results.{noResults}
 use Rattle.frames.specs.Frame.{contents}
 use Rattle.frames.specs.Verdict.{fine, next, when}
 use Rattle.frames.specs.Answer.{success}
-use Rattle.walk.specs.Walk.{spent, after, ticksOf, tick as oneTick, perform, walk}
+use Rattle.walk.specs.Walk.{spent, after, tick as oneTick, perform, drops, then as onward, walkFrom, walk}
 use Rattle.image.specs.Image.{Image}
 use Rattle.image.proofs.Sound.{Sound}
 use Rattle.image.proofs.Accepted.{image-sound}
@@ -27,7 +27,7 @@ use Rattle.state.proofs.Fitness.{fits}
 use Rattle.ticks.proofs.Keeps.{fresh-fits}
 use Rattle.agreement.proofs.Images.{run-image}
 use Rattle.agreement.proofs.Chain.{fresh-is}
-use Rattle.bench.specs.Bench.{chartHome, freshRun, repeated}
+use Rattle.bench.specs.Bench.{chartHome, freshRun, one, repeated}
 use Rattle.bench.proofs.Computing.{walking}
 use Rattle.bench.proofs.Tables.{TranslatesTo, imageHome, tableHome, of-home, imageFunction, tableFunction, of-function}
 
@@ -57,15 +57,16 @@ finished : (r : Ran) (s : State) (ws : List ℕ) → r .verdict ≡ fine → len
 finished r s ws v m k = rw (full (r .masks) ws m, full (r .codes) ws k, v, k)
 
 -- ---- B6
-home-course : (ws : List ℕ)
-    → perform (length ws) (contents chartHome) 1 1 ws noResults ≡ spent (map (λ w. record { node = 1; mask = 0; code = 4; opened = 1 }) ws)
+home-course : (d : ℕ → Bool) (ws : List ℕ)
+    → perform (length ws) (contents chartHome) d 1 1 ws noResults ≡ spent (map (λ w. one 1 0 4 1) ws)
 unfolding walking chartHome
-home-course [] = refl
-home-course (w ∷ ws) = ap (after (oneTick 1 0 4 1)) (home-course ws)
+home-course d [] = refl
+home-course d (w ∷ ws) = ap (after (oneTick 1 0 4 1)) (home-course d ws)
 
-pub home-walk : (ws : List ℕ) → walk (contents chartHome) ws ≡ map (λ w. record { node = 1; mask = 0; code = 4; opened = 1 }) ws
+pub home-walk : (n : ℕ) (ws : List ℕ) → walk n (contents chartHome) ws ≡ map (λ w. one 1 0 4 1) ws
 unfolding walking chartHome
-home-walk ws = ap ticksOf (home-course ws)
+home-walk n [] = refl
+home-walk n (w ∷ ws) = let c = contents chartHome in ap (onward (walkFrom (length ws) n c) c) (home-course (drops n c false) (w ∷ ws))
 
 home-ticks : (size : ℕ) (ws : List ℕ)
     → ticks tableHome (fresh size) ws ≡ record { masks = map (λ w. 0) ws; codes = map (λ w. 4) ws; state = fresh size; verdict = fine }

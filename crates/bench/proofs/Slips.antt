@@ -22,11 +22,11 @@ use Rattle.ticks.specs.Parts.{topOf}
 use Rattle.ticks.specs.Functions.{returned}
 use Rattle.rows.specs.Rows.{firstRow}
 use Rattle.agreement.specs.Agreement.{Translator, Agreement, Translates}
-use Rattle.bench.specs.Bench.{lines, imageP, words, boreWords}
+use Rattle.bench.specs.Bench.{lines, words, boreWords}
 use Rattle.bench.proofs.Computing.{translating, running}
-use Rattle.bench.proofs.Tables.{imageHome, imageFunction, imageChoice, imageBore}
+use Rattle.bench.proofs.Tables.{tableP, of-P, tableHome, of-home, tableFunction, of-function, tableChoice, of-choice, tableBore, of-bore}
 use Rattle.bench.proofs.Instances.{at-home, at-deep, at-shallow, at-function, at-choice, at-bore}
-use Rattle.bench.proofs.Variants.{Step, ticksBy, runBy, codeAt, maskAt}
+use Rattle.bench.proofs.Variants.{Step, ticksBy, runBy, made, codeAt, maskAt}
 
 -- the tick kind of the label at the top, and the label beneath it
 abbrev kindOf : Image → State → ℕ
@@ -35,16 +35,16 @@ kindOf i s = labelAt i (topOf s) .kind
 abbrev beneath : State → ℕ
 beneath s = placeAt s (s .depth - 2)
 
-abbrev dropped : State → State
-dropped s = record { size = s .size; depth = s .depth - 1; places = set (s .places) (s .depth - 1) 0; bits = s .bits }
+abbrev withoutTop : State → State
+withoutTop s = record { size = s .size; depth = s .depth - 1; places = set (s .places) (s .depth - 1) 0; bits = s .bits }
 
 -- ---- the call issued again on return: the label beneath stays and calls once more
 abbrev pub callsAgain : Step
-callsAgain i s w = pick (eqb (kindOf i s) 3) (ticked 0 3 (dropped s)) (tick i s w)
+callsAgain i s w = pick (eqb (kindOf i s) 3) (ticked 0 3 (withoutTop s)) (tick i s w)
 
 pub calls-again-fails : Agreement translate freshState (runBy callsAgain) → ⊥
-unfolding running ticksBy imageP words
-calls-again-fails claim = let z : _≡_ {A = ℕ} 18 3 = ap (codeAt 6) (at-deep (runBy callsAgain) claim) in omega arith
+unfolding running ticksBy tableP words
+calls-again-fails claim = let z : _≡_ {A = ℕ} 18 3 = ap (codeAt 6) (made of-P callsAgain 3 words (at-deep (runBy callsAgain) claim)) in omega arith
 
 -- ---- what a call saw is kept in a result bit that the chart has no scheme for, and the return goes by it
 abbrev remember : ℕ → Bool → Ticked → Ticked
@@ -62,8 +62,11 @@ readsAtCall i s w = pick (eqb (kindOf i s) 3)
     (pick (eqb (kindOf i s) 2) (remember 15 (resultOf (labelAt i (topOf s) .called) (s .bits)) (tick i s w)) (tick i s w))
 
 pub reads-at-call-fails : Agreement translate freshState (runBy readsAtCall) → ⊥
-unfolding running ticksBy imageFunction
-reads-at-call-fails claim = let z : _≡_ {A = ℕ} 4 0 = ap (codeAt 4) (at-function (runBy readsAtCall) claim) in omega arith
+unfolding running ticksBy tableFunction
+reads-at-call-fails claim =
+    let z : _≡_ {A = ℕ} 4 0 =
+    ap (codeAt 4) (made of-function readsAtCall 2 (replicate 6 0) (at-function (runBy readsAtCall) claim)) in
+    omega arith
 
 -- ---- after a return the choice by the call's word
 abbrev pub choosesByCall : Step
@@ -72,8 +75,11 @@ choosesByCall i s w = pick (eqb (kindOf i s) 3)
     (pick (isCallKind (kindOf i s)) (remember 15 (eqb (bit w 0) 1) (tick i s w)) (tick i s w))
 
 pub chooses-by-call-fails : Agreement translate freshState (runBy choosesByCall) → ⊥
-unfolding running ticksBy imageChoice
-chooses-by-call-fails claim = let z : _≡_ {A = ℕ} 4 0 = ap (codeAt 4) (at-choice (runBy choosesByCall) claim) in omega arith
+unfolding running ticksBy tableChoice
+chooses-by-call-fails claim =
+    let z : _≡_ {A = ℕ} 4 0 =
+    ap (codeAt 4) (made of-choice choosesByCall 2 (0 ∷ 0 ∷ 0 ∷ 1 ∷ 0 ∷ []) (at-choice (runBy choosesByCall) claim)) in
+    omega arith
 
 -- ---- a call keeps the bit of the scheme called as it is after the caller's result
 abbrev keptBit : State → Label → Bool
@@ -83,24 +89,24 @@ abbrev pub keepsBit : Step
 keepsBit i s w = let x = labelAt i (topOf s) in pick (isCallKind (x .kind)) (remember (x .called - 1) (keptBit s x) (tick i s w)) (tick i s w)
 
 pub keeps-bit-fails : Agreement translate freshState (runBy keepsBit) → ⊥
-unfolding running ticksBy imageBore boreWords
-keeps-bit-fails claim = let z : _≡_ {A = ℕ} 1 2 = ap (maskAt 10) (at-bore (runBy keepsBit) claim) in omega arith
+unfolding running ticksBy tableBore boreWords
+keeps-bit-fails claim = let z : _≡_ {A = ℕ} 1 2 = ap (maskAt 10) (made of-bore keepsBit 2 boreWords (at-bore (runBy keepsBit) claim)) in omega arith
 
 -- ---- a return from scheme 1
 abbrev pub returnsHome : Step
-returnsHome i s w = pick (eqb (kindOf i s) 4) (ticked 0 3 (dropped s)) (tick i s w)
+returnsHome i s w = pick (eqb (kindOf i s) 4) (ticked 0 3 (withoutTop s)) (tick i s w)
 
 pub returns-home-fails : Agreement translate freshState (runBy returnsHome) → ⊥
-unfolding running ticksBy imageHome
-returns-home-fails claim = let z : _≡_ {A = ℕ} 3 4 = ap (codeAt 0) (at-home (runBy returnsHome) claim) in omega arith
+unfolding running ticksBy tableHome
+returns-home-fails claim = let z : _≡_ {A = ℕ} 3 4 = ap (codeAt 0) (made of-home returnsHome 1 (0 ∷ []) (at-home (runBy returnsHome) claim)) in omega arith
 
 -- ---- a call at depth Σ - 1 refused
 abbrev pub refusesEarly : Step
 refusesEarly i s w = pick (isCallKind (kindOf i s) && leb (s .size - 1) (s .depth)) (stopped 17) (tick i s w)
 
 pub refuses-early-fails : Agreement translate freshState (runBy refusesEarly) → ⊥
-unfolding running ticksBy imageP words
-refuses-early-fails claim = let z : _≡_ {A = ℕ} 7 18 = ap (codeAt 1) (at-shallow (runBy refusesEarly) claim) in omega arith
+unfolding running ticksBy tableP words
+refuses-early-fails claim = let z : _≡_ {A = ℕ} 7 18 = ap (codeAt 1) (made of-P refusesEarly 2 words (at-shallow (runBy refusesEarly) claim)) in omega arith
 
 -- ---- rows with equal targets joined: two neighbours of one label, bit and next label become one that cares for nothing
 abbrev alike : Row → Row → Bool
@@ -115,7 +121,7 @@ joinedRows (r ∷ q ∷ rs) = elim (alike r q) [
 ]
 
 abbrev joinedTable : Image → Image
-joinedTable i = record { entries = i .entries; labels = i .labels; rows = joinedRows (i .rows) }
+joinedTable i = record { handler = i .handler; entries = i .entries; labels = i .labels; rows = joinedRows (i .rows) }
 
 abbrev pub joinsRows : Translator
 joinsRows text out = lent (translateVerdict text) 1 (λ _. imageText (joinedTable (table (contents text)))) out

@@ -11,6 +11,7 @@ use Rattle.image.specs.Check.{imageVerdict}
 use Rattle.translator.specs.Labels.{homeLabel, returnLabel}
 use Rattle.translator.specs.Entry.{translate}
 use Rattle.bench.specs.Bench.{lines, chartP, imageP, chartHome, chartFunction, chartBore, chartAgain}
+use Rattle.bench.specs.Handler.{chartHandler, imageHandler}
 use Rattle.bench.proofs.Computing.{translating, checking}
 
 pub record TranslatesTo (chart image : List ℕ) (table : Image) : Type 0 where
@@ -28,6 +29,7 @@ row l c v b n = record { from = l; care = c; values = v; bit = b; next = n }
 -- ---- chart P
 unfoldable pub tableP : Image
 tableP = record {
+  handler = 0;
   entries = 2 ∷ 3 ∷ [];
   labels = homeLabel ∷ returnLabel ∷ labelWith 1 2 1 0 1 ∷ labelWith 0 0 2 0 0 ∷ labelWith 1 2 2 0 2 ∷ [];
   rows = row 2 0 0 2 0 ∷ row 3 1 0 2 1 ∷ row 3 1 1 2 4 ∷ row 4 0 0 2 1 ∷ [];
@@ -42,7 +44,7 @@ unfoldable pub imageHome : List ℕ
 imageHome = lines ("0F010100000000000000EF" ∷ "10010000000000000000EF" ∷ "11000400010000000000EA" ∷ "11010300000000000000EB" ∷ [])
 
 unfoldable pub tableHome : Image
-tableHome = record { entries = 0 ∷ []; labels = homeLabel ∷ returnLabel ∷ []; rows = [] }
+tableHome = record { handler = 0; entries = 0 ∷ []; labels = homeLabel ∷ returnLabel ∷ []; rows = [] }
 
 pub of-home : TranslatesTo chartHome imageHome tableHome
 unfolding translating checking chartHome imageHome tableHome
@@ -57,6 +59,7 @@ imageFunction = lines (
 
 unfoldable pub tableFunction : Image
 tableFunction = record {
+  handler = 0;
   entries = 2 ∷ 4 ∷ [];
   labels = homeLabel ∷ returnLabel ∷ labelWith 2 2 1 0 0 ∷ labelWith 0 0 1 0 1 ∷ labelWith 0 0 2 2 0 ∷ [];
   rows = row 2 0 0 0 0 ∷ row 2 0 0 1 3 ∷ row 3 0 0 2 0 ∷ row 4 0 0 2 1 ∷ [];
@@ -80,6 +83,7 @@ imageChoice = lines (
 
 unfoldable pub tableChoice : Image
 tableChoice = record {
+  handler = 0;
   entries = 2 ∷ 4 ∷ [];
   labels = homeLabel ∷ returnLabel ∷ labelWith 1 2 1 0 0 ∷ labelWith 0 0 1 0 1 ∷ labelWith 0 0 2 0 0 ∷ [];
   rows = row 2 1 0 2 0 ∷ row 2 1 1 2 3 ∷ row 3 0 0 2 0 ∷ row 4 0 0 2 1 ∷ [];
@@ -100,6 +104,7 @@ imageBore = lines (
 
 unfoldable pub tableBore : Image
 tableBore = record {
+  handler = 0;
   entries = 2 ∷ 5 ∷ [];
   labels = homeLabel ∷ returnLabel ∷ labelWith 2 2 1 0 0 ∷ labelWith 0 0 1 0 2 ∷ labelWith 0 0 1 0 1 ∷ labelWith 0 0 2 0 0 ∷ labelWith 0 0 2 2 0 ∷ [];
   rows = row 2 0 0 0 3 ∷ row 2 0 0 1 4 ∷ row 3 0 0 2 0 ∷ row 4 0 0 2 0 ∷ row 5 1 0 2 1 ∷ row 5 1 1 2 6 ∷ row 6 0 0 2 1 ∷ [];
@@ -118,6 +123,7 @@ imageAgain = lines (
 
 unfoldable pub tableAgain : Image
 tableAgain = record {
+  handler = 0;
   entries = 2 ∷ 3 ∷ [];
   labels = homeLabel ∷ returnLabel ∷ labelWith 1 2 1 0 0 ∷ labelWith 0 0 2 2 0 ∷ labelWith 1 2 2 2 0 ∷ [];
   rows = row 2 0 0 2 0 ∷ row 3 0 0 2 4 ∷ row 4 0 0 2 1 ∷ [];
@@ -126,3 +132,18 @@ tableAgain = record {
 pub of-again : TranslatesTo chartAgain imageAgain tableAgain
 unfolding translating checking chartAgain imageAgain tableAgain
 of-again = record { translated = λ out. refl; passes = refl; decodes = refl }
+
+-- ---- a chart with a handler
+unfoldable pub tableHandler : Image
+tableHandler = record {
+  handler = 3;
+  entries = 2 ∷ 4 ∷ 6 ∷ [];
+  labels = homeLabel ∷ returnLabel ∷ labelWith 2 2 1 0 0 ∷ labelWith 1 3 1 0 1 ∷ labelWith 0 0 2 0 0 ∷ labelWith 1 2 2 2 2
+      ∷ labelWith 0 0 3 2 4 ∷ labelWith 1 2 3 2 8 ∷ [];
+  rows = row 2 2 0 0 0 ∷ row 2 2 2 0 3 ∷ row 2 2 0 1 0 ∷ row 2 2 2 1 3 ∷ row 3 0 0 2 0 ∷ row 4 1 0 2 1 ∷ row 4 1 1 2 5 ∷ row 5 0 0 2 1 ∷ row 6 1 0 2 1
+      ∷ row 6 1 1 2 7 ∷ row 7 0 0 2 1 ∷ [];
+}
+
+pub of-handler : TranslatesTo chartHandler imageHandler tableHandler
+unfolding translating checking chartHandler imageHandler tableHandler
+of-handler = record { translated = λ out. refl; passes = refl; decodes = refl }

@@ -1,15 +1,20 @@
 -- Runs with another tick in the place of the machine's, and what they hand back.
+use mathlib.Core.Path.{_≡_, refl, _∙_, ap, ap₂, sym}
 use mathlib.Core.List.{List, [], _∷_}
 use Prim.Native.Nat.{ℕ}
 use lib.ListN.{getD}
-use Rattle.frames.specs.Verdict.{fine}
+use Rattle.frames.specs.Verdict.{Verdict, fine, next}
 use Rattle.frames.specs.Frame.{contents}
 use Rattle.image.specs.Image.{Image}
 use Rattle.image.specs.Decode.{decoded}
 use Rattle.state.specs.declared.State.{State}
+use Rattle.state.specs.State.{fresh}
 use Rattle.ticks.specs.Tick.{Ticked}
-use Rattle.runs.specs.Run.{Ran, then, runVerdict, runOn}
-use Rattle.agreement.specs.Agreement.{Runner, Told}
+use Rattle.runs.specs.Run.{Run, Ran, then, runVerdict, runOn}
+use Rattle.agreement.specs.Agreement.{Runner, Asked, Told, told, chain}
+use Rattle.agreement.proofs.Images.{stateVerdict}
+use Rattle.bench.proofs.Tables.{TranslatesTo}
+use Rattle.bench.proofs.Instances.{alone, handed}
 
 abbrev pub Step : Type 0
 Step = Image → State → ℕ → Ticked
@@ -21,6 +26,27 @@ ticksBy step i s (w ∷ ws) = then s (λ t. ticksBy step i t ws) (step i s w)
 -- a run as the definition has it, but for the tick
 abbrev pub runBy : Step → Runner
 runBy step text s words masks codes = runOn (runVerdict text s words masks codes) (λ _. ticksBy step (decoded (contents text)) s words) s masks codes
+
+-- the same with the image given as a table; on the image of a chart it is that run
+abbrev pub tableRun : Image → Step → Runner
+tableRun i step text s words masks codes = runOn (stateVerdict i s words masks codes) (λ _. ticksBy step i s words) s masks codes
+
+module _ {chart image : List ℕ} {i : Image} (known : TranslatesTo chart image i) (step : Step) where
+  pub by-table : (s : State) (words masks codes : List ℕ) → runBy step image s words masks codes ≡ tableRun i step image s words masks codes
+  unfolding runVerdict
+  by-table s words masks codes =
+      ap₂ (λ (v : Verdict) (j : Image). runOn (next v λ _. stateVerdict j s words masks codes) (λ _. ticksBy step j s words) s masks codes)
+      (known .passes) (known .decodes)
+
+  pub made : (size : ℕ) (ws : List ℕ) {t : Told} → handed (runBy step) image size ws ≡ t → handed (tableRun i step) image size ws ≡ t
+  made size ws e = sym (ap told (by-table (fresh size) ws (alone ws .masks) (alone ws .codes))) ∙ e
+
+  pub chain-made : (s : State) (asked : List Asked) → chain (runBy step) image s asked ≡ chain (tableRun i step) image s asked
+  unfolding chain
+  chain-made s [] = refl
+  chain-made s (a ∷ rest) =
+      ap (λ (r : Run). told r ∷ chain (runBy step) image (r .state) rest) (by-table s (a .words) (a .masks) (a .codes))
+      ∙ ap (λ (l : List Told). told (tableRun i step image s (a .words) (a .masks) (a .codes)) ∷ l) (chain-made _ rest)
 
 abbrev pub codeAt : ℕ → Told → ℕ
 codeAt k t = getD (t .codes) k 0

@@ -13,7 +13,7 @@ use Rattle.lists.specs.Numbers.{range}
 use Rattle.lists.specs.Sequences.{concatMap}
 use Rattle.frames.specs.Frame.{contents}
 use Rattle.bits.specs.Results.{noResults}
-use Rattle.walk.specs.Walk.{walk}
+use Rattle.walk.specs.Walk.{Tick, walk}
 use Rattle.translator.specs.Entry.{translate}
 use Rattle.state.specs.State.{fresh, freshState}
 use Rattle.runs.specs.Run.{Run, run}
@@ -89,6 +89,10 @@ imageOf n text = translate text (replicate n 0) .buffer
 abbrev pub freshRun : List ℕ → ℕ → List ℕ → Run
 freshRun image size words = run image (freshState size .state) words (replicate (length words) 0) (replicate (length words) 0)
 
+-- a tick of the walk by its node, mask, code and open schemes
+abbrev pub one : ℕ → ℕ → ℕ → ℕ → Tick
+one v m k o = record { node = v; mask = m; code = k; opened = o }
+
 -- the first n of xs repeated without end
 abbrev pub repeated : List ℕ → ℕ → List ℕ
 repeated xs n = map (λ k. getD xs (k % length xs) 0) (range 0 n)
@@ -103,7 +107,7 @@ pub record BenchSheet : Type 0 where
   pub b4 : freshRun imageP 1 words .reply ≡ refusal 17 0 1
   pub b5 : (size : ℕ) → 1 ≤ size → size ≤ 32 → freshRun imageP size [] .reply ≡ success 0
   -- every tick of the walk and of the machine is a home tick, whatever the words and the stack size
-  pub b6-walk : (ws : List ℕ) → walk (contents chartHome) ws ≡ map (λ w. record { node = 1; mask = 0; code = 4; opened = 1 }) ws
+  pub b6-walk : (n : ℕ) (ws : List ℕ) → walk n (contents chartHome) ws ≡ map (λ w. one 1 0 4 1) ws
   pub b6-run : (size : ℕ) → 1 ≤ size → size ≤ 32 → (ws : List ℕ) → freshRun (imageOf 92 chartHome) size ws ≡ record {
     reply = success (length ws);
     state = fresh size;

@@ -1,4 +1,4 @@
--- One small chart, image or state, made by hand, for each refusal 1 to 18.
+-- One small chart, image or state, made by hand, for each refusal 1 to 19.
 use Prim.Native.Nat.{ℕ, _+_, _*_}
 use mathlib.Core.Bool.{false}
 use mathlib.Core.Path.{_≡_}
@@ -6,7 +6,7 @@ use mathlib.Core.List.{List, [], _∷_, _++_}
 use lib.ListN.{length, replicate, set, take}
 use Rattle.lists.specs.Numbers.{range}
 use Rattle.lists.specs.Sequences.{concatMap}
-use Rattle.frames.specs.Verdict.{refused}
+use Rattle.frames.specs.Verdict.{fine, refused}
 use Rattle.frames.specs.Answer.{refusal}
 use Rattle.frames.specs.Frame.{quad, contents, textOf}
 use Rattle.charts.specs.Chart.{Chart}
@@ -22,6 +22,10 @@ use Rattle.bench.specs.Bench.{chartP, imageP, words, freshRun}
 -- ---- node records by kind, with the fields that the kind uses
 abbrev pub begins : ℕ → ℕ → List ℕ
 begins h u = 0 ∷ h ∷ 0 ∷ u ∷ replicate 6 0
+
+-- a Begin that marks its scheme as the handler
+abbrev pub marks : ℕ → ℕ → List ℕ
+marks h u = 0 ∷ h ∷ 1 ∷ u ∷ replicate 6 0
 
 abbrev pub ends : ℕ → List ℕ
 ends h = 1 ∷ h ∷ replicate 8 0
@@ -52,12 +56,23 @@ changedChart f k x = textOf (set (contents chartP) (10 * f + k) x)
 abbrev pub changedImage : ℕ → ℕ → ℕ → List ℕ
 changedImage f k x = textOf (set (contents imageP) (10 * f + k) x)
 
+-- the records of chart P with a mark on scheme 1, and its image with scheme 2 as the handler
+abbrev pub markedFirst : Chart
+markedFirst = set (contents chartP) 2 1
+
+abbrev pub handlerTwo : List ℕ
+handlerTwo = changedImage 0 5 2
+
 -- a state of three places with these labels, and the run that is given it
 abbrev pub stateOf : ℕ → List ℕ → State
 stateOf d labels = record { size = 3; depth = d; places = labels ++ replicate 29 0; bits = replicate 16 false }
 
 abbrev pub runFrom : State → Run
 runFrom s = run imageP s words (replicate 8 7) (replicate 8 7)
+
+-- the same run with scheme 2 as the handler
+abbrev pub handlerFrom : State → Run
+handlerFrom s = run handlerTwo s words (replicate 8 7) (replicate 8 7)
 
 -- a run that is refused with 15 and changes nothing
 abbrev pub unfitRun : State → Run
@@ -71,12 +86,13 @@ pub record RefusalCases : Type 0 where
   pub r2-digit : readVerdict (set chartP 159 71) ≡ refused 2 6
   pub r2-feed : readVerdict (set chartP 22 48) ≡ refused 2 0
   pub r3 : readVerdict (set chartP 44 57) ≡ refused 3 1
-  -- a kind 5, scheme 0 and 17, result 3, a condition 16, a byte without a use
+  -- a kind 5, scheme 0 and 17, result 3, a condition 16, a mark 2, a byte without a use
   pub r4-kind : readVerdict (changedChart 6 0 5) ≡ refused 4 6
   pub r4-scheme : readVerdict (changedChart 2 1 0) ≡ refused 4 2
   pub r4-high : readVerdict (changedChart 2 1 17) ≡ refused 4 2
   pub r4-result : readVerdict (changedChart 1 5 3) ≡ refused 4 1
   pub r4-condition : readVerdict (changedChart 4 2 16) ≡ refused 4 4
+  pub r4-mark : readVerdict (changedChart 3 2 2) ≡ refused 4 3
   pub r4-needless : readVerdict (changedChart 5 9 1) ≡ refused 4 5
   -- two Ends of scheme 1 and none of scheme 2; a scheme that is left out
   pub r5-ends : readVerdict (changedChart 5 1 1) ≡ refused 5 0
@@ -92,12 +108,17 @@ pub record RefusalCases : Type 0 where
   pub r9 : readVerdict (textOf (chart (begins 1 1 ∷ ends 1 ∷ operation 1 0 1 5 ∷ []))) ≡ refused 9 2
   pub r10-most : length (rows (doubling 10)) ≡ 1024
   pub r10 : translateVerdict (textOf (oneMoreRow 10)) ≡ refused 10 0
-  -- the header's mark, a byte without a use, no scheme, no label above 0, a frame too few
+  -- the header's mark, the two ends of the bytes without a use, no scheme, no label above 0, a frame too few
   pub r11-mark : imageVerdict (changedImage 0 0 16) ≡ refused 11 0
   pub r11-needless : imageVerdict (changedImage 0 9 1) ≡ refused 11 0
+  pub r11-next : imageVerdict (changedImage 0 6 2) ≡ refused 11 0
   pub r11-schemes : imageVerdict (changedImage 0 1 0) ≡ refused 11 0
   pub r11-labels : imageVerdict (changedImage 0 2 0) ≡ refused 11 0
   pub r11-rows : imageVerdict (changedImage 0 4 5) ≡ refused 11 0
+  -- scheme 1 as the handler, and one above H; scheme 2 is H here
+  pub r11-handler-1 : imageVerdict (changedImage 0 5 1) ≡ refused 11 0
+  pub r11-handler-high : imageVerdict (changedImage 0 5 3) ≡ refused 11 0
+  pub r11-handler-fits : imageVerdict handlerTwo ≡ fine
   -- an entry and a label out of their places, a row below the one before
   pub r12-entry : imageVerdict (changedImage 1 1 2) ≡ refused 12 1
   pub r12-label : imageVerdict (changedImage 7 1 5) ≡ refused 12 7
@@ -118,6 +139,11 @@ pub record RefusalCases : Type 0 where
   pub r15-kept : runFrom (stateOf 2 (0 ∷ 3 ∷ 0 ∷ [])) ≡ unfitRun (stateOf 2 (0 ∷ 3 ∷ 0 ∷ []))
   pub r15-above : runFrom (stateOf 2 (2 ∷ 2 ∷ 0 ∷ [])) ≡ unfitRun (stateOf 2 (2 ∷ 2 ∷ 0 ∷ []))
   pub r15-filled : runFrom (stateOf 1 (0 ∷ 0 ∷ 1 ∷ [])) ≡ unfitRun (stateOf 1 (0 ∷ 0 ∷ 1 ∷ []))
+  -- label 1 at the bottom, which fits where there is a handler and nothing stands above; so does a label of the handler
+  pub r15-return : runFrom (stateOf 1 (1 ∷ 0 ∷ 0 ∷ [])) ≡ unfitRun (stateOf 1 (1 ∷ 0 ∷ 0 ∷ []))
+  pub r15-return-above : handlerFrom (stateOf 2 (1 ∷ 3 ∷ 0 ∷ [])) ≡ unfitRun (stateOf 2 (1 ∷ 3 ∷ 0 ∷ []))
+  pub r15-return-fits : handlerFrom (stateOf 1 (1 ∷ 0 ∷ 0 ∷ [])) .codes ≡ 3 ∷ 4 ∷ 18 ∷ 0 ∷ 3 ∷ 4 ∷ 18 ∷ 0 ∷ []
+  pub r15-handler-fits : handlerFrom (stateOf 1 (3 ∷ 0 ∷ 0 ∷ [])) .codes ≡ 0 ∷ 3 ∷ 4 ∷ 18 ∷ 0 ∷ 3 ∷ 4 ∷ 18 ∷ []
   pub r16-read : readChart chartP (replicate 69 7) ≡ record { reply = refusal 16 0 0; buffer = replicate 69 7 }
   pub r16-run : run imageP (fresh 1) words (replicate 8 7) (replicate 7 7) ≡ record {
     reply = refusal 16 0 0;
@@ -132,5 +158,20 @@ pub record RefusalCases : Type 0 where
     masks = 0 ∷ 1 ∷ 0 ∷ replicate 5 7;
     codes = 4 ∷ 18 ∷ 0 ∷ replicate 5 7;
   }
+  -- the handler at the bottom of a full stack
+  pub r17-handler : handlerFrom (stateOf 3 (4 ∷ 4 ∷ 4 ∷ [])) ≡ record {
+    reply = refusal 17 0 0;
+    state = stateOf 3 (4 ∷ 4 ∷ 4 ∷ []);
+    masks = replicate 8 7;
+    codes = replicate 8 7;
+  }
   -- the row of label 4 is taken out, and the return to it finds none
   pub r18 : freshRun (textOf (take 110 (set (contents imageP) 4 3))) 3 words .reply ≡ refusal 18 0 5
+  -- a mark on scheme 1, in each of the three calls, and two marks
+  pub r19-first : readVerdict (textOf markedFirst) ≡ refused 19 0
+  pub r19-write : writeVerdict markedFirst ≡ refused 19 0
+  pub r19-translate : translateVerdict (textOf markedFirst) ≡ refused 19 0
+  pub r19-second : readVerdict (textOf (chart (begins 1 1 ∷ ends 1 ∷ marks 2 3 ∷ ends 2 ∷ marks 3 5 ∷ ends 3 ∷ []))) ≡ refused 19 0
+  -- with an End missing too, and with an arc to no node
+  pub r19-after-5 : readVerdict (textOf (set markedFirst 51 1)) ≡ refused 5 0
+  pub r19-before-6 : readVerdict (textOf (set markedFirst 13 7)) ≡ refused 19 0

@@ -1,4 +1,5 @@
 pub mod Bench
 pub mod Cases
+pub mod Handler
 pub mod Outputs
 pub mod Live

@@ -1,4 +1,4 @@
--- Cases of prepared tables and of live ticks: on the table of chart P, and on that table damaged.
+-- Cases of prepared tables and of live ticks: on the table of chart P, on that table with a handler, and damaged.
 use Prim.Native.Nat.{ℕ, _+_, _*_}
 use mathlib.Core.Path.{_≡_}
 use mathlib.Core.List.{List, [], _∷_, _++_}
@@ -46,6 +46,13 @@ pub record LiveCases : Type 0 where
   pub unfit : ticking tableP (stateOf 2 (3 ∷ 3 ∷ [])) 1 .reply ≡ refusal 15 0 0
   pub plain : ticking tableP (stateOf 2 (2 ∷ 3 ∷ [])) 1 .state ≡ stateOf 2 (2 ∷ 4 ∷ [])
   pub full : ticking tableP (stateOf 3 (2 ∷ 4 ∷ 4 ∷ [])) 1 .reply ≡ refusal 17 0 0
+  -- the same call with scheme 2 as the handler is a drop, but not over a label of the handler
+  pub dropped : let r = ticking (damaged 0 5 2) (stateOf 3 (2 ∷ 4 ∷ 4 ∷ [])) 1 in
+      (r .reply ≡ success 1) × (r .mask ≡ 2) × (r .code ≡ 96) × (r .state ≡ stateOf 1 (3 ∷ 0 ∷ 0 ∷ []))
+  pub bottom : ticking (damaged 0 5 2) (stateOf 3 (4 ∷ 4 ∷ 4 ∷ [])) 1 .reply ≡ refusal 17 0 0
+  -- a handler that is scheme 1, or above H
+  pub first : ticking (damaged 0 5 1) (stateOf 1 (2 ∷ [])) 0 .reply ≡ refusal 11 0 0
+  pub high : ticking (damaged 0 5 3) (stateOf 1 (2 ∷ [])) 0 .reply ≡ refusal 11 0 0
   -- a table that is cut off, or counts no scheme
   pub cut : ticking (take 119 tableP) (stateOf 1 (2 ∷ [])) 0 .reply ≡ refusal 11 0 0
   pub counts : ticking (damaged 0 1 0) (stateOf 1 (2 ∷ [])) 0 .reply ≡ refusal 11 0 0

@@ -164,7 +164,7 @@ pub extern "C" fn fairleadow_live_tick(
     tell_tick(report, mask, code, at, made)
 }
 
-// What a code stands for: returns the tick kind, 255 for a code that no tick has, and writes the scheme called, 0 for none.
+// What a code stands for: returns the tick kind, 5 for a drop, 255 for a code that no tick has, and writes the scheme called, 0 for none.
 #[no_mangle]
 pub extern "C" fn fairleadow_meaning(code: u8, called: &mut u8) -> u8
     ensures { λ r. ⌜ Meant code r (now (called .exit)) ⌝ }
@@ -182,6 +182,7 @@ pub extern "C" fn fairleadow_meaning(code: u8, called: &mut u8) -> u8
         }
         Meaning::Return => 3,
         Meaning::Home => 4,
+        Meaning::Drop => 5,
         Meaning::Unknown => 255,
     }
 }

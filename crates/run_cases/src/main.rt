@@ -136,7 +136,7 @@ fn headers(p: [u8; 120]) {
     check(p, &[]);
     check_each(p, &[0, 14, 1, 0, 1, 17, 2, 0]);
     check(p, &[3, 4, 4, 1]);
-    check_each(p, &[4, 5, 5, 1]);
+    check_each(p, &[4, 5, 5, 1, 5, 2, 5, 3, 6, 1]);
     check(p, &[9, 1, 10, 17]);
 }
 
@@ -211,12 +211,22 @@ fn past_depth(text: [u8; 276]) {
     state_case(text, 32, 32, &[0, 2]);
 }
 
+// 15: the first place where scheme 2 is the handler.
+fn handler_firsts(text: [u8; 276]) {
+    state_case(text, 3, 1, &[0, 3]);
+    state_case(text, 3, 1, &[0, 1]);
+    state_case(text, 3, 1, &[0, 5]);
+    state_case(text, 3, 2, &[0, 4, 1, 3]);
+    state_case(text, 3, 2, &[0, 1, 1, 3]);
+}
+
 fn states(p: [u8; 120]) {
     let text = text_of(p, &[]);
     depths(text);
     firsts(text);
     seconds(text);
     past_depth(text);
+    handler_firsts(text_of(p, &[5, 2]));
 }
 
 fn fresh(size: usize) -> State {
@@ -250,6 +260,16 @@ fn runs(p: [u8; 120]) {
     run(back, held, [1, 0, 0, 0, 1, 0, 0, 0]);
 }
 
+// A drop for scheme 2, its return to label 0, and 17 while it is at the bottom.
+fn drops(p: [u8; 120]) {
+    let text = text_of(p, &[5, 2]);
+    let words = [0, 0, 1, 0, 0, 0, 0, 0];
+    let two = run(text, fresh(2), words);
+    run(text, two, words);
+    let one = run(text, fresh(1), words);
+    rest(text, one);
+}
+
 fn main() {
     let p = *b"\x0F\x02\x04\x00\x04\x00\x00\x00\x00\x00\
         \x10\x01\x02\x00\x00\x00\x00\x00\x00\x00\
@@ -270,6 +290,7 @@ fn main() {
     rows(p);
     states(p);
     runs(p);
+    drops(p);
     let function = *b"\x0F\x02\x04\x00\x04\x00\x00\x00\x00\x00\
         \x10\x01\x02\x00\x00\x00\x00\x00\x00\x00\
         \x10\x02\x04\x00\x00\x00\x00\x00\x00\x00\

@@ -1,5 +1,5 @@
 -- `fairleadow::fairleadow_meaning` meets its contract: each case of the meaning gives its two numbers.
-use Rattle.codes.specs.declared.Meaning.the-variants.{Plain, OperationCall, FunctionCall, Return, Home, Unknown}
+use Rattle.codes.specs.declared.Meaning.the-variants.{Plain, OperationCall, FunctionCall, Return, Home, Drop, Unknown}
 use Rattle.fairleadow.proofs.CodeCalls.{meant-by}
 use borrow.Author.Needs.{needs}
 use Rattle.fairleadow.proofs.fairleadow_meaning.Statement.{statement}
@@ -26,6 +26,9 @@ enum-told-3 c = search needs
 enum-told-4 : tie.Need-enum-told-4
 enum-told-4 c = search needs
 
+enum-told-5 : tie.Need-enum-told-5
+enum-told-5 c = search needs
+
 returns : tie.Need-returns
 returns c = meant-by _ _ Plain (c .before .before .meaning-of .ensures) (c .enum-told .given .1)
 
@@ -42,7 +45,10 @@ returns-5 : tie.Need-returns-5
 returns-5 c = meant-by _ _ Home (c .before .before .meaning-of .ensures) (c .enum-told3 .given .1)
 
 returns-6 : tie.Need-returns-6
-returns-6 c = meant-by _ _ Unknown (c .before .before .meaning-of .ensures) (c .enum-told4 .given .1)
+returns-6 c = meant-by _ _ Drop (c .before .before .meaning-of .ensures) (c .enum-told4 .given .1)
+
+returns-7 : tie.Need-returns-7
+returns-7 c = meant-by _ _ Unknown (c .before .before .meaning-of .ensures) (c .enum-told5 .given .1)
 
 pub fairleadow-meaning-spec : {M : Type 1} → statement M
 fairleadow-meaning-spec =
@@ -55,9 +61,11 @@ fairleadow-meaning-spec =
     enum-told-2
     enum-told-3
     enum-told-4
+    enum-told-5
     returns
     returns-2
     returns-3
     returns-4
     returns-5
-    returns-6)
+    returns-6
+    returns-7)

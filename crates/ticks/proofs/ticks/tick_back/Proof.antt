@@ -27,7 +27,7 @@ returns : tie.Need-returns
 returns c =
     let last = c .before .before in
     let d = last .before in
-    last-steps _ _ _ (start d .pre .0) _ (d .depth-of .ensures) (last .if1 .taken) _ (c .put-place .ensures)
+    last-steps _ _ _ (start d .pre .0) _ (d .depth-of .ensures) (omega (arith, last .if1 .taken)) _ (c .put-place .ensures)
 
 -- a label lies beneath the top
 back : (c : tie.Else1) → TopBack (start (c .before) .args .table .now) (stateOf (start (c .before) .args .bytes .now))

@@ -1,0 +1,59 @@
+-- The cases of a chart with a handler hold, computed.
+use mathlib.Core.Path.{_≡_, refl, ap}
+use mathlib.Core.Bool.{false}
+use mathlib.Core.List.{List, [], _∷_}
+use Prim.Native.Nat.{ℕ, _≤_}
+use native.Mathlib.Omega.{arith}
+use Rattle.frames.specs.Verdict.{fine}
+use Rattle.state.specs.State.{fresh, unfit}
+use Rattle.rows.specs.Rows.{firstRow}
+use Rattle.ticks.specs.Tick.{tick}
+use Rattle.runs.specs.Run.{Run, ticks, runOn}
+use Rattle.agreement.proofs.Images.{runImage, run-image}
+use Rattle.bench.specs.Bench.{freshRun}
+use Rattle.bench.specs.Handler.{chartHandler, imageHandler, dropWords, bottomWords, ordinaryWords, stateAt, oneWord, HandlerCases}
+use Rattle.bench.proofs.Computing.{walking, checking}
+use Rattle.bench.proofs.Tables.{tableHandler, of-handler}
+use Rattle.bench.proofs.Rounds.{blank, fresh-run}
+
+-- ---- runs, on the chart's table
+run-handler : (size : ℕ) → 1 ≤ size → size ≤ 32 → (ws : List ℕ)
+    → freshRun imageHandler size ws ≡ runOn fine (λ _. ticks tableHandler (fresh size) ws) (fresh size) (blank ws) (blank ws)
+run-handler = fresh-run of-handler
+
+two : (ws : List ℕ) → freshRun imageHandler 2 ws ≡ runOn fine (λ _. ticks tableHandler (fresh 2) ws) (fresh 2) (blank ws) (blank ws)
+two = run-handler 2 (omega arith) (omega arith)
+
+-- a run of one word, tried on the table too
+tried : (d l above : ℕ)
+    → oneWord d l above ≡ runImage tableHandler (stateAt d l above false false) (0 ∷ []) (0 ∷ []) (0 ∷ []) .reply
+tried d l above = ap (λ (r : Run). r .reply)
+    (run-image imageHandler tableHandler (of-handler .passes) (of-handler .decodes) (stateAt d l above false false) (0 ∷ []) (0 ∷ []) (0 ∷ []))
+
+pub handler-cases : HandlerCases
+unfolding walking checking unfit tick ticks firstRow tableHandler chartHandler imageHandler dropWords bottomWords ordinaryWords
+handler-cases =
+    let ordinary = two ordinaryWords in
+    let roomy = run-handler 32 (omega arith) (omega arith) dropWords in
+    let narrow = run-handler 1 (omega arith) (omega arith) dropWords in
+    record {
+      translated = of-handler .translated;
+      drop-walk = refl;
+      drop-before = ap (λ (r : Run). r .state) (two _);
+      drop-run = two dropWords;
+      bottom-walk = refl;
+      bottom-run = two bottomWords;
+      ordinary-before = ap (λ (r : Run). r .state) (two _);
+      ordinary-after = ap (λ (r : Run). r .state) (two _);
+      ordinary-run = (ap (λ (r : Run). r .reply) ordinary, ap (λ (r : Run). r .codes) ordinary, ap (λ (r : Run). r .masks) ordinary);
+      roomy-walk = refl;
+      roomy-run = (ap (λ (r : Run). r .reply) roomy, ap (λ (r : Run). r .codes) roomy, ap (λ (r : Run). r .masks) roomy);
+      narrow-run = (ap (λ (r : Run). r .reply) narrow, ap (λ (r : Run). r .codes) narrow, ap (λ (r : Run). r .masks) narrow);
+      fits-handler = tried 1 6 0;
+      fits-return = tried 1 1 0;
+      unfit-other = tried 1 4 0;
+      unfit-above = tried 2 1 4;
+      header-other = refl;
+      header-first = refl;
+      header-high = refl;
+    }

@@ -1,0 +1,191 @@
+-- Slips of a drop, each a tick in the place of the machine's. Most are shown not to meet demand 3. The result bits that a drop leaves never show
+-- in a tick, because a function's own call clears the bit that its return reads; a slip in them is shown to hand back another state than the
+-- definition, which demand 1 asks for.
+use mathlib.Core.Path.{_≡_, _∙_, ap, sym}
+use mathlib.Core.Bool.{_&&_}
+use mathlib.Core.List.{List, [], _∷_}
+use Prim.Native.Nat.{ℕ, suc, _-_}
+use native.Mathlib.Omega.{arith}
+use lib.Dec.{leb, eqb}
+use lib.ListN.{take, set}
+use Rattle.lists.specs.Pick.{pick}
+use Rattle.bits.specs.Results.{Results, resultOf, withResult, cleared}
+use Rattle.frames.specs.Answer.{number}
+use Rattle.image.specs.Image.{Image, Label}
+use Rattle.translator.specs.Entry.{translate}
+use Rattle.state.specs.declared.State.{State}
+use Rattle.state.specs.State.{noPlaces, labelAt, entryAt, placeAt, isCall, ofHandler, fresh, freshState}
+use Rattle.ticks.specs.Tick.{Ticked, ticked, stopped, full, tick}
+use Rattle.ticks.specs.Parts.{topOf, beneath}
+use Rattle.ticks.specs.Functions.{findsFull, returned}
+use Rattle.runs.specs.Run.{Run, run}
+use Rattle.agreement.specs.Agreement.{Runner, Told, chain, Agreement}
+use Rattle.agreement.proofs.Images.{runImage, run-image}
+use Rattle.bench.specs.Handler.{imageHandler, dropWords, bottomWords, ordinaryWords}
+use Rattle.bench.proofs.Computing.{running}
+use Rattle.bench.proofs.Tables.{tableHandler, of-handler}
+use Rattle.bench.proofs.Instances.{alone, second, at-drop, at-bottom, at-ordinary, at-parted}
+use Rattle.bench.proofs.Variants.{Step, ticksBy, runBy, tableRun, by-table, made, chain-made, codeAt}
+
+-- ---- the label at the top, and the bits with its result
+abbrev topLabel : Image → State → Label
+topLabel i s = labelAt i (topOf s)
+
+abbrev written : Image → State → Results
+written i s = withResult (topLabel i s .result) (topLabel i s .owner) (s .bits)
+
+-- the machine's tick, but after a drop the state is what f makes of the states before and after it
+abbrev altered : (State → State) → Ticked → Ticked
+altered f (ticked m code t) = ticked m code (pick (eqb code 96) (f t) t)
+altered f (stopped n) = stopped n
+
+abbrev afterDrop : (Image → State → State → State) → Step
+afterDrop f i s w = altered (f i s) (tick i s w)
+
+abbrev withPlaces : ℕ → List ℕ → State → State
+withPlaces d places t = record { size = t .size; depth = d; places = places; bits = t .bits }
+
+abbrev withBits : Results → State → State
+withBits b t = record { size = t .size; depth = t .depth; places = t .places; bits = b }
+
+-- ---- 17 in the place of every drop
+abbrev pub neverDrops : Step
+neverDrops i s w = pick (findsFull i s) (stopped 17) (tick i s w)
+
+pub never-drops-fails : Agreement translate freshState (runBy neverDrops) → ⊥
+unfolding running ticksBy tableHandler dropWords
+never-drops-fails claim = let z : _≡_ {A = ℕ} 7 96 = ap (codeAt 3) (made of-handler neverDrops 2 dropWords (at-drop (runBy neverDrops) claim)) in omega arith
+
+-- ---- a drop at depth Σ - 1
+abbrev pub dropsEarly : Step
+dropsEarly i s w = pick (isCall (topLabel i s) && leb (s .size - 1) (s .depth)) (full i s (topLabel i s .mask) (written i s)) (tick i s w)
+
+pub drops-early-fails : Agreement translate freshState (runBy dropsEarly) → ⊥
+unfolding running ticksBy tableHandler dropWords
+drops-early-fails claim = let z : _≡_ {A = ℕ} 96 66 = ap (codeAt 1) (made of-handler dropsEarly 2 dropWords (at-drop (runBy dropsEarly) claim)) in omega arith
+
+-- ---- a drop though the handler is at the bottom
+abbrev pub dropsAgain : Step
+dropsAgain i s w = pick (findsFull i s && ofHandler i (placeAt s 0))
+    (ticked (topLabel i s .mask) 96 (record {
+      size = s .size;
+      depth = 1;
+      places = set noPlaces 0 (entryAt i (i .handler));
+      bits = cleared (i .handler) (written i s);
+    }))
+    (tick i s w)
+
+pub drops-again-fails : Agreement translate freshState (runBy dropsAgain) → ⊥
+unfolding running ticksBy tableHandler bottomWords
+drops-again-fails claim =
+    let z : _≡_ {A = ℕ} 96 7 =
+    ap (codeAt 7) (made of-handler dropsAgain 2 bottomWords (at-bottom (runBy dropsAgain) claim)) in
+    omega arith
+
+-- ---- a handler that counts zero: with it at the bottom there is a place more
+abbrev resized : ℕ → State → State
+resized n s = record { size = n; depth = s .depth; places = s .places; bits = s .bits }
+
+abbrev resizedAfter : ℕ → Ticked → Ticked
+resizedAfter n (ticked m code t) = ticked m code (resized n t)
+resizedAfter n (stopped k) = stopped k
+
+abbrev pub countsZero : Step
+countsZero i s w = pick (ofHandler i (placeAt s 0)) (resizedAfter (s .size) (tick i (resized (suc (s .size)) s) w)) (tick i s w)
+
+pub counts-zero-fails : Agreement translate freshState (runBy countsZero) → ⊥
+unfolding running ticksBy tableHandler bottomWords
+counts-zero-fails claim =
+    let z : _≡_ {A = ℕ} 18 7 =
+    ap (codeAt 7) (made of-handler countsZero 2 bottomWords (at-bottom (runBy countsZero) claim)) in
+    omega arith
+
+-- ---- a handler's scheme that was called taken for the handler at the bottom
+abbrev pub heedsCalled : Step
+heedsCalled i s w = pick (findsFull i s && ofHandler i (topOf s)) (stopped 17) (tick i s w)
+
+pub heeds-called-fails : Agreement translate freshState (runBy heedsCalled) → ⊥
+unfolding running ticksBy tableHandler ordinaryWords
+heeds-called-fails claim =
+    let z : _≡_ {A = ℕ} 7 96 =
+    ap (codeAt 6) (made of-handler heedsCalled 2 ordinaryWords (at-ordinary (runBy heedsCalled) claim)) in
+    omega arith
+
+-- ---- a handler that returns to what stood beneath the caller: it starts in the caller's place
+abbrev pub keepsBeneath : Step
+keepsBeneath = afterDrop (λ i s t. withPlaces (s .depth) (set (s .places) (s .depth - 1) (entryAt i (i .handler))) t)
+
+pub keeps-beneath-fails : Agreement translate freshState (runBy keepsBeneath) → ⊥
+unfolding running ticksBy tableHandler dropWords
+keeps-beneath-fails claim =
+    let z : _≡_ {A = ℕ} 19 4 =
+    ap (codeAt 6) (made of-handler keepsBeneath 2 dropWords (at-drop (runBy keepsBeneath) claim)) in
+    omega arith
+
+-- ---- the handler's return at depth 1 takes a row, of which label 1 has none
+abbrev pub takesRow : Step
+takesRow i s w = pick (eqb (topLabel i s .kind) 3) (returned s (beneath i s w)) (tick i s w)
+
+pub takes-row-fails : Agreement translate freshState (runBy takesRow) → ⊥
+unfolding running ticksBy tableHandler dropWords
+takes-row-fails claim = let z : _≡_ {A = ℕ} 7 3 = ap (codeAt 5) (made of-handler takesRow 2 dropWords (at-drop (runBy takesRow) claim)) in omega arith
+
+-- ---- the places above the handler left as they were: the next run gets 15
+abbrev pub leavesPlaces : Step
+leavesPlaces = afterDrop (λ i s t. withPlaces 1 (set (s .places) 0 (entryAt i (i .handler))) t)
+
+pub leaves-places-fails : Agreement translate freshState (runBy leavesPlaces) → ⊥
+unfolding running ticksBy tableHandler chain
+leaves-places-fails claim =
+    let told = sym (chain-made of-handler leavesPlaces (fresh 2) (alone (0 ∷ 0 ∷ 1 ∷ 0 ∷ []) ∷ alone (0 ∷ []) ∷ [])) ∙ at-parted (runBy leavesPlaces) claim in
+    let z : _≡_ {A = ℕ} 15 0 = ap (λ (ts : List Told). number (second ts .reply)) told in
+    omega arith
+
+-- ---- slips in the result bits
+-- the state that is handed back is the definition's
+abbrev pub HandsBack : Runner → Type 0
+HandsBack f = (image : List ℕ) (s : State) (ws ms ks : List ℕ) → f image s ws ms ks .state ≡ run image s ws ms ks .state
+
+-- the two states after these words, from a fresh one with two places, by the chart's table
+states-made : (step : Step) → HandsBack (runBy step) → (ws : List ℕ) → let a = alone ws in
+    tableRun tableHandler step imageHandler (fresh 2) ws (a .masks) (a .codes) .state ≡ runImage tableHandler (fresh 2) ws (a .masks) (a .codes) .state
+states-made step claim ws =
+    let a = alone ws in
+    sym (ap (λ (r : Run). r .state) (by-table of-handler step (fresh 2) ws (a .masks) (a .codes)))
+    ∙ claim imageHandler (fresh 2) ws (a .masks) (a .codes)
+    ∙ ap (λ (r : Run). r .state) (run-image imageHandler tableHandler (of-handler .passes) (of-handler .decodes) (fresh 2) ws (a .masks) (a .codes))
+
+abbrev bitOf : ℕ → State → ℕ
+bitOf h s = pick (resultOf h (s .bits)) 1 0
+
+-- ---- a drop clears the bit of the scheme called
+abbrev pub clearsCalled : Step
+clearsCalled = afterDrop (λ i s t. withBits (cleared (topLabel i s .called) (t .bits)) t)
+
+pub clears-called-fails : HandsBack (runBy clearsCalled) → ⊥
+unfolding running ticksBy tableHandler dropWords
+clears-called-fails claim = let z : _≡_ {A = ℕ} 0 1 = ap (bitOf 2) (states-made clearsCalled claim dropWords) in omega arith
+
+-- ---- a drop does not clear the bit of the handler
+abbrev pub keepsHandlerBit : Step
+keepsHandlerBit = afterDrop (λ i s t. withBits (written i s) t)
+
+pub keeps-handler-bit-fails : HandsBack (runBy keepsHandlerBit) → ⊥
+unfolding running ticksBy tableHandler dropWords
+keeps-handler-bit-fails claim = let z : _≡_ {A = ℕ} 1 0 = ap (bitOf 3) (states-made keepsHandlerBit claim dropWords) in omega arith
+
+-- ---- a drop forgets the caller's result
+abbrev pub forgetsResult : Step
+forgetsResult = afterDrop (λ i s t. withBits (cleared (i .handler) (s .bits)) t)
+
+pub forgets-result-fails : HandsBack (runBy forgetsResult) → ⊥
+unfolding running ticksBy tableHandler dropWords
+forgets-result-fails claim = let z : _≡_ {A = ℕ} 0 1 = ap (bitOf 2) (states-made forgetsResult claim dropWords) in omega arith
+
+-- ---- a drop clears the handler's bit before it writes the caller's result, and the caller is of the handler's scheme
+abbrev pub clearsFirst : Step
+clearsFirst = afterDrop (λ i s t. withBits (withResult (topLabel i s .result) (topLabel i s .owner) (cleared (i .handler) (s .bits))) t)
+
+pub clears-first-fails : HandsBack (runBy clearsFirst) → ⊥
+unfolding running ticksBy tableHandler ordinaryWords
+clears-first-fails claim = let z : _≡_ {A = ℕ} 1 0 = ap (bitOf 3) (states-made clearsFirst claim (take 7 ordinaryWords)) in omega arith
