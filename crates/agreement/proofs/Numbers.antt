@@ -15,7 +15,7 @@ use Rattle.frames.specs.Check.{textVerdict}
 use Rattle.frames.specs.Answer.{success, refusal, number, count, Lent, lent}
 use Rattle.frames.proofs.Refuses.{Refuses, next-refuses, when-refuses, lowest-refuses, text-refuses}
 use Rattle.charts.specs.Chart.{Chart, schemes}
-use Rattle.charts.specs.Check.{badField, badScheme, badArc, badCall, onCircle, cutOff, chartVerdict}
+use Rattle.charts.specs.Check.{badField, badScheme, badMarks, badArc, badCall, onCircle, cutOff, chartVerdict}
 use Rattle.charts.specs.Entry.{readVerdict}
 use Rattle.image.specs.Image.{imageText}
 use Rattle.image.specs.Check.{imageVerdict}
@@ -34,10 +34,11 @@ unfolding chartVerdict
 chart-positive c =
     next-refuses Positive (atLowest 4 (badField c) (size c)) _ (lowest-refuses Positive 4 (badField c) (size c) (omega arith))
     (next-refuses Positive (when 5 (any (badScheme c) 1 (schemes c))) _ (when-refuses Positive 5 (any (badScheme c) 1 (schemes c)) (omega arith))
+    (next-refuses Positive (when 19 (badMarks c)) _ (when-refuses Positive 19 (badMarks c) (omega arith))
     (next-refuses Positive (atLowest 6 (badArc c) (size c)) _ (lowest-refuses Positive 6 (badArc c) (size c) (omega arith))
     (next-refuses Positive (atLowest 7 (badCall c) (size c)) _ (lowest-refuses Positive 7 (badCall c) (size c) (omega arith))
     (next-refuses Positive (atLowest 8 (onCircle c) (size c)) _ (lowest-refuses Positive 8 (onCircle c) (size c) (omega arith))
-    (lowest-refuses Positive 9 (cutOff c) (size c) (omega arith))))))
+    (lowest-refuses Positive 9 (cutOff c) (size c) (omega arith)))))))
 
 translate-positive : (t : List ℕ) → Refuses Positive (translateVerdict t)
 unfolding translateVerdict readVerdict

@@ -35,7 +35,7 @@ pub runs-delivered :
     (text before after : List ℕ) (answer : Answer) → Lends (translate text before) answer after → (n : ℕ) → reply answer ≡ success n
     → (size : ℕ) → 1 ≤ size → size ≤ 32 → (made : Answered) → Makes (freshState size) made
     → (asked : List Asked) (tolds : List Told) → RunCalls (take n after) (made .state) asked tolds
-    → let ticks = walk (contents text) (joined asked) in tolds ≡ expectedAll (bound size ticks) ticks 0 asked
+    → let ticks = walk size (contents text) (joined asked) in tolds ≡ expectedAll (bound size ticks) ticks 0 asked
 unfolding calls.Delivered
 runs-delivered text before after answer l n e size low high made m asked tolds rs =
     delivered text before after answer l n e size low high made m asked tolds (runs-are-calls rs)
@@ -57,7 +57,7 @@ pub runs-delivered-c :
     (text before after : List ℕ) (at n : ℕ) → LendsC (translate text before) 0 at n after
     → (size : ℕ) → 1 ≤ size → size ≤ 32 → (returned at made : ℕ) (bytes : List ℕ) → MakesC (freshState size) returned at made bytes
     → (asked : List Asked) (tolds : List c.ToldC) → RunCallsC (take n after) bytes asked tolds
-    → let ticks = walk (contents text) (joined asked) in tolds ≡ map c.toldC (expectedAll (bound size ticks) ticks 0 asked)
+    → let ticks = walk size (contents text) (joined asked) in tolds ≡ map c.toldC (expectedAll (bound size ticks) ticks 0 asked)
 unfolding c.DeliveredC
 runs-delivered-c text before after at n l size low high returned at′ made bytes m asked tolds rs =
     delivered-c text before after at n l size low high returned at′ made bytes m asked tolds (runs-are-calls-c rs)

@@ -14,7 +14,7 @@ use Rattle.bits.specs.Results.{noResults}
 use Rattle.frames.specs.Frame.{contents}
 use Rattle.frames.specs.Verdict.{fine, next, when}
 use Rattle.frames.specs.Answer.{success}
-use Rattle.walk.specs.Walk.{spent, after, tick as oneTick, perform, drops, then as onward, walkFrom, walk}
+use Rattle.walk.specs.Walk.{spent, after, tick as oneTick, perform, drops, carriedOn, walkFrom, walk}
 use Rattle.image.specs.Image.{Image}
 use Rattle.image.proofs.Sound.{Sound}
 use Rattle.image.proofs.Accepted.{image-sound}
@@ -66,7 +66,7 @@ home-course d (w ∷ ws) = ap (after (oneTick 1 0 4 1)) (home-course d ws)
 pub home-walk : (n : ℕ) (ws : List ℕ) → walk n (contents chartHome) ws ≡ map (λ w. one 1 0 4 1) ws
 unfolding walking chartHome
 home-walk n [] = refl
-home-walk n (w ∷ ws) = let c = contents chartHome in ap (onward (walkFrom (length ws) n c) c) (home-course (drops n c false) (w ∷ ws))
+home-walk n (w ∷ ws) = let c = contents chartHome in ap (carriedOn (walkFrom (length ws) n c) c) (home-course (drops n c false) (w ∷ ws))
 
 home-ticks : (size : ℕ) (ws : List ℕ)
     → ticks tableHome (fresh size) ws ≡ record { masks = map (λ w. 0) ws; codes = map (λ w. 4) ws; state = fresh size; verdict = fine }

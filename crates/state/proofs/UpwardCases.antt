@@ -1,4 +1,4 @@
--- The places up to the depth, looked at from the bottom up with the kind of the label below and the scheme that it calls.
+-- The places up to the depth, looked at from the bottom up with the scheme that the label below calls.
 use Prim.Native.Nat.{ℕ, _+_, _-_, _≤_, _<_}
 use mathlib.Core.Bool.{Bool, true, false, _&&_, _||_, not}
 use mathlib.Core.Path.{_≡_, refl, sym, _∙_, ap, ap₂, subst}
@@ -63,74 +63,66 @@ module _ (i : Image) (s : State) where
   bottom-bad : unfitBottom i s ≡ true → total ≡ true
   bottom-bad e = or-true-r (any (unfitPlace i s) 0 (s .depth)) (unfitBottom i s) e
 
-  -- ---- what is known when place k above the bottom is reached: of the label below it, kind and called scheme
-  pub record Passed (kind scheme k : ℕ) : Type 0 where
-    pub some : 1 ≤ k
-    pub inside : k ≤ s .depth
-    pub lower : (j : ℕ) → j + 1 < k → unfitPlace i s j ≡ false
-    pub held : Inside (k - 1)
-    pub kinded : atPlace (k - 1) .kind ≡ kind
-    pub called : atPlace (k - 1) .called ≡ scheme
+  -- ---- what is known once the label at place k was found to belong there, and when the place above a call is reached
+  pub record Belongs (k : ℕ) : Type 0 where
+    pub held : Inside k
+    pub lower : (j : ℕ) → j < k → unfitPlace i s j ≡ false
     pub bottom : unfitBottom i s ≡ false
 
-  pub passed-first : 1 ≤ s .depth → Inside 0 → unfitBottom i s ≡ false → Passed (atPlace 0 .kind) (atPlace 0 .called) 1
-  passed-first h g e = record {
-    some = omega arith;
-    inside = h;
-    lower = λ j l. absurd (omega arith);
-    held = g;
-    kinded = refl;
-    called = refl;
-    bottom = e;
-  }
+  pub record Passed (scheme k : ℕ) : Type 0 where
+    pub some : 1 ≤ k
+    pub below : Belongs (k - 1)
+    pub call : isCall (atPlace (k - 1)) ≡ true
+    pub called : atPlace (k - 1) .called ≡ scheme
 
-  module _ (kind scheme k : ℕ) (c : Passed kind scheme k) where
-    pub passed-all : s .depth ≤ k → total ≡ false
-    passed-all h =
-        or-none (any (unfitPlace i s) 0 (s .depth)) (unfitBottom i s)
-        (any-none (unfitPlace i s) 0 (s .depth) (λ j b. each (0 + j) (split (0 + j + 1) k) (omega arith))) (c .bottom)
+  pub belongs-first : Inside 0 → unfitBottom i s ≡ false → Belongs 0
+  belongs-first g e = record { held = g; lower = λ j l. absurd (omega arith); bottom = e }
+
+  module _ (scheme k : ℕ) (c : Passed scheme k) (here : k < s .depth) where
+    above : k - 1 + 1 ≡ k
+    above = omega (arith, c .some)
+
+    -- whether the label below carries this one
+    carried : mayCarry i (placeAt s (k - 1)) (placeAt s (k - 1 + 1)) ≡ (eqb (placeAt s k) 1 || eqb (atPlace k .owner) scheme)
+    carried =
+        ap₂ (λ (t : Bool) (h : ℕ). t && (eqb (placeAt s (k - 1 + 1)) 1 || eqb (atPlace (k - 1 + 1) .owner) h)) (c .call) (c .called)
+        ∙ ap (λ (j : ℕ). eqb (placeAt s j) 1 || eqb (atPlace j .owner) scheme) above
+
+    pub stray : (eqb (placeAt s k) 1 || eqb (atPlace k .owner) scheme) ≡ false → total ≡ true
+    stray e = place-loose (k - 1) (omega (arith, c .some)) (carried ∙ e)
+
+    pub belongs-above : (eqb (placeAt s k) 1 || eqb (atPlace k .owner) scheme) ≡ true → Inside k → Belongs k
+    belongs-above e g = record { held = g; lower = λ j h. low j (split (j + 1) k) h; bottom = c .below .bottom }
       where
-        each : (j : ℕ) → (j + 1 < k) ⊎ (k ≤ j + 1) → j < s .depth → unfitPlace i s j ≡ false
-        each j (inl a) b = c .lower j a
-        each j (inr a) b = let e : k - 1 ≡ j = omega (arith, c .some) in ap (unfitPlace i s) (sym e) ∙ place-top (k - 1) (omega (arith, c .some)) (c .held)
+        low : (j : ℕ) → (j + 1 < k) ⊎ (k ≤ j + 1) → j < k → unfitPlace i s j ≡ false
+        low j (inl a) h = c .below .lower j (omega arith)
+        low j (inr a) h =
+            let q : k - 1 ≡ j = omega (arith, c .some) in
+            ap (unfitPlace i s) (sym q) ∙ place-kept (k - 1) (omega (arith, c .some)) (c .below .held) (carried ∙ e)
 
-    module _ (here : k < s .depth) where
-      above : k - 1 + 1 ≡ k
-      above = omega (arith, c .some)
+  module _ (k : ℕ) (y : Belongs k) where
+    pub top-fits : s .depth ≤ k + 1 → total ≡ false
+    top-fits h =
+        or-none (any (unfitPlace i s) 0 (s .depth)) (unfitBottom i s)
+        (any-none (unfitPlace i s) 0 (s .depth) (λ j b. each (0 + j) (split (0 + j) k) (omega arith))) (y .bottom)
+      where
+        each : (j : ℕ) → (j < k) ⊎ (k ≤ j) → j < s .depth → unfitPlace i s j ≡ false
+        each j (inl a) b = y .lower j a
+        each j (inr a) b = let e : k ≡ j = omega arith in ap (unfitPlace i s) (sym e) ∙ place-top k h (y .held)
 
-      pub idle : (eqb kind 1 || eqb kind 2) ≡ false → total ≡ true
-      idle e = place-idle (k - 1) (omega (arith, c .some)) (ap (λ (n : ℕ). eqb n 1 || eqb n 2) (c .kinded) ∙ e)
+    pub passed-next : isCall (atPlace k) ≡ true → Passed (atPlace k .called) (k + 1)
+    passed-next e = record {
+      some = omega arith;
+      below = subst Belongs back y;
+      call = ap (λ (m : ℕ). isCall (atPlace m)) (sym back) ∙ e;
+      called = ap (λ (m : ℕ). atPlace m .called) (sym back);
+    }
+      where
+        back : k ≡ k + 1 - 1
+        back = omega arith
 
-      module _ (call : (eqb kind 1 || eqb kind 2) ≡ true) where
-        -- whether the label below carries this one
-        carried : mayCarry i (placeAt s (k - 1)) (placeAt s (k - 1 + 1)) ≡ (eqb (placeAt s k) 1 || eqb (atPlace k .owner) scheme)
-        carried =
-            ap₂ (λ (n h : ℕ). (eqb n 1 || eqb n 2) && (eqb (placeAt s (k - 1 + 1)) 1 || eqb (atPlace (k - 1 + 1) .owner) h)) (c .kinded) (c .called)
-            ∙ ap₂ (λ (t : Bool) (j : ℕ). t && (eqb (placeAt s j) 1 || eqb (atPlace j .owner) scheme)) call above
-
-        pub stray : (eqb (placeAt s k) 1 || eqb (atPlace k .owner) scheme) ≡ false → total ≡ true
-        stray e = place-loose (k - 1) (omega (arith, c .some)) (carried ∙ e)
-
-        pub passed-next : (eqb (placeAt s k) 1 || eqb (atPlace k .owner) scheme) ≡ true → Inside k
-            → Passed (atPlace k .kind) (atPlace k .called) (k + 1)
-        passed-next e g = record {
-          some = omega arith;
-          inside = omega arith;
-          lower = λ j h. low j (split (j + 1) k) h;
-          held = subst (λ (m : ℕ). Inside m) back g;
-          kinded = ap (λ (m : ℕ). atPlace m .kind) (sym back);
-          called = ap (λ (m : ℕ). atPlace m .called) (sym back);
-          bottom = c .bottom;
-        }
-          where
-            back : k ≡ k + 1 - 1
-            back = omega arith
-
-            low : (j : ℕ) → (j + 1 < k) ⊎ (k ≤ j + 1) → j + 1 < k + 1 → unfitPlace i s j ≡ false
-            low j (inl a) h = c .lower j a
-            low j (inr a) h =
-                let q : k - 1 ≡ j = omega (arith, c .some) in
-                ap (unfitPlace i s) (sym q) ∙ place-kept (k - 1) (omega (arith, c .some)) (c .held) (carried ∙ e)
+  pub passed-all : (scheme k : ℕ) → Passed scheme k → s .depth ≤ k → total ≡ false
+  passed-all scheme k c h = top-fits (k - 1) (c .below) (omega (arith, c .some))
 
 flip : (x u : Bool) → u ≡ not x → x ≡ not u
 flip true u e = sym (ap not e)
@@ -165,21 +157,34 @@ module _ (b : List ℕ) (s : State) (k l last : ℕ) (place : l ≡ placeAt s k)
       pub bottom-stray : t ≡ true → true ≡ total image s
       bottom-stray q = sym (bottom-bad image s (bottom-is ∙ q))
 
-      pub bottom-passed : 1 ≤ s .depth → t ≡ false → Passed image s (z .kind) (z .called) 1
-      bottom-passed h q =
-          subst (λ (x : Label). Passed image s (x .kind) (x .called) 1) (ap (atPlace image s) (sym first) ∙ label-is)
-          (passed-first image s h (subst (λ (j : ℕ). placeAt s j < length (image .labels)) first held) (bottom-is ∙ q))
+      pub bottom-belongs : t ≡ false → Belongs image s k
+      bottom-belongs q =
+          subst (λ (j : ℕ). Belongs image s j) (sym first)
+          (belongs-first image s (subst (λ (j : ℕ). placeAt s j < length (image .labels)) first held) (bottom-is ∙ q))
 
-    -- above it, over a label of that kind that calls that scheme
-    module _ (kind scheme : ℕ) (c : Passed image s kind scheme k) (here : k < s .depth) (call : (eqb kind 1 || eqb kind 2) ≡ true)
-        (t : Bool) (e : t ≡ astray (z .owner) scheme l) where
+    -- above a call of that scheme
+    module _ (scheme : ℕ) (c : Passed image s scheme k) (here : k < s .depth) (t : Bool) (e : t ≡ astray (z .owner) scheme l) where
       carried-is : (eqb (placeAt s k) 1 || eqb (atPlace image s k .owner) scheme) ≡ not t
       carried-is = ap₂ (λ (j h : ℕ). eqb j 1 || eqb h scheme) (sym place) owner-is ∙ flip (eqb l 1 || eqb (z .owner) scheme) t e
 
       pub pass-stray : t ≡ true → true ≡ total image s
-      pass-stray q = sym (stray image s kind scheme k c here call (carried-is ∙ ap not q))
+      pass-stray q = sym (stray image s scheme k c here (carried-is ∙ ap not q))
 
-      pub pass-next : t ≡ false → Passed image s (z .kind) (z .called) (k + 1)
+      pub pass-belongs : t ≡ false → Belongs image s k
+      pass-belongs q = belongs-above image s scheme k c here (carried-is ∙ ap not q) held
+
+    -- whether it is a call
+    module _ (y : Belongs image s k) (u : Bool) (f : u ≡ not (eqb (z .kind) 1 || eqb (z .kind) 2)) where
+      call-is : isCall (atPlace image s k) ≡ not u
+      call-is = ap isCall label-is ∙ flip (eqb (z .kind) 1 || eqb (z .kind) 2) u f
+
+      pub pass-top : (depth : ℕ) → depth ≡ s .depth → u ≡ true → ltb (k + 1) depth ≡ total image s
+      pass-top depth deep q = go (split (k + 1) depth)
+        where
+          go : (k + 1 < depth) ⊎ (depth ≤ k + 1) → ltb (k + 1) depth ≡ total image s
+          go (inl h) = lt-ltb (k + 1) depth h ∙ sym (place-idle image s k (omega arith) (call-is ∙ ap not q))
+          go (inr h) = le-ltb (k + 1) depth h ∙ sym (top-fits image s k y (omega arith))
+
+      pub pass-next : u ≡ false → Passed image s (z .called) (k + 1)
       pass-next q =
-          subst (λ (x : Label). Passed image s (x .kind) (x .called) (k + 1)) label-is
-          (passed-next image s kind scheme k c here call (carried-is ∙ ap not q) held)
+          subst (λ (h : ℕ). Passed image s h (k + 1)) (ap (λ (x : Label). x .called) label-is) (passed-next image s k y (call-is ∙ ap not q))

@@ -55,7 +55,7 @@ fn is_astray_at_bottom(table: &[u8], owner: u8, l: u8) -> bool
 }
 
 // Whether some place up to the depth does not fit, or the bottom is not of scheme 1 or the handler. Each label is read once, from the bottom
-// up, with the kind of the one below and the scheme that it calls.
+// up, with the scheme that the one below calls.
 fn any_unfit(table: &[u8], bytes: &[u8; 50]) -> bool
     requires { ⌜ Deep (now table) (stateOf (now bytes)) ⌝ }
     ensures { λ r. ⌜ r ≡ (any (unfitPlace (tableImage (now (table .entry))) (stateOf (now (bytes .entry)))) 0 (stateOf (now (bytes .entry)) .depth) || unfitBottom (tableImage (now (table .entry))) (stateOf (now (bytes .entry)))) ⌝ }
@@ -70,13 +70,12 @@ fn any_unfit(table: &[u8], bytes: &[u8; 50]) -> bool
     if is_astray_at_bottom(table, first.owner, bottom) {
         return true;
     }
-    let mut kind = first.kind;
+    if calls_none(first.kind) {
+        return 1 < depth;
+    }
     let mut scheme = first.called;
     let mut k: usize = 1;
     while k < depth {
-        if calls_none(kind) {
-            return true;
-        }
         let l = place_of(bytes, k);
         if last < l {
             return true;
@@ -85,9 +84,11 @@ fn any_unfit(table: &[u8], bytes: &[u8; 50]) -> bool
         if is_astray(label.owner, scheme, l) {
             return true;
         }
-        kind = label.kind;
-        scheme = label.called;
         k += 1;
+        if calls_none(label.kind) {
+            return k < depth;
+        }
+        scheme = label.called;
     }
     false
 }
