@@ -15,7 +15,7 @@ use Rattle.frames.specs.Frame.{byteAt, contents}
 use Rattle.frames.specs.Verdict.{next, when, atLowest}
 use Rattle.frames.specs.Check.{badLength, badForm, badSum, textVerdict}
 use Rattle.frames.specs.Read.{readInto}
-use Rattle.frames.proofs.Digits.{Kind, numeral, large, small, other, kind, capital-same, capital-small, capital-at, digit-capital}
+use Rattle.frames.proofs.Digits.{Class, numeral, large, small, other, class-of, capital-same, capital-of-small, capital-at, digit-capital}
 
 -- all that is read of a text
 pub record Alike (t u : List ℕ) : Type 0 where
@@ -25,13 +25,13 @@ pub record Alike (t u : List ℕ) : Type 0 where
 
 -- a capital is no line feed where the character is none
 feed-capital : (c : ℕ) → eqb (capital c) 10 ≡ eqb c 10
-feed-capital c = go (kind c)
+feed-capital c = go (class-of c)
   where
-    go : Kind c → eqb (capital c) 10 ≡ eqb c 10
+    go : Class c → eqb (capital c) 10 ≡ eqb c 10
     go (numeral h l) = ap (λ (x : ℕ). eqb x 10) (capital-same c (omega arith))
     go (large h l) = ap (λ (x : ℕ). eqb x 10) (capital-same c (omega arith))
     go (small h l) =
-        ne-eqb (capital c) 10 (λ e. omega (arith, capital-small c h l)) ∙ sym (ne-eqb c 10 (λ e. omega arith))
+        ne-eqb (capital c) 10 (λ e. omega (arith, capital-of-small c h l)) ∙ sym (ne-eqb c 10 (λ e. omega arith))
     go (other d s) = ap (λ (x : ℕ). eqb x 10) s
 
 module _ (t : List ℕ) where

@@ -49,14 +49,14 @@ pub digit-high : (c : ℕ) → 65 ≤ c → c ≤ 70 → digitOf c ≡ c - 55
 unfolding digitOf
 digit-high c h l = simp (lt-leb c 57 (omega arith), le-leb 48 c (omega arith), le-leb 65 c h, le-leb c 70 l)
 
-pub digit-small : (c : ℕ) → 97 ≤ c → c ≤ 102 → digitOf c ≡ c - 87
+pub digit-of-small : (c : ℕ) → 97 ≤ c → c ≤ 102 → digitOf c ≡ c - 87
 unfolding digitOf
-digit-small c h l =
+digit-of-small c h l =
     simp (lt-leb c 57 (omega arith), le-leb 48 c (omega arith), le-leb 65 c (omega arith), lt-leb c 70 (omega arith), le-leb 97 c h, le-leb c 102 l)
 
-pub capital-small : (c : ℕ) → 97 ≤ c → c ≤ 102 → capital c ≡ c - 32
+pub capital-of-small : (c : ℕ) → 97 ≤ c → c ≤ 102 → capital c ≡ c - 32
 unfolding capital
-capital-small c h l = simp (le-leb 97 c h, le-leb c 102 l)
+capital-of-small c h l = simp (le-leb 97 c h, le-leb c 102 l)
 
 pub capital-same : (c : ℕ) → c < 97 → capital c ≡ c
 unfolding capital
@@ -68,20 +68,20 @@ capital-at [] i = sym (capital-same 0 (omega arith))
 capital-at (c ∷ t) zero = refl
 capital-at (c ∷ t) (suc i) = capital-at t i
 
--- the four kinds of characters
-pub data Kind (c : ℕ) : Type 0 where
-  numeral : 48 ≤ c → c ≤ 57 → Kind c
-  large : 65 ≤ c → c ≤ 70 → Kind c
-  small : 97 ≤ c → c ≤ 102 → Kind c
-  other : digitOf c ≡ 255 → capital c ≡ c → Kind c
+-- the four classes of characters
+pub data Class (c : ℕ) : Type 0 where
+  numeral : 48 ≤ c → c ≤ 57 → Class c
+  large : 65 ≤ c → c ≤ 70 → Class c
+  small : 97 ≤ c → c ≤ 102 → Class c
+  other : digitOf c ≡ 255 → capital c ≡ c → Class c
 
-pub kind : (c : ℕ) → Kind c
+pub class-of : (c : ℕ) → Class c
 unfolding digitOf capital
-kind c = go (cases (leb 48 c && leb c 57)) (cases (leb 65 c && leb c 70)) (cases (leb 97 c && leb c 102))
+class-of c = go (cases (leb 48 c && leb c 57)) (cases (leb 65 c && leb c 70)) (cases (leb 97 c && leb c 102))
   where
     go : ((leb 48 c && leb c 57) ≡ true) ⊎ ((leb 48 c && leb c 57) ≡ false)
         → ((leb 65 c && leb c 70) ≡ true) ⊎ ((leb 65 c && leb c 70) ≡ false)
-        → ((leb 97 c && leb c 102) ≡ true) ⊎ ((leb 97 c && leb c 102) ≡ false) → Kind c
+        → ((leb 97 c && leb c 102) ≡ true) ⊎ ((leb 97 c && leb c 102) ≡ false) → Class c
     go (inl e) _ _ = numeral (within 48 57 c e .0) (within 48 57 c e .1)
     go (inr _) (inl e) _ = large (within 65 70 c e .0) (within 65 70 c e .1)
     go (inr _) (inr _) (inl e) = small (within 97 102 c e .0) (within 97 102 c e .1)
@@ -89,14 +89,14 @@ kind c = go (cases (leb 48 c && leb c 57)) (cases (leb 65 c && leb c 70)) (cases
 
 -- a character and its capital stand for the same digit
 pub digit-capital : (c : ℕ) → digitOf (capital c) ≡ digitOf c
-digit-capital c = go (kind c)
+digit-capital c = go (class-of c)
   where
-    go : Kind c → digitOf (capital c) ≡ digitOf c
+    go : Class c → digitOf (capital c) ≡ digitOf c
     go (numeral h l) = ap digitOf (capital-same c (omega arith))
     go (large h l) = ap digitOf (capital-same c (omega arith))
     go (small h l) =
         let e : c - 32 - 55 ≡ c - 87 = omega arith in
-        ap digitOf (capital-small c h l) ∙ digit-high (c - 32) (omega arith) (omega arith) ∙ e ∙ sym (digit-small c h l)
+        ap digitOf (capital-of-small c h l) ∙ digit-high (c - 32) (omega arith) (omega arith) ∙ e ∙ sym (digit-of-small c h l)
     go (other d s) = ap digitOf s
 
 pub char-low : (d : ℕ) → d < 10 → charOf d ≡ 48 + d
@@ -126,15 +126,15 @@ digit-char d h =
 
 -- the character of a character's digit is its capital
 pub char-digit : (c : ℕ) → digitOf c < 16 → charOf (digitOf c) ≡ capital c
-char-digit c h = go (kind c)
+char-digit c h = go (class-of c)
   where
-    go : Kind c → charOf (digitOf c) ≡ capital c
+    go : Class c → charOf (digitOf c) ≡ capital c
     go (numeral a b) =
         ap charOf (digit-low c a b) ∙ char-low (c - 48) (omega arith) ∙ omega (arith, capital-same c (omega arith))
     go (large a b) =
         ap charOf (digit-high c a b) ∙ char-high (c - 55) (omega arith) ∙ omega (arith, capital-same c (omega arith))
     go (small a b) =
-        ap charOf (digit-small c a b) ∙ char-high (c - 87) (omega arith) ∙ omega (arith, capital-small c a b)
+        ap charOf (digit-of-small c a b) ∙ char-high (c - 87) (omega arith) ∙ omega (arith, capital-of-small c a b)
     go (other d s) = absurd (omega arith)
 
 -- the two characters of a byte
