@@ -2,7 +2,7 @@
 use Prim.Native.Nat.{ℕ}
 use mathlib.Core.Bool.{Bool, true, false}
 use mathlib.Core.Path.{_≡_}
-use mathlib.Core.List.{List, [], _∷_, _++_, map}
+use mathlib.Core.List.{List, [], _∷_, map}
 use lib.ListN.{replicate, take, set}
 use Rattle.frames.specs.Verdict.{fine, refused}
 use Rattle.frames.specs.Answer.{Reply, success, refusal, lent}
