@@ -11,7 +11,8 @@ use Rattle.state.specs.State.{fresh}
 use Rattle.ticks.specs.Tick.{tick}
 use Rattle.rows.specs.Rows.{firstRow}
 use Rattle.runs.specs.Run.{Run, ticks, runOn}
-use Rattle.bench.specs.Bench.{BenchSheet, chartP, imageP, words, chartHome, chartSmall, chartMixed, chartCircle, chartFunction, chartBore, boreWords, chartAgain, freshRun, imageOf}
+use Rattle.bench.specs.Bench.{BenchSheet, chartP, imageP, words, chartHome, chartSmall, chartMixed, chartCircle}
+use Rattle.bench.specs.Bench.{chartFunction, chartBore, boreWords, chartAgain, freshRun, imageOf}
 use Rattle.bench.proofs.Computing.{framing, translating}
 use Rattle.bench.proofs.Tables.{tableP, of-P, imageHome, of-home, imageFunction, of-function, tableBore, imageBore, of-bore, tableAgain, imageAgain, of-again}
 use Rattle.bench.proofs.Rounds.{blank, fresh-run, home-walk, home-run, function-run}
