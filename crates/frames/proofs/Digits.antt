@@ -14,7 +14,7 @@ use Rattle.lists.specs.Pick.{pick}
 use Rattle.lists.specs.Numbers.{range, tabulate}
 use Rattle.lists.proofs.Tests.{and-l, and-r, split, cases, no-pick}
 use Rattle.lists.proofs.Tabulated.{getD-tabulate}
-use Rattle.frames.specs.Digit.{letterOf, digitOf, charOf, capital}
+use Rattle.frames.specs.Digit.{numeralOf, letterOf, digitOf, charOf, capital}
 use Rattle.frames.specs.Frame.{byteText}
 
 -- what each of the 256 characters gives, computed: 48 of them nothing, then 0 to 9, 7 nothing, A to F, 26 nothing, a to f, the others nothing
@@ -22,6 +22,10 @@ pub digit-each : tabulate digitOf 256
     ≡ replicate 48 255 ++ (range 0 10 ++ (replicate 7 255 ++ (range 10 6 ++ (replicate 26 255 ++ (range 10 6 ++ replicate 153 255)))))
 unfolding tabulate digitOf
 digit-each = refl
+
+-- functions that give the same of each of the 256
+each : (f g : ℕ → ℕ) → tabulate f 256 ≡ tabulate g 256 → (c : ℕ) → c < 256 → f c ≡ g c
+each f g e c h = sym (getD-tabulate f 256 c h) ∙ ap (λ (xs : List ℕ). getD xs c 0) e ∙ getD-tabulate g 256 c h
 
 -- a letter's digit by its capital: without the bit of 32 none but the twelve letters are between A and F; each of the 256 computed
 abbrev masked : ℕ → ℕ
@@ -32,7 +36,18 @@ unfolding tabulate
 masked-each = refl
 
 pub masked-is : (c : ℕ) → c < 256 → masked c ≡ letterOf c
-masked-is c h = sym (getD-tabulate masked 256 c h) ∙ ap (λ (xs : List ℕ). getD xs c 0) masked-each ∙ getD-tabulate letterOf 256 c h
+masked-is = each masked letterOf masked-each
+
+-- what numerals and letters give, joined: no character is both
+abbrev joined : ℕ → ℕ
+joined c = bitAnd (numeralOf c) (letterOf c)
+
+joined-each : tabulate joined 256 ≡ tabulate digitOf 256
+unfolding tabulate digitOf
+joined-each = refl
+
+pub joined-is : (c : ℕ) → c < 256 → joined c ≡ digitOf c
+joined-is = each joined digitOf joined-each
 
 -- a test of two bounds
 pub within : (a b c : ℕ) → (leb a c && leb c b) ≡ true → (a ≤ c) × (c ≤ b)

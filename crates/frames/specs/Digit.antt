@@ -4,11 +4,15 @@ use mathlib.Core.Bool.{_&&_}
 use lib.Dec.{leb, ltb}
 use Rattle.lists.specs.Pick.{pick}
 
+-- 0-9 stand for 0 to 9, every other character gives 255
+abbrev pub numeralOf : ℕ → ℕ
+numeralOf c = pick (leb 48 c && leb c 57) (c - 48) 255
+
 -- A-F and a-f stand for 10 to 15, every other character gives 255
 abbrev pub letterOf : ℕ → ℕ
 letterOf c = pick (leb 65 c && leb c 70) (c - 55) (pick (leb 97 c && leb c 102) (c - 87) 255)
 
--- 0-9 stand for 0 to 9
+-- the digit of a character, or 255
 unfoldable pub digitOf : ℕ → ℕ
 digitOf c = pick (leb 48 c && leb c 57) (c - 48) (letterOf c)
 

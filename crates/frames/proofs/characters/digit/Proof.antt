@@ -1,25 +1,19 @@
--- `frames::characters::digit` meets its contract: the test is that of the rule.
-use mathlib.Core.Path.{sym, _∙_}
+-- `frames::characters::digit` meets its contract: what the two give, joined, was computed for every character.
+use mathlib.Core.Path.{_∙_, ap₂}
 use borrow.Author.Needs.{needs}
-use Rattle.lists.proofs.Tests.{yes-pick, no-pick}
-use Rattle.frames.specs.Digit.{digitOf}
-use Rattle.frames.proofs.Digits.{within}
+use lib.Bits.{bitAnd}
+use Rattle.frames.proofs.Digits.{joined-is}
 use Rattle.frames.proofs.characters.digit.Statement.{statement}
 use Rattle.frames.proofs.characters.digit.Tie as tie
+
+numeral-digit-requires : tie.Need-numeral-digit-requires
+numeral-digit-requires c κs = search needs
 
 letter-digit-requires : tie.Need-letter-digit-requires
 letter-digit-requires c κs = search needs
 
-sub-result : tie.Need-sub-result
-sub-result c = within _ _ _ (c .if1 .taken) .0
-
 returns : tie.Need-returns
-unfolding digitOf
-returns c = sym (yes-pick _ _ _ (c .if1 .taken))
-
-returns-2 : tie.Need-returns-2
-unfolding digitOf
-returns-2 c = c .before .letter-digit .ensures ∙ sym (no-pick _ _ _ (c .if1 .left))
+returns c = ap₂ bitAnd (c .before .numeral-digit .ensures) (c .letter-digit .ensures) ∙ joined-is (c .before .before .args .c) (search needs)
 
 pub digit-spec : {M : Type 1} → statement M
-digit-spec = tie.close (tie.spec letter-digit-requires sub-result returns returns-2)
+digit-spec = tie.close (tie.spec numeral-digit-requires letter-digit-requires returns)
