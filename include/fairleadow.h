@@ -14,7 +14,7 @@
  *
  * The refusals, tried in this order, but 19 directly after 5 (docs/REFUSALS.md tells what to look for):
  *    1  the length of the text or of the records           10  more than 1,024 rows
- *    2  a character other than 0-9, A-F and line feed      11  the image's header
+ *    2  a character other than 0-9, A-F, a-f, line feed    11  the image's header
  *    3  the sum of a frame                                 12  an image frame that stands in a wrong place
  *    4  a field of a node                                  13  a field of an image frame
  *    5  a scheme without just one Begin and one End        14  a stack size other than 1 to 32

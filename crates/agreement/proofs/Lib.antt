@@ -18,4 +18,5 @@ pub mod OneCallC
 pub mod ForC
 pub mod RunsAlone
 pub mod Contracts
+pub mod Capitals
 pub mod Asks

@@ -1,3 +1,4 @@
 pub mod Agreement
 pub mod Calls
 pub mod ForC
+pub mod Capitals

@@ -11,16 +11,20 @@ use Rattle.state.specs.State.{fresh}
 use Rattle.ticks.specs.Tick.{tick}
 use Rattle.rows.specs.Rows.{firstRow}
 use Rattle.runs.specs.Run.{Run, ticks, runOn}
-use Rattle.bench.specs.Bench.{BenchSheet, imageP, words, chartHome, chartSmall, chartCircle, chartFunction, chartBore, boreWords, chartAgain, freshRun, imageOf}
+use Rattle.bench.specs.Bench.{BenchSheet, chartP, imageP, words, chartHome, chartSmall, chartMixed, chartCircle}
+use Rattle.bench.specs.Bench.{chartFunction, chartBore, boreWords, chartAgain, freshRun, imageOf}
 use Rattle.bench.proofs.Computing.{framing, translating}
 use Rattle.bench.proofs.Tables.{tableP, of-P, imageHome, of-home, imageFunction, of-function, tableBore, imageBore, of-bore, tableAgain, imageAgain, of-again}
 use Rattle.bench.proofs.Rounds.{blank, fresh-run, home-walk, home-run, function-run}
 
 refused-texts : (out : List ℕ) → (translate [] out ≡ record { reply = refusal 1 0 0; buffer = out })
-    × (translate chartSmall out ≡ record { reply = refusal 2 0 0; buffer = out })
     × (translate chartCircle out ≡ record { reply = refusal 8 1 0; buffer = out })
-unfolding translating chartSmall chartCircle
-refused-texts out = (refl, refl, refl)
+unfolding translating chartCircle
+refused-texts out = (refl, refl)
+
+small-texts : (out : List ℕ) → (translate chartSmall out ≡ translate chartHome out) × (translate chartMixed out ≡ translate chartP out)
+unfolding translating chartHome chartSmall chartP chartMixed
+small-texts out = (refl, refl)
 
 -- ---- chart P, run on its table
 run-P : (size : ℕ) → 1 ≤ size → size ≤ 32 → (ws : List ℕ)
@@ -63,8 +67,9 @@ bench-sheet = record {
   b6-walk = home-walk;
   b6-run = λ size l h ws. ap (λ (image : List ℕ). freshRun image size ws) image-home ∙ home-run size l h ws;
   b7-empty = λ out. refused-texts out .0;
-  b7-small = λ out. refused-texts out .1;
-  b8 = λ out. refused-texts out .2;
+  b7-small = λ out. small-texts out .0;
+  b7-mixed = λ out. small-texts out .1;
+  b8 = λ out. refused-texts out .1;
   b10 = ap (λ (r : Run). r .codes) (on-function 2 (replicate 6 0)) ∙ function-run 2 (omega arith) (omega arith) (replicate 6 0) .1;
   b10-always = λ size l h ws. let e = on-function size ws in let r = function-run size l h ws in
       (ap (λ (r : Run). r .reply) e ∙ r .0, ap (λ (r : Run). r .codes) e ∙ r .1, ap (λ (r : Run). r .masks) e ∙ r .2);

@@ -48,6 +48,12 @@ chartHome = lines ("00010001000000000000FE" ∷ "01010000000000000000FE" ∷ [])
 unfoldable pub chartSmall : List ℕ
 chartSmall = lines ("00010001000000000000fe" ∷ "01010000000000000000FE" ∷ [])
 
+-- chart P with letters of both sizes
+unfoldable pub chartMixed : List ℕ
+chartMixed = lines (
+    "00010001000000000000fE" ∷ "02010202000000000001f8" ∷ "01010000000000000000Fe" ∷ "00020004000000000000fa"
+    ∷ "03020005060000000000F0" ∷ "01020000000000000000Fd" ∷ "02020205000000000002f3" ∷ [])
+
 -- Begin, a condition with both arcs to itself, End
 unfoldable pub chartCircle : List ℕ
 chartCircle = lines ("00010001000000000000FE" ∷ "03010001010000000000FA" ∷ "01010000000000000000FE" ∷ [])
@@ -109,7 +115,9 @@ pub record BenchSheet : Type 0 where
     codes = map (λ w. 4) ws;
   }
   pub b7-empty : (out : List ℕ) → translate [] out ≡ record { reply = refusal 1 0 0; buffer = out }
-  pub b7-small : (out : List ℕ) → translate chartSmall out ≡ record { reply = refusal 2 0 0; buffer = out }
+  -- B7's second half is withdrawn by request e: small letters are read, and each letter by itself
+  pub b7-small : (out : List ℕ) → translate chartSmall out ≡ translate chartHome out
+  pub b7-mixed : (out : List ℕ) → translate chartMixed out ≡ translate chartP out
   pub b8 : (out : List ℕ) → translate chartCircle out ≡ record { reply = refusal 8 1 0; buffer = out }
   pub b10 : freshRun (imageOf 276 chartFunction) 2 (replicate 6 0) .codes ≡ 4 ∷ 66 ∷ 0 ∷ 3 ∷ 0 ∷ 4 ∷ []
   -- no word matters to it, so the five ticks come again and again

@@ -1,4 +1,5 @@
-// The chart reader and the chart writer on chart P of standard input: there and back, then one edit of it after the other.
+// The chart reader and the chart writer on chart P of standard input, which has some small letters: there and back, which gives
+// capitals, then one edit of it after the other.
 // Each call prints a frame: 00 for the reader and 01 for the writer, the number or 00, the index, the count, and how many bytes of
 // the lent buffer changed, which the first two calls leave out.
 use edits::patch;
@@ -135,9 +136,9 @@ fn rooms(text: &[u8], records: &[u8]) {
     write_into(records, &mut full);
 }
 
-// 2 and 3: a digit in lower case, a line feed gone, a wrong sum.
+// 2 and 3: a letter after f, a line feed gone, a wrong sum.
 fn texts(text: [u8; 161]) {
-    text_case(text, &[159, 102]);
+    text_case(text, &[159, 103]);
     text_case(text, &[160, 32]);
     text_case(text, &[0, 71]);
     text_case(text, &[159, 52]);
@@ -146,10 +147,20 @@ fn texts(text: [u8; 161]) {
 // Two faults of 2 and 3 at once.
 fn two_faults(text: [u8; 161]) {
     text_case(text, &[24, 51, 160, 32]);
-    text_case(text, &[47, 97, 116, 97]);
+    text_case(text, &[47, 103, 116, 103]);
     text_case(text, &[24, 51, 159, 52]);
     text_case(text, &[1, 53, 21, 57]);
     text_case(text, &[1, 53, 21, 57, 159, 52]);
+}
+
+// Sums in small letters and in both sizes; a small letter that makes a sum wrong; and three characters that are no digits: the
+// backquote, and a 3 with another bit of 32 or of 128.
+fn letters(text: [u8; 161]) {
+    text_case(text, &[20, 102, 21, 101, 67, 101, 158, 102]);
+    text_case(text, &[24, 97]);
+    text_case(text, &[159, 96]);
+    text_case(text, &[159, 19]);
+    text_case(text, &[159, 179]);
 }
 
 // 4 and 5.
@@ -234,6 +245,7 @@ fn main() {
     rooms(&text, &records);
     texts(text);
     two_faults(text);
+    letters(text);
     fields(records);
     marks(records);
     two_marks(records);

@@ -1,11 +1,11 @@
--- Texts there and back: the contents of the text of records are those records, and the text of an accepted text's contents is that text.
+-- Texts there and back: the contents of the text of records are those records, and the text of an accepted text's contents is that text in capitals.
 use Prim.Native.Nat.{ℕ, zero, suc, _+_, _*_, _/_, _%_, _≤_, _<_}
 use mathlib.Core.Bool.{Bool, false, _||_, not}
 use mathlib.Core.Path.{_≡_, refl, sym, _∙_, ap, ap₂, subst}
 use mathlib.Core.Logic.{⊎-elim}
 use mathlib.Core.List.{List, [], _∷_, _++_, map}
 use native.Mathlib.Omega.{arith}
-use lib.ListN.{length, getD, length-append, List·getD-eq-default, List·getD-append}
+use lib.ListN.{length, getD, length-append, length-map, List·getD-eq-default, List·getD-append}
 use lib.Seq.{ext-getD, getD-append-add}
 use lib.Dec.{leb, ltb, eqb}
 use borrow.Author.Tests.{ltb-false, leb-false, eqb-true, eqb-false}
@@ -14,12 +14,12 @@ use Rattle.lists.proofs.Tests.{split, or-l, or-r, not-false}
 use Rattle.lists.proofs.Searches.{any-false}
 use Rattle.lists.proofs.Ranges.{length-map-range, getD-map-range}
 use Rattle.lists.proofs.Joins.{All, all-map, all-every, length-concat-range, concat-range-at}
-use Rattle.frames.specs.Digit.{digitOf, charOf}
+use Rattle.frames.specs.Digit.{digitOf, charOf, capital}
 use Rattle.frames.specs.Frame.{frameCount, byteAt, contents, size, field, byteText, total, sumByte, frameText, framesText, tenAt, textOf}
 use Rattle.frames.specs.Verdict.{Verdict, fine, next, when, atLowest}
 use Rattle.frames.specs.Check.{badLength, badForm, badSum, textVerdict}
 use Rattle.frames.proofs.Verdicts.{next-first, next-rest, when-fine, at-lowest-fine}
-use Rattle.frames.proofs.Digits.{char-digit}
+use Rattle.frames.proofs.Digits.{capital-same, capital-at, char-digit}
 use Rattle.frames.proofs.Frames.{Frame, eleven, total-snoc, sum-places, frame-char, frame-feed, eleven-at, eleven-last}
 use Rattle.frames.proofs.Texts.{text-length, text-here, text-fine, contents-length, contents-at}
 
@@ -143,14 +143,14 @@ module _ (t : List ℕ) (f : ℕ) (form : badForm t f ≡ false) where
   pub byte-small : (k : ℕ) → k < 11 → byteAt t f k < 256
   byte-small k l = omega (arith, high k l, low k l)
 
-  -- a byte's characters are the text's
-  pair-back : (k s : ℕ) → k < 11 → s < 2 → getD (byteText (byteAt t f k)) s 0 ≡ getD t (23 * f + (2 * k + s)) 0
+  -- a byte's characters are the text's, in capitals
+  pair-back : (k s : ℕ) → k < 11 → s < 2 → getD (byteText (byteAt t f k)) s 0 ≡ capital (getD t (23 * f + (2 * k + s)) 0)
   pair-back k zero l m =
       let e : byteAt t f k / 16 ≡ digitOf (getD t (23 * f + 2 * k) 0) = omega (arith, high k l, low k l) in
-      ap charOf e ∙ char-digit (getD t (23 * f + 2 * k) 0) (high k l) ∙ ap (λ (j : ℕ). getD t j 0) (omega arith)
+      ap charOf e ∙ char-digit (getD t (23 * f + 2 * k) 0) (high k l) ∙ ap (λ (j : ℕ). capital (getD t j 0)) (omega arith)
   pair-back k (suc zero) l m =
       let e : byteAt t f k % 16 ≡ digitOf (getD t (23 * f + 2 * k + 1) 0) = omega (arith, high k l, low k l) in
-      ap charOf e ∙ char-digit (getD t (23 * f + 2 * k + 1) 0) (low k l) ∙ ap (λ (j : ℕ). getD t j 0) (omega arith)
+      ap charOf e ∙ char-digit (getD t (23 * f + 2 * k + 1) 0) (low k l) ∙ ap (λ (j : ℕ). capital (getD t j 0)) (omega arith)
   pair-back k (suc (suc s)) l m = absurd (omega arith)
 
   -- ten bytes that are the frame's first ten, where the sum is right
@@ -180,15 +180,16 @@ module _ (t : List ℕ) (f : ℕ) (form : badForm t f ≡ false) where
         ap (λ (i : ℕ). getD (eleven bs) i 0) j ∙ eleven-last bs F ∙ sum-back ∙ ap (byteAt t f) (sym j))
         (split k 10)
 
-    pub frame-back : (k : ℕ) → k < 23 → getD (frameText bs) k 0 ≡ getD t (23 * f + k) 0
+    pub frame-back : (k : ℕ) → k < 23 → getD (frameText bs) k 0 ≡ capital (getD t (23 * f + k) 0)
     frame-back k l =
         ⊎-elim (λ (m : k < 22).
         ap (λ (j : ℕ). getD (frameText bs) j 0) (omega arith) ∙ frame-char bs F (k / 2) (k % 2) (omega arith) (omega arith)
         ∙ ap (λ (b : ℕ). getD (byteText b) (k % 2) 0) (eleven-back (k / 2) (omega arith))
-        ∙ pair-back (k / 2) (k % 2) (omega arith) (omega arith) ∙ ap (λ (j : ℕ). getD t j 0) (omega arith))
+        ∙ pair-back (k / 2) (k % 2) (omega arith) (omega arith) ∙ ap (λ (j : ℕ). capital (getD t j 0)) (omega arith))
         (λ (m : 22 ≤ k).
         let j : k ≡ 22 = omega arith in
-        ap (λ (i : ℕ). getD (frameText bs) i 0) j ∙ frame-feed bs F ∙ sym feed-is ∙ ap (λ (i : ℕ). getD t (23 * f + i) 0) (sym j))
+        ap (λ (i : ℕ). getD (frameText bs) i 0) j ∙ frame-feed bs F ∙ sym (ap capital feed-is ∙ capital-same 10 (omega arith))
+        ∙ ap (λ (i : ℕ). capital (getD t (23 * f + i) 0)) (sym j))
         (split k 22)
 
 pub contents-bytes : (t : List ℕ) → ((f : ℕ) → f < frameCount t → badForm t f ≡ false) → (k : ℕ) → getD (contents t) k 0 < 256
@@ -201,18 +202,25 @@ contents-bytes t forms k =
     (λ (h : length (contents t) ≤ k). subst (λ (x : ℕ). x < 256) (sym (List·getD-eq-default (contents t) 0 h)) (omega arith))
     (split k (length (contents t)))
 
-pub text-back : (most : ℕ) (t : List ℕ) → Clean most t → textOf (contents t) ≡ t
+pub text-back : (most : ℕ) (t : List ℕ) → Clean most t → textOf (contents t) ≡ map capital t
 text-back most t C =
     let b : List ℕ = contents t in
     let bytes : (k : ℕ) → getD b k 0 < 256 = contents-bytes t (C .forms) in
     let m : size b ≡ frameCount t = omega (arith, any-contents-length t) in
     let w : length t % 23 ≡ 0 = C .length .whole in
     let n : length (textOf b) ≡ length t = textOf-length b bytes ∙ omega arith in
-    ext-getD 0 (textOf b) t n (λ i h.
+    ext-getD 0 (textOf b) (map capital t) (n ∙ sym (length-map t capital)) (λ i h.
     ap (λ (j : ℕ). getD (textOf b) j 0) (omega arith)
     ∙ textOf-here b bytes (i / 23) (i % 23) (omega (arith, m, n, h)) (omega arith)
     ∙ frame-back t (i / 23) (C .forms (i / 23) (omega (arith, n, h))) (C .sums (i / 23) (omega (arith, n, h)))
     (tenAt b (i / 23)) (ten-frame b bytes (i / 23)) (λ k l.
     getD-map-range (field b (i / 23)) 0 0 10 k l ∙ ap (λ (j : ℕ). getD b j 0) (omega arith) ∙ any-contents-at t (i / 23) k (omega (arith, n, h)) l)
     (i % 23) (omega arith)
-    ∙ ap (λ (j : ℕ). getD t j 0) (omega arith))
+    ∙ ap (λ (j : ℕ). capital (getD t j 0)) (omega arith)
+    ∙ sym (capital-at t i))
+
+-- what is written is in capitals
+pub textOf-capitals : (b : List ℕ) → ((k : ℕ) → getD b k 0 < 256) → 1 ≤ size b → length b % 10 ≡ 0 → map capital (textOf b) ≡ textOf b
+textOf-capitals b bytes some whole =
+    sym (text-back (23 * size b) (textOf b) (text-told (23 * size b) (textOf b) (textOf-fine b bytes (23 * size b) some (omega arith))))
+    ∙ ap textOf (textOf-contents b bytes whole)

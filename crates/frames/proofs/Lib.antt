@@ -4,6 +4,7 @@ pub mod Digits
 pub mod Frames
 pub mod Texts
 pub mod Contents
+pub mod Capitals
 pub mod Reading
 pub mod Lent
 pub mod FrameLoops

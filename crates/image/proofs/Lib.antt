@@ -5,3 +5,4 @@ pub mod Passes
 pub mod Accepted
 pub mod Refuses
 pub mod Cases
+pub mod Alike

@@ -117,14 +117,15 @@ fn short(text: [u8; 276], state: State, words: [u16; 8]) -> State {
     ran.state
 }
 
-// 1 to 3.
+// 1 to 3, and small letters, which are read.
 fn texts(p: [u8; 120]) {
     let text = text_of(p, &[]);
     check_front(&text, 0);
     check_front(&text, 275);
     let long = [48u8; 29854];
     report(0, image_check::check_image(&long));
-    check_text(p, &[21, 101]);
+    check_text(p, &[1, 102, 20, 101]);
+    check_text(p, &[21, 103]);
     check_text(p, &[45, 32]);
     check_text(p, &[67, 48]);
     check_text(p, &[67, 48, 230, 71]);

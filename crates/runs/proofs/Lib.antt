@@ -2,3 +2,4 @@ pub mod Normal
 pub mod Keeps
 pub mod TurnCases
 pub mod RunCases
+pub mod Alike

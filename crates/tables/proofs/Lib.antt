@@ -8,3 +8,4 @@ pub mod TableReads
 pub mod Front
 pub mod FirstFrames
 pub mod PreparedImage
+pub mod Alike

@@ -7,3 +7,4 @@ pub mod Matching
 pub mod RowLaws
 pub mod EntrySteps
 pub mod Refuses
+pub mod Alike

@@ -54,7 +54,7 @@ pub struct Refusal {
 /// What each refusal is about, number 1 first, as include/fairleadow.h says it.
 const SENSES: [&str; 19] = [
     "the length of the text or of the records",
-    "a character other than 0-9, A-F and line feed",
+    "a character other than 0-9, A-F, a-f, line feed",
     "the sum of a frame",
     "a field of a node",
     "a scheme without just one Begin and one End",

@@ -86,8 +86,12 @@ fn check_accepts_charts_images_and_the_notation() {
     let chart = "accepted: a chart of 9 nodes in 2 schemes; its image has 7 labels and 6 rows";
     assert!(lines[0].ends_with(&format!("roughing.chart: {chart}")));
     assert!(lines[1].ends_with("roughing.image: accepted: an image of 2 schemes, 7 labels and 6 rows"));
-    let notation = fairleadow(&["check", "-"], file("roughing.txt").as_bytes());
-    assert_eq!(notation, (0, format!("standard input: {chart}\n"), String::new()));
+    for text in [file("roughing.txt"), file("roughing.chart").to_lowercase()] {
+        let said = fairleadow(&["check", "-"], text.as_bytes());
+        assert_eq!(said, (0, format!("standard input: {chart}\n"), String::new()));
+    }
+    let (status, out, _) = fairleadow(&["check", "-"], file("roughing.image").to_lowercase().as_bytes());
+    assert!(status == 0 && out.contains("accepted: an image of 2 schemes"), "{out}");
 }
 
 #[test]

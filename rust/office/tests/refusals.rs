@@ -51,11 +51,11 @@ fn refusal_2_a_character() {
     each(
         2,
         &[
-            (CHART.to_lowercase(), "line 1, column 21: small letter 'f' (only 0-9 and A-F)"),
-            (CHART.replace("F8", "a8"), "line 2, column 21: small letter 'a' (only 0-9 and A-F)"),
-            (CHART.replace("F8", "G8"), "line 2, column 21: letter 'G' (only 0-9 and A-F)"),
-            (CHART.replacen("02", "O2", 1), "line 2, column 1: letter 'O' (only 0-9 and A-F)"),
-            (CHART.replace("F8", " 8"), "line 2, column 21: a space (only 0-9 and A-F)"),
+            (CHART.replace("F8", "g8"), "line 2, column 21: small letter 'g' (only 0-9, A-F and a-f)"),
+            (CHART.replace("F8", "`8"), "line 2, column 21: '`' (only 0-9, A-F and a-f)"),
+            (CHART.replace("F8", "G8"), "line 2, column 21: letter 'G' (only 0-9, A-F and a-f)"),
+            (CHART.replacen("02", "O2", 1), "line 2, column 1: letter 'O' (only 0-9, A-F and a-f)"),
+            (CHART.replace("F8", " 8"), "line 2, column 21: a space (only 0-9, A-F and a-f)"),
             (CHART.replace("F8\n", "F80"), "line 2, column 23: the digit 0 after the 22 digits"),
             (CHART.replace("01F8\n", "1F8\r\n"), "line 2 ends with a carriage return"),
             (format!("{}\n{}", &CHART[..46], &CHART[47..]), "line 3 is empty"),
@@ -65,7 +65,7 @@ fn refusal_2_a_character() {
     let alone = checked(CHART.replace('\n', "\r").as_bytes()).expect_err("no line feed");
     assert_eq!(alone.words, "line 1, column 23: a carriage return after the 22 digits");
     assert!(alone.advice.contains("carriage returns alone"), "{alone}");
-    let byte = "line 1, column 1: a character outside plain text, byte FF (only 0-9 and A-F)";
+    let byte = "line 1, column 1: a character outside plain text, byte FF (only 0-9, A-F and a-f)";
     assert_eq!(told([b"\xFF", &CHART.as_bytes()[1..]].concat()), (2, byte.to_string()));
 }
 

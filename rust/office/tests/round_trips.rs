@@ -1,4 +1,4 @@
-//! Chart lines into the notation and back: nothing is lost either way.
+//! Chart lines into the notation and back: nothing is lost either way, but for the size of letters.
 
 use std::fmt::Write;
 use std::fs;
@@ -8,7 +8,7 @@ use fairleadow::{Library, Proved, CHART_TEXT, RECORD, RECORDS};
 use office::notation::Notation;
 use office::source;
 use reference::frames::text_of;
-use reference::generate::{charts, Random};
+use reference::generate::{charts, letters, Random};
 
 fn examples(extension: &str) -> Vec<PathBuf> {
     let folder = Path::new(env!("CARGO_MANIFEST_DIR")).join("../../examples");
@@ -26,13 +26,13 @@ fn shown(chart: &[u8]) -> String {
     Notation::of_records(&records[..count * RECORD]).layout()
 }
 
-/// Show, then compose, gives the same lines; laying the shown text out again gives the same text.
+/// Show, then compose, gives the same lines in capitals; laying the shown text out again gives the same text.
 fn show_then_compose(chart: &[u8]) {
     let text = shown(chart);
     let notation = Notation::parse(&text).unwrap_or_else(|problem| panic!("{problem}\n{text}"));
     assert_eq!(
         notation.chart_lines().expect("a chart").escape_ascii().to_string(),
-        chart.escape_ascii().to_string()
+        chart.to_ascii_uppercase().escape_ascii().to_string()
     );
     assert_eq!(notation.layout(), text);
 }
@@ -63,7 +63,9 @@ fn examples_in_the_notation_give_their_charts() {
 fn random_charts_shown_and_composed() {
     let mut marked = 0;
     for seed in 0..5_000 {
-        let chart = text_of(&charts::chart(&mut Random::new(seed)));
+        let random = &mut Random::new(seed);
+        let records = charts::chart(random);
+        let chart = letters::sizes(random, text_of(&records));
         show_then_compose(&chart);
         marked += usize::from(shown(&chart).contains("begin when the stack is full -> "));
     }

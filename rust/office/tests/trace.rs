@@ -240,12 +240,13 @@ fn words_come_from_standard_input() {
 fn refusals_of_the_library_end_it() {
     let chart = example("paper.chart");
     let text = std::fs::read(&chart).expect("an example");
-    let lower = file("lower.chart", &text.to_ascii_lowercase());
+    let garbled =
+        file("garbled.chart", &text.iter().map(|c| if *c == b'F' { b'g' } else { *c }).collect::<Vec<u8>>());
     let empty = file("empty.chart", b"");
     for (path, rest, number) in [
         (chart.as_str(), vec!["--places", "0"], 14),
         (chart.as_str(), vec!["--places", "33"], 14),
-        (&lower.to_string_lossy(), vec![], 2),
+        (&garbled.to_string_lossy(), vec![], 2),
         (&empty.to_string_lossy(), vec![], 1),
     ] {
         let mut args = vec!["trace", path];

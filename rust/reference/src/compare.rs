@@ -10,8 +10,8 @@ use std::fmt;
 
 use crate::answer::Answer;
 use crate::entry;
-use crate::frames::{text_of, Frame, CHARACTERS, RECORDS};
-use crate::generate::{charts, damage, images, runs, Random};
+use crate::frames::{frames_of, text_of, Frame, CHARACTERS, IMAGE_TEXT, RECORDS};
+use crate::generate::{charts, damage, images, letters, runs, Random};
 use crate::library::{Library, Reference};
 use crate::show;
 pub use alike::live_alike;
@@ -35,11 +35,13 @@ impl fmt::Display for Difference {
     }
 }
 
-/// How often each call gave each answer (0 for success), and how often its ticks dropped the stack and returned at the bottom.
+/// How often each call gave each answer (0 for success), how often its ticks dropped the stack and returned at the bottom, and how
+/// many of its texts had small letters and were refused by none of 1 to 3.
 #[derive(Debug, Default)]
 pub struct Summary {
     pub answers: BTreeMap<(&'static str, u8), usize>,
     pub handled: BTreeMap<&'static str, Handled>,
+    pub small: BTreeMap<&'static str, usize>,
 }
 
 /// Drops to the handler, and returns at the bottom: the handler's, or those that a damaged table leads to.
@@ -56,6 +58,17 @@ impl Summary {
 
     pub fn handled(&self, call: &'static str) -> Handled {
         self.handled.get(call).copied().unwrap_or_default()
+    }
+
+    pub fn small(&self, call: &'static str) -> usize {
+        self.small.get(call).copied().unwrap_or(0)
+    }
+
+    fn note_letters(&mut self, call: &'static str, text: &[u8]) {
+        let small = text.iter().any(|character| (b'a'..=b'f').contains(character));
+        if small && frames_of(text, IMAGE_TEXT).is_ok() {
+            *self.small.entry(call).or_insert(0) += 1;
+        }
     }
 
     /// Follows the depth by the codes of finished ticks, and hands back the depth after them.
@@ -85,6 +98,9 @@ impl fmt::Display for Summary {
         }
         for (call, Handled { drops, returns }) in &self.handled {
             writeln!(f, "{call:>12} {drops:>8} drops, {returns:>8} returns at the bottom")?;
+        }
+        for (call, count) in &self.small {
+            writeln!(f, "{call:>12} {count:>8} texts with small letters")?;
         }
         Ok(())
     }
@@ -173,11 +189,8 @@ impl<'a> Case<'a> {
 
     fn chart_text(&mut self) -> Vec<u8> {
         let text = text_of(&self.records());
-        if self.random.once_in(4) {
-            damage::text(&mut self.random, &text)
-        } else {
-            text
-        }
+        let text = if self.random.once_in(4) { damage::text(&mut self.random, &text) } else { text };
+        letters::sizes(&mut self.random, text)
     }
 
     /// Compares a call, with a filled buffer for what it would write.
@@ -202,6 +215,7 @@ impl<'a> Case<'a> {
 
     fn read_chart(&mut self) -> Compared {
         let text = self.chart_text();
+        self.summary.note_letters("read_chart", &text);
         let needed = text.len() / CHARACTERS * 10;
         self.written("read_chart", <dyn Library>::read_chart, &text, needed, show::text)
     }
@@ -223,12 +237,14 @@ impl<'a> Case<'a> {
 
     fn translate(&mut self) -> Compared {
         let text = self.chart_text();
+        self.summary.note_letters("translate", &text);
         let needed = entry::translated(&text).map_or(100, |image| image.len());
         self.written("translate", <dyn Library>::translate, &text, needed, show::text)
     }
 
     fn check_image(&mut self) -> Compared {
         let text = images::text(&mut self.random);
+        self.summary.note_letters("check_image", &text);
         let answer = entry::check_image(&text);
         let got = self.library.check_image(&text);
         self.hold("check_image", answer, &answer, &got, || format!("image of {}", show::text(&text)))

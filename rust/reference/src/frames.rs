@@ -1,4 +1,5 @@
-//! Frames as text: 22 hexadecimal capitals and a line feed, the last byte making the sum 0. Refusals 1 to 3.
+//! Frames as text: 22 hexadecimal digits, read in letters of either size and written in capitals, and a line feed, the last byte
+//! making the sum 0. Refusals 1 to 3.
 
 use crate::answer::{refuse_if, refuse_lowest, Refusal};
 pub use interface::{CHART_TEXT, IMAGE_TEXT, LINE as CHARACTERS, RECORDS};
@@ -35,6 +36,7 @@ fn digit(character: u8) -> Option<u8> {
     match character {
         b'0'..=b'9' => Some(character - b'0'),
         b'A'..=b'F' => Some(character - b'A' + 10),
+        b'a'..=b'f' => Some(character - b'a' + 10),
         _ => None,
     }
 }

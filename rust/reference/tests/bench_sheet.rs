@@ -105,9 +105,15 @@ fn b6_begin_to_end() {
 }
 
 #[test]
-fn b7_empty_and_lower_case() {
+fn b7_empty() {
     assert_eq!(translate(b""), refused(1, 0, 0));
-    assert_eq!(translate(CHART_P.to_lowercase().as_bytes()), refused(2, 0, 0));
+}
+
+/// B7 had this chart refused; by request e it translates as in capitals.
+#[test]
+fn b7_small_letters() {
+    assert_eq!(translate(CHART_P.to_lowercase().as_bytes()), translate(CHART_P.as_bytes()));
+    assert_eq!(translate(CHART_P.replace("FE", "fE").as_bytes()), translate(CHART_P.as_bytes()));
 }
 
 #[test]

@@ -3,7 +3,7 @@
 use reference::check::chart_of;
 use reference::expectation::{expected, Outcome};
 use reference::frames::{frames_of, text_of, CHART_TEXT, IMAGE_TEXT};
-use reference::generate::{charts, images, ladders, runs, states, Random};
+use reference::generate::{charts, damage, images, ladders, letters, runs, states, Random};
 use reference::image::FUNCTION_CALL;
 use reference::{entry, fresh_state, image, machine, translator, Answer};
 
@@ -30,6 +30,29 @@ fn records_and_text_turn_into_each_other() {
         let mut written = vec![0; text.len()];
         assert_eq!(entry::write_chart(&read, &mut written), Answer::Done(text.len()));
         assert_eq!(written, text);
+    }
+}
+
+#[test]
+fn a_text_comes_back_in_capitals() {
+    for seed in 0..CASES {
+        let random = &mut Random::new(seed);
+        let records = charts::chart(random);
+        let text = letters::sizes(random, text_of(&records));
+        assert_eq!(frames_of(&text, CHART_TEXT).unwrap(), records, "seed {seed}");
+        assert_eq!(text_of(&records), text.to_ascii_uppercase(), "seed {seed}");
+    }
+}
+
+#[test]
+fn a_text_is_read_as_in_capitals() {
+    for seed in 0..CASES {
+        let random = &mut Random::new(seed);
+        let text = text_of(&charts::chart(random));
+        let sized = letters::sizes(random, text);
+        let damaged = damage::text(random, &sized);
+        let capitals = damaged.to_ascii_uppercase();
+        assert_eq!(frames_of(&damaged, CHART_TEXT), frames_of(&capitals, CHART_TEXT), "seed {seed}");
     }
 }
 

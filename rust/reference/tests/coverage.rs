@@ -42,10 +42,21 @@ fn every_answer_is_met_and_no_other() {
 /// Each kind of run and tick drops the stack and goes home from the handler's End often enough to tell.
 #[test]
 fn every_call_that_ticks_meets_the_handler() {
-    let summary = compare(&Reference, 78, 8_000).unwrap_or_else(|difference| panic!("{difference}"));
+    let summary = compare(&Reference, 78, 16_000).unwrap_or_else(|difference| panic!("{difference}"));
     for call in ["run", "tick", "runs", "live_run", "live_tick", "live_runs", "mixture"] {
         let Handled { drops, returns } = summary.handled(call);
         assert!(drops > 20 && returns > 20, "{call}\n{summary}");
+    }
+}
+
+/// Each kind of call that takes a text is given enough of them with small letters that are read.
+#[test]
+fn every_call_that_reads_meets_small_letters() {
+    let summary = compare(&Reference, 79, 8_000).unwrap_or_else(|difference| panic!("{difference}"));
+    let calls =
+        ["read_chart", "translate", "check_image", "prepare", "run", "tick", "runs", "live_runs", "mixture"];
+    for call in calls {
+        assert!(summary.small(call) > 100, "{call}\n{summary}");
     }
 }
 

@@ -92,17 +92,13 @@ fn empty(number: usize) -> Problem {
 }
 
 fn wrong_length(number: usize, line: &[u8]) -> Problem {
-    let odd = line.iter().position(|byte| !is_digit(*byte));
+    let odd = line.iter().position(|byte| !byte.is_ascii_hexdigit());
     let and = odd.map_or(String::new(), |at| format!("; column {} is {}", at + 1, character(line[at])));
     let words = format!("line {number} has {}, not {DIGITS}{and}", counted(line.len(), "character"));
     let column = odd.map_or(line.len().min(DIGITS) + 1, |at| at + 1);
     let digits = if line.len() < DIGITS { "a digit lost" } else { "a digit too many" };
     Problem::on(number, column, words)
         .advice(format!("{digits} in this line; spaces or words beside the digits"))
-}
-
-fn is_digit(byte: u8) -> bool {
-    matches!(byte, b'0'..=b'9' | b'A'..=b'F')
 }
 
 /// Refusal 2: the first character of the named line that does not belong there. The lines before it are whole, so the
@@ -122,7 +118,7 @@ pub fn character_of(text: &[u8], index: usize) -> Option<Problem> {
             Problem::at(number, column, format!("{} after the {DIGITS} digits", character(byte)))
                 .advice(if byte == b'\r' { LONE_RETURNS } else { lost })
         }
-        _ => Problem::at(number, column, format!("{} (only 0-9 and A-F)", character(byte)))
+        _ => Problem::at(number, column, format!("{} (only 0-9, A-F and a-f)", character(byte)))
             .advice(likely(byte)),
     })
 }
@@ -131,7 +127,7 @@ fn belongs(place: usize, byte: u8) -> bool {
     if place == DIGITS {
         byte == b'\n'
     } else {
-        is_digit(byte)
+        byte.is_ascii_hexdigit()
     }
 }
 
@@ -152,7 +148,6 @@ fn character(byte: u8) -> String {
 /// What was meant, by the character that stands there.
 fn likely(byte: u8) -> &'static str {
     match byte {
-        b'a'..=b'f' => "small letters: write the digits A to F large",
         b'O' | b'o' => "the letter O typed for the digit 0",
         b'I' | b'l' | b'i' => "a letter typed for the digit 1",
         b'S' | b's' => "the letter S typed for the digit 5",

@@ -5,7 +5,7 @@ use fairleadow::Refusal;
 /// The rules of refusals 1 to 19, in that order.
 const RULES: [&str; 19] = [
     "a chart has 1 to 256 nodes, each a line of 22 digits and a line feed; an image has at most 1,297 such lines",
-    "a line is 22 digits, 0-9 and A-F, and a line feed",
+    "a line is 22 digits, 0-9 and A-F or a-f, and a line feed",
     "the eleven bytes of a line sum to 0 modulo 256; the last byte is there for that",
     "each field of a node has one of its values, and a byte that its kind has no use for is 00",
     "each scheme from 1 to the highest one used has one Begin and one End",

@@ -3,7 +3,7 @@
 use super::Summary;
 use crate::expectation::{Outcome, Run};
 use crate::frames::text_of;
-use crate::generate::{images, runs, states, Random};
+use crate::generate::{images, letters, runs, states, Random};
 use crate::image::Image;
 use crate::library::Library;
 use crate::state::State;
@@ -41,7 +41,7 @@ pub fn live_alike(library: &dyn Library, images: u64, states: usize) -> Summary 
 fn prepared(library: &dyn Library, random: &mut Random) -> Prepared {
     loop {
         let image = images::accepted(random);
-        let text = text_of(&image.frames());
+        let text = letters::sizes(random, text_of(&image.frames()));
         let mut table = vec![0; image.frames().len() * 10];
         if library.prepare(&text, &mut table).number() == 0 {
             return Prepared { image, text, table };

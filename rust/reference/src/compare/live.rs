@@ -3,7 +3,7 @@
 use super::ticks::Ground;
 use super::{Case, Compared};
 use crate::frames::{text_of, CHARACTERS};
-use crate::generate::{images, runs, states, tables};
+use crate::generate::{images, letters, runs, states, tables};
 use crate::library::Library;
 use crate::prepare::table_of;
 use crate::show;
@@ -16,6 +16,7 @@ impl<'a> Case<'a> {
         } else {
             images::text(&mut self.random)
         };
+        self.summary.note_letters("prepare", &text);
         let needed = text.len() / CHARACTERS * 10;
         self.written("prepare", <dyn Library>::prepare, &text, needed, show::text)
     }
@@ -38,7 +39,9 @@ impl<'a> Case<'a> {
     pub(super) fn mixture(&mut self) -> Compared {
         let image = images::accepted(&mut self.random);
         let mut state = states::state(&mut self.random, &image.labels, image.handler);
-        let (text, table) = (text_of(&image.frames()), table_of(&image).concat());
+        let text = letters::sizes(&mut self.random, text_of(&image.frames()));
+        self.summary.note_letters("mixture", &text);
+        let table = table_of(&image).concat();
         let on_text = Ground { bytes: &text, shown: show::text };
         let on_table = Ground { bytes: &table, shown: show::bytes };
         for _ in 0..self.random.within(1, 8) {

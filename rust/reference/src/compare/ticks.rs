@@ -5,7 +5,7 @@ use crate::answer::Answer;
 use crate::check::chart_of;
 use crate::expectation::{expected, Outcome, Run};
 use crate::frames::{text_of, CHARACTERS};
-use crate::generate::{damage, images, runs, states};
+use crate::generate::{damage, images, letters, runs, states};
 use crate::library::{Library, Reference, Ticked};
 use crate::show;
 use crate::state::State;
@@ -34,7 +34,7 @@ impl<'a> Case<'a> {
             1 => damage::text(&mut self.random, &text_of(&frames)),
             _ => text_of(&frames),
         };
-        (text, state)
+        (letters::sizes(&mut self.random, text), state)
     }
 
     /// Compares a run of any kind, and hands back the state after it.
@@ -114,6 +114,7 @@ impl<'a> Case<'a> {
 
     pub(super) fn run(&mut self) -> Compared {
         let (image, state) = self.image_and_state();
+        self.summary.note_letters("run", &image);
         let run = self.any_run();
         let ground = Ground { bytes: &image, shown: show::text };
         self.ran("run", <dyn Library>::run, ground, &state, &run)?;
@@ -122,6 +123,7 @@ impl<'a> Case<'a> {
 
     pub(super) fn tick(&mut self) -> Compared {
         let (image, state) = self.image_and_state();
+        self.summary.note_letters("tick", &image);
         let ground = Ground { bytes: &image, shown: show::text };
         self.some_ticks("tick", <dyn Library>::tick, ground, &state)
     }
@@ -130,12 +132,15 @@ impl<'a> Case<'a> {
     pub(super) fn runs(&mut self, name: &'static str, live: bool) -> Compared {
         let (records, image) = images::translated(&mut self.random);
         let chart = chart_of(&records).expect("generated charts are valid");
-        let text = text_of(&records);
+        let text = letters::sizes(&mut self.random, text_of(&records));
         let size = if self.random.once_in(2) { self.random.within(1, 4) } else { self.random.within(1, 32) };
         let list = runs::list(&mut self.random);
         let image_text =
             self.made("translate", <dyn Library>::translate, &text, image.frames().len() * CHARACTERS)?;
+        let image_text = letters::sizes(&mut self.random, image_text);
         let table = self.made("prepare", <dyn Library>::prepare, &image_text, image.frames().len() * 10)?;
+        self.summary.note_letters(name, &text);
+        self.summary.note_letters(name, &image_text);
         let outcomes = expected(&chart, size, &list);
         let (_, mut state) = self.library.fresh(size);
         let mut depth = 1;

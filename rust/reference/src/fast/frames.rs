@@ -12,6 +12,7 @@ const fn digit_table() -> [u8; 256] {
     let mut digit = 0;
     while digit < 16 {
         table[b"0123456789ABCDEF"[digit] as usize] = digit as u8;
+        table[b"0123456789abcdef"[digit] as usize] = digit as u8;
         digit += 1;
     }
     table

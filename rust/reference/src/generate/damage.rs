@@ -24,9 +24,9 @@ fn text_fault(random: &mut Random, text: &mut Vec<u8>) {
     let at = random.below(text.len());
     match random.below(12) {
         0 => text[at] = random.byte(),
-        1 => text[at] = text[at].to_ascii_lowercase(),
+        1 => text[at] ^= 1 << random.below(8),
         2..=4 => text[at] = random.pick(b"0123456789ABCDEF"),
-        5 => text[at] = random.pick(b"\n\r G:/@`"),
+        5 => text[at] = random.pick(b"\n\r Gg:/@`"),
         6 => text.insert(at, random.pick(b"0A\n")),
         7 => {
             text.remove(at);

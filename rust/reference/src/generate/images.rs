@@ -1,6 +1,6 @@
 //! Images: of charts, patched, invented without a chart, and damaged.
 
-use super::{charts, damage, Random};
+use super::{charts, damage, letters, Random};
 use crate::check::chart_of;
 use crate::frames::{text_of, Frame};
 use crate::image::{image_of, Image, Label, Row, FUNCTION_CALL, PLAIN, ROWS};
@@ -43,11 +43,12 @@ pub fn accepted(random: &mut Random) -> Image {
 /// An image text of any sort.
 pub fn text(random: &mut Random) -> Vec<u8> {
     let frames = accepted(random).frames();
-    match random.below(8) {
+    let text = match random.below(8) {
         0..=2 => text_of(&frames),
         3..=6 => text_of(&damage::image(random, &frames)),
         _ => damage::text(random, &text_of(&frames)),
-    }
+    };
+    letters::sizes(random, text)
 }
 
 /// Removes, doubles, adds or changes a row.

@@ -1,9 +1,10 @@
-//! Random inputs from a seed: charts, images, tables, states, words, buffers, lists of runs, and damage to each.
+//! Random inputs from a seed: charts, images, tables, states, words, buffers, lists of runs, sizes of letters, and damage to each.
 
 pub mod charts;
 pub mod damage;
 pub mod images;
 pub mod ladders;
+pub mod letters;
 pub mod random;
 pub mod runs;
 pub mod states;

@@ -1,0 +1,21 @@
+-- Small letters are read as capitals at every entry point, each by the one law of the reader.
+use Prim.Native.Nat.{ℕ}
+use mathlib.Core.List.{List, map}
+use Rattle.frames.specs.Digit.{capital}
+use Rattle.frames.proofs.Capitals.{capitals-alike}
+use Rattle.charts.proofs.Alike as chart
+use Rattle.image.proofs.Alike as image
+use Rattle.tables.proofs.Alike as table
+use Rattle.translator.proofs.Alike as translation
+use Rattle.runs.proofs.Alike as running
+use Rattle.agreement.specs.Capitals.{AsInCapitals}
+
+pub as-in-capitals : (t : List ℕ) → AsInCapitals t
+as-in-capitals t = record {
+  reads = chart.reads (map capital t) t (capitals-alike t);
+  translates = translation.translates (map capital t) t (capitals-alike t);
+  checks = image.image-verdict (map capital t) t (capitals-alike t);
+  prepares = table.prepares (map capital t) t (capitals-alike t);
+  runs = running.runs (map capital t) t (capitals-alike t);
+  ticks = running.advances (map capital t) t (capitals-alike t);
+}

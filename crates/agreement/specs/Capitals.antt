@@ -1,0 +1,21 @@
+-- Small letters: what each entry point that takes a text answers, and leaves in buffers and state, is what it does for the text in capitals.
+-- No text is left out, be it refused or longer than any that is accepted.
+use Prim.Native.Nat.{ℕ}
+use mathlib.Core.Path.{_≡_}
+use mathlib.Core.List.{List, map}
+use Rattle.frames.specs.Digit.{capital}
+use Rattle.charts.specs.Entry.{readChart}
+use Rattle.image.specs.Check.{imageVerdict}
+use Rattle.tables.specs.Prepare.{prepare}
+use Rattle.translator.specs.Entry.{translate}
+use Rattle.state.specs.declared.State.{State}
+use Rattle.runs.specs.Run.{run}
+use Rattle.runs.specs.Advance.{advance}
+
+pub record AsInCapitals (t : List ℕ) : Type 0 where
+  pub reads : (records : List ℕ) → readChart (map capital t) records ≡ readChart t records
+  pub translates : (image : List ℕ) → translate (map capital t) image ≡ translate t image
+  pub checks : imageVerdict (map capital t) ≡ imageVerdict t
+  pub prepares : (table : List ℕ) → prepare (map capital t) table ≡ prepare t table
+  pub runs : (s : State) (words masks codes : List ℕ) → run (map capital t) s words masks codes ≡ run t s words masks codes
+  pub ticks : (s : State) (word : ℕ) → advance (map capital t) s word ≡ advance t s word

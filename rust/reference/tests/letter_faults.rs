@@ -1,0 +1,88 @@
+//! Libraries that read characters in one wrong way each: the comparison must find every one.
+
+use reference::compare::compare;
+use reference::{Answer, Library, Meaning, Reference, State};
+
+/// Which character is read in the place of each.
+type Reading = fn(u8) -> u8;
+
+const FAULTS: [(&str, Reading); 8] = [
+    ("refuses small letters", |c| if (b'a'..=b'f').contains(&c) { b'g' } else { c }),
+    ("refuses the small f", |c| if c == b'f' { b'g' } else { c }),
+    ("takes a small letter for the one after it", |c| if (b'a'..=b'e').contains(&c) { c + 1 } else { c }),
+    ("takes G", |c| if c == b'G' { b'F' } else { c }),
+    ("takes g", |c| if c == b'g' { b'f' } else { c }),
+    ("takes the backquote", |c| if c == b'`' { b'9' } else { c }),
+    ("leaves the highest bit out", |c| c & 127),
+    ("sets the bit of small letters in numerals too", |c| if (16..26).contains(&c) { c | 32 } else { c }),
+];
+
+struct Misreading(Reading);
+
+impl Misreading {
+    fn read(&self, text: &[u8]) -> Vec<u8> {
+        text.iter().map(|character| self.0(*character)).collect()
+    }
+}
+
+impl Library for Misreading {
+    fn read_chart(&self, text: &[u8], out: &mut [u8]) -> Answer {
+        Reference.read_chart(&self.read(text), out)
+    }
+
+    fn write_chart(&self, records: &[u8], out: &mut [u8]) -> Answer {
+        Reference.write_chart(records, out)
+    }
+
+    fn translate(&self, text: &[u8], out: &mut [u8]) -> Answer {
+        Reference.translate(&self.read(text), out)
+    }
+
+    fn check_image(&self, text: &[u8]) -> Answer {
+        Reference.check_image(&self.read(text))
+    }
+
+    fn fresh(&self, size: usize) -> (Answer, State) {
+        Reference.fresh(size)
+    }
+
+    fn run(
+        &self,
+        image: &[u8],
+        state: &State,
+        words: &[u16],
+        masks: &mut [u32],
+        codes: &mut [u8],
+    ) -> (Answer, State) {
+        Reference.run(&self.read(image), state, words, masks, codes)
+    }
+
+    fn prepare(&self, image: &[u8], table: &mut [u8]) -> Answer {
+        Reference.prepare(&self.read(image), table)
+    }
+
+    fn live_run(
+        &self,
+        table: &[u8],
+        state: &State,
+        words: &[u16],
+        masks: &mut [u32],
+        codes: &mut [u8],
+    ) -> (Answer, State) {
+        Reference.live_run(table, state, words, masks, codes)
+    }
+
+    fn meaning(&self, code: u8) -> Meaning {
+        Reference.meaning(code)
+    }
+}
+
+#[test]
+fn every_misreading_is_found() {
+    for (fault, reading) in FAULTS {
+        let Err(difference) = compare(&Misreading(reading), 5, 40_000) else {
+            panic!("a library that {fault} was not found");
+        };
+        println!("{fault}: case {} in {}", difference.seed - 5, difference.call);
+    }
+}
