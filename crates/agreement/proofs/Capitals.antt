@@ -7,6 +7,7 @@ use Rattle.charts.proofs.Alike as chart
 use Rattle.image.proofs.Alike as image
 use Rattle.tables.proofs.Alike as table
 use Rattle.translator.proofs.Alike as translation
+use Rattle.places.proofs.Alike as needed
 use Rattle.runs.proofs.Alike as running
 use Rattle.agreement.specs.Capitals.{AsInCapitals}
 
@@ -14,6 +15,7 @@ pub as-in-capitals : (t : List ℕ) → AsInCapitals t
 as-in-capitals t = record {
   reads = chart.reads (map capital t) t (capitals-alike t);
   translates = translation.translates (map capital t) t (capitals-alike t);
+  needs = needed.needs (map capital t) t (capitals-alike t);
   checks = image.image-verdict (map capital t) t (capitals-alike t);
   prepares = table.prepares (map capital t) t (capitals-alike t);
   runs = running.runs (map capital t) t (capitals-alike t);

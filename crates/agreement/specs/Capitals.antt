@@ -8,6 +8,7 @@ use Rattle.charts.specs.Entry.{readChart}
 use Rattle.image.specs.Check.{imageVerdict}
 use Rattle.tables.specs.Prepare.{prepare}
 use Rattle.translator.specs.Entry.{translate}
+use Rattle.places.specs.Entry.{placesNeeded}
 use Rattle.state.specs.declared.State.{State}
 use Rattle.runs.specs.Run.{run}
 use Rattle.runs.specs.Advance.{advance}
@@ -15,6 +16,7 @@ use Rattle.runs.specs.Advance.{advance}
 pub record AsInCapitals (t : List ℕ) : Type 0 where
   pub reads : (records : List ℕ) → readChart (map capital t) records ≡ readChart t records
   pub translates : (image : List ℕ) → translate (map capital t) image ≡ translate t image
+  pub needs : placesNeeded (map capital t) ≡ placesNeeded t
   pub checks : imageVerdict (map capital t) ≡ imageVerdict t
   pub prepares : (table : List ℕ) → prepare (map capital t) table ≡ prepare t table
   pub runs : (s : State) (words masks codes : List ℕ) → run (map capital t) s words masks codes ≡ run t s words masks codes

@@ -1,2 +1,3 @@
 pub mod EntrySteps
 pub mod Reported
+pub mod Alike
