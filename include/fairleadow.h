@@ -20,7 +20,7 @@
  *    5  a scheme without just one Begin and one End        14  a stack size other than 1 to 32
  *    6  an arc into another scheme, to a Begin or nowhere  15  a state that does not fit the image
  *    7  a call of a scheme that cannot be called           16  an output buffer that is too short
- *    8  a circle of conditions                             17  a call that finds the stack full, with no handler to drop to
+ *    8  a circle of conditions                             17  a call that finds the stack full and drops nothing
  *    9  a node cut off from its Begin                      18  no row for the word
  *                                                          19  a handler's mark on scheme 1, or a second one
  */

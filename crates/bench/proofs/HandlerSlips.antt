@@ -2,7 +2,7 @@
 -- in a tick, because a function's own call clears the bit that its return reads; a slip in them is shown to hand back another state than the
 -- definition, which demand 1 asks for.
 use mathlib.Core.Path.{_≡_, _∙_, ap, sym}
-use mathlib.Core.Bool.{_&&_}
+use mathlib.Core.Bool.{_&&_, not}
 use mathlib.Core.List.{List, [], _∷_}
 use Prim.Native.Nat.{ℕ, suc, _-_}
 use native.Mathlib.Omega.{arith}
@@ -15,7 +15,7 @@ use Rattle.image.specs.Image.{Image, Label}
 use Rattle.translator.specs.Entry.{translate}
 use Rattle.state.specs.declared.State.{State}
 use Rattle.state.specs.State.{noPlaces, labelAt, entryAt, placeAt, isCall, ofHandler, fresh, freshState}
-use Rattle.ticks.specs.Tick.{Ticked, ticked, stopped, full, tick}
+use Rattle.ticks.specs.Tick.{rowOf, Ticked, ticked, stopped, moved, full, tick}
 use Rattle.ticks.specs.Parts.{topOf, beneath}
 use Rattle.ticks.specs.Functions.{findsFull, returned}
 use Rattle.runs.specs.Run.{Run, run}
@@ -120,6 +120,19 @@ unfolding running ticksBy tableHandler dropWords
 keeps-beneath-fails claim =
     let z : _≡_ {A = ℕ} 19 4 =
     ap (codeAt 6) (made of-handler keepsBeneath 2 dropWords (at-drop (runBy keepsBeneath) claim)) in
+    omega arith
+
+-- ---- a handler that returns to the dropped caller: a drop keeps the caller's label above the handler, and the return takes its row
+abbrev pub returnsToCaller : Step
+returnsToCaller i s w = pick (eqb (topLabel i s .kind) 3 && leb (s .depth) 1 && not (eqb (placeAt s 1) 0))
+    (moved 0 3 s 0 1 (set (s .places) 1 0) (s .bits) (rowOf i (s .bits) (placeAt s 1) w))
+    (afterDrop (λ i s t. withPlaces 1 (set (t .places) 1 (topOf s)) t) i s w)
+
+pub returns-to-caller-fails : Agreement translate freshState (runBy returnsToCaller) → ⊥
+unfolding running ticksBy tableHandler dropWords
+returns-to-caller-fails claim =
+    let z : _≡_ {A = ℕ} 3 4 =
+    ap (codeAt 6) (made of-handler returnsToCaller 2 dropWords (at-drop (runBy returnsToCaller) claim)) in
     omega arith
 
 -- ---- the handler's return at depth 1 takes a row, of which label 1 has none

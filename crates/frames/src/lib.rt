@@ -22,7 +22,7 @@ pub enum Answer {
     },
 }
 
-// A refusal that counts nothing, as 1 to 16 are.
+// A refusal that counts nothing, as all but 17 and 18 are.
 pub fn refused(number: u8, index: usize) -> Answer
     ensures { λ r. ⌜ r ≡ Answer.Refused number index 0 ⌝ }
 {

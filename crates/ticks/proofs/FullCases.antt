@@ -17,8 +17,8 @@ use Rattle.tables.proofs.TableReads.{handler-at, handler-inside, label-at, entr
 use Rattle.state.specs.declared.State.{State}
 use Rattle.state.specs.State.{noPlaces, entryAt, placeAt}
 use Rattle.state.specs.Bytes.{stateOf, withDepth, withPlace, withPlaces, afterResult}
-use Rattle.ticks.specs.Tick.{Ticked, ticked, stopped, full}
-use Rattle.ticks.specs.Parts.{topOf, TopFull, keepsFull, Steps}
+use Rattle.ticks.specs.Tick.{keepsFull, Ticked, ticked, stopped, full}
+use Rattle.ticks.specs.Parts.{topOf, TopFull, Steps}
 use Rattle.ticks.proofs.TickCases.{steps-stopped, steps-ticked, tick-full}
 
 -- ---- whether the stack is kept: h stands for the handler, l for the label at the bottom, z for what was read of it

@@ -84,6 +84,7 @@ drops i s full w m code t e = subst (Dropped i x s) e (go (or-cases (eqb (x .kin
       mask = refl;
       coded = refl;
       alone = refl;
+      places = refl;
       cleared = cleared-own (i .handler) b;
       kept = λ h l other. let z : i .handler ≡ 0 → ⊥ = eqb-false (i .handler) 0 (or-l (eqb (i .handler) 0) (ofHandler i (placeAt s 0)) q) in
           getD-set-other b (i .handler - 1) (h - 1) false false (λ k. other (omega arith));

@@ -15,7 +15,7 @@ use Rattle.image.specs.Decode.{decoded}
 use Rattle.image.specs.Check.{imageVerdict}
 use Rattle.rows.specs.Rows.{Found, firstRow}
 use Rattle.state.specs.declared.State.{State}
-use Rattle.state.specs.State.{labelAt, isCall, unfit}
+use Rattle.state.specs.State.{noPlaces, labelAt, entryAt, isCall, unfit}
 use Rattle.ticks.specs.Tick.{Ticked, ticked, moved, tick}
 use Rattle.ticks.specs.Parts.{topOf}
 
@@ -29,12 +29,13 @@ CallClears =
     (i : Image) (s : State) → let x = labelAt i (topOf s) in isCall x ≡ true → (w m code : ℕ) (t : State) → tick i s w ≡ ticked m code t
     → resultOf (pick (findsFull i s) (i .handler) (x .called)) (t .bits) ≡ false
 
--- a drop emits the caller's mask with code 60 hexadecimal and leaves one scheme open; the handler's bit is then 0, and every other bit, that of
+-- a drop emits the caller's mask with code 60 hexadecimal and leaves the handler's entry alone in the places; the handler's bit is then 0, and every other bit, that of
 -- the scheme called too, is as the caller's result left it
 pub record Drop (i : Image) (x : Label) (s : State) (m code : ℕ) (t : State) : Type 0 where
   pub mask : m ≡ x .mask
   pub coded : code ≡ 96
   pub alone : t .depth ≡ 1
+  pub places : t .places ≡ set noPlaces 0 (entryAt i (i .handler))
   pub cleared : resultOf (i .handler) (t .bits) ≡ false
   pub kept : (h : ℕ) → 1 ≤ h → (h ≡ i .handler → ⊥) → resultOf h (t .bits) ≡ resultOf h (withResult (x .result) (x .owner) (s .bits))
 

@@ -68,10 +68,6 @@ pub record TopPlain (b : List ℕ) (s : State) : Type 0 where
   pub label : Numbered b (topOf s)
   pub kind : topKind b s ≡ 0
 
--- a full stack is kept: there is no handler, or it is at the bottom
-abbrev pub keepsFull : Image → State → Bool
-keepsFull i s = eqb (i .handler) 0 || ofHandler i (placeAt s 0)
-
 -- where the label beneath the top leads
 abbrev pub beneath : Image → State → ℕ → Found
 beneath i s w = rowOf i (s .bits) (placeAt s (s .depth - 2)) w

@@ -25,10 +25,14 @@ abbrev pub moved : ℕ → ℕ → State → ℕ → ℕ → List ℕ → Result
 moved m code s k d places b (found l) = ticked m code (record { size = s .size; depth = d; places = set places k l; bits = b })
 moved m code s k d places b missing = stopped 18
 
--- a call at depth Σ is refused where there is no handler or it is at the bottom, and nothing is done; else all places are dropped, and the
--- handler starts at the bottom with its bit cleared
+-- a full stack is kept: there is no handler, or it is at the bottom
+abbrev pub keepsFull : Image → State → Bool
+keepsFull i s = eqb (i .handler) 0 || ofHandler i (placeAt s 0)
+
+-- a call at depth Σ is refused where the stack is kept, and nothing is done; else all places are dropped, and the handler starts at the bottom
+-- with its bit cleared
 abbrev pub full : Image → State → ℕ → Results → Ticked
-full i s m b = pick (eqb (i .handler) 0 || ofHandler i (placeAt s 0)) (stopped 17)
+full i s m b = pick (keepsFull i s) (stopped 17)
     (ticked m 96 (record { size = s .size; depth = 1; places = set noPlaces 0 (entryAt i (i .handler)); bits = cleared (i .handler) b }))
 
 -- a call of scheme h, at depth Σ as above: else the entry of h is put above the top and the bit of h cleared

@@ -14,7 +14,8 @@ ghost use mathlib.Core.Path.{_≡_};
 ghost use Rattle.image.specs.Decode.{schemeCount};
 ghost use Rattle.tables.specs.Table.{Whole, tableImage};
 ghost use Rattle.state.specs.Bytes.{stateOf};
-ghost use Rattle.ticks.specs.Parts.{TopFull, keepsFull, Steps};
+ghost use Rattle.ticks.specs.Tick.{keepsFull};
+ghost use Rattle.ticks.specs.Parts.{TopFull, Steps};
 
 // Whether a full stack is kept: there is no handler, or it is at the bottom.
 fn keeps_full(table: &[u8], bytes: &[u8; 50]) -> bool

@@ -82,7 +82,7 @@ fn next_beneath(table: &[u8], schemes: u8, last: u8, bytes: &[u8; 50], word: u16
     next_row(table, schemes, l as usize, word, bit)
 }
 
-// A return: the top is dropped, and the label beneath takes its row; at depth 1, where the handler ends, label 0 follows.
+// A return: the top is taken off, and the label beneath takes its row; at depth 1, where the handler ends, label 0 follows.
 fn tick_back(table: &[u8], schemes: u8, last: u8, bytes: &mut [u8; 50], word: u16) -> Stepped
     requires { ⌜ TopReturn (now table) (stateOf (now bytes)) ⌝ }
     requires { ⌜ Header (now table) schemes last ⌝ }

@@ -6,12 +6,16 @@ use mathlib.Core.List.{List, [], _∷_, _++_}
 use lib.ListN.{length}
 use native.Mathlib.Omega.{arith}
 use Rattle.bits.specs.Results.{Results, noResults, resultOf, withResult, cleared}
+use Rattle.frames.specs.Frame.{contents}
+use Rattle.frames.specs.Verdict.{fine}
+use Rattle.charts.specs.Entry.{readVerdict}
 use Rattle.charts.specs.Chart.{Chart, scheme, argument, result, mask, handler, end}
 use Rattle.walk.specs.Stops.{start, Stop, plain, call, function, test, home, back, stopAt}
 use Rattle.walk.specs.Walk.{Tick, tick, Course, spent, ended, after, Performer, resume, calls, act, perform, drops}
 use Rattle.walk.specs.Walk.{carriedOn, walkFrom, walk}
 use Rattle.walk.specs.Unbounded as unbounded
 use Rattle.walk.proofs.Facts.{StopOf, Facts}
+use Rattle.walk.proofs.FactsHold.{facts}
 use Rattle.walk.proofs.Views.{View, a-plain, a-call, a-function, a-home, a-back, a-begin, a-condition, view}
 use Rattle.walk.proofs.Trace.{home-stop, arc-to, function-to, begin-to}
 
@@ -106,14 +110,20 @@ module _ (c : Chart) (facts : Facts c) where
   carried-ticks : (go : Bool → ℕ → List ℕ → Results → List Tick) (r : unbounded.Course) → Endless r → carriedOn go c (alike r) ≡ unbounded.ticksOf r
   carried-ticks go r (endless-spent ts) = refl
 
-  pub no-handler : handler c ≡ 0 → (n : ℕ) (ws : List ℕ) → walk n c ws ≡ unbounded.walk c ws
+  alike-walks : handler c ≡ 0 → (n : ℕ) (ws : List ℕ) → walk n c ws ≡ unbounded.walk c ws
   unfolding walk walkFrom unbounded.walk unbounded.perform
-  no-handler h n [] = refl
-  no-handler h n (w ∷ ws) =
+  alike-walks h n [] = refl
+  alike-walks h n (w ∷ ws) =
       let k : ℕ = suc (length ws) in
       ap (carriedOn (walkFrom (length ws) n c) c) (alike-perform k c (drops n c false) (no-drop n h) 1 (end c 1) (w ∷ ws) noResults)
       ∙ carried-ticks (walkFrom (length ws) n c) (unbounded.perform k c 1 (end c 1) (w ∷ ws) noResults)
       (endless k 1 (end c 1) (w ∷ ws) noResults (home-stop c facts))
 
-  pub any-places : handler c ≡ 0 → (n m : ℕ) (ws : List ℕ) → walk n c ws ≡ walk m c ws
-  any-places h n m ws = no-handler h n ws ∙ sym (no-handler h m ws)
+-- ---- of every text that the reader accepts
+pub no-handler : (text : List ℕ) → readVerdict text ≡ fine → let c = contents text in handler c ≡ 0
+    → (n : ℕ) (ws : List ℕ) → walk n c ws ≡ unbounded.walk c ws
+no-handler text ok h n ws = alike-walks (contents text) (facts text ok) h n ws
+
+pub any-places : (text : List ℕ) → readVerdict text ≡ fine → let c = contents text in handler c ≡ 0
+    → (n m : ℕ) (ws : List ℕ) → walk n c ws ≡ walk m c ws
+any-places text ok h n m ws = no-handler text ok h n ws ∙ sym (no-handler text ok h m ws)

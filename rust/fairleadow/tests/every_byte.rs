@@ -84,7 +84,7 @@ fn every_byte_of_chart_p_and_its_image() {
 
 #[test]
 fn every_byte_of_a_chart_with_a_handler_and_its_image() {
-    each_of_chart_and_image(&samples::drawn_back());
+    each_of_chart_and_image(&samples::with_handler());
 }
 
 #[test]

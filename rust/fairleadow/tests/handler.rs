@@ -3,11 +3,11 @@
 
 use fairleadow::{Answer, Library, Proved, State, IMAGE_TEXT, TABLE};
 use reference::frames::{text_of, Frame};
-use reference::samples::drawn_back;
+use reference::samples::with_handler;
 
 fn image() -> Vec<u8> {
     let mut image = vec![0; IMAGE_TEXT];
-    let length = Proved.translate(&text_of(&drawn_back()), &mut image).ok().expect("a valid chart");
+    let length = Proved.translate(&text_of(&with_handler()), &mut image).ok().expect("a valid chart");
     image.truncate(length);
     image
 }
@@ -58,7 +58,7 @@ fn a_full_stack_is_dropped_and_handled() {
 
 /// The refusals of a chart with these bytes 2 in its Begins: read, written and translated, each into a buffer that stays.
 fn refusals(marks: [u8; 3]) -> [Answer; 3] {
-    let mut records: Vec<Frame> = drawn_back();
+    let mut records: Vec<Frame> = with_handler();
     for (begin, mark) in [0, 3, 6].into_iter().zip(marks) {
         records[begin][2] = mark;
     }

@@ -146,7 +146,7 @@ tick_job!(live_tick, c::fairleadow_live_tick);
 fn worst_charts() -> Vec<Vec<Frame>> {
     let samples = samples::named_charts().into_iter().map(|(_, records)| records);
     let random = (0..300).map(|seed| charts::chart(&mut Random::new(seed)));
-    samples.chain([samples::drawn_back()]).chain(random).collect()
+    samples.chain([samples::with_handler()]).chain(random).collect()
 }
 
 fn ticks(ground: Vec<u8>) -> Ticks {

@@ -69,7 +69,7 @@ const SENSES: [&str; 19] = [
     "a stack size other than 1 to 32",
     "a state that does not fit the image",
     "an output buffer that is too short",
-    "a call that finds the stack full, with no handler to drop to",
+    "a call that finds the stack full and drops nothing",
     "no row for the word",
     "a handler's mark on scheme 1, or a second one",
 ];

@@ -25,7 +25,7 @@ pub fn chart_p() -> Vec<Frame> {
 
 /// Scheme 1 calls scheme 2 with mask 1, and scheme 2 calls itself with mask 2; scheme 3 is the handler, one operation with mask 4.
 /// Each operation writes 1.
-pub fn drawn_back() -> Vec<Frame> {
+pub fn with_handler() -> Vec<Frame> {
     vec![
         [0, 1, 0, 1, 0, 0, 0, 0, 0, 0],
         [2, 1, 2, 2, 0, 2, 0, 0, 0, 1],

@@ -1,7 +1,7 @@
 //! The bench sheet, B1 to B10, and the cases that requests add, run on the reference.
 
 use reference::frames::{text_of, Frame, IMAGE_TEXT};
-use reference::samples::drawn_back;
+use reference::samples::with_handler;
 use reference::{entry, fresh_state, programs, walk, Answer};
 
 const CHART_P: &str = "\
@@ -240,9 +240,9 @@ const IMAGE_D: &str = "\
 /// Chart D, with scheme 3 as the handler, gives this image, and without the mark the same but for byte 5 of its header.
 #[test]
 fn the_header_names_the_handler() {
-    assert_eq!(text_of(&drawn_back()), CHART_D.as_bytes());
+    assert_eq!(text_of(&with_handler()), CHART_D.as_bytes());
     assert_eq!(programs::translate(CHART_D.as_bytes()), IMAGE_D.as_bytes());
-    let mut unmarked = drawn_back();
+    let mut unmarked = with_handler();
     unmarked[6][2] = 0;
     let image = programs::translate(&text_of(&unmarked));
     assert_eq!(&image[..23], b"0F030400030000000000E7\n");

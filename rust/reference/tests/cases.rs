@@ -47,5 +47,5 @@ fn the_examples_are_what_the_reference_prints() {
             charts += 1;
         }
     }
-    assert!(charts >= 6);
+    assert!(charts >= 7);
 }

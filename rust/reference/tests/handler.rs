@@ -2,12 +2,12 @@
 //! marks are refused.
 
 use reference::frames::{text_of, Frame};
-use reference::samples::drawn_back;
+use reference::samples::with_handler;
 use reference::{entry, fresh_state, Answer, State};
 
 /// The chart of the samples whose handler is scheme 3, with other calls in scheme 2 and in the handler.
 fn records(called: u8, handles: u8) -> Vec<Frame> {
-    let mut records = drawn_back();
+    let mut records = with_handler();
     (records[4][2], records[7][2]) = (called, handles);
     records
 }
