@@ -11,6 +11,8 @@ use office::chart::{nodes, Node};
 use office::explain::{self, UNEXPLAINED};
 use office::kind::Kind;
 use office::marking::called;
+use office::places::needed;
+use office::source::from_notation;
 use reference::frames::{text_of, Frame};
 use reference::generate::{charts, Random};
 use shared::{example, file, run};
@@ -177,6 +179,18 @@ fn a_circle_through_others_names_each_call() {
                  which calls scheme roughing at cut (line 13)";
     assert_eq!(lines[0], format!("{path}: {first}"));
     assert_eq!(lines[1..3], ["    ask:   if call feeling then end else end", "              ^"]);
+}
+
+/// In chart lines a call stands in byte 2.
+#[test]
+fn a_circle_of_chart_lines_is_told_by_lines_and_columns() {
+    let first_line = |text: &[u8]| needed(text).expect_err("a circle").words;
+    let roughing = fs::read(example("roughing.chart")).expect("an example");
+    assert_eq!(first_line(&roughing), "line 8, column 5: scheme 2 calls itself");
+    let through = from_notation(THROUGH).expect("a chart").text;
+    let words = "line 5, column 5: scheme 2 calls itself through others: it calls scheme 3 at line 5, which calls scheme 2 at \
+                 line 8";
+    assert_eq!(first_line(&through), words);
 }
 
 /// A circle that scheme 1 does not lead to does not matter.
