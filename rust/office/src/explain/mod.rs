@@ -99,8 +99,8 @@ fn of_run(refusal: &Refusal) -> Option<Problem> {
         16 => ("a buffer is too short for the answer".to_string(), "the caller's buffers"),
         17 => (
             format!("after {ticks} a call finds the stack full"),
-            "a chart or a handler that calls deeper than the stack has places: give it more (32 at most), or let it call \
-             less deep",
+            "a chart or a handler that calls deeper than the stack has places: give it more (32 at most; `fairleadow \
+             places` tells how many it needs), or let it call less deep",
         ),
         18 => (
             format!("after {ticks} no row of the label matches the word"),
