@@ -11,7 +11,7 @@ typedef uint8_t (*means)(uint8_t, uint8_t *);
 
 struct every_function {
     writes read_chart, write_chart, translate, prepare;
-    checks check_image;
+    checks places, check_image;
     makes fresh;
     runs run, live_run;
     ticks tick, live_tick;
@@ -22,9 +22,9 @@ struct every_function every_function(void);
 
 struct every_function every_function(void) {
     struct every_function all = {
-        fairleadow_read_chart,  fairleadow_write_chart, fairleadow_translate, fairleadow_prepare,
-        fairleadow_check_image, fairleadow_fresh,       fairleadow_run,       fairleadow_live_run,
-        fairleadow_tick,        fairleadow_live_tick,   fairleadow_meaning,
+        fairleadow_read_chart, fairleadow_write_chart, fairleadow_translate, fairleadow_prepare,
+        fairleadow_places,     fairleadow_check_image, fairleadow_fresh,     fairleadow_run,
+        fairleadow_live_run,   fairleadow_tick,        fairleadow_live_tick, fairleadow_meaning,
     };
     return all;
 }

@@ -2,10 +2,10 @@
  *
  * Every function answers for everything that it is handed. All but fairleadow_meaning return 0, or the number of a refusal, and write
  *   *index   the frame (a line or a record) that the refusal names, from 0; only 2, 3, 4, 6 to 9, 12 and 13 name one, else it is 0
- *   *count   records, characters, bytes of a table or ticks written; with refusals 1 to 16 and 19 it is 0, with 17 and 18 the
- *            ticks finished before
- * With refusals 1 to 16 and 19 no buffer and no state is changed; only 14 writes a state, of zeros. With success, and with 17 and 18,
- * nothing past the count is changed.
+ *   *count   records, characters, bytes of a table or ticks written, or places needed; with refusals 1 to 16, 19 and 20 it is 0,
+ *            with 17 and 18 the ticks finished before
+ * With refusals 1 to 16, 19 and 20 no buffer and no state is changed; only 14 writes a state, of zeros. With success, and with 17
+ * and 18, nothing past the count is changed.
  * A buffer is a pointer and how many elements it has. No pointer is null, and nothing that a call writes may overlap anything
  * else that the call is given. Nothing is allocated and nothing is kept between calls. The archive of `rt staticlib` is code for
  * x86-64 and calls memcpy and memset and nothing else; there a translation takes 7,810 bytes of stack, a run, a tick or a
@@ -23,6 +23,7 @@
  *    8  a circle of conditions                             17  a call that finds the stack full and drops nothing
  *    9  a node cut off from its Begin                      18  no row for the word
  *                                                          19  a handler's mark on scheme 1, or a second one
+ *                                                          20  a scheme within reach of scheme 1 that can call itself
  */
 #ifndef FAIRLEADOW_H
 #define FAIRLEADOW_H
@@ -64,6 +65,10 @@ uint8_t fairleadow_write_chart(const uint8_t *records, size_t records_len, uint8
 /* Chart lines to the image's lines. Tries 1 to 10, 19 and 16; counts characters. */
 uint8_t fairleadow_translate(const uint8_t *chart, size_t chart_len, uint8_t *image, size_t image_len,
                              size_t *index, size_t *count);
+
+/* How many places a chart's calls need at most, 1 to 16: with so many no call gets 17 or drops. Tries 1 to 10, 19 and 20; counts
+ * places. */
+uint8_t fairleadow_places(const uint8_t *chart, size_t chart_len, size_t *index, size_t *count);
 
 /* Whether an image is in order. Tries 1 to 3 and 11 to 13; counts 0. */
 uint8_t fairleadow_check_image(const uint8_t *image, size_t image_len, size_t *index, size_t *count);

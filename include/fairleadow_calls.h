@@ -11,6 +11,7 @@ uint32_t fairleadow_write_chart(const uint8_t *records, uint64_t records_len, ui
                                 uint64_t *index, uint64_t *count);
 uint32_t fairleadow_translate(const uint8_t *chart, uint64_t chart_len, uint8_t *image, uint64_t image_len,
                               uint64_t *index, uint64_t *count);
+uint32_t fairleadow_places(const uint8_t *chart, uint64_t chart_len, uint64_t *index, uint64_t *count);
 uint32_t fairleadow_check_image(const uint8_t *image, uint64_t image_len, uint64_t *index, uint64_t *count);
 uint32_t fairleadow_fresh(uint64_t size, fairleadow_state *state, uint64_t *index, uint64_t *count);
 uint32_t fairleadow_run(const uint8_t *image, uint64_t image_len, fairleadow_state *state, const uint16_t *words, uint64_t words_len,
@@ -55,6 +56,12 @@ static inline uint8_t fairleadow_c_translate(const uint8_t *chart, size_t chart_
                                              size_t *index, size_t *count) {
     fairleadow_told told;
     uint32_t number = fairleadow_translate(chart, chart_len, image, image_len, &told.index, &told.count);
+    return fairleadow_tell(number, &told, index, count);
+}
+
+static inline uint8_t fairleadow_c_places(const uint8_t *chart, size_t chart_len, size_t *index, size_t *count) {
+    fairleadow_told told;
+    uint32_t number = fairleadow_places(chart, chart_len, &told.index, &told.count);
     return fairleadow_tell(number, &told, index, count);
 }
 
@@ -116,6 +123,7 @@ static inline uint8_t fairleadow_c_meaning(uint8_t code, uint8_t *called) {
 #define fairleadow_read_chart fairleadow_c_read_chart
 #define fairleadow_write_chart fairleadow_c_write_chart
 #define fairleadow_translate fairleadow_c_translate
+#define fairleadow_places fairleadow_c_places
 #define fairleadow_check_image fairleadow_c_check_image
 #define fairleadow_fresh fairleadow_c_fresh
 #define fairleadow_run fairleadow_c_run

@@ -11,6 +11,7 @@ enum {
     READ_CHART,
     WRITE_CHART,
     TRANSLATE,
+    PLACES,
     CHECK_IMAGE,
     FRESH,
     RUN,
@@ -67,6 +68,9 @@ __attribute__((noinline)) static void make_call(void) {
         break;
     case TRANSLATE:
         number = fairleadow_translate(input, head.input, output, head.output, &index, &count);
+        break;
+    case PLACES:
+        number = fairleadow_places(input, head.input, &index, &count);
         break;
     case CHECK_IMAGE:
         number = fairleadow_check_image(input, head.input, &index, &count);

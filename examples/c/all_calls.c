@@ -1,6 +1,6 @@
-/* Makes every call of the header on the chart on standard input: reads it and writes it back, translates it, checks the image, runs
- * eight words from a fresh state of three places, makes the same ticks one by one, both on the image and on the table prepared from
- * it, and tells what each code stands for. Prints what came of each. */
+/* Makes every call of the header on the chart on standard input: reads it and writes it back, counts its places, translates it,
+ * checks the image, runs eight words from a fresh state of three places, makes the same ticks one by one, both on the image and on
+ * the table prepared from it, and tells what each code stands for. Prints what came of each. */
 #include <stdio.h>
 #include <string.h>
 
@@ -31,6 +31,16 @@ static int read_and_write(size_t length) {
         return refused(number, index);
     printf("written back: %s\n", written == length && !memcmp(text, chart, length) ? "the same" : "another text");
     return 0;
+}
+
+/* A chart whose schemes can call themselves is refused here alone: this is told, and the calls after it are made. */
+static void tell_places(size_t length) {
+    size_t index, count;
+    uint8_t number = fairleadow_places(chart, length, &index, &count);
+    if (number)
+        refused(number, index);
+    else
+        printf("places: %zu\n", count);
 }
 
 static void tell_codes(const uint8_t *codes, size_t count) {
@@ -98,6 +108,7 @@ int main(void) {
     size_t length = fread(chart, 1, sizeof chart, stdin);
     if (read_and_write(length))
         return 1;
+    tell_places(length);
     if ((number = fairleadow_translate(chart, length, image, sizeof image, &index, &count)))
         return refused(number, index);
     printf("characters of the image: %zu\n", count);

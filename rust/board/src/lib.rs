@@ -101,6 +101,11 @@ impl<'a> Board<'a> {
         Some(told)
     }
 
+    /// A call that only reads.
+    fn read(&self, call: Call, input: &[u8]) -> Option<Answer> {
+        Some(self.made(&mut Message::new(call, input))?.answer())
+    }
+
     /// A call that reads one list of bytes and writes another.
     fn written(&self, call: Call, input: &[u8], out: &mut [u8]) -> Option<Answer> {
         let mut message = Message::new(call, input);
@@ -149,9 +154,12 @@ impl Library for Board<'_> {
         self.written(Call::Translate, text, out).unwrap_or_else(|| self.instead.translate(text, out))
     }
 
+    fn places(&self, text: &[u8]) -> Answer {
+        self.read(Call::Places, text).unwrap_or_else(|| self.instead.places(text))
+    }
+
     fn check_image(&self, text: &[u8]) -> Answer {
-        let told = self.made(&mut Message::new(Call::CheckImage, text));
-        told.map_or_else(|| self.instead.check_image(text), |told| told.answer())
+        self.read(Call::CheckImage, text).unwrap_or_else(|| self.instead.check_image(text))
     }
 
     /// The board's numbers have 32 bits: a larger size is handed over as the largest of them, which is refused too.

@@ -9,6 +9,7 @@ pub enum Call {
     ReadChart,
     WriteChart,
     Translate,
+    Places,
     CheckImage,
     Fresh,
     Run,

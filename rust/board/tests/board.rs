@@ -12,10 +12,11 @@ use reference::{fresh_state, Reference};
 const CASES: u64 = 20_000;
 
 /// The bytes of stack that each call may take, as controller/README.md states them.
-const STACK: [(Call, usize); 11] = [
+const STACK: [(Call, usize); 12] = [
     (Call::ReadChart, 4_608),
     (Call::WriteChart, 2_048),
     (Call::Translate, 8_192),
+    (Call::Places, 8_192),
     (Call::CheckImage, 14_336),
     (Call::Fresh, 256),
     (Call::Run, 14_336),

@@ -18,6 +18,9 @@ impl State {
 /// A call that writes into one lent buffer: what is read, the buffer, index and count.
 pub type Write = unsafe extern "C" fn(*const u8, usize, *mut u8, usize, *mut usize, *mut usize) -> u8;
 
+/// A call that only reads: what is read, index and count.
+pub type Read = unsafe extern "C" fn(*const u8, usize, *mut usize, *mut usize) -> u8;
+
 /// A run: an image or a table, the state, words, masks, codes, index and count.
 pub type Run = unsafe extern "C" fn(
     *const u8,
@@ -62,6 +65,7 @@ extern "C" {
         index: *mut usize,
         count: *mut usize,
     ) -> u8;
+    pub fn fairleadow_places(chart: *const u8, chart_len: usize, index: *mut usize, count: *mut usize) -> u8;
     pub fn fairleadow_check_image(
         image: *const u8,
         image_len: usize,

@@ -69,6 +69,11 @@ fn from_c(state: &c::State) -> State {
     }
 }
 
+/// A call that only reads.
+fn read(call: c::Read, text: &[u8]) -> Answer {
+    answered(|index, count| unsafe { call(text.as_ptr(), text.len(), index, count) })
+}
+
 /// A call that writes into one lent buffer.
 fn written(call: c::Write, text: &[u8], out: &mut [u8]) -> Answer {
     answered(|index, count| unsafe {
@@ -128,8 +133,12 @@ impl Library for Proved {
         written(c::fairleadow_translate, text, out)
     }
 
+    fn places(&self, text: &[u8]) -> Answer {
+        read(c::fairleadow_places, text)
+    }
+
     fn check_image(&self, text: &[u8]) -> Answer {
-        answered(|index, count| unsafe { c::fairleadow_check_image(text.as_ptr(), text.len(), index, count) })
+        read(c::fairleadow_check_image, text)
     }
 
     fn fresh(&self, size: usize) -> (Answer, State) {

@@ -52,7 +52,7 @@ pub struct Refusal {
 }
 
 /// What each refusal is about, number 1 first, as include/fairleadow.h says it.
-const SENSES: [&str; 19] = [
+const SENSES: [&str; 20] = [
     "the length of the text or of the records",
     "a character other than 0-9, A-F and line feed",
     "the sum of a frame",
@@ -72,6 +72,7 @@ const SENSES: [&str; 19] = [
     "a call that finds the stack full and drops nothing",
     "no row for the word",
     "a handler's mark on scheme 1, or a second one",
+    "a scheme within reach of scheme 1 that can call itself",
 ];
 
 impl Refusal {
@@ -117,11 +118,11 @@ mod tests {
     #[test]
     fn every_refusal_has_a_sense_of_its_own() {
         let mut senses: Vec<_> =
-            (1..=19).map(|number| Refusal { number, index: 0, count: 0 }.sense()).collect();
+            (1..=20).map(|number| Refusal { number, index: 0, count: 0 }.sense()).collect();
         senses.sort_unstable();
         senses.dedup();
-        assert_eq!(senses.len(), 19);
-        for number in [0, 20, 255] {
+        assert_eq!(senses.len(), 20);
+        for number in [0, 21, 255] {
             let refusal = Refusal { number, index: 0, count: 0 };
             assert_eq!(refusal.sense(), "a number that is no refusal");
         }
@@ -130,7 +131,7 @@ mod tests {
     #[test]
     fn only_some_numbers_name_a_frame() {
         let named = |number: &u8| Refusal { number: *number, index: 9, count: 0 }.frame() == Some(9);
-        let numbers: Vec<u8> = (0..=20).filter(named).collect();
+        let numbers: Vec<u8> = (0..=21).filter(named).collect();
         assert_eq!(numbers, [2, 3, 4, 6, 7, 8, 9, 12, 13]);
     }
 }

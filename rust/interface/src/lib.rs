@@ -44,7 +44,7 @@ pub enum Meaning {
 }
 
 /// The entry points of papers 01 and 02, and those for a controller that keeps an image prepared. Counts are records, characters,
-/// bytes of a table and ticks; an accepted image and a fresh state count 0.
+/// bytes of a table, ticks and places; an accepted image and a fresh state count 0.
 pub trait Library {
     /// Chart lines to node records of ten bytes each. Tries 1 to 9, with 19 after 5, and 16; counts records.
     fn read_chart(&self, text: &[u8], out: &mut [u8]) -> Answer;
@@ -54,6 +54,10 @@ pub trait Library {
 
     /// Chart lines to the image's lines. Tries 1 to 10, with 19 after 5, and 16; counts characters.
     fn translate(&self, text: &[u8], out: &mut [u8]) -> Answer;
+
+    /// How many places a chart's calls need at most, 1 to 16: the longest chain of calls from scheme 1, which counts. With so
+    /// many no call gets 17 or drops. Tries 1 to 10, with 19 after 5, and 20; counts places.
+    fn places(&self, text: &[u8]) -> Answer;
 
     /// Whether an image is in order. Tries 1 to 3 and 11 to 13.
     fn check_image(&self, text: &[u8]) -> Answer;

@@ -11,7 +11,7 @@ use std::fmt;
 use crate::answer::Answer;
 use crate::entry;
 use crate::frames::{text_of, Frame, CHARACTERS, RECORDS};
-use crate::generate::{charts, damage, images, runs, Random};
+use crate::generate::{chains, charts, damage, images, runs, Random};
 use crate::library::{Library, Reference};
 use crate::show;
 pub use alike::live_alike;
@@ -125,7 +125,7 @@ impl<'a> Case<'a> {
         match self.random.below(15) {
             0 => self.read_chart(),
             1 => self.write_chart(),
-            2 => self.translate(),
+            2 => self.translate().and_then(|()| self.places()),
             3 => self.check_image(),
             4 => self.fresh(),
             5 => self.run(),
@@ -162,8 +162,8 @@ impl<'a> Case<'a> {
     }
 
     /// Records of a valid or damaged chart.
-    fn records(&mut self) -> Vec<Frame> {
-        let records = charts::chart(&mut self.random);
+    fn records(&mut self, chart: fn(&mut Random) -> Vec<Frame>) -> Vec<Frame> {
+        let records = chart(&mut self.random);
         if self.random.once_in(2) {
             damage::records(&mut self.random, &records)
         } else {
@@ -171,8 +171,8 @@ impl<'a> Case<'a> {
         }
     }
 
-    fn chart_text(&mut self) -> Vec<u8> {
-        let text = text_of(&self.records());
+    fn chart_text(&mut self, chart: fn(&mut Random) -> Vec<Frame>) -> Vec<u8> {
+        let text = text_of(&self.records(chart));
         if self.random.once_in(4) {
             damage::text(&mut self.random, &text)
         } else {
@@ -201,13 +201,13 @@ impl<'a> Case<'a> {
     }
 
     fn read_chart(&mut self) -> Compared {
-        let text = self.chart_text();
+        let text = self.chart_text(charts::chart);
         let needed = text.len() / CHARACTERS * 10;
         self.written("read_chart", <dyn Library>::read_chart, &text, needed, show::text)
     }
 
     fn write_chart(&mut self) -> Compared {
-        let mut records = self.records().concat();
+        let mut records = self.records(charts::chart).concat();
         match self.random.below(20) {
             0 => records.truncate(self.random.below(records.len() + 1)),
             1 => records.push(0),
@@ -222,9 +222,16 @@ impl<'a> Case<'a> {
     }
 
     fn translate(&mut self) -> Compared {
-        let text = self.chart_text();
+        let text = self.chart_text(charts::chart);
         let needed = entry::translated(&text).map_or(100, |image| image.len());
         self.written("translate", <dyn Library>::translate, &text, needed, show::text)
+    }
+
+    fn places(&mut self) -> Compared {
+        let text = self.chart_text(chains::chart);
+        let answer = entry::places(&text);
+        let got = self.library.places(&text);
+        self.hold("places", answer, &answer, &got, || format!("chart of {}", show::text(&text)))
     }
 
     fn check_image(&mut self) -> Compared {

@@ -7,6 +7,7 @@ use crate::frames::{frames_of, text_of, Frame, CHART_TEXT, IMAGE_TEXT, RECORDS};
 use crate::image::{self, Image};
 use crate::live::Held;
 use crate::machine::{self, Advanced};
+use crate::places::longest_chain;
 use crate::prepare::table_of;
 use crate::state::{fresh_state, State};
 use crate::translator;
@@ -71,6 +72,14 @@ pub fn translate(text: &[u8], out: &mut [u8]) -> Answer {
     answered(translated(text).and_then(|image| {
         put(&image, out)?;
         Ok(image.len())
+    }))
+}
+
+/// Refusals 1 to 10 and 20; counts places.
+pub fn places(text: &[u8]) -> Answer {
+    answered(chart_from_text(text).and_then(|chart| {
+        translator::image_of(&chart)?;
+        longest_chain(&chart, 1)
     }))
 }
 

@@ -12,6 +12,7 @@ pub enum EntryPoint {
     ReadChart,
     WriteChart,
     Translate,
+    Places,
     CheckImage,
     Prepare,
     Tick,
@@ -52,10 +53,11 @@ pub struct Made {
 }
 
 impl EntryPoint {
-    pub const ALL: [EntryPoint; 11] = [
+    pub const ALL: [EntryPoint; 12] = [
         EntryPoint::ReadChart,
         EntryPoint::WriteChart,
         EntryPoint::Translate,
+        EntryPoint::Places,
         EntryPoint::CheckImage,
         EntryPoint::Prepare,
         EntryPoint::Tick,
@@ -71,6 +73,7 @@ impl EntryPoint {
             EntryPoint::ReadChart => "read_chart",
             EntryPoint::WriteChart => "write_chart",
             EntryPoint::Translate => "translate",
+            EntryPoint::Places => "places",
             EntryPoint::CheckImage => "check_image",
             EntryPoint::Prepare => "prepare",
             EntryPoint::Tick => "tick",
@@ -90,6 +93,7 @@ impl EntryPoint {
             EntryPoint::ReadChart => written(RECORDS, |out| library.read_chart(&text(), out)),
             EntryPoint::WriteChart => written(CHART_TEXT, |out| library.write_chart(&bytes(), out)),
             EntryPoint::Translate => written(IMAGE_TEXT, |out| library.translate(&text(), out)),
+            EntryPoint::Places => answered(library.places(&text())),
             EntryPoint::CheckImage => answered(library.check_image(&text())),
             EntryPoint::Prepare => written(TABLE, |out| library.prepare(&text(), out)),
             EntryPoint::Tick => ticked(state, |after| library.tick(&text(), after, words[0])),

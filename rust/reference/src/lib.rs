@@ -17,6 +17,7 @@ pub mod image;
 pub mod library;
 pub mod live;
 pub mod machine;
+pub mod places;
 pub mod prepare;
 pub mod programs;
 pub mod samples;

@@ -12,10 +12,11 @@ use reference::translator;
 use reference::{Reference, State};
 
 /// Which refusals each call may give; 0 is success.
-const TRIED: [(&str, &[u8]); 13] = [
+const TRIED: [(&str, &[u8]); 14] = [
     ("read_chart", &[0, 1, 2, 3, 4, 5, 6, 7, 8, 9, 16, 19]),
     ("write_chart", &[0, 1, 4, 5, 6, 7, 8, 9, 16, 19]),
     ("translate", &[0, 1, 2, 3, 4, 5, 6, 7, 8, 9, 10, 16, 19]),
+    ("places", &[0, 1, 2, 3, 4, 5, 6, 7, 8, 9, 10, 19, 20]),
     ("check_image", &[0, 1, 2, 3, 11, 12, 13]),
     ("fresh", &[0, 14]),
     ("run", &[0, 1, 2, 3, 11, 12, 13, 15, 16, 17, 18]),
@@ -32,7 +33,7 @@ const TRIED: [(&str, &[u8]); 13] = [
 fn every_answer_is_met_and_no_other() {
     let summary = compare(&Reference, 77, 8_000).unwrap_or_else(|difference| panic!("{difference}"));
     for (call, numbers) in TRIED {
-        for number in 0..=19 {
+        for number in 0..=20 {
             let met = summary.count(call, number) > 0;
             assert_eq!(met, numbers.contains(&number), "{call} {number}\n{summary}");
         }

@@ -232,6 +232,10 @@ impl Library for Faulty {
         Answer::Done(text.len())
     }
 
+    fn places(&self, text: &[u8]) -> Answer {
+        entry::places(text)
+    }
+
     fn check_image(&self, text: &[u8]) -> Answer {
         if self.fault == AcceptsAllImages {
             return Answer::Done(0);

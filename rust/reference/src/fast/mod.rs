@@ -7,6 +7,7 @@ mod image;
 mod kept;
 mod live;
 mod machine;
+mod places;
 mod table;
 
 use crate::answer::{answered, Answer, Refusal};
@@ -61,6 +62,14 @@ fn put_image(text: &[u8], out: &mut [u8]) -> Result<usize, Refusal> {
     put(table::fill(records, &begins, &mut image)?, out)
 }
 
+fn places(text: &[u8]) -> Result<usize, Refusal> {
+    let mut frames = [[0; 10]; NODES];
+    let records = frames::decode(text, CHART_TEXT, &mut frames)?;
+    let begins = chart::check(records)?;
+    table::fill(records, &begins, &mut [[0; 10]; IMAGE_FRAMES])?;
+    places::needed(records)
+}
+
 /// The frames of an accepted image and where its parts are.
 fn accepted<'a>(
     text: &[u8],
@@ -102,6 +111,10 @@ impl Library for Fast {
 
     fn translate(&self, text: &[u8], out: &mut [u8]) -> Answer {
         answered(put_image(text, out))
+    }
+
+    fn places(&self, text: &[u8]) -> Answer {
+        answered(places(text))
     }
 
     fn check_image(&self, text: &[u8]) -> Answer {

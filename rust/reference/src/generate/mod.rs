@@ -1,5 +1,6 @@
 //! Random inputs from a seed: charts, images, tables, states, words, buffers, lists of runs, and damage to each.
 
+pub mod chains;
 pub mod charts;
 pub mod damage;
 pub mod images;

@@ -14,7 +14,7 @@ const ROWS: usize = 1024;
 pub fn drawn(random: &mut Random, entry: EntryPoint) -> Input {
     let words = runs::words(random, WORDS);
     match entry {
-        EntryPoint::ReadChart | EntryPoint::WriteChart | EntryPoint::Translate => {
+        EntryPoint::ReadChart | EntryPoint::WriteChart | EntryPoint::Translate | EntryPoint::Places => {
             Input::of(charts::chart(random))
         }
         EntryPoint::LiveTick | EntryPoint::LiveRun => {
@@ -38,7 +38,7 @@ pub fn vary(random: &mut Random, entry: EntryPoint, input: &mut Input) {
 
 fn change(random: &mut Random, entry: EntryPoint, input: &mut Input) {
     match entry {
-        EntryPoint::ReadChart | EntryPoint::WriteChart | EntryPoint::Translate => {
+        EntryPoint::ReadChart | EntryPoint::WriteChart | EntryPoint::Translate | EntryPoint::Places => {
             chart(random, &mut input.frames);
         }
         EntryPoint::CheckImage | EntryPoint::Prepare => image(random, &mut input.frames),

@@ -53,7 +53,9 @@ pub fn candidates(entry: EntryPoint) -> Vec<Candidate> {
 /// All but what a search found, which begins with these.
 pub fn known(entry: EntryPoint) -> Vec<Candidate> {
     match entry {
-        EntryPoint::ReadChart | EntryPoint::WriteChart | EntryPoint::Translate => charts(),
+        EntryPoint::ReadChart | EntryPoint::WriteChart | EntryPoint::Translate | EntryPoint::Places => {
+            charts()
+        }
         EntryPoint::CheckImage | EntryPoint::Prepare => images(),
         EntryPoint::Tick | EntryPoint::Run => ticks(entry),
         EntryPoint::LiveTick | EntryPoint::LiveRun => live(entry),

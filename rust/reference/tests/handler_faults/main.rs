@@ -218,6 +218,10 @@ impl Library for Faulty {
         answer
     }
 
+    fn places(&self, text: &[u8]) -> Answer {
+        entry::places(text)
+    }
+
     fn check_image(&self, text: &[u8]) -> Answer {
         let Ok(mut frames) = frames_of(text, IMAGE_TEXT) else {
             return entry::check_image(text);

@@ -264,6 +264,10 @@ impl Library for Faulty {
         entry::translate(text, out)
     }
 
+    fn places(&self, text: &[u8]) -> Answer {
+        entry::places(text)
+    }
+
     fn check_image(&self, text: &[u8]) -> Answer {
         entry::check_image(text)
     }
