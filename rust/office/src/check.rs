@@ -7,11 +7,21 @@ use fairleadow::{Answer, Library, Proved, IMAGE_TEXT, LINE};
 use crate::command::Failure;
 use crate::explain;
 use crate::kind::Kind;
+use crate::places;
 use crate::problem::Problem;
 use crate::source::{self, Source};
 
-/// What each file holds; the refused ones are told together at the end.
+/// What each file holds.
 pub fn run(files: &[String], out: &mut dyn Write) -> Result<(), Failure> {
+    each(files, out, checked)
+}
+
+/// What is told of the bytes of each file; the refused ones are told together at the end.
+pub fn each(
+    files: &[String],
+    out: &mut dyn Write,
+    told: fn(&[u8]) -> Result<String, Problem>,
+) -> Result<(), Failure> {
     if files.is_empty() {
         return Err(Failure::Usage("a file is missing".to_string()));
     }
@@ -20,10 +30,8 @@ pub fn run(files: &[String], out: &mut dyn Write) -> Result<(), Failure> {
     }
     let mut refused = Vec::new();
     for path in files {
-        match source::read(path).and_then(|bytes| checked(&bytes)) {
-            Ok(accepted) => {
-                writeln!(out, "{}: {accepted}", if path == "-" { "standard input" } else { path })?
-            }
+        match source::read(path).and_then(|bytes| told(&bytes)) {
+            Ok(words) => writeln!(out, "{}: {words}", if path == "-" { "standard input" } else { path })?,
             Err(problem) => refused.push(Failure::of(path, problem)),
         }
     }
@@ -40,7 +48,8 @@ pub fn checked(bytes: &[u8]) -> Result<String, Problem> {
     }
     let source = source::from_either(bytes)?;
     let image = translated(&source)?;
-    Ok(explain::accepted(Some(source.text.len() / LINE), &image))
+    let accepted = explain::accepted(Some(source.text.len() / LINE), &image);
+    Ok(format!("{accepted}; {}", places::told(&source)?))
 }
 
 /// The image of a chart.

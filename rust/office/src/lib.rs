@@ -1,5 +1,6 @@
 //! The office program: charts composed, shown, checked, traced and drawn. Every answer comes from the proved library.
 
+pub mod calls;
 pub mod chart;
 pub mod check;
 pub mod command;
@@ -13,6 +14,7 @@ pub mod marking;
 pub mod names;
 pub mod notation;
 pub mod page;
+pub mod places;
 pub mod plan;
 pub mod problem;
 pub mod source;

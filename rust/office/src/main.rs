@@ -7,7 +7,7 @@ use std::process::ExitCode;
 
 use office::command::{Command, Failure, Run};
 use office::commands::{draw, page, trace};
-use office::{check, compose};
+use office::{check, compose, places};
 
 const fn command(name: &'static str, arguments: &'static str, help: &'static str, run: Run) -> Command {
     Command { name, arguments, help, details: &[], run }
@@ -19,6 +19,7 @@ const COMMANDS: &[Command] = &[
     command("check", "FILE ...", "tells whether a chart or an image is accepted, and why not", check::run),
     command("compose", "FILE", "turns the readable notation into chart lines with their sums", compose::compose),
     command("show", "FILE", "turns chart lines into the readable notation", compose::show),
+    command("places", "FILE ...", "tells how many places of the stack a chart needs, and by which calls", places::run),
     trace::COMMAND,
     draw::COMMAND,
     page::COMMAND,

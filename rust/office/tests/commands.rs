@@ -47,7 +47,7 @@ fn help_and_wrong_calls() {
     let (status, help, none) = fairleadow(&["--help"], b"");
     assert_eq!((status, none.as_str()), (0, ""));
     assert!(help.starts_with("usage: fairleadow COMMAND ARGUMENTS\n"));
-    for name in ["check FILE", "compose FILE", "show FILE"] {
+    for name in ["check FILE", "compose FILE", "show FILE", "places FILE"] {
         assert!(help.lines().any(|line| line.trim_start().starts_with(name) && line.len() > 30), "{name}");
     }
     assert!(help.contains("for check also an image; - is standard input.\n"), "{help}");
@@ -60,7 +60,7 @@ fn help_and_wrong_calls() {
 
 #[test]
 fn each_command_has_a_usage_line() {
-    for name in ["check", "compose", "show"] {
+    for name in ["check", "compose", "show", "places"] {
         let (status, out, _) = fairleadow(&[name, "--help"], b"");
         assert_eq!(status, 0);
         assert!(
@@ -83,12 +83,14 @@ fn check_accepts_charts_images_and_the_notation() {
     let (status, out, told) = fairleadow(&["check", &path("roughing.chart"), &path("roughing.image")], b"");
     assert_eq!((status, told.as_str()), (0, ""));
     let lines: Vec<&str> = out.lines().collect();
-    let chart = "accepted: a chart of 9 nodes in 2 schemes; its image has 7 labels and 6 rows";
-    assert!(lines[0].ends_with(&format!("roughing.chart: {chart}")));
+    let chart = "accepted: a chart of 9 nodes in 2 schemes; its image has 7 labels and 6 rows; \
+                 may need any number of places:";
+    assert!(lines[0].ends_with(&format!("roughing.chart: {chart} s2 calls itself")));
     assert!(lines[1].ends_with("roughing.image: accepted: an image of 2 schemes, 7 labels and 6 rows"));
-    for text in [file("roughing.txt"), file("roughing.chart").to_lowercase()] {
+    let texts = [(file("roughing.txt"), "roughing"), (file("roughing.chart").to_lowercase(), "s2")];
+    for (text, name) in texts {
         let said = fairleadow(&["check", "-"], text.as_bytes());
-        assert_eq!(said, (0, format!("standard input: {chart}\n"), String::new()));
+        assert_eq!(said, (0, format!("standard input: {chart} {name} calls itself\n"), String::new()));
     }
     let (status, out, _) = fairleadow(&["check", "-"], file("roughing.image").to_lowercase().as_bytes());
     assert!(status == 0 && out.contains("accepted: an image of 2 schemes"), "{out}");
@@ -115,7 +117,7 @@ fn check_tells_refusals_with_status_1() {
 
 #[test]
 fn files_that_cannot_be_read() {
-    for name in ["check", "compose", "show"] {
+    for name in ["check", "compose", "show", "places"] {
         let told = format!("{}: this is a directory, not a file\n", path(""));
         assert_eq!(fairleadow(&[name, &path("")], b""), (1, String::new(), told));
         let told = format!("{}: there is no such file\n", path("none.chart"));

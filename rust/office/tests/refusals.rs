@@ -8,10 +8,11 @@ use shared::sheets::{each, edited, lines, told, CHART, IMAGE};
 #[test]
 fn the_sheets_are_accepted() {
     let words = "accepted: a chart of 7 nodes in 2 schemes; its image has 5 labels and 4 rows";
-    assert_eq!(checked(CHART.as_bytes()).unwrap(), words);
+    let places = "may need any number of places: s2 calls itself";
+    assert_eq!(checked(CHART.as_bytes()).unwrap(), format!("{words}; {places}"));
     assert_eq!(checked(IMAGE.as_bytes()).unwrap(), "accepted: an image of 2 schemes, 5 labels and 4 rows");
     assert_eq!(edited(CHART, 1, 1, "00"), CHART);
-    let with_handler = format!("{words}; scheme 2 is the handler");
+    let with_handler = format!("{words}; scheme 2 is the handler; {places}");
     assert_eq!(checked(edited(CHART, 4, 5, "01").as_bytes()).unwrap(), with_handler);
     let with_handler = "accepted: an image of 2 schemes, 5 labels and 4 rows; scheme 2 is the handler";
     assert_eq!(checked(edited(IMAGE, 1, 11, "02").as_bytes()).unwrap(), with_handler);

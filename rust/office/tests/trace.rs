@@ -53,8 +53,8 @@ fn a_full_stack_is_told_with_the_call_that_met_it() {
     let told = [
         "tick 3, word 0000, node n6 of s2: the call of s2 finds the stack full, all 2 places in use (2: s1 > s2)",
         "  refusal 17: a call needs a free place of the stack, or a handler that is not at the bottom of it",
-        "  look for: a chart or a handler that calls deeper than the stack has places: give it more (32 at most), or let it \
-         call less deep",
+        "  look for: a chart or a handler that calls deeper than the stack has places: give it more (32 at most; `fairleadow \
+         places` tells how many it needs), or let it call less deep",
         "",
     ];
     let left = [

@@ -1,5 +1,6 @@
 //! A refusal of the library in words. The library's answer decides; here the reason for that very answer is found.
 
+mod circles;
 mod image;
 mod image_fields;
 mod lines;
@@ -36,7 +37,7 @@ fn reason(text: &[u8], asked: Kind, refusal: &Refusal) -> Option<Problem> {
         1 => lines::length(text, asked, CHART_TEXT),
         2 => lines::character_of(text, index),
         3 => lines::sum(text, index),
-        4..=10 | 19 => of_records(&frames(text)?, refusal, Voice::Lines),
+        4..=10 | 19 | 20 => of_records(&frames(text)?, refusal, Voice::Lines),
         11 => image::header(&frames(text)?),
         12 => image::place(&frames(text)?, index),
         13 => image_fields::field(&frames(text)?, index),
@@ -53,7 +54,7 @@ pub fn composed(records: &[u8], names: &Names, lines: &[usize], answer: Answer) 
         records.chunks_exact(RECORD).map(|record| record.try_into().expect("ten bytes")).collect();
     let problem = match refusal.number {
         1 => Some(node_count(records.len(), lines)),
-        4..=10 | 19 => of_records(&records, &refusal, Voice::Notation { names, lines }),
+        4..=10 | 19 | 20 => of_records(&records, &refusal, Voice::Notation { names, lines }),
         _ => of_run(&refusal),
     };
     problem.unwrap_or_else(|| Problem::new(UNEXPLAINED)).refused(refusal)
@@ -84,6 +85,7 @@ fn of_records(records: &[[u8; RECORD]], refusal: &Refusal, voice: Voice) -> Opti
         8 => paths::on_circle(records, index, voice),
         9 => paths::cut_off(records, index, voice),
         19 => nodes::marks(records, voice),
+        20 => circles::of_calls(records, voice),
         _ => rows::rows(records, voice),
     }
 }
@@ -97,8 +99,8 @@ fn of_run(refusal: &Refusal) -> Option<Problem> {
         16 => ("a buffer is too short for the answer".to_string(), "the caller's buffers"),
         17 => (
             format!("after {ticks} a call finds the stack full"),
-            "a chart or a handler that calls deeper than the stack has places: give it more (32 at most), or let it call \
-             less deep",
+            "a chart or a handler that calls deeper than the stack has places: give it more (32 at most; `fairleadow \
+             places` tells how many it needs), or let it call less deep",
         ),
         18 => (
             format!("after {ticks} no row of the label matches the word"),

@@ -13,8 +13,8 @@ pub const CONDITION: u8 = 3;
 const FUNCTION: u8 = 4;
 
 /// Where fields stand in a record.
-const SCHEME: usize = 1;
-const ARGUMENT: usize = 2;
+pub const SCHEME: usize = 1;
+pub const ARGUMENT: usize = 2;
 const NEXT: usize = 3;
 const RESULT: usize = 5;
 

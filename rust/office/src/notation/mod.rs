@@ -145,11 +145,15 @@ impl Notation {
         }
     }
 
-    /// A refusal of the library, told by the lines and names of this notation; a mark that is refused has a column too.
+    /// A refusal of the library, told by the lines and names of this notation; a mark or a call has a column too.
     pub fn problem(&self, answer: Answer) -> Problem {
         let told = explain::composed(&self.records, &self.names, &self.node_lines(), answer);
-        let marked = told.line.filter(|_| answer.number() == 19);
-        let column = marked.and_then(|line| mark_column(self.text.lines().nth(line - 1)?));
+        let line = told.line.and_then(|line| self.text.lines().nth(line - 1));
+        let column = line.and_then(|line| match answer.number() {
+            19 => mark_column(line),
+            20 => call_column(line),
+            _ => None,
+        });
         Problem { column, ..told }.excerpt(self.text.as_bytes())
     }
 }
@@ -158,6 +162,11 @@ impl Notation {
 fn mark_column(line: &str) -> Option<usize> {
     let words = words::words(line).words;
     words.windows(2).find(|pair| pair[0].text == "begin").map(|pair| pair[1].column)
+}
+
+/// Where a line calls a scheme.
+fn call_column(line: &str) -> Option<usize> {
+    words::words(line).words.iter().find(|word| word.text == "call").map(|word| word.column)
 }
 
 /// What a statement is on its line; nodes are counted on.
