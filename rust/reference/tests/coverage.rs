@@ -55,7 +55,7 @@ fn every_call_that_ticks_meets_the_handler() {
 fn every_call_that_reads_meets_small_letters() {
     let summary = compare(&Reference, 79, 8_000).unwrap_or_else(|difference| panic!("{difference}"));
     let calls =
-        ["read_chart", "translate", "check_image", "prepare", "run", "tick", "runs", "live_runs", "mixture"];
+        ["read_chart", "translate", "places", "check_image", "prepare", "run", "tick", "runs", "live_runs", "mixture"];
     for call in calls {
         assert!(summary.small(call) > 100, "{call}\n{summary}");
     }
