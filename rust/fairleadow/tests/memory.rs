@@ -60,6 +60,16 @@ extern "C" fn translate(job: &mut Translation) {
     };
 }
 
+struct Counting {
+    chart: Vec<u8>,
+    number: u8,
+}
+
+extern "C" fn places(job: &mut Counting) {
+    let (mut index, mut count) = (0, 0);
+    job.number = unsafe { c::fairleadow_places(job.chart.as_ptr(), job.chart.len(), &mut index, &mut count) };
+}
+
 struct Preparation {
     image: Vec<u8>,
     table: Vec<u8>,
@@ -180,6 +190,18 @@ fn a_translation_fits_beside_both_texts() {
     }
     println!("translate: {deepest} bytes of stack");
     assert!(CHART_TEXT + IMAGE_TEXT + deepest < MEMORY, "translate takes {deepest} bytes of stack");
+}
+
+#[test]
+fn a_count_of_places_fits_beside_both_texts() {
+    let mut deepest = 0;
+    for records in worst_charts() {
+        let mut job = Counting { chart: text_of(&records), number: 0 };
+        deepest = deepest.max(depth(&mut job, places));
+        assert!(matches!(job.number, 0 | 8 | 9 | 10 | 20));
+    }
+    println!("places: {deepest} bytes of stack");
+    assert!(CHART_TEXT + IMAGE_TEXT + deepest < MEMORY, "places takes {deepest} bytes of stack");
 }
 
 /// The images of all charts that translate, and the largest.

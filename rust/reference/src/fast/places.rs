@@ -12,12 +12,10 @@ pub fn needed(records: &[Frame]) -> Result<usize, Refusal> {
     for record in records.iter().filter(|record| matches!(record[0], 2 | 4) && record[2] != 0) {
         calls[usize::from(record[1])] |= 1 << record[2];
     }
-    let mut standing = 1 << 1;
+    let mut standing = 1u32 << 1;
     for depth in 1..=SCHEMES {
-        let standing_now = standing;
-        standing = (1..=SCHEMES)
-            .filter(|scheme| standing_now >> scheme & 1 == 1)
-            .fold(0, |all, scheme| all | calls[scheme]);
+        let callers = (1..=SCHEMES).filter(|scheme| standing >> scheme & 1 == 1);
+        standing = callers.fold(0, |all, scheme| all | calls[scheme]);
         if standing == 0 {
             return Ok(depth);
         }
