@@ -38,6 +38,10 @@ impl Library for Misreading {
         Reference.translate(&self.read(text), out)
     }
 
+    fn places(&self, text: &[u8]) -> Answer {
+        Reference.places(&self.read(text))
+    }
+
     fn check_image(&self, text: &[u8]) -> Answer {
         Reference.check_image(&self.read(text))
     }
