@@ -66,8 +66,8 @@ uint8_t fairleadow_write_chart(const uint8_t *records, size_t records_len, uint8
 uint8_t fairleadow_translate(const uint8_t *chart, size_t chart_len, uint8_t *image, size_t image_len,
                              size_t *index, size_t *count);
 
-/* How many places a chart's calls need at most, 1 to 16: with so many no call gets 17 or drops. Tries 1 to 10, 19 and 20; counts
- * places. */
+/* How many places a chart's calls need at most, 1 to 16: from a fresh state with so many or more no call gets 17 or
+ * drops. Tries 1 to 10, 19 and 20; counts places. */
 uint8_t fairleadow_places(const uint8_t *chart, size_t chart_len, size_t *index, size_t *count);
 
 /* Whether an image is in order. Tries 1 to 3 and 11 to 13; counts 0. */

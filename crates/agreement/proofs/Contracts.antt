@@ -3,8 +3,10 @@
 use contract.Lifetimes.{Lfts}
 use denote.Triple.Clauses.{AtExit}
 use borrow.Fn.World.{ArgsD, ResD}
-use Rattle.frames.specs.Answer.{Lends}
+use mathlib.Core.Path.{_≡_}
+use Rattle.frames.specs.Answer.{reply, Lends}
 use Rattle.translator.specs.Entry.{translate}
+use Rattle.places.specs.Entry.{placesNeeded}
 use Rattle.translator.proofs.translate as translator-translate
 use Rattle.translator.proofs.translate.Reads as translator-translate-reads
 use Rattle.tables.specs.Prepare.{prepare}
@@ -25,9 +27,13 @@ use Rattle.machine.proofs.live_run.Reads as machine-live-run-reads
 use Rattle.machine.proofs.live_tick as machine-live-tick
 use Rattle.machine.proofs.live_tick.Reads as machine-live-tick-reads
 use Rattle.state.specs.Bytes.{stateOf}
-use Rattle.fairleadow.specs.Calls.{LendsC, MakesC, runFor, RunsC, tickFor, AdvancesC}
+use Rattle.fairleadow.specs.Calls.{Told, LendsC, MakesC, runFor, RunsC, tickFor, AdvancesC}
 use Rattle.fairleadow.proofs.fairleadow_translate as c-translate
 use Rattle.fairleadow.proofs.fairleadow_translate.Reads as c-translate-reads
+use Rattle.places.proofs.places_needed as places-needed
+use Rattle.places.proofs.places_needed.Reads as places-needed-reads
+use Rattle.fairleadow.proofs.fairleadow_places as c-places
+use Rattle.fairleadow.proofs.fairleadow_places.Reads as c-places-reads
 use Rattle.fairleadow.proofs.fairleadow_fresh as c-fresh
 use Rattle.fairleadow.proofs.fairleadow_fresh.Reads as c-fresh-reads
 use Rattle.fairleadow.proofs.fairleadow_run as c-run
@@ -46,6 +52,10 @@ pub translate-lends : (κs : Lfts 2) (a : ArgsD translator-translate.signature �
     (s : AtExit translator-translate.ended κs)
     → translator-translate-reads.Learnt κs a r s → Lends (translate (a .0 .now) (a .1 .0 .now)) r (s .1 .0 .now)
 translate-lends κs a r s e = e
+
+pub places-answered : (κs : Lfts 1) (a : ArgsD places-needed.signature κs) (r : ResD places-needed.signature κs) (s : AtExit places-needed.ended κs)
+    → places-needed-reads.Learnt κs a r s → reply r ≡ placesNeeded (a .0 .now)
+places-answered κs a r s e = e
 
 pub prepare-lends : (κs : Lfts 2) (a : ArgsD tables-prepare.signature κs) (r : ResD tables-prepare.signature κs)
     (s : AtExit tables-prepare.ended κs)
@@ -97,6 +107,10 @@ pub tick-advances-c : (κs : Lfts 6) (a : ArgsD c-tick.signature κs) (r : ResD 
     → AdvancesC (tickFor (a .0 .now) (a .1 .0 .now) (a .1 .1 .0)) (a .1 .0 .now) (a .1 .1 .1 .0 .now) (a .1 .1 .1 .1 .0 .now)
     r (s .1 .1 .1 .1 .1 .0 .now) (s .1 .1 .1 .1 .1 .1 .0 .now) (s .1 .0 .now) (s .1 .1 .1 .0 .now) (s .1 .1 .1 .1 .0 .now)
 tick-advances-c κs a r s e = e
+
+pub places-answered-c : (κs : Lfts 3) (a : ArgsD c-places.signature κs) (r : ResD c-places.signature κs) (s : AtExit c-places.ended κs)
+    → c-places-reads.Learnt κs a r s → Told (placesNeeded (a .0 .now)) r (s .1 .0 .now) (s .1 .1 .0 .now)
+places-answered-c κs a r s e = e
 
 pub prepare-lends-c : (κs : Lfts 4) (a : ArgsD c-prepare.signature κs) (r : ResD c-prepare.signature κs) (s : AtExit c-prepare.ended κs)
     → c-prepare-reads.Learnt κs a r s

@@ -1,11 +1,11 @@
 -- Every case of a refusal holds, computed.
 use mathlib.Core.Path.{refl}
-use Rattle.bench.specs.Bench.{chartP, imageP, words}
+use Rattle.bench.specs.Bench.{chartP, imageP, words, chartFunction}
 use Rattle.bench.specs.Cases.{RefusalCases}
-use Rattle.bench.proofs.Computing.{translating, running}
+use Rattle.bench.proofs.Computing.{translating, counting, running}
 
 pub refusal-cases : RefusalCases
-unfolding translating running chartP imageP words
+unfolding translating counting running chartP imageP words chartFunction
 refusal-cases = record {
   r1-short = refl;
   r1-records = refl;
@@ -71,4 +71,7 @@ refusal-cases = record {
   r19-second = refl;
   r19-after-5 = refl;
   r19-before-6 = refl;
+  r20 = refl;
+  r20-after-19 = refl;
+  r20-none = refl;
 }

@@ -17,6 +17,8 @@ use Rattle.translator.specs.Labels.{label}
 use Rattle.translator.specs.Rows.{paths, rowsOf, rows}
 use Rattle.translator.specs.Table.{table}
 use Rattle.translator.specs.Entry.{translateVerdict, translate}
+use Rattle.chains.specs.Calls.{calls, circular, endsOf, places}
+use Rattle.places.specs.Entry.{placesVerdict, placesNeeded}
 use Rattle.state.specs.State.{freshState, unfit}
 use Rattle.ticks.specs.Tick.{tick}
 use Rattle.rows.specs.Rows.{firstRow}
@@ -40,6 +42,11 @@ walking = tt
 unfoldable pub translating : Unit {0}
 unfolding charting filter mapFrom stops start label paths rowsOf rows table imageFrames imageText translateVerdict translate
 translating = tt
+
+-- places needed
+unfoldable pub counting : Unit {0}
+unfolding translating calls circular endsOf places placesVerdict placesNeeded
+counting = tt
 
 -- images
 unfoldable pub checking : Unit {0}

@@ -7,17 +7,18 @@ use lib.ListN.{length, replicate, set, take}
 use Rattle.lists.specs.Numbers.{range}
 use Rattle.lists.specs.Sequences.{concatMap}
 use Rattle.frames.specs.Verdict.{fine, refused}
-use Rattle.frames.specs.Answer.{refusal}
+use Rattle.frames.specs.Answer.{success, refusal}
 use Rattle.frames.specs.Frame.{quad, contents, textOf}
 use Rattle.charts.specs.Chart.{Chart}
 use Rattle.charts.specs.Entry.{readVerdict, readChart, writeVerdict}
 use Rattle.translator.specs.Rows.{rows}
 use Rattle.translator.specs.Entry.{translateVerdict}
+use Rattle.places.specs.Entry.{placesNeeded}
 use Rattle.image.specs.Check.{imageVerdict}
 use Rattle.state.specs.declared.State.{State}
 use Rattle.state.specs.State.{freshState, fresh, noState}
 use Rattle.runs.specs.Run.{Run, run}
-use Rattle.bench.specs.Bench.{chartP, imageP, words, freshRun}
+use Rattle.bench.specs.Bench.{chartP, imageP, words, chartFunction, freshRun}
 
 -- ---- node records by kind, with the fields that the kind uses
 abbrev pub begins : ℕ → ℕ → List ℕ
@@ -175,3 +176,8 @@ pub record RefusalCases : Type 0 where
   -- with an End missing too, and with an arc to no node
   pub r19-after-5 : readVerdict (textOf (set markedFirst 51 1)) ≡ refused 5 0
   pub r19-before-6 : readVerdict (textOf (set markedFirst 13 7)) ≡ refused 19 0
+  -- scheme 2 of chart P calls itself; a wrong mark is told first
+  pub r20 : placesNeeded chartP ≡ refusal 20 0 0
+  pub r20-after-19 : placesNeeded (textOf markedFirst) ≡ refusal 19 0 0
+  -- a function of scheme 1 calls scheme 2, which calls none
+  pub r20-none : placesNeeded chartFunction ≡ success 2

@@ -5,6 +5,7 @@ use mathlib.Core.Path.{_≡_, sym, _∙_, ap, subst}
 use mathlib.Core.Logic.{⊎-elim}
 use mathlib.Core.List.{List}
 use native.Mathlib.Omega.{arith}
+use borrow.Author.Tests.{le-ltb}
 use lib.Dec.{ltb}
 use lib.ListN.{length, take}
 use Rattle.lists.specs.Pick.{pick}
@@ -30,6 +31,10 @@ use Rattle.places.specs.Entry.{placesVerdict, placesNeeded}
 -- ---- rows counted up to 1025
 pub more-than-most : (r n : ℕ) → r ≡ min 1025 n → ltb 1024 r ≡ ltb 1024 n
 more-than-most r n e = same-ltb 1024 r 1024 n (λ l. omega arith) (λ l. omega arith)
+
+-- by a bound on them
+pub at-most : (bound n : ℕ) → n ≤ bound → bound ≤ 1024 → false ≡ ltb 1024 n
+at-most bound n l m = sym (le-ltb 1024 n (omega arith))
 
 -- ---- what the code's number tells
 module _ (c : Chart) (f : Facts c) (n : ℕ) (e : n ≡ longestChain c) where

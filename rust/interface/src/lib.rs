@@ -56,7 +56,7 @@ pub trait Library {
     fn translate(&self, text: &[u8], out: &mut [u8]) -> Answer;
 
     /// How many places a chart's calls need at most, 1 to 16: the longest chain of calls from scheme 1, which counts. With so
-    /// many no call gets 17 or drops. Tries 1 to 10, with 19 after 5, and 20; counts places.
+    /// many or more, from a fresh state, no call gets 17 or drops. Tries 1 to 10, with 19 after 5, and 20; counts places.
     fn places(&self, text: &[u8]) -> Answer;
 
     /// Whether an image is in order. Tries 1 to 3 and 11 to 13.
