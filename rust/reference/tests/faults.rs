@@ -5,12 +5,13 @@ mod common;
 
 use std::cell::RefCell;
 
+use common::is_found;
 use reference::compare::compare;
 use reference::entry::{self, image_from_text};
 use reference::frames::text_of;
 use reference::image::{Image, Label, FUNCTION_CALL, HOME, RETURN};
 use reference::machine::{self, Advanced};
-use reference::{Answer, Library, Meaning, Reference, State, Ticked};
+use reference::{Answer, Library, Reference, State, Ticked};
 
 faults! {
     TurnsAllChartsBack,
@@ -188,6 +189,8 @@ fn joined(image: &mut Image) {
 }
 
 impl Library for Faulty {
+    as_the_reference!(places, prepare, live_run, meaning);
+
     fn read_chart(&self, text: &[u8], out: &mut [u8]) -> Answer {
         let answer = entry::read_chart(text, out);
         match (self.fault, answer) {
@@ -230,10 +233,6 @@ impl Library for Faulty {
         }
         out[..text.len()].copy_from_slice(&text);
         Answer::Done(text.len())
-    }
-
-    fn places(&self, text: &[u8]) -> Answer {
-        entry::places(text)
     }
 
     fn check_image(&self, text: &[u8]) -> Answer {
@@ -283,35 +282,13 @@ impl Library for Faulty {
         }
         ticked
     }
-
-    fn prepare(&self, image: &[u8], table: &mut [u8]) -> Answer {
-        entry::prepare(image, table)
-    }
-
-    fn live_run(
-        &self,
-        table: &[u8],
-        state: &State,
-        words: &[u16],
-        masks: &mut [u32],
-        codes: &mut [u8],
-    ) -> (Answer, State) {
-        entry::live_run(table, state, words, masks, codes)
-    }
-
-    fn meaning(&self, code: u8) -> Meaning {
-        Reference.meaning(code)
-    }
 }
 
 #[test]
 fn every_fault_is_found() {
     for &fault in FAULTS {
         let library = Faulty::new(fault);
-        let Err(difference) = compare(&library, 5, 5_000) else {
-            panic!("{fault:?} was not found");
-        };
-        println!("{fault:?}: case {} in {}", difference.seed - 5, difference.call);
+        is_found(format_args!("{fault:?}"), &library, 5_000);
     }
 }
 

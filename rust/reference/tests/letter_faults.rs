@@ -1,7 +1,10 @@
 //! Libraries that read characters in one wrong way each: the comparison must find every one.
 
-use reference::compare::compare;
-use reference::{Answer, Library, Meaning, Reference, State};
+#[macro_use]
+mod common;
+
+use common::is_found;
+use reference::{Answer, Library, Reference, State};
 
 /// Which character is read in the place of each.
 type Reading = fn(u8) -> u8;
@@ -26,12 +29,10 @@ impl Misreading {
 }
 
 impl Library for Misreading {
+    as_the_reference!(write_chart, fresh, live_run, meaning);
+
     fn read_chart(&self, text: &[u8], out: &mut [u8]) -> Answer {
         Reference.read_chart(&self.read(text), out)
-    }
-
-    fn write_chart(&self, records: &[u8], out: &mut [u8]) -> Answer {
-        Reference.write_chart(records, out)
     }
 
     fn translate(&self, text: &[u8], out: &mut [u8]) -> Answer {
@@ -44,10 +45,6 @@ impl Library for Misreading {
 
     fn check_image(&self, text: &[u8]) -> Answer {
         Reference.check_image(&self.read(text))
-    }
-
-    fn fresh(&self, size: usize) -> (Answer, State) {
-        Reference.fresh(size)
     }
 
     fn run(
@@ -64,29 +61,11 @@ impl Library for Misreading {
     fn prepare(&self, image: &[u8], table: &mut [u8]) -> Answer {
         Reference.prepare(&self.read(image), table)
     }
-
-    fn live_run(
-        &self,
-        table: &[u8],
-        state: &State,
-        words: &[u16],
-        masks: &mut [u32],
-        codes: &mut [u8],
-    ) -> (Answer, State) {
-        Reference.live_run(table, state, words, masks, codes)
-    }
-
-    fn meaning(&self, code: u8) -> Meaning {
-        Reference.meaning(code)
-    }
 }
 
 #[test]
 fn every_misreading_is_found() {
     for (fault, reading) in FAULTS {
-        let Err(difference) = compare(&Misreading(reading), 5, 40_000) else {
-            panic!("a library that {fault} was not found");
-        };
-        println!("{fault}: case {} in {}", difference.seed - 5, difference.call);
+        is_found(format_args!("a library that {fault}"), &Misreading(reading), 40_000);
     }
 }

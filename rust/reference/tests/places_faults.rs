@@ -3,14 +3,14 @@
 #[macro_use]
 mod common;
 
+use common::is_found;
 use reference::answer::{answered, Refusal};
 use reference::chart::{Chart, Kind, Node};
-use reference::compare::compare;
 use reference::entry::{self, chart_from_text};
 use reference::frames::{frames_of, text_of, CHART_TEXT};
 use reference::places::longest_chain;
 use reference::translator::image_of;
-use reference::{Answer, Library, Meaning, Reference, State};
+use reference::{Answer, Library};
 
 faults! {
     CountsCallsAndNotSchemes,
@@ -101,6 +101,18 @@ fn counted(fault: Fault, chart: Chart) -> Result<usize, Refusal> {
 }
 
 impl Library for Faulty {
+    as_the_reference!(
+        read_chart,
+        write_chart,
+        translate,
+        check_image,
+        fresh,
+        run,
+        prepare,
+        live_run,
+        meaning
+    );
+
     fn places(&self, text: &[u8]) -> Answer {
         let answer = answered(chart_from_text(text).and_then(|chart| counted(self.0, chart)));
         match (self.0, answer) {
@@ -118,64 +130,11 @@ impl Library for Faulty {
             _ => answer,
         }
     }
-
-    fn read_chart(&self, text: &[u8], out: &mut [u8]) -> Answer {
-        entry::read_chart(text, out)
-    }
-
-    fn write_chart(&self, records: &[u8], out: &mut [u8]) -> Answer {
-        entry::write_chart(records, out)
-    }
-
-    fn translate(&self, text: &[u8], out: &mut [u8]) -> Answer {
-        entry::translate(text, out)
-    }
-
-    fn check_image(&self, text: &[u8]) -> Answer {
-        entry::check_image(text)
-    }
-
-    fn fresh(&self, size: usize) -> (Answer, State) {
-        entry::fresh(size)
-    }
-
-    fn run(
-        &self,
-        image: &[u8],
-        state: &State,
-        words: &[u16],
-        masks: &mut [u32],
-        codes: &mut [u8],
-    ) -> (Answer, State) {
-        entry::run(image, state, words, masks, codes)
-    }
-
-    fn prepare(&self, image: &[u8], table: &mut [u8]) -> Answer {
-        entry::prepare(image, table)
-    }
-
-    fn live_run(
-        &self,
-        table: &[u8],
-        state: &State,
-        words: &[u16],
-        masks: &mut [u32],
-        codes: &mut [u8],
-    ) -> (Answer, State) {
-        entry::live_run(table, state, words, masks, codes)
-    }
-
-    fn meaning(&self, code: u8) -> Meaning {
-        Reference.meaning(code)
-    }
 }
 
 #[test]
 fn every_fault_is_found() {
     for &fault in FAULTS {
-        let Err(difference) = compare(&Faulty(fault), 5, 20_000) else {
-            panic!("{fault:?} was not found");
-        };
-        println!("{fault:?}: case {} in {}", difference.seed - 5, difference.call);
+        is_found(format_args!("{fault:?}"), &Faulty(fault), 20_000);
     }
 }

@@ -1,6 +1,12 @@
 //! What the tests of faulty libraries share.
 
+use std::fmt::Display;
+
+use reference::compare::compare;
+use reference::Library;
+
 /// An enum of the faults, and the list of them all.
+#[allow(unused_macros)] // some tests have a list of another form
 macro_rules! faults {
     ($($fault:ident),* $(,)?) => {
         #[derive(Clone, Copy, Debug, PartialEq)]
@@ -12,4 +18,43 @@ macro_rules! faults {
 
         const FAULTS: &[Fault] = &[$($fault),*];
     };
+}
+
+/// The calls of `impl Library` that a faulty library answers as the reference does. A tick that is not named here or written out
+/// is made by the library's own run.
+macro_rules! as_the_reference {
+    ($($call:ident),* $(,)?) => { $(as_the_reference!(@$call);)* };
+    (@read_chart) => { as_the_reference!(@fn read_chart(text: &[u8], out: &mut [u8]) -> reference::Answer); };
+    (@write_chart) => { as_the_reference!(@fn write_chart(records: &[u8], out: &mut [u8]) -> reference::Answer); };
+    (@translate) => { as_the_reference!(@fn translate(text: &[u8], out: &mut [u8]) -> reference::Answer); };
+    (@places) => { as_the_reference!(@fn places(text: &[u8]) -> reference::Answer); };
+    (@check_image) => { as_the_reference!(@fn check_image(text: &[u8]) -> reference::Answer); };
+    (@fresh) => { as_the_reference!(@fn fresh(size: usize) -> (reference::Answer, reference::State)); };
+    (@run) => { as_the_reference!(@run run); };
+    (@prepare) => { as_the_reference!(@fn prepare(image: &[u8], table: &mut [u8]) -> reference::Answer); };
+    (@live_run) => { as_the_reference!(@run live_run); };
+    (@meaning) => { as_the_reference!(@fn meaning(code: u8) -> reference::Meaning); };
+    (@run $call:ident) => {
+        as_the_reference!(@fn $call(
+            image: &[u8],
+            state: &reference::State,
+            words: &[u16],
+            masks: &mut [u32],
+            codes: &mut [u8]
+        ) -> (reference::Answer, reference::State));
+    };
+    (@fn $call:ident($($given:ident: $kind:ty),*) -> $answer:ty) => {
+        fn $call(&self, $($given: $kind),*) -> $answer {
+            reference::Library::$call(&reference::Reference, $($given),*)
+        }
+    };
+}
+
+/// The comparison finds the fault of a library within so many cases.
+pub fn is_found(fault: impl Display, library: &dyn Library, cases: u64) {
+    const SEED: u64 = 5;
+    let Err(difference) = compare(library, SEED, cases) else {
+        panic!("{fault} was not found");
+    };
+    println!("{fault}: case {} in {}", difference.seed - SEED, difference.call);
 }

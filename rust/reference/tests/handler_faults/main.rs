@@ -7,13 +7,13 @@ mod marks;
 
 use std::cell::Cell;
 
+use common::is_found;
 use reference::answer::Refusal;
-use reference::compare::compare;
 use reference::entry::{self, image_from_text};
 use reference::frames::{frames_of, text_of, IMAGE_TEXT};
 use reference::image::{Image, Label, OPERATION_CALL, RETURN};
 use reference::machine::{self, handles, Advanced};
-use reference::{Answer, Library, Meaning, Reference, State};
+use reference::{Answer, Library, State};
 
 faults! {
     // what a chart marks, and where an image names it
@@ -55,7 +55,7 @@ faults! {
     ClearsItsBitAtTheEnd,
 }
 
-/// The reference with one fault. `dropped` is the label that the last drop of a run found at the bottom.
+/// The reference with one fault. `dropped` is the label whose call was the last drop of a run.
 struct Faulty {
     fault: Fault,
     dropped: Cell<Option<u8>>,
@@ -114,7 +114,7 @@ impl Faulty {
         let mut advanced = machine::tick(image, &before, word)?;
         advanced.state.size = state.size;
         if advanced.code == 0x60 {
-            self.dropped.set(Some(state.places[0]));
+            self.dropped.set(Some(state.places[top]));
             self.spoil_drop(image, state, &here, &mut advanced);
         }
         if here.kind == RETURN && top == 0 {
@@ -201,12 +201,10 @@ impl Faulty {
 }
 
 impl Library for Faulty {
+    as_the_reference!(write_chart, places, fresh, prepare, live_run, meaning);
+
     fn read_chart(&self, text: &[u8], out: &mut [u8]) -> Answer {
         self.judged(text).map_or_else(Answer::from, |text| entry::read_chart(&text, out))
-    }
-
-    fn write_chart(&self, records: &[u8], out: &mut [u8]) -> Answer {
-        entry::write_chart(records, out)
     }
 
     fn translate(&self, text: &[u8], out: &mut [u8]) -> Answer {
@@ -216,10 +214,6 @@ impl Library for Faulty {
             out[..count].copy_from_slice(&text_of(&image.frames()));
         }
         answer
-    }
-
-    fn places(&self, text: &[u8]) -> Answer {
-        entry::places(text)
     }
 
     fn check_image(&self, text: &[u8]) -> Answer {
@@ -232,10 +226,6 @@ impl Library for Faulty {
             _ => {}
         }
         entry::check_image(&text_of(&frames))
-    }
-
-    fn fresh(&self, size: usize) -> (Answer, State) {
-        entry::fresh(size)
     }
 
     fn run(
@@ -257,34 +247,12 @@ impl Library for Faulty {
         }
         self.ticks(&image, state, words, masks, codes)
     }
-
-    fn prepare(&self, image: &[u8], table: &mut [u8]) -> Answer {
-        entry::prepare(image, table)
-    }
-
-    fn live_run(
-        &self,
-        table: &[u8],
-        state: &State,
-        words: &[u16],
-        masks: &mut [u32],
-        codes: &mut [u8],
-    ) -> (Answer, State) {
-        entry::live_run(table, state, words, masks, codes)
-    }
-
-    fn meaning(&self, code: u8) -> Meaning {
-        Reference.meaning(code)
-    }
 }
 
 #[test]
 fn every_fault_is_found() {
     for &fault in FAULTS {
         let library = Faulty { fault, dropped: Cell::new(None) };
-        let Err(difference) = compare(&library, 5, 10_000) else {
-            panic!("{fault:?} was not found");
-        };
-        println!("{fault:?}: case {} in {}", difference.seed - 5, difference.call);
+        is_found(format_args!("{fault:?}"), &library, 10_000);
     }
 }

@@ -6,13 +6,13 @@ mod common;
 mod handler;
 mod misread;
 
+use common::is_found;
 use reference::answer::Refusal;
-use reference::compare::compare;
 use reference::entry;
 use reference::image::{Label, FUNCTION_CALL, HOME, RETURN};
 use reference::live::Held;
 use reference::machine::Advanced;
-use reference::{Answer, Library, Meaning, Reference, State, Ticked};
+use reference::{Answer, Library, State, Ticked};
 
 faults! {
     // what is prepared
@@ -252,40 +252,7 @@ fn write(state: &mut State, label: &Label) {
 }
 
 impl Library for Faulty {
-    fn read_chart(&self, text: &[u8], out: &mut [u8]) -> Answer {
-        entry::read_chart(text, out)
-    }
-
-    fn write_chart(&self, records: &[u8], out: &mut [u8]) -> Answer {
-        entry::write_chart(records, out)
-    }
-
-    fn translate(&self, text: &[u8], out: &mut [u8]) -> Answer {
-        entry::translate(text, out)
-    }
-
-    fn places(&self, text: &[u8]) -> Answer {
-        entry::places(text)
-    }
-
-    fn check_image(&self, text: &[u8]) -> Answer {
-        entry::check_image(text)
-    }
-
-    fn fresh(&self, size: usize) -> (Answer, State) {
-        entry::fresh(size)
-    }
-
-    fn run(
-        &self,
-        image: &[u8],
-        state: &State,
-        words: &[u16],
-        masks: &mut [u32],
-        codes: &mut [u8],
-    ) -> (Answer, State) {
-        entry::run(image, state, words, masks, codes)
-    }
+    as_the_reference!(read_chart, write_chart, translate, places, check_image, fresh, run, meaning);
 
     fn prepare(&self, image: &[u8], table: &mut [u8]) -> Answer {
         let answer = entry::prepare(image, table);
@@ -341,18 +308,11 @@ impl Library for Faulty {
         }
         Ticked { answer, mask: masks[0], code: codes[0] }
     }
-
-    fn meaning(&self, code: u8) -> Meaning {
-        Reference.meaning(code)
-    }
 }
 
 #[test]
 fn every_fault_is_found() {
     for &fault in FAULTS {
-        let Err(difference) = compare(&Faulty(fault), 5, 30_000) else {
-            panic!("{fault:?} was not found");
-        };
-        println!("{fault:?}: case {} in {}", difference.seed - 5, difference.call);
+        is_found(format_args!("{fault:?}"), &Faulty(fault), 30_000);
     }
 }
