@@ -10,6 +10,8 @@ pub mod Images
 pub mod Joins
 pub mod Chain
 pub mod TableFactsHold
+pub mod OnlyRow
+pub mod AnyRule
 pub mod Demand
 pub mod OneCall
 pub mod Delivered

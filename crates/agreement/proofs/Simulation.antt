@@ -25,8 +25,8 @@ use Rattle.translator.specs.Rows.{rows}
 use Rattle.translator.specs.Table.{table}
 use Rattle.state.specs.declared.State.{State}
 use Rattle.state.specs.State.{labelAt, placeAt, ofHandler}
-use Rattle.ticks.specs.Tick.{rowOf, Ticked, ticked, stopped, moved, pushed, popped, tickBy, tick}
-use Rattle.rows.specs.Rows.{Found, found, firstRow}
+use Rattle.ticks.specs.Tick.{rowOf, Ticked, ticked, stopped, moved, keepsFull, pushed, popped, tickBy, tick}
+use Rattle.rows.specs.Rows.{bestRow, Found, found, leads}
 use Rattle.agreement.specs.Agreement.{isFullCall}
 use Rattle.agreement.proofs.TableFacts.{TableFacts}
 use Rattle.agreement.proofs.StopLabels.{label-home, is-numbered, heldBy, held}
@@ -43,6 +43,11 @@ unfolding tick
 tick-at i s w l x e f =
     ap (λ (k : ℕ). let y = labelAt i k in tickBy i s w k y (withResult (y .result) (y .owner) (s .bits)) (y .kind)) e
     ∙ ap (λ (y : Label). tickBy i s w l y (withResult (y .result) (y .owner) (s .bits)) (y .kind)) f
+
+-- a node that calls is no End
+no-end : (k : ℕ) → (k ≡ 2) ⊎ (k ≡ 4) → k ≡ 1 → ⊥
+no-end k (inl e) q = omega arith
+no-end k (inr e) q = omega arith
 
 module _ (c : Chart) (n : ℕ) (n≤ : n ≤ 32) where
   abbrev state : ℕ → List ℕ → Results → Bool → State
@@ -75,14 +80,7 @@ module _ (c : Chart) (n : ℕ) (n≤ : n ≤ 32) where
         → (bottomOf v ks < size c) × (numbered c (bottomOf v ks) ≡ true) × (scheme c (bottomOf v ks) ≡ g)
     bottom-scheme g v [] l e under = (l, e, under)
     bottom-scheme g v (k ∷ ks) l e (caller, under) =
-        bottom-scheme g k ks (caller .inside) (is-numbered c k tableFacts (caller-stop c (scheme c v) k caller) (no-end (caller .calls))) under
-      where
-        no-end : (kind c k ≡ 2) ⊎ (kind c k ≡ 4) → kind c k ≡ 1 → ⊥
-        no-end (inl e) q = omega arith
-        no-end (inr e) q = omega arith
-
-    abbrev kept : State → Bool
-    kept s = eqb (table c .handler) 0 || ofHandler (table c) (placeAt s 0)
+        bottom-scheme g k ks (caller .inside) (is-numbered c k tableFacts (caller-stop c (scheme c v) k caller) (no-end (kind c k) (caller .calls))) under
 
     keeps : (f : Bool) (o l : ℕ) → 2 ≤ l → labelAt (table c) l .owner ≡ bottom c f → (f ≡ true → handler c ≡ 0 → ⊥) → o ≡ n
         → (eqb (table c .handler) 0 || ofHandler (table c) l) ≡ not (drops n c f o)
@@ -104,14 +102,10 @@ module _ (c : Chart) (n : ℕ) (n≤ : n ≤ 32) where
             ∙ sym (ap not (eq-eqb o n e))
 
     module _ (v : ℕ) (ks : List ℕ) (b : Results) (f : Bool) (g : Good c (at v ks b f)) (call : (kind c v ≡ 2) ⊎ (kind c v ≡ 4)) where
-      no-end : (kind c v ≡ 2) ⊎ (kind c v ≡ 4) → kind c v ≡ 1 → ⊥
-      no-end (inl e) q = omega arith
-      no-end (inr e) q = omega arith
-
-      full-kept : suc (length ks) ≡ n → kept (state v ks b f) ≡ not (drops n c f (suc (length ks)))
+      full-kept : suc (length ks) ≡ n → keepsFull (table c) (state v ks b f) ≡ not (drops n c f (suc (length ks)))
       full-kept e =
           let u : ℕ = bottomOf v ks in
-          let under = bottom-scheme (bottom c f) v ks (g .top .inside) (is-numbered c v tableFacts (g .top) (no-end call)) (g .under) in
+          let under = bottom-scheme (bottom c f) v ks (g .top .inside) (is-numbered c v tableFacts (g .top) (no-end (kind c v) call)) (g .under) in
           let holds = tableFacts .numbers u (under .0) (under .1) in
           ap (λ (l : ℕ). eqb (table c .handler) 0 || ofHandler (table c) l) (get-bottom c v ks (zerosOver ks))
           ∙ keeps f (suc (length ks)) (label c u) (holds .0) (ap (λ (x : Label). x .owner) (holds .2) ∙ under .2) (g .handled) e
@@ -122,15 +116,15 @@ module _ (c : Chart) (n : ℕ) (n≤ : n ≤ 32) where
         Goal full t = pushed (table c) (state v ks b f) m (j + h) h d full
             ≡ answer n (one v m (pick t 96 (j + h)) (suc (length ks))) (stateOf c n (called c v ks h d f t))
 
-        at-full : (t : Bool) → drops n c f (suc (length ks)) ≡ t → suc (length ks) ≡ n → kept (state v ks b f) ≡ not t → Goal true t
+        at-full : (t : Bool) → drops n c f (suc (length ks)) ≡ t → suc (length ks) ≡ n → keepsFull (table c) (state v ks b f) ≡ not t → Goal true t
         unfolding table below
         at-full true q e k =
             let l = facts .handled (drop-handler n c f (suc (length ks)) q) in
-            no-pick (kept (state v ks b f)) (stopped 17) _ k
+            no-pick (keepsFull (table c) (state v ks b f)) (stopped 17) _ k
             ∙ ap (λ (u : ℕ). ticked m 96 (record { size = n; depth = 1; places = u ∷ replicate 31 0; bits = cleared (handler c) d }))
             (tableFacts .entries (handler c) (omega (arith, l)) (l .1))
         at-full false q e k =
-            yes-pick (kept (state v ks b f)) (stopped 17) _ k
+            yes-pick (keepsFull (table c) (state v ks b f)) (stopped 17) _ k
             ∙ sym (yes-pick (isFullCall n (one v m (j + h) (suc (length ks)))) (stopped 17) _
             (and-true (leb 16 (j + h) && not (eqb (j + h) 96)) (eqb (suc (length ks)) n)
             (and-true (leb 16 (j + h)) (not (eqb (j + h) 96)) (le-leb 16 (j + h) low) (ap not (ne-eqb (j + h) 96 other)))
@@ -163,7 +157,7 @@ module _ (c : Chart) (n : ℕ) (n≤ : n ≤ 32) where
         go : (kind c k ≡ 2) ⊎ (kind c k ≡ 4) → rowOf (table c) b (label c k) w ≡ found (label c (resumed c k w b))
         go (inl e) = tableFacts .rowPlain k w _ (caller .inside) e
             ∙ ap (λ (s : Stop). found (label c (resumedBy c k w b s))) (sym (stop-call c k e (λ p. omega (arith, caller .called, caller .deep))))
-        go (inr e) = ap (λ (x : Label). firstRow (label c k) w (pick (resultOf (x .called) b) 1 0) (rows c))
+        go (inr e) = ap (λ (x : Label). leads (bestRow (label c k) w (pick (resultOf (x .called) b) 1 0) 0 (rows c)))
             (held c k tableFacts (caller-stop c h k caller) (a-function e))
             ∙ tableFacts .rowFunction k w (resultOf (argument c k) b) (caller .inside) e
             ∙ ap (λ (s : Stop). found (label c (resumedBy c k w b s))) (sym (stop-function c k e))

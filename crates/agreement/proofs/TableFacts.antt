@@ -1,4 +1,4 @@
--- What acceptance of a chart gives for its table: labels, entries, and where the first matching row of a label leads.
+-- What acceptance of a chart gives for its table: labels, entries, and where the row that a label takes leads.
 use Prim.Native.Nat.{ℕ, _≤_, _<_}
 use mathlib.Core.Bool.{Bool, true}
 use mathlib.Core.Path.{_≡_}
@@ -11,7 +11,7 @@ use Rattle.translator.specs.Labels.{numbered, label, entry, homeLabel, returnLa
 use Rattle.translator.specs.Rows.{rows}
 use Rattle.translator.specs.Table.{table}
 use Rattle.state.specs.State.{labelAt, entryAt}
-use Rattle.rows.specs.Rows.{found, firstRow}
+use Rattle.rows.specs.Rows.{bestRow, found, leads}
 
 pub record TableFacts (c : Chart) : Type 0 where
   -- labels: 0 and 1 as they always are, from 2 on one for each numbered stop
@@ -22,11 +22,11 @@ pub record TableFacts (c : Chart) : Type 0 where
       → (2 ≤ label c v) × (label c v < length (table c .labels)) × (labelAt (table c) (label c v) ≡ labelOf c v)
   pub apart : (u v : ℕ) → u < size c → v < size c → numbered c u ≡ true → numbered c v ≡ true → label c u ≡ label c v → u ≡ v
   pub entries : (h : ℕ) → 1 ≤ h → h ≤ schemes c → entryAt (table c) h ≡ entry c h
-  -- rows: the first one that matches word and bit leads to the label of the stop where the walk goes
-  pub rowPlain : (v w b : ℕ) → v < size c → kind c v ≡ 2 → firstRow (label c v) w b (rows c) ≡ found (label c (byArc c w (next0 c v)))
+  -- rows: the one taken by word and bit leads to the label of the stop where the walk goes
+  pub rowPlain : (v w b : ℕ) → v < size c → kind c v ≡ 2 → leads (bestRow (label c v) w b 0 (rows c)) ≡ found (label c (byArc c w (next0 c v)))
   pub rowBegin : (v w b : ℕ) → v < size c → kind c v ≡ 0 → stops c v ≡ true
-      → firstRow (label c v) w b (rows c) ≡ found (label c (byWord c w (next0 c v)))
+      → leads (bestRow (label c v) w b 0 (rows c)) ≡ found (label c (byWord c w (next0 c v)))
   pub rowCondition : (v w b : ℕ) → v < size c → kind c v ≡ 3 → stops c v ≡ true
-      → firstRow (label c v) w b (rows c) ≡ found (label c (byWord c w v))
+      → leads (bestRow (label c v) w b 0 (rows c)) ≡ found (label c (byWord c w v))
   pub rowFunction : (v w : ℕ) (b : Bool) → v < size c → kind c v ≡ 4
-      → firstRow (label c v) w (pick b 1 0) (rows c) ≡ found (label c (byArc c w (pick b (next1 c v) (next0 c v))))
+      → leads (bestRow (label c v) w (pick b 1 0) 0 (rows c)) ≡ found (label c (byArc c w (pick b (next1 c v) (next0 c v))))

@@ -9,7 +9,7 @@ use Rattle.frames.specs.Answer.{refusal, Lent}
 use Rattle.translator.specs.Entry.{translate}
 use Rattle.state.specs.State.{fresh}
 use Rattle.ticks.specs.Tick.{tick}
-use Rattle.rows.specs.Rows.{firstRow}
+use Rattle.rows.specs.Rows.{bestRow}
 use Rattle.runs.specs.Run.{Run, ticks, runOn}
 use Rattle.bench.specs.Bench.{BenchSheet, chartP, imageP, words, chartHome, chartSmall, chartMixed, chartCircle}
 use Rattle.bench.specs.Bench.{chartFunction, chartBore, boreWords, chartAgain, freshRun, imageOf}
@@ -56,7 +56,7 @@ run-again ws =
     ap (λ (l : Lent). freshRun (l .buffer) 3 ws) (of-again .translated (replicate 253 0)) ∙ fresh-run of-again 3 (omega arith) (omega arith) ws
 
 pub bench-sheet : BenchSheet
-unfolding ticks tick firstRow tableP words tableBore boreWords tableAgain
+unfolding ticks tick bestRow tableP words tableBore boreWords tableAgain
 bench-sheet = record {
   b1 = of-P .translated;
   b2 = let e = run-P 3 (omega arith) (omega arith) words in

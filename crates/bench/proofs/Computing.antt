@@ -21,7 +21,7 @@ use Rattle.chains.specs.Calls.{calls, circular, endsOf, places}
 use Rattle.places.specs.Entry.{placesVerdict, placesNeeded}
 use Rattle.state.specs.State.{freshState, unfit}
 use Rattle.ticks.specs.Tick.{tick}
-use Rattle.rows.specs.Rows.{firstRow}
+use Rattle.rows.specs.Rows.{bestRow}
 use Rattle.runs.specs.Run.{ticks, runVerdict, run}
 use Rattle.bench.specs.Bench.{characters}
 
@@ -54,5 +54,5 @@ unfolding framing badHeader positionOf stray badContent tableVerdict imageVerdic
 checking = tt
 
 unfoldable pub running : Unit {0}
-unfolding checking freshState unfit firstRow tick ticks runVerdict run
+unfolding checking freshState unfit bestRow tick ticks runVerdict run
 running = tt

@@ -6,7 +6,7 @@ use Prim.Native.Nat.{ℕ, _≤_}
 use native.Mathlib.Omega.{arith}
 use Rattle.frames.specs.Verdict.{fine}
 use Rattle.state.specs.State.{fresh, unfit}
-use Rattle.rows.specs.Rows.{firstRow}
+use Rattle.rows.specs.Rows.{bestRow}
 use Rattle.ticks.specs.Tick.{tick}
 use Rattle.runs.specs.Run.{Run, ticks, runOn}
 use Rattle.agreement.proofs.Images.{runImage, run-image}
@@ -31,7 +31,7 @@ tried d l above = ap (λ (r : Run). r .reply)
     (run-image imageHandler tableHandler (of-handler .passes) (of-handler .decodes) (stateAt d l above false false) (0 ∷ []) (0 ∷ []) (0 ∷ []))
 
 pub handler-cases : HandlerCases
-unfolding walking checking unfit tick ticks firstRow tableHandler chartHandler imageHandler dropWords bottomWords ordinaryWords
+unfolding walking checking unfit tick ticks bestRow tableHandler chartHandler imageHandler dropWords bottomWords ordinaryWords
 handler-cases =
     let ordinary = two ordinaryWords in
     let roomy = run-handler 32 (omega arith) (omega arith) dropWords in

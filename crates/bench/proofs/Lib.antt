@@ -4,11 +4,13 @@ pub mod Rounds
 pub mod BenchSheet
 pub mod Cases
 pub mod Handler
+pub mod Patched
 pub mod Outputs
 pub mod Instances
 pub mod Variants
 pub mod Slips
 pub mod HandlerSlips
+pub mod RowSlips
 pub mod Idlers
 pub mod Live
 pub mod Functions

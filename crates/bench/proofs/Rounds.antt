@@ -2,7 +2,7 @@
 use mathlib.Core.Path.{_≡_, refl, _∙_, ap, ap₂, subst}
 use mathlib.Core.Bool.{Bool, true, false}
 use mathlib.Core.List.{List, [], _∷_, _++_, map, append-nil}
-use Prim.Native.Nat.{ℕ, zero, suc, _+_, _%_, _≤_}
+use Prim.Native.Nat.{ℕ, zero, suc, _%_, _≤_}
 use native.Mathlib.Omega.{arith}
 use borrow.Author.Tests.{le-ltb, lt-leb}
 use lib.Bits.{and-zero-r}
@@ -21,7 +21,7 @@ use Rattle.image.proofs.Accepted.{image-sound}
 use Rattle.state.specs.declared.State.{State}
 use Rattle.state.specs.State.{fresh}
 use Rattle.ticks.specs.Tick.{Ticked, ticked, pushed, tick}
-use Rattle.rows.specs.Rows.{firstRow}
+use Rattle.rows.specs.Rows.{bestRow}
 use Rattle.runs.specs.Run.{Run, Ran, then, ticks, noRoom, runOn, run}
 use Rattle.state.proofs.Fitness.{fits}
 use Rattle.ticks.proofs.Keeps.{fresh-fits}
@@ -29,7 +29,7 @@ use Rattle.agreement.proofs.Images.{run-image}
 use Rattle.agreement.proofs.Chain.{fresh-is}
 use Rattle.bench.specs.Bench.{chartHome, freshRun, one, repeated}
 use Rattle.bench.proofs.Computing.{walking}
-use Rattle.bench.proofs.Tables.{TranslatesTo, imageHome, tableHome, of-home, imageFunction, tableFunction, of-function}
+use Rattle.bench.proofs.Tables.{Holds, held, TranslatesTo, imageHome, tableHome, of-home, imageFunction, tableFunction, of-function}
 
 -- ---- a run from a fresh state is what its ticks on the table make
 abbrev pub blank : List ℕ → List ℕ
@@ -38,14 +38,18 @@ blank ws = replicate (length ws) 0
 room : (ws : List ℕ) → noRoom ws (blank ws) (blank ws) ≡ false
 room ws = simp (length-replicate, le-ltb (length ws) (length ws) (omega arith))
 
-pub fresh-run : {chart image : List ℕ} {i : Image} → TranslatesTo chart image i → (size : ℕ) → 1 ≤ size → size ≤ 32 → (ws : List ℕ)
+pub image-run : {image : List ℕ} {i : Image} → Holds image i → (size : ℕ) → 1 ≤ size → size ≤ 32 → (ws : List ℕ)
     → freshRun image size ws ≡ runOn fine (λ _. ticks i (fresh size) ws) (fresh size) (blank ws) (blank ws)
-fresh-run {chart} {image} {i} known size l h ws =
+image-run {image} {i} known size l h ws =
     let sound : Sound i = subst Sound (known .decodes) (image-sound image (known .passes)) in
     ap (λ (s : State). run image s ws (blank ws) (blank ws)) (fresh-is size l h)
     ∙ run-image image i (known .passes) (known .decodes) (fresh size) ws (blank ws) (blank ws)
     ∙ ap₂ (λ (a b : Bool). runOn (next (when 15 a) λ _. when 16 b) (λ _. ticks i (fresh size) ws) (fresh size) (blank ws) (blank ws))
     (fits i (fresh size) (fresh-fits i sound size l h)) (room ws)
+
+pub fresh-run : {chart image : List ℕ} {i : Image} → TranslatesTo chart image i → (size : ℕ) → 1 ≤ size → size ≤ 32 → (ws : List ℕ)
+    → freshRun image size ws ≡ runOn fine (λ _. ticks i (fresh size) ws) (fresh size) (blank ws) (blank ws)
+fresh-run known = image-run (held known)
 
 -- all of the buffer is written
 full : (xs ws : List ℕ) → length xs ≡ length ws → over xs (blank ws) ≡ xs
@@ -121,16 +125,16 @@ module _ (size : ℕ) (two : 2 ≤ size) where
   call-tick x w = ap (pushed tableFunction (stateAt 1 2 0 x) 0 66 2 (stateAt 1 2 0 x .bits)) (lt-leb size 1 (omega arith))
 
   operation-tick : (w : ℕ) → tick tableFunction (stateAt 2 2 4 false) w ≡ ticked 0 0 (stateAt 2 2 1 true)
-  unfolding tick firstRow tableFunction
-  operation-tick w = rw (and-zero-r, firstRow)
+  unfolding tick bestRow tableFunction
+  operation-tick w = rw (and-zero-r)
 
   return-tick : (w : ℕ) → tick tableFunction (stateAt 2 2 1 true) w ≡ ticked 0 3 (stateAt 1 3 0 true)
-  unfolding tick firstRow tableFunction
-  return-tick w = rw (and-zero-r, firstRow, and-zero-r, firstRow)
+  unfolding tick bestRow tableFunction
+  return-tick w = rw (and-zero-r)
 
   mask-tick : (w : ℕ) → tick tableFunction (stateAt 1 3 0 true) w ≡ ticked 1 0 (stateAt 1 0 0 true)
-  unfolding tick firstRow tableFunction
-  mask-tick w = rw (and-zero-r, firstRow)
+  unfolding tick bestRow tableFunction
+  mask-tick w = rw (and-zero-r)
 
   -- these ticks are made for the words, and none is refused
   record Makes (s : State) (ws ms ks : List ℕ) : Type 0 where

@@ -20,7 +20,7 @@ use Rattle.state.specs.State.{labelAt, placeAt, freshState}
 use Rattle.ticks.specs.Tick.{Ticked, ticked, stopped, rowOf, tick}
 use Rattle.ticks.specs.Parts.{topOf}
 use Rattle.ticks.specs.Functions.{returned}
-use Rattle.rows.specs.Rows.{firstRow}
+use Rattle.rows.specs.Rows.{bestRow, leads}
 use Rattle.agreement.specs.Agreement.{Translator, Agreement, Translates}
 use Rattle.bench.specs.Bench.{lines, words, boreWords}
 use Rattle.bench.proofs.Computing.{translating, running}
@@ -58,7 +58,7 @@ isCallKind (suc k) = leb k 1
 -- ---- the result bit read at the call
 abbrev pub readsAtCall : Step
 readsAtCall i s w = pick (eqb (kindOf i s) 3)
-    (returned s (firstRow (beneath s) w (pick (getD (s .bits) 15 false) 1 0) (i .rows)))
+    (returned s (leads (bestRow (beneath s) w (pick (getD (s .bits) 15 false) 1 0) 0 (i .rows))))
     (pick (eqb (kindOf i s) 2) (remember 15 (resultOf (labelAt i (topOf s) .called) (s .bits)) (tick i s w)) (tick i s w))
 
 pub reads-at-call-fails : Agreement translate freshState (runBy readsAtCall) → ⊥

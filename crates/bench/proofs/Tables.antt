@@ -12,12 +12,22 @@ use Rattle.translator.specs.Labels.{homeLabel, returnLabel}
 use Rattle.translator.specs.Entry.{translate}
 use Rattle.bench.specs.Bench.{lines, chartP, imageP, chartHome, chartFunction, chartBore, chartAgain}
 use Rattle.bench.specs.Handler.{chartHandler, imageHandler}
+use Rattle.bench.specs.Patched.{chartPlain, imagePlain, imageSpecial, imageEqual}
 use Rattle.bench.proofs.Computing.{translating, checking}
 
+-- an image passes the check and holds this table
+pub record Holds (image : List ℕ) (table : Image) : Type 0 where
+  pub passes : imageVerdict image ≡ fine
+  pub decodes : decoded (contents image) ≡ table
+
+-- and it is that of a chart
 pub record TranslatesTo (chart image : List ℕ) (table : Image) : Type 0 where
   pub translated : (out : List ℕ) → translate chart out ≡ lent fine 1 (λ _. image) out
   pub passes : imageVerdict image ≡ fine
   pub decodes : decoded (contents image) ≡ table
+
+pub held : {chart image : List ℕ} {table : Image} → TranslatesTo chart image table → Holds image table
+held known = record { passes = known .passes; decodes = known .decodes }
 
 -- ---- by their fields
 abbrev labelWith : ℕ → ℕ → ℕ → ℕ → ℕ → Label
@@ -147,3 +157,43 @@ tableHandler = record {
 pub of-handler : TranslatesTo chartHandler imageHandler tableHandler
 unfolding translating checking chartHandler imageHandler tableHandler
 of-handler = record { translated = λ out. refl; passes = refl; decodes = refl }
+
+-- ---- a chart, and its image patched once and twice
+abbrev labelsPlain : List Label
+labelsPlain = homeLabel ∷ returnLabel ∷ labelWith 0 0 1 0 1 ∷ labelWith 0 0 1 0 2 ∷ labelWith 2 2 1 0 0 ∷ labelWith 0 0 2 2 0 ∷ []
+
+unfoldable pub tablePlain : Image
+tablePlain = record {
+  handler = 0;
+  entries = 2 ∷ 5 ∷ [];
+  labels = labelsPlain;
+  rows = row 2 1 0 2 3 ∷ row 2 1 1 2 4 ∷ row 3 0 0 2 0 ∷ row 4 0 0 0 0 ∷ row 4 0 0 1 3 ∷ row 5 0 0 2 1 ∷ [];
+}
+
+pub of-plain : TranslatesTo chartPlain imagePlain tablePlain
+unfolding translating checking chartPlain imagePlain tablePlain
+of-plain = record { translated = λ out. refl; passes = refl; decodes = refl }
+
+unfoldable pub tableSpecial : Image
+tableSpecial = record {
+  handler = 0;
+  entries = 2 ∷ 5 ∷ [];
+  labels = labelsPlain;
+  rows = row 2 1 0 2 3 ∷ row 2 6 0 2 0 ∷ row 2 1 1 2 4 ∷ row 3 0 0 2 0 ∷ row 4 0 0 0 0 ∷ row 4 0 0 1 3 ∷ row 5 0 0 2 1 ∷ [];
+}
+
+pub of-special : Holds imageSpecial tableSpecial
+unfolding checking imageSpecial tableSpecial
+of-special = record { passes = refl; decodes = refl }
+
+unfoldable pub tableEqual : Image
+tableEqual = record {
+  handler = 0;
+  entries = 2 ∷ 5 ∷ [];
+  labels = labelsPlain;
+  rows = row 2 1 0 2 3 ∷ row 2 6 0 2 0 ∷ row 2 1 1 2 4 ∷ row 2 3 1 2 3 ∷ row 3 0 0 2 0 ∷ row 4 0 0 0 0 ∷ row 4 0 0 1 3 ∷ row 4 0 0 2 2 ∷ row 5 0 0 2 1 ∷ [];
+}
+
+pub of-equal : Holds imageEqual tableEqual
+unfolding checking imageEqual tableEqual
+of-equal = record { passes = refl; decodes = refl }

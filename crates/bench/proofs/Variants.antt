@@ -13,7 +13,7 @@ use Rattle.ticks.specs.Tick.{Ticked}
 use Rattle.runs.specs.Run.{Run, Ran, then, runVerdict, runOn}
 use Rattle.agreement.specs.Agreement.{Runner, Asked, Told, told, chain}
 use Rattle.agreement.proofs.Images.{stateVerdict}
-use Rattle.bench.proofs.Tables.{TranslatesTo}
+use Rattle.bench.proofs.Tables.{Holds, held, TranslatesTo}
 use Rattle.bench.proofs.Instances.{alone, handed}
 
 abbrev pub Step : Type 0
@@ -27,16 +27,20 @@ ticksBy step i s (w ∷ ws) = then s (λ t. ticksBy step i t ws) (step i s w)
 abbrev pub runBy : Step → Runner
 runBy step text s words masks codes = runOn (runVerdict text s words masks codes) (λ _. ticksBy step (decoded (contents text)) s words) s masks codes
 
--- the same with the image given as a table; on the image of a chart it is that run
+-- the same with the image given as a table; on an image that holds it, it is that run
 abbrev pub tableRun : Image → Step → Runner
 tableRun i step text s words masks codes = runOn (stateVerdict i s words masks codes) (λ _. ticksBy step i s words) s masks codes
 
+pub by-image : {image : List ℕ} {i : Image} → Holds image i → (step : Step) (s : State) (words masks codes : List ℕ)
+    → runBy step image s words masks codes ≡ tableRun i step image s words masks codes
+unfolding runVerdict
+by-image known step s words masks codes =
+    ap₂ (λ (v : Verdict) (j : Image). runOn (next v λ _. stateVerdict j s words masks codes) (λ _. ticksBy step j s words) s masks codes)
+    (known .passes) (known .decodes)
+
 module _ {chart image : List ℕ} {i : Image} (known : TranslatesTo chart image i) (step : Step) where
   pub by-table : (s : State) (words masks codes : List ℕ) → runBy step image s words masks codes ≡ tableRun i step image s words masks codes
-  unfolding runVerdict
-  by-table s words masks codes =
-      ap₂ (λ (v : Verdict) (j : Image). runOn (next v λ _. stateVerdict j s words masks codes) (λ _. ticksBy step j s words) s masks codes)
-      (known .passes) (known .decodes)
+  by-table = by-image (held known) step
 
   pub made : (size : ℕ) (ws : List ℕ) {t : Told} → handed (runBy step) image size ws ≡ t → handed (tableRun i step) image size ws ≡ t
   made size ws e = sym (ap told (by-table (fresh size) ws (alone ws .masks) (alone ws .codes))) ∙ e

@@ -1,4 +1,5 @@
 pub mod Swaps
-pub mod FirstRows
+pub mod ChoiceLaws
+pub mod BestRows
 pub mod TableRows
 pub mod SearchCases

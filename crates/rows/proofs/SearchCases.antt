@@ -1,23 +1,29 @@
--- One frame of a table as the code compares it, the search from one frame up to another, and where the rows of a label stand.
-use Prim.Native.Nat.{ℕ, _+_, _*_, _-_, _≤_, _<_}
+-- One frame of a table as the code compares it, the better of two, the search from one frame up to another, and where the rows of a label stand.
+use Prim.Native.Nat.{ℕ, suc, _+_, _*_, _-_, _≤_, _<_}
 use mathlib.Core.Bool.{Bool, true, false, _&&_, _||_}
-use mathlib.Core.Path.{_≡_, sym, _∙_, ap, ap₂}
-use mathlib.Core.List.{List}
+use mathlib.Core.Path.{_≡_, refl, sym, _∙_, ap, ap₂}
+use mathlib.Core.List.{List, _∷_, map}
+use native.Mathlib.Decide.{ℕ-discrete}
+use native.Mathlib.Numerals.{add-one}
 use native.Mathlib.Omega.{arith}
 use lib.Bits.{bitAnd}
+use lib.Count.{ones}
 use lib.Dec.{ltb, eqb}
 use lib.ListN.{getD}
 use borrow.Author.Tests.{lt-ltb, le-ltb, eq-eqb, ne-eqb}
-use Rattle.lists.specs.Numbers.{lowest}
+use Rattle.lists.specs.Pick.{pick}
+use Rattle.lists.specs.Numbers.{range}
 use Rattle.lists.proofs.Tests.{yes-pick, no-pick}
-use Rattle.lists.proofs.Searches.{lowest-here, lowest-on, lowest-over}
-use Rattle.frames.specs.Frame.{size, field}
+use Rattle.bits.specs.Word.{agrees}
+use Rattle.frames.specs.Frame.{size, field, pairAt}
 use Rattle.image.specs.Decode.{labelsFrom}
-use Rattle.tables.specs.Table.{tableEnd, notedIn, firstOn, endOn, Whole}
+use Rattle.tables.specs.Table.{tableEnd, labelOf, notedIn, firstOn, endOn, rowOn, rowsOn, Whole}
 use Rattle.tables.specs.Labels.{Framed}
 use Rattle.tables.proofs.Front.{end-inside}
-use Rattle.rows.specs.Search.{swapped, matching, nextAmong}
+use Rattle.rows.specs.Rows.{matches, isOwn, Choice, row, none, better, bestRow}
+use Rattle.rows.specs.Search.{swapped, matching, foundAt, BetterOf, Deciding}
 use Rattle.rows.proofs.Swaps.{swapped-twice, turned-agrees}
+use Rattle.rows.proofs.ChoiceLaws.{best-nothing, best-own, best-other, better-none, better-first, better-second, better-three}
 
 -- ---- one frame: care mask, values and function bit as they were read
 module _ (b : List ℕ) (turned bit f : ℕ) (small : turned < 65536) (bytes : (k : ℕ) → getD b k 0 < 256) where
@@ -60,32 +66,129 @@ module _ (b : List ℕ) (turned bit f : ℕ) (small : turned < 65536) (bytes : (
       pub matching-bit : (only ≡ 2 → ⊥) → eqb only bit ≡ matching b (swapped turned) bit f
       matching-bit k = sym (by-bit ∙ ap (λ (t : Bool). t || eqb only bit) (ne-eqb only 2 k))
 
--- ---- the search, with what is left of it
-module _ (b : List ℕ) (first end word bit : ℕ) where
-  abbrev p : ℕ → Bool
-  p = matching b word bit
+-- the row in it as one of label l's, by a bit that decides
+module _ (b : List ℕ) (l w bit : ℕ) (d : Deciding b l bit) (f : ℕ) where
+  own-bit : (eqb (rowOn b l f .bit) 2 || eqb (rowOn b l f .bit) bit) ≡ (eqb bit 2 || (eqb (field b f 6) 2 || eqb (field b f 6) bit))
+  own-bit = go (ℕ-discrete bit 2)
+    where
+      go : Dec (bit ≡ 2)
+          → (eqb (rowOn b l f .bit) 2 || eqb (rowOn b l f .bit) bit) ≡ (eqb bit 2 || (eqb (field b f 6) 2 || eqb (field b f 6) bit))
+      go (yes e) =
+          ap (λ (t : Bool). eqb (pick t (field b f 6) 2) 2 || eqb (pick t (field b f 6) 2) bit) (ne-eqb (labelOf b l .kind) 2 (d .none e))
+          ∙ sym (ap (λ (t : Bool). t || (eqb (field b f 6) 2 || eqb (field b f 6) bit)) (eq-eqb bit 2 e))
+      go (no e) =
+          ap (λ (t : Bool). eqb (pick t (field b f 6) 2) 2 || eqb (pick t (field b f 6) 2) bit) (eq-eqb (labelOf b l .kind) 2 (d .some e))
+          ∙ sym (ap (λ (t : Bool). t || (eqb (field b f 6) 2 || eqb (field b f 6) bit)) (ne-eqb bit 2 e))
 
-  abbrev pub Left : ℕ → Type 0
-  Left f = lowest p f (end - f) ≡ lowest p first (end - first)
+  own-test : isOwn l w bit (rowOn b l f) ≡ matching b w bit f
+  own-test =
+      ap (λ (t : Bool). t && matches w bit (rowOn b l f)) (eq-eqb l l refl)
+      ∙ ap (λ (t : Bool). agrees w (pairAt b f 2) (pairAt b f 4) && t) own-bit
 
-  module _ (turned f : ℕ) (left : Left f) (e : turned ≡ swapped word) (small : word < 65536) (t : Bool) (q : t ≡ matching b (swapped turned) bit f) where
-    matching-word : t ≡ p f
-    matching-word = q ∙ ap (λ (w : ℕ). matching b w bit f) (ap (λ (w : ℕ). swapped w) e ∙ swapped-twice word small)
+-- ---- frames as choices, and the better of two
+module _ (b : List ℕ) (f : ℕ) where
+  at-frame : (l : ℕ) → f < size b → foundAt b l f ≡ row f (rowOn b l f)
+  at-frame l h = yes-pick (ltb f (size b)) (row f (rowOn b l f)) none (lt-ltb f (size b) h)
 
-    pub search-found : f < end → t ≡ true → (n : ℕ) → n ≡ field b f 7 → n ≡ nextAmong b word bit first end
-    search-found h y n e =
-        let at : f ≡ lowest p first (end - first) = sym (lowest-here p end f h (sym matching-word ∙ y)) ∙ left in
-        let k : ℕ = lowest p first (end - first) in
-        e ∙ ap (λ (j : ℕ). field b j 7) at ∙ sym (yes-pick (ltb k end) (field b k 7) 256 (lt-ltb k end (omega arith)))
+  past-table : (l : ℕ) → size b ≤ f → foundAt b l f ≡ none
+  past-table l h = no-pick (ltb f (size b)) (row f (rowOn b l f)) none (le-ltb f (size b) h)
 
-    pub search-on : f < end → t ≡ false → Left (f + 1)
-    search-on h y = sym (lowest-on p end f h (sym matching-word ∙ y)) ∙ left
+module _ (b : List ℕ) (best f : ℕ) (inside : f < size b) where
+  pub better-only : size b ≤ best → BetterOf b best f f
+  better-only h l = at-frame b f l inside ∙ sym (ap (λ (x : Choice). better x (row f (rowOn b l f))) (past-table b best l h))
 
-  pub search-over : (f : ℕ) → Left f → end ≤ f → 256 ≡ nextAmong b word bit first end
-  search-over f left h =
-      let at : f ≡ lowest p first (end - first) = sym (lowest-over p end f h) ∙ left in
-      let k : ℕ = lowest p first (end - first) in
-      sym (no-pick (ltb k end) (field b k 7) 256 (le-ltb k end (omega arith)))
+  -- care masks as they were read, and their ones
+  module _ (h : best < size b) (later former : ℕ) (p : later ≡ pairAt b f 2) (q : former ≡ pairAt b best 2) where
+    pub better-former : ones later < ones former → BetterOf b best f best
+    better-former g l =
+        at-frame b best l h
+        ∙ sym (ap (λ (x : Choice). better x (row f (rowOn b l f))) (at-frame b best l h)
+        ∙ better-first (row best (rowOn b l best)) f (rowOn b l f) (omega (arith, ap ones p, ap ones q)))
+
+    pub better-later : ones former ≤ ones later → BetterOf b best f f
+    better-later g l =
+        at-frame b f l inside
+        ∙ sym (ap (λ (x : Choice). better x (row f (rowOn b l f))) (at-frame b best l h)
+        ∙ better-second (row best (rowOn b l best)) f (rowOn b l f) (omega (arith, ap ones p, ap ones q)))
+
+-- ---- the search: the best row before frame f, with those from f on, is the best of all
+module _ (b : List ℕ) (l w bit first end : ℕ) where
+  -- the choice among the frames of label l from f up to the end
+  abbrev bestFrom : ℕ → Choice
+  bestFrom f = bestRow l w bit f (map (rowOn b l) (range f (end - f)))
+
+  abbrev pub Searched : ℕ → ℕ → Type 0
+  Searched f best = better (foundAt b l best) (bestFrom f) ≡ bestFrom first
+
+  pub search-start : Searched first (size b)
+  search-start = ap (λ (x : Choice). better x (bestFrom first)) (past-table b (size b) l (omega arith))
+
+  module _ (f best : ℕ) (s : Searched f best) where
+    pub search-over : end ≤ f → first ≡ firstOn b l → end ≡ endOn b l → foundAt b l best ≡ bestRow l w bit (firstOn b l) (rowsOn b l)
+    search-over h p q =
+        let nothing : bestFrom f ≡ none =
+        ap (λ (n : ℕ). bestRow l w bit f (map (rowOn b l) (range f n))) (let e : end - f ≡ 0 = omega arith in e) ∙ best-nothing l w bit f in
+        sym (ap (better (foundAt b l best)) nothing ∙ better-none (foundAt b l best)) ∙ s
+        ∙ ap₂ (λ (i j : ℕ). bestRow l w bit i (map (rowOn b l) (range i (j - i)))) p q
+
+    -- by the test that was made of frame f
+    module _ (d : Deciding b l bit) (h : f < end) (turned : ℕ) (e : turned ≡ swapped w) (small : w < 65536)
+        (t : Bool) (q : t ≡ matching b (swapped turned) bit f) where
+      own : t ≡ isOwn l w bit (rowOn b l f)
+      own = q ∙ ap (λ (v : ℕ). matching b v bit f) (ap (λ (v : ℕ). swapped v) e ∙ swapped-twice w small) ∙ sym (own-test b l w bit d f)
+
+      more : bestFrom f ≡ bestRow l w bit f (rowOn b l f ∷ map (rowOn b l) (range (suc f) (end - suc f)))
+      more = ap (λ (n : ℕ). bestRow l w bit f (map (rowOn b l) (range f n))) (let z : end - f ≡ suc (end - suc f) = omega arith in z)
+
+      on : bestFrom (suc f) ≡ bestFrom (f + 1)
+      on = ap bestFrom (sym (add-one f))
+
+      pub search-other : t ≡ false → Searched (f + 1) best
+      search-other n =
+          ap (better (foundAt b l best))
+          (sym (more ∙ best-other l w bit f (rowOn b l f) (map (rowOn b l) (range (suc f) (end - suc f))) (sym own ∙ n) ∙ on))
+          ∙ s
+
+      pub search-own : t ≡ true → (r : ℕ) → BetterOf b best f r → Searched (f + 1) r
+      search-own y r z =
+          ap (λ (x : Choice). better x (bestFrom (f + 1))) (z l)
+          ∙ sym (better-three (foundAt b l best) (row f (rowOn b l f)) (bestFrom (f + 1)))
+          ∙ ap (better (foundAt b l best))
+          (sym (more ∙ best-own l w bit f (rowOn b l f) (map (rowOn b l) (range (suc f) (end - suc f))) (sym own ∙ y)
+          ∙ ap (better (row f (rowOn b l f))) on))
+          ∙ s
+
+-- ---- one pass that keeps the last match and counts: as long as there is one at most, it is the best so far
+pub record Passed (b : List ℕ) (l w bit first end f frame count : ℕ) : Type 0 where
+  pub none : count ≡ 0 → frame ≡ size b
+  pub one : count < 2 → Searched b l w bit first end f frame
+  pub few : count ≤ f
+
+module _ (b : List ℕ) (l w bit first end : ℕ) where
+  pub pass-start : Passed b l w bit first end first (size b) 0
+  pass-start = record { none = λ _. refl; one = λ _. search-start b l w bit first end; few = omega arith }
+
+  module _ (f frame count : ℕ) (s : Passed b l w bit first end f frame count) where
+    pub pass-over : end ≤ f → first ≡ firstOn b l → end ≡ endOn b l → count < 2
+        → foundAt b l frame ≡ bestRow l w bit (firstOn b l) (rowsOn b l)
+    pass-over h p q few = search-over b l w bit first end f frame (s .one few) h p q
+
+    module _ (d : Deciding b l bit) (h : f < end) (inside : f < size b) (turned : ℕ) (e : turned ≡ swapped w) (small : w < 65536)
+        (t : Bool) (q : t ≡ matching b (swapped turned) bit f) where
+      pub pass-other : t ≡ false → Passed b l w bit first end (f + 1) frame count
+      pass-other n = record {
+        none = s .none;
+        one = λ k. search-other b l w bit first end f frame (s .one k) d h turned e small t q n;
+        few = omega (arith, s .few);
+      }
+
+      pub pass-own : t ≡ true → Passed b l w bit first end (f + 1) f (count + 1)
+      pass-own y = record {
+        none = λ k. absurd (omega arith);
+        one = λ k. search-own b l w bit first end f frame (s .one (omega arith)) d h turned e small t q y f
+            (better-only b frame f inside (omega (arith, s .none (omega arith))));
+        few = omega (arith, s .few);
+      }
 
 -- ---- where the rows of label l stand
 pub end-within : (b : List ℕ) (l end : ℕ) → Whole b → end ≡ endOn b l → end ≤ size b

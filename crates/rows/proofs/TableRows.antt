@@ -1,158 +1,140 @@
--- The rows of a table: the first matching one of all is the first of the label's own, and the search among their frames finds it.
+-- The rows of a table: the one that a label takes of all is the one of its own, and where it leads.
 use Prim.Native.Nat.{ℕ, zero, suc, _+_, _*_, _-_, _≤_, _<_}
-use mathlib.Core.Bool.{Bool, true, false, _&&_, _||_}
+use mathlib.Core.Bool.{Bool, _&&_}
 use mathlib.Core.Path.{_≡_, refl, sym, _∙_, ap, ap₂}
-use mathlib.Core.Logic.{_⊎_, inl, inr}
 use mathlib.Core.List.{List, map}
 use native.Mathlib.Decide.{ℕ-discrete}
+use native.Mathlib.Nat.{add-zero}
 use native.Mathlib.Omega.{arith}
 use lib.Dec.{ltb, eqb}
-use lib.ListN.{length, getD}
-use borrow.Author.Tests.{lt-ltb, le-ltb, eq-eqb, ne-eqb}
-use Rattle.lists.specs.Pick.{pick}
-use Rattle.lists.specs.Numbers.{range, lowest}
+use lib.ListN.{length, getD, length-append}
+use borrow.Author.Tests.{lt-ltb, le-ltb, ne-eqb}
+use Rattle.lists.specs.Numbers.{range}
 use Rattle.lists.specs.Sequences.{concatMap}
-use Rattle.lists.proofs.Tests.{yes-pick, no-pick, split}
+use Rattle.lists.proofs.Tests.{yes-pick, no-pick}
 use Rattle.lists.proofs.Ranges.{length-map-range, getD-map-range}
-use Rattle.lists.proofs.Searches.{lowest-past, lowest-above}
-use Rattle.lists.proofs.Joins.{All, all-every, all-map, all-concat}
-use Rattle.bits.specs.Word.{agrees}
-use Rattle.frames.specs.Frame.{field, pairAt}
+use Rattle.lists.proofs.Joins.{All, all-every, all-map, all-concat, concat-cons}
+use Rattle.frames.specs.Frame.{size, field}
 use Rattle.image.specs.Image.{Row}
 use Rattle.image.specs.Decode.{lastLabel}
 use Rattle.image.proofs.Sound.{noRow}
 use Rattle.tables.specs.Table.{labelOf, firstOn, endOn, rowOn, rowsOn, tableImage}
-use Rattle.rows.specs.Rows.{matches, Found, found, missing, firstRow, nextOf}
-use Rattle.rows.specs.Search.{matching, nextAmong, Deciding}
-use Rattle.rows.proofs.FirstRows.{row-here, row-later, missing-first, missing-last, found-next, any-bit}
+use Rattle.tables.specs.Labels.{Numbered}
+use Rattle.rows.specs.Rows.{matches, Choice, row, none, better, bestRow, found, leads, nextOf}
+use Rattle.rows.specs.Search.{foundAt}
+use Rattle.rows.proofs.ChoiceLaws.{best-nothing, best-other, better-none, best-joined, moved-by, best-moved, leads-moved, any-bit}
+use Rattle.rows.proofs.BestRows.{leads-one}
 
-lowest-first : (p : ℕ → Bool) (i n : ℕ) → p i ≡ true → lowest p i (suc n) ≡ i
-unfolding lowest
-lowest-first p i n e = rw (lowest, e)
+-- how many rows of the table stand before those of label l
+abbrev pub rowsBefore : List ℕ → ℕ → ℕ
+rowsBefore b l = length (concatMap (rowsOn b) (range 2 (l - 2)))
 
-lowest-next : (p : ℕ → Bool) (i n : ℕ) → p i ≡ false → lowest p i (suc n) ≡ lowest p (suc i) n
-unfolding lowest
-lowest-next p i n e = rw (lowest, e)
-
--- ---- rows of one label
 module _ (b : List ℕ) (l w bit : ℕ) where
-  abbrev among : ℕ → ℕ → ℕ → Found
-  among m i n = firstRow l w bit (map (rowOn b m) (range i n))
+  -- ---- rows of another label
+  others-none : (m : ℕ) → (m ≡ l → ⊥) → (k i n : ℕ) → bestRow l w bit k (map (rowOn b m) (range i n)) ≡ none
+  others-none m h k i zero = best-nothing l w bit k
+  others-none m h k i (suc n) =
+      best-other l w bit k (rowOn b m i) (map (rowOn b m) (range (suc i) n)) (ap (λ (t : Bool). t && matches w bit (rowOn b m i)) (ne-eqb m l h))
+      ∙ others-none m h (suc k) (suc i) n
 
-  -- another label's
-  others-none : (m : ℕ) → (m ≡ l → ⊥) → (i n : ℕ) → among m i n ≡ missing
-  unfolding firstRow
-  others-none m h i zero = refl
-  others-none m h i (suc n) =
-      row-later l w bit (rowOn b m i) (map (rowOn b m) (range (suc i) n)) (ap (λ (t : Bool). t && matches w bit (rowOn b m i)) (ne-eqb m l h))
-      ∙ others-none m h (suc i) n
+  -- ---- rows of n labels from i on, the first of them numbered k
+  abbrev over : ℕ → ℕ → ℕ → Choice
+  over k i n = bestRow l w bit k (concatMap (rowsOn b) (range i n))
 
-  -- its own: the lowest frame that matches
-  module _ (d : Deciding b l bit) where
-    own-bit : (f : ℕ) → (eqb (rowOn b l f .bit) 2 || eqb (rowOn b l f .bit) bit) ≡ (eqb bit 2 || (eqb (field b f 6) 2 || eqb (field b f 6) bit))
-    own-bit f = go (ℕ-discrete bit 2)
-      where
-        go : Dec (bit ≡ 2)
-            → (eqb (rowOn b l f .bit) 2 || eqb (rowOn b l f .bit) bit) ≡ (eqb bit 2 || (eqb (field b f 6) 2 || eqb (field b f 6) bit))
-        go (yes e) =
-            ap (λ (t : Bool). eqb (pick t (field b f 6) 2) 2 || eqb (pick t (field b f 6) 2) bit) (ne-eqb (labelOf b l .kind) 2 (d .none e))
-            ∙ sym (ap (λ (t : Bool). t || (eqb (field b f 6) 2 || eqb (field b f 6) bit)) (eq-eqb bit 2 e))
-        go (no e) =
-            ap (λ (t : Bool). eqb (pick t (field b f 6) 2) 2 || eqb (pick t (field b f 6) 2) bit) (eq-eqb (labelOf b l .kind) 2 (d .some e))
-            ∙ sym (ap (λ (t : Bool). t || (eqb (field b f 6) 2 || eqb (field b f 6) bit)) (ne-eqb bit 2 e))
+  over-more : (k i n : ℕ) → over k i (suc n) ≡ better (bestRow l w bit k (rowsOn b i)) (over (k + length (rowsOn b i)) (suc i) n)
+  over-more k i n =
+      ap (bestRow l w bit k) (concat-cons (rowsOn b) i (range (suc i) n)) ∙ best-joined l w bit k (rowsOn b i) (concatMap (rowsOn b) (range (suc i) n))
 
-    own-test : (f : ℕ) → (eqb l l && matches w bit (rowOn b l f)) ≡ matching b w bit f
-    own-test f =
-        ap (λ (t : Bool). t && matches w bit (rowOn b l f)) (eq-eqb l l refl)
-        ∙ ap (λ (t : Bool). agrees w (pairAt b f 2) (pairAt b f 4) && t) (own-bit f)
+  over-other : (k i n : ℕ) → (i ≡ l → ⊥) → over k i (suc n) ≡ over (k + length (rowsOn b i)) (suc i) n
+  over-other k i n h =
+      over-more k i n
+      ∙ ap (λ (x : Choice). better x (over (k + length (rowsOn b i)) (suc i) n)) (others-none i h k (firstOn b i) (endOn b i - firstOn b i))
 
-    own-found : (i n : ℕ) → lowest (matching b w bit) i n < i + n → among l i n ≡ found (field b (lowest (matching b w bit) i n) 7)
-    unfolding lowest
-    own-found i zero h = absurd (omega arith)
-    own-found i (suc n) h = go (matching b w bit i) refl (own-found (suc i) n)
-      where
-        go : (t : Bool) → matching b w bit i ≡ t
-            → (lowest (matching b w bit) (suc i) n < suc i + n → among l (suc i) n ≡ found (field b (lowest (matching b w bit) (suc i) n) 7))
-            → among l i (suc n) ≡ found (field b (lowest (matching b w bit) i (suc n)) 7)
-        go true e ih =
-            row-here l w bit (rowOn b l i) (map (rowOn b l) (range (suc i) n)) (own-test i ∙ e)
-            ∙ sym (ap (λ (f : ℕ). found (field b f 7)) (lowest-first (matching b w bit) i n e))
-        go false e ih =
-            let q : lowest (matching b w bit) i (suc n) ≡ lowest (matching b w bit) (suc i) n = lowest-next (matching b w bit) i n e in
-            row-later l w bit (rowOn b l i) (map (rowOn b l) (range (suc i) n)) (own-test i ∙ e)
-            ∙ ih (omega arith) ∙ sym (ap (λ (f : ℕ). found (field b f 7)) q)
-
-    own-none : (i n : ℕ) → i + n ≤ lowest (matching b w bit) i n → among l i n ≡ missing
-    unfolding firstRow
-    own-none i zero h = refl
-    own-none i (suc n) h =
-        row-later l w bit (rowOn b l i) (map (rowOn b l) (range (suc i) n))
-        (own-test i ∙ lowest-past (matching b w bit) i (suc n) h i (omega arith) (omega arith))
-        ∙ own-none (suc i) n (let q : lowest (matching b w bit) i (suc n) ≡ lowest (matching b w bit) (suc i) n =
-        lowest-next (matching b w bit) i n (lowest-past (matching b w bit) i (suc n) h i (omega arith) (omega arith)) in omega arith)
-
-  -- ---- rows of all labels
-  abbrev over : ℕ → ℕ → Found
-  over i n = firstRow l w bit (concatMap (rowsOn b) (range i n))
-
-  over-none : (i n : ℕ) → ((m : ℕ) → i ≤ m → m < i + n → m ≡ l → ⊥) → over i n ≡ missing
-  unfolding firstRow concatMap
-  over-none i zero h = refl
-  over-none i (suc n) h =
-      missing-first l w bit (rowsOn b i) (concatMap (rowsOn b) (range (suc i) n))
-      (others-none i (h i (omega arith) (omega arith)) (firstOn b i) (endOn b i - firstOn b i))
-      ∙ over-none (suc i) n (λ m p q. h m (omega arith) (omega arith))
-
-  over-own : (i n : ℕ) → i ≤ l → l < i + n → over i n ≡ firstRow l w bit (rowsOn b l)
+  over-none : (k i n : ℕ) → ((m : ℕ) → i ≤ m → m < i + n → m ≡ l → ⊥) → over k i n ≡ none
   unfolding concatMap
-  over-own i zero p q = absurd (omega arith)
-  over-own i (suc n) p q = go (ℕ-discrete i l) (over-own (suc i) n)
+  over-none k i zero h = best-nothing l w bit k
+  over-none k i (suc n) h =
+      over-other k i n (h i (omega arith) (omega arith))
+      ∙ over-none (k + length (rowsOn b i)) (suc i) n (λ m p q. h m (omega arith) (omega arith))
+
+  -- how many stand from label i on before those of label l
+  abbrev before : ℕ → ℕ
+  before i = length (concatMap (rowsOn b) (range i (l - i)))
+
+  before-more : (i : ℕ) → i < l → length (rowsOn b i) + before (suc i) ≡ before i
+  before-more i h =
+      sym (ap (λ (n : ℕ). length (concatMap (rowsOn b) (range i n))) (let e : l - i ≡ suc (l - suc i) = omega arith in e)
+      ∙ ap (λ (rs : List Row). length rs) (concat-cons (rowsOn b) i (range (suc i) (l - suc i)))
+      ∙ length-append (rowsOn b i) (concatMap (rowsOn b) (range (suc i) (l - suc i))))
+
+  before-all : (i : ℕ) → i ≡ l → before i ≡ 0
+  unfolding concatMap
+  before-all i h = ap (λ (n : ℕ). length (concatMap (rowsOn b) (range i n))) (let e : l - i ≡ 0 = omega arith in e)
+
+  over-own : (k i n : ℕ) → i ≤ l → l < i + n → over k i n ≡ bestRow l w bit (k + before i) (rowsOn b l)
+  over-own k i zero p q = absurd (omega arith)
+  over-own k i (suc n) p q = go (ℕ-discrete i l) (over-own (k + length (rowsOn b i)) (suc i) n)
     where
-      go : Dec (i ≡ l) → (suc i ≤ l → l < suc i + n → over (suc i) n ≡ firstRow l w bit (rowsOn b l)) → over i (suc n) ≡ firstRow l w bit (rowsOn b l)
+      on : ℕ
+      on = k + length (rowsOn b i)
+
+      go : Dec (i ≡ l) → (suc i ≤ l → l < suc i + n → over on (suc i) n ≡ bestRow l w bit (on + before (suc i)) (rowsOn b l))
+          → over k i (suc n) ≡ bestRow l w bit (k + before i) (rowsOn b l)
       go (yes e) ih =
-          missing-last l w bit (rowsOn b i) (concatMap (rowsOn b) (range (suc i) n)) (over-none (suc i) n (λ m u v z. omega arith))
-          ∙ ap (λ (k : ℕ). firstRow l w bit (rowsOn b k)) e
+          over-more k i n
+          ∙ ap (better (bestRow l w bit k (rowsOn b i))) (over-none on (suc i) n (λ m u v z. omega arith))
+          ∙ better-none (bestRow l w bit k (rowsOn b i))
+          ∙ ap₂ (λ (j m : ℕ). bestRow l w bit j (rowsOn b m)) (let z : k ≡ k + before i = omega (arith, before-all i e) in z) e
       go (no e) ih =
-          missing-first l w bit (rowsOn b i) (concatMap (rowsOn b) (range (suc i) n)) (others-none i e (firstOn b i) (endOn b i - firstOn b i))
-          ∙ ih (omega arith) (omega arith)
+          over-other k i n e ∙ ih (omega arith) (omega arith)
+          ∙ ap (λ (j : ℕ). bestRow l w bit j (rowsOn b l))
+          (let z : on + before (suc i) ≡ k + before i = omega (arith, before-more i (omega arith)) in z)
 
-  pub row-own : 2 ≤ l → l ≤ lastLabel b → firstRow l w bit (tableImage b .rows) ≡ firstRow l w bit (rowsOn b l)
+  pub row-own : 2 ≤ l → l ≤ lastLabel b → bestRow l w bit 0 (tableImage b .rows) ≡ bestRow l w bit (rowsBefore b l) (rowsOn b l)
   unfolding tableImage
-  row-own h g = over-own 2 (lastLabel b - 1) h (omega arith)
+  row-own h g =
+      over-own 0 2 (lastLabel b - 1) h (omega arith)
+      ∙ ap (λ (k : ℕ). bestRow l w bit k (rowsOn b l)) (let e : 0 + before 2 ≡ rowsBefore b l = omega arith in e)
 
-  pub row-none : l < 2 → firstRow l w bit (tableImage b .rows) ≡ missing
+  pub row-none : l < 2 → bestRow l w bit 0 (tableImage b .rows) ≡ none
   unfolding tableImage
-  row-none h = over-none 2 (lastLabel b - 1) (λ m p q z. omega arith)
+  row-none h = over-none 0 2 (lastLabel b - 1) (λ m p q z. omega arith)
 
-  pub row-above : lastLabel b < l → firstRow l w bit (tableImage b .rows) ≡ missing
+  pub row-above : lastLabel b < l → bestRow l w bit 0 (tableImage b .rows) ≡ none
   unfolding tableImage
-  row-above h = over-none 2 (lastLabel b - 1) (λ m p q z. omega arith)
+  row-above h = over-none 0 2 (lastLabel b - 1) (λ m p q z. omega arith)
 
-  pub next-low : l < 2 → 256 ≡ nextOf (firstRow l w bit (tableImage b .rows))
-  next-low h = sym (ap nextOf (row-none h))
+  -- ---- what a search among the frames of label l chose, in frame f or none
+  module _ (x : Numbered b l) (f : ℕ) (e : foundAt b l f ≡ bestRow l w bit (firstOn b l) (rowsOn b l)) where
+    counted : (n : ℕ) → bestRow l w bit n (rowsOn b l) ≡ moved-by n (bestRow l w bit 0 (rowsOn b l))
+    counted n = ap (λ (k : ℕ). bestRow l w bit k (rowsOn b l)) (sym (add-zero n)) ∙ best-moved l w bit n 0 (rowsOn b l)
 
-  pub next-high : (last : ℕ) → last ≡ lastLabel b → last < l → 256 ≡ nextOf (firstRow l w bit (tableImage b .rows))
-  next-high last e h = sym (ap nextOf (row-above (omega arith)))
+    moved-twice : (m n : ℕ) (y : Choice) → moved-by m (moved-by n y) ≡ moved-by n (moved-by m y)
+    moved-twice m n none = refl
+    moved-twice m n (row k r) = ap (λ (j : ℕ). row j r) (omega arith)
 
-  -- ---- the search among the frames of label l
-  module _ (d : Deciding b l bit) (first end : ℕ) (p : first ≡ firstOn b l) (q : end ≡ endOn b l) where
-    own-rows : firstRow l w bit (tableImage b .rows) ≡ among l first (end - first)
-    own-rows = row-own (d .label .low) (d .label .high) ∙ sym (ap₂ (λ (i j : ℕ). among l i (j - i)) p q)
+    -- with its number: a frame counts from the label's first frame as its row does from the label's first row
+    pub found-number : moved-by (rowsBefore b l) (foundAt b l f) ≡ moved-by (firstOn b l) (bestRow l w bit 0 (tableImage b .rows))
+    found-number =
+        ap (moved-by (rowsBefore b l)) (e ∙ counted (firstOn b l))
+        ∙ moved-twice (rowsBefore b l) (firstOn b l) (bestRow l w bit 0 (rowsOn b l))
+        ∙ ap (moved-by (firstOn b l)) (sym (row-own (x .low) (x .high) ∙ counted (rowsBefore b l)))
 
-    pub next-is : (n : ℕ) → n ≡ nextAmong b w bit first end → n ≡ nextOf (firstRow l w bit (tableImage b .rows))
-    next-is n r = r ∙ go (split f end) ∙ sym (ap nextOf own-rows)
-      where
-        f : ℕ
-        f = lowest (matching b w bit) first (end - first)
+    found-leads : leads (foundAt b l f) ≡ leads (bestRow l w bit 0 (tableImage b .rows))
+    found-leads =
+        sym (leads-moved (rowsBefore b l) (foundAt b l f)) ∙ ap leads found-number
+        ∙ leads-moved (firstOn b l) (bestRow l w bit 0 (tableImage b .rows))
 
-        low : first ≤ f
-        low = lowest-above (matching b w bit) first (end - first)
+    -- and where it leads
+    pub next-found : (n : ℕ) → n ≡ field b f 7 → f < size b → n ≡ nextOf (leads (bestRow l w bit 0 (tableImage b .rows)))
+    next-found n q h =
+        q ∙ sym (ap (λ (y : Choice). nextOf (leads y)) (yes-pick (ltb f (size b)) (row f (rowOn b l f)) none (lt-ltb f (size b) h)))
+        ∙ ap nextOf found-leads
 
-        go : (f < end) ⊎ (end ≤ f) → nextAmong b w bit first end ≡ nextOf (among l first (end - first))
-        go (inl h) =
-            yes-pick (ltb f end) (field b f 7) 256 (lt-ltb f end h) ∙ sym (ap nextOf (own-found d first (end - first) (omega (arith, low))))
-        go (inr h) =
-            no-pick (ltb f end) (field b f 7) 256 (le-ltb f end h) ∙ sym (ap nextOf (own-none d first (end - first) (omega (arith, low))))
+    pub next-none : size b ≤ f → 256 ≡ nextOf (leads (bestRow l w bit 0 (tableImage b .rows)))
+    next-none h =
+        sym (ap (λ (y : Choice). nextOf (leads y)) (no-pick (ltb f (size b)) (row f (rowOn b l f)) none (le-ltb f (size b) h)))
+        ∙ ap nextOf found-leads
 
 -- ---- no row of a label that calls no function looks at the bit
 module _ (b : List ℕ) (l w p q : ℕ) (n : labelOf b l .kind ≡ 2 → ⊥) where
@@ -167,14 +149,14 @@ module _ (b : List ℕ) (l w p q : ℕ) (n : labelOf b l .kind ≡ 2 → ⊥) wh
       ap (λ (r : Row). r .bit) (getD-map-range (rowOn b l) noRow first count k (omega (arith, length-map-range (rowOn b l) first count)))
       ∙ no-pick (eqb (labelOf b l .kind) 2) (field b (first + k) 6) 2 (ne-eqb (labelOf b l .kind) 2 n)
 
-  pub any-row : 2 ≤ l → l ≤ lastLabel b → firstRow l w p (tableImage b .rows) ≡ firstRow l w q (tableImage b .rows)
-  any-row h g = row-own b l w p h g ∙ any-bit l w p q (rowsOn b l) (λ k m e. free-bit k m) ∙ sym (row-own b l w q h g)
+  pub any-row : 2 ≤ l → l ≤ lastLabel b → bestRow l w p 0 (tableImage b .rows) ≡ bestRow l w q 0 (tableImage b .rows)
+  any-row h g = row-own b l w p h g ∙ any-bit l w p q (rowsBefore b l) (rowsOn b l) (λ k m e. free-bit k m) ∙ sym (row-own b l w q h g)
 
 -- ---- where rows lead
-pub next-small : (b : List ℕ) → ((k : ℕ) → getD b k 0 < 256) → (l w bit n : ℕ) → firstRow l w bit (tableImage b .rows) ≡ found n → n < 256
+pub next-small : (b : List ℕ) → ((k : ℕ) → getD b k 0 < 256) → (l w bit n : ℕ) → leads (bestRow l w bit 0 (tableImage b .rows)) ≡ found n → n < 256
 unfolding tableImage
 next-small b bytes l w bit n e =
-    found-next l w bit (λ n. n < 256) (tableImage b .rows)
+    leads-one l w bit (λ n. n < 256) (tableImage b .rows)
     (all-concat (λ (r : Row). r .next < 256) (rowsOn b) (range 2 (lastLabel b - 1))
     (all-every (λ m. All (λ (r : Row). r .next < 256) (rowsOn b m))
     (λ m. all-map (λ (r : Row). r .next < 256) (rowOn b m) (range (firstOn b m) (endOn b m - firstOn b m))

@@ -1,8 +1,10 @@
 -- Which row a label takes.
-use Prim.Native.Nat.{ℕ}
-use mathlib.Core.Bool.{Bool, true, false, _&&_, _||_}
+use Prim.Native.Nat.{ℕ, suc}
+use mathlib.Core.Bool.{Bool, _&&_, _||_}
 use mathlib.Core.List.{List, [], _∷_}
-use lib.Dec.{eqb}
+use lib.Count.{ones}
+use lib.Dec.{ltb, eqb}
+use Rattle.lists.specs.Pick.{pick}
 use Rattle.bits.specs.Word.{agrees}
 use Rattle.image.specs.Image.{Row}
 
@@ -10,14 +12,34 @@ use Rattle.image.specs.Image.{Row}
 abbrev pub matches : ℕ → ℕ → Row → Bool
 matches w b r = agrees w (r .care) (r .values) && (eqb (r .bit) 2 || eqb (r .bit) b)
 
+-- a row of label l that matches
+abbrev pub isOwn : ℕ → ℕ → ℕ → Row → Bool
+isOwn l w b r = eqb (r .from) l && matches w b r
+
+-- a row with its number, or none
+pub data Choice : Type 0 where
+  row : ℕ → Row → Choice
+  none : Choice
+
+-- of two, the later one unless the care mask of the other has more ones
+abbrev pub better : Choice → Choice → Choice
+better none y = y
+better (row k r) none = row k r
+better (row k r) (row j q) = pick (ltb (ones (q .care)) (ones (r .care))) (row k r) (row j q)
+
+-- of the matching rows of label l the one whose care mask has most ones, with equal counts the later; the first row has number k
+unfoldable pub bestRow : ℕ → ℕ → ℕ → ℕ → List Row → Choice
+bestRow l w b k [] = none
+bestRow l w b k (r ∷ rs) = better (pick (isOwn l w b r) (row k r) none) (bestRow l w b (suc k) rs)
+
 pub data Found : Type 0 where
   found : ℕ → Found
   missing : Found
 
--- where the first matching row of label l leads
-unfoldable pub firstRow : ℕ → ℕ → ℕ → List Row → Found
-firstRow l w b [] = missing
-firstRow l w b (r ∷ rs) = elim (eqb (r .from) l && matches w b r) [ true ↦ found (r .next) | false ↦ firstRow l w b rs ]
+-- where the row chosen leads
+abbrev pub leads : Choice → Found
+leads (row k r) = found (r .next)
+leads none = missing
 
 -- where a row leads, as a number: labels are below 256, and 256 says that no row matches
 abbrev pub nextOf : Found → ℕ

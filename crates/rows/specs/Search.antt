@@ -1,15 +1,16 @@
 -- What the search for a row among the frames of a table asks and promises.
-use Prim.Native.Nat.{ℕ, _+_, _*_, _-_, _/_, _%_}
+use Prim.Native.Nat.{ℕ, _+_, _*_, _/_, _%_, _<_}
 use mathlib.Core.Bool.{Bool, _&&_, _||_}
 use mathlib.Core.Path.{_≡_}
 use mathlib.Core.List.{List}
 use lib.Dec.{ltb, eqb}
 use Rattle.lists.specs.Pick.{pick}
-use Rattle.lists.specs.Numbers.{lowest}
 use Rattle.bits.specs.Word.{agrees}
-use Rattle.frames.specs.Frame.{field, pairAt}
-use Rattle.tables.specs.Table.{labelOf}
+use Rattle.frames.specs.Frame.{size, field, pairAt}
+use Rattle.tables.specs.Table.{labelOf, firstOn, rowOn, rowsOn}
 use Rattle.tables.specs.Labels.{Numbered}
+use Rattle.rows.specs.Rows.{Choice, row, none, better, bestRow}
+use Rattle.rows.specs.declared.LastMatch.{LastMatch}
 
 -- a word of two bytes with its bytes in the other order
 abbrev pub swapped : ℕ → ℕ
@@ -19,9 +20,17 @@ swapped w = w % 256 * 256 + w / 256
 abbrev pub matching : List ℕ → ℕ → ℕ → ℕ → Bool
 matching b w bit f = agrees w (pairAt b f 2) (pairAt b f 4) && (eqb bit 2 || (eqb (field b f 6) 2 || eqb (field b f 6) bit))
 
--- where the first matching row of the frames from first up to end leads, or 256 where none matches
-abbrev pub nextAmong : List ℕ → ℕ → ℕ → ℕ → ℕ → ℕ
-nextAmong b w bit first end = let f = lowest (matching b w bit) first (end - first) in pick (ltb f end) (field b f 7) 256
+-- what a search among the rows of label l chose: the row in frame f, or none where that is past the table
+abbrev pub foundAt : List ℕ → ℕ → ℕ → Choice
+foundAt b l f = pick (ltb f (size b)) (row f (rowOn b l f)) none
+
+-- r is the better of the row in frame best, none where that is past the table, and the later one in frame f, whatever label they leave
+abbrev pub BetterOf : List ℕ → ℕ → ℕ → ℕ → Type 0
+BetterOf b best f r = (l : ℕ) → foundAt b l r ≡ better (foundAt b l best) (row f (rowOn b l f))
+
+-- what one pass over the rows of label l tells: the last that matches, and how many do; with no more than one it is the row taken
+abbrev pub LastTaken : List ℕ → ℕ → ℕ → ℕ → LastMatch → Type 0
+LastTaken b l w bit r = r .count < 2 → foundAt b l (r .frame) ≡ bestRow l w bit (firstOn b l) (rowsOn b l)
 
 -- a label that has rows of its own, and a bit that decides among them where it calls a function and nowhere else
 pub record Deciding (b : List ℕ) (l bit : ℕ) : Type 0 where

@@ -1,13 +1,20 @@
 // Which row of a prepared table a label takes, by the word and a result bit.
 use image::byte;
+use image::pair;
 ghost use mathlib.Core.Path.{_≡_};
-ghost use Prim.Native.Nat.{_+_, _*_, _≤_, _<_};
+ghost use Prim.Native.Nat.{_+_, _*_, _<_};
 ghost use Rattle.frames.specs.Frame.{size, field};
 ghost use Rattle.image.specs.Decode.{schemeCount};
-ghost use Rattle.tables.specs.Table.{firstOn, endOn, tableImage};
+ghost use Rattle.tables.specs.Table.{firstOn, endOn, rowsOn, tableImage};
 ghost use Rattle.tables.specs.Labels.{Framed};
-ghost use Rattle.rows.specs.Rows.{firstRow, nextOf};
-ghost use Rattle.rows.specs.Search.{swapped, matching, nextAmong, Deciding};
+ghost use Rattle.rows.specs.Rows.{bestRow, leads, nextOf};
+ghost use Rattle.rows.specs.Search.{swapped, matching, foundAt, BetterOf, LastTaken, Deciding};
+
+// The frame of the last matching row of a label, or the end of the table, and how many of its rows match.
+struct LastMatch {
+    frame: usize,
+    count: usize,
+}
 
 // The two bytes of a word in the other order. A row is compared with its bytes as they stand, which spares turning care mask and
 // values round at each row.
@@ -43,22 +50,6 @@ fn is_matching(table: &[u8], f: usize, turned: u16, bit: u8) -> bool
     only == bit
 }
 
-// Where the first matching row of the frames from first up to end leads, or 256 where none matches.
-fn find_next(table: &[u8], first: usize, end: usize, word: u16, bit: u8) -> u16
-    requires { ⌜ end ≤ size (now table) ⌝ }
-    ensures { λ r. ⌜ r ≡ nextAmong (now (table .entry)) word bit first end ⌝ }
-{
-    let turned = swap(word);
-    let mut f = first;
-    while f < end {
-        if is_matching(table, f, turned, bit) {
-            return byte(table, f, 7) as u16;
-        }
-        f += 1;
-    }
-    256
-}
-
 // Where the rows of label l begin: the frame that the label before it notes.
 fn first_of(table: &[u8], schemes: u8, l: usize) -> usize
     requires { ⌜ Framed (now table) schemes l ⌝ }
@@ -80,14 +71,85 @@ fn end_of(table: &[u8], schemes: u8, l: usize) -> usize
     all
 }
 
-// Where the first matching row of label l leads, which has a frame with rows of its own, or 256 where none matches. The bit is 2 for a
-// label that calls no function.
+// Of the row in frame best, none where that is past the table, and a later one in frame f: the later, unless the care mask of the first
+// has more ones.
+fn better_frame(table: &[u8], best: usize, f: usize) -> usize
+    requires { ⌜ f < size (now table) ⌝ }
+    ensures { λ r. ⌜ BetterOf (now (table .entry)) best f r ⌝ }
+{
+    if table.len() / 10 <= best {
+        return f;
+    }
+    if u16::count_ones(pair(table, f, 2)) < u16::count_ones(pair(table, best, 2)) {
+        return best;
+    }
+    f
+}
+
+// The last matching row of label l, and how many match. What a turn does depends on no jump, since nobody can foresee which row of a label
+// a word matches.
+fn last_match(table: &[u8], schemes: u8, l: usize, word: u16, bit: u8) -> LastMatch
+    requires { ⌜ Deciding (now table) l bit ⌝ }
+    requires { ⌜ schemes ≡ schemeCount (now table) ⌝ }
+    ensures { λ r. ⌜ LastTaken (now (table .entry)) l word bit r ⌝ }
+{
+    let turned = swap(word);
+    let end = end_of(table, schemes, l);
+    let mut f = first_of(table, schemes, l);
+    let mut frame = table.len() / 10;
+    let mut count: usize = 0;
+    while f < end {
+        if is_matching(table, f, turned, bit) {
+            frame = f;
+            count += 1;
+        }
+        f += 1;
+    }
+    LastMatch { frame, count }
+}
+
+// The frame of the row that label l takes where several match, row after row.
+fn compare_rows(table: &[u8], schemes: u8, l: usize, word: u16, bit: u8) -> usize
+    requires { ⌜ Deciding (now table) l bit ⌝ }
+    requires { ⌜ schemes ≡ schemeCount (now table) ⌝ }
+    ensures { λ r. ⌜ foundAt (now (table .entry)) l r ≡ bestRow l word bit (firstOn (now (table .entry)) l) (rowsOn (now (table .entry)) l) ⌝ }
+{
+    let turned = swap(word);
+    let end = end_of(table, schemes, l);
+    let mut frame = first_of(table, schemes, l);
+    let mut best = table.len() / 10;
+    while frame < end {
+        if is_matching(table, frame, turned, bit) {
+            best = better_frame(table, best, frame);
+        }
+        frame += 1;
+    }
+    best
+}
+
+// The frame of the row that label l takes, which has a frame with rows of its own, or the end of the table where none matches. The bit is 2
+// for a label that calls no function. Rows are compared only where more than one matches: on the image of a chart never.
+pub fn find_row(table: &[u8], schemes: u8, l: usize, word: u16, bit: u8) -> usize
+    requires { ⌜ Deciding (now table) l bit ⌝ }
+    requires { ⌜ schemes ≡ schemeCount (now table) ⌝ }
+    ensures { λ r. ⌜ foundAt (now (table .entry)) l r ≡ bestRow l word bit (firstOn (now (table .entry)) l) (rowsOn (now (table .entry)) l) ⌝ }
+{
+    let last = last_match(table, schemes, l, word, bit);
+    if last.count < 2 {
+        return last.frame;
+    }
+    compare_rows(table, schemes, l, word, bit)
+}
+
+// Where the row that label l takes leads, or 256 where none matches.
 pub fn next_row(table: &[u8], schemes: u8, l: usize, word: u16, bit: u8) -> u16
     requires { ⌜ Deciding (now table) l bit ⌝ }
     requires { ⌜ schemes ≡ schemeCount (now table) ⌝ }
-    ensures { λ r. ⌜ r ≡ nextOf (firstRow l word bit (tableImage (now (table .entry)) .rows)) ⌝ }
+    ensures { λ r. ⌜ r ≡ nextOf (leads (bestRow l word bit 0 (tableImage (now (table .entry)) .rows))) ⌝ }
 {
-    let first = first_of(table, schemes, l);
-    let end = end_of(table, schemes, l);
-    find_next(table, first, end, word, bit)
+    let f = find_row(table, schemes, l, word, bit);
+    if f < table.len() / 10 {
+        return byte(table, f, 7) as u16;
+    }
+    256
 }

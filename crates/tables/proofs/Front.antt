@@ -27,6 +27,11 @@ end-inside b l = omega arith
 pub handler-alike : (b c : List ℕ) → handlerIn c ≡ handlerIn b → schemeCount c ≡ schemeCount b → badHandler c ≡ badHandler b
 handler-alike b c = ap₂ (λ (h n : ℕ). not (eqb h 0) && (ltb h 2 || ltb n h))
 
+-- and H, M and R whether the counts are
+pub counts-alike : (b c : List ℕ) → schemeCount c ≡ schemeCount b → lastLabel c ≡ lastLabel b → rowCount c ≡ rowCount b → badCounts c ≡ badCounts b
+counts-alike b c schemes last rows =
+    ap₂ (λ (t u : Bool). t || u) (ap₂ (λ (h m : ℕ). eqb h 0 || ltb 16 h || eqb m 0) schemes last) (ap (λ (r : ℕ). ltb 1024 r) rows)
+
 module _ (b c : List ℕ) (same : (k : ℕ) → k < 10 * tableEnd b → getD c k 0 ≡ getD b k 0) where
   field-same : (f k : ℕ) → f < tableEnd b → k < 10 → field c f k ≡ field b f k
   field-same f k h g = same (10 * f + k) (omega arith)
@@ -51,9 +56,7 @@ module _ (b c : List ℕ) (same : (k : ℕ) → k < 10 * tableEnd b → getD c k
   end-same = omega (arith, schemes-same, last-same, rows-same)
 
   pub counts-same : badCounts c ≡ badCounts b
-  counts-same =
-      ap₂ (λ (t u : Bool). t || u)
-      (ap₂ (λ (h m : ℕ). eqb h 0 || ltb 16 h || eqb m 0) schemes-same last-same) (ap (λ (r : ℕ). ltb 1024 r) rows-same)
+  counts-same = counts-alike b c schemes-same last-same rows-same
 
   pub bad-handler-same : badHandler c ≡ badHandler b
   bad-handler-same = handler-alike b c handler-same schemes-same

@@ -1,6 +1,6 @@
 -- The table that is prepared from an accepted image holds the very image that the text does.
 use Prim.Native.Nat.{ℕ, zero, suc, _+_, _*_, _-_, _%_, _≤_, _<_}
-use mathlib.Core.Bool.{Bool, false, _||_}
+use mathlib.Core.Bool.{false, _||_}
 use mathlib.Core.Path.{_≡_, sym, _∙_, ap, ap₂}
 use mathlib.Core.List.{List, map}
 use native.Mathlib.Nat.{zero-add}
@@ -27,7 +27,7 @@ use Rattle.image.proofs.Accepted.{label-read, row-read, labels-count, entries-c
 use Rattle.tables.specs.Prepare.{firstFrame, noted, prepare}
 use Rattle.tables.specs.Table.{tableEnd, badTable, labelOn, labelOf, firstOn, endOn, rowOn, rowsOn, tableImage, Whole}
 use Rattle.tables.proofs.RangeLaws.{map-alike, map-moved, concat-alike, ranges-join}
-use Rattle.tables.proofs.Front.{handler-alike, alike-image, counts-same, bad-handler-same, end-same}
+use Rattle.tables.proofs.Front.{handler-alike, counts-alike, alike-image, counts-same, bad-handler-same, end-same}
 use Rattle.tables.proofs.TableReads.{label-on}
 use Rattle.tables.proofs.Noted.{noted-length, noted-schemes, noted-last, noted-rows, noted-handler, noted-end}
 use Rattle.tables.proofs.Noted.{noted-label, noted-late, noted-pair, noted-in}
@@ -51,9 +51,7 @@ module _ (b : List ℕ) (ok : tableVerdict b ≡ fine) where
       (le-ltb 1024 (rowCount b) (counted b ok .few))
 
   noted-counts : badCounts (noted b) ≡ badCounts b
-  noted-counts =
-      ap₂ (λ (t u : Bool). t || u)
-      (ap₂ (λ (h m : ℕ). eqb h 0 || ltb 16 h || eqb m 0) (noted-schemes b) (noted-last b)) (ap (λ (r : ℕ). ltb 1024 r) (noted-rows b))
+  noted-counts = counts-alike b (noted b) (noted-schemes b) (noted-last b) (noted-rows b)
 
   noted-handler-good : badHandler (noted b) ≡ false
   noted-handler-good = handler-alike b (noted b) (noted-handler b) (noted-schemes b) ∙ counted b ok .handler

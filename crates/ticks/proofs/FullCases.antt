@@ -17,7 +17,7 @@ use Rattle.tables.proofs.TableReads.{handler-at, handler-inside, label-at, entr
 use Rattle.state.specs.declared.State.{State}
 use Rattle.state.specs.State.{noPlaces, entryAt, placeAt}
 use Rattle.state.specs.Bytes.{stateOf, withDepth, withPlace, withPlaces, afterResult}
-use Rattle.ticks.specs.Tick.{keepsFull, Ticked, ticked, stopped, full}
+use Rattle.ticks.specs.Tick.{keepsFull, ticked, stopped, full}
 use Rattle.ticks.specs.Parts.{topOf, TopFull, Steps}
 use Rattle.ticks.proofs.TickCases.{steps-stopped, steps-ticked, tick-full}
 

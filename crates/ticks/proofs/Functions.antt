@@ -1,7 +1,7 @@
 -- A function's label takes its row for bit 0 if nothing writes 1 to the called scheme's bit meanwhile: from the call on the bit is 0, and the
 -- label stays in its place under the top, until the call's own return.
 use Prim.Native.Nat.{ℕ, zero, suc, _+_, _-_, _≤_, _<_}
-use mathlib.Core.Bool.{Bool, true, false, _&&_, _||_}
+use mathlib.Core.Bool.{Bool, true, false, _&&_}
 use mathlib.Core.Path.{_≡_, refl, ap, _∙_, sym, subst}
 use mathlib.Core.Logic.{_⊎_, inl, inr}
 use mathlib.Core.List.{List}
@@ -19,12 +19,12 @@ use Rattle.image.specs.Image.{Image, Label, noLabel, returnLabel}
 use Rattle.image.specs.Decode.{decoded}
 use Rattle.image.proofs.Sound.{Sound}
 use Rattle.image.proofs.Accepted.{image-sound}
-use Rattle.rows.specs.Rows.{Found, found, missing, firstRow}
+use Rattle.rows.specs.Rows.{bestRow, Found, found, missing, leads}
 use Rattle.state.specs.declared.State.{State}
 use Rattle.state.specs.State.{noPlaces, labelAt, entryAt, placeAt, isCall, ofHandler}
 use Rattle.state.proofs.FitCases.{kind-call}
 use Rattle.state.proofs.Fitness.{Fits, unfits}
-use Rattle.ticks.specs.Tick.{rowOf, Ticked, ticked, stopped, moved, pushed, popped, tickBy, tick}
+use Rattle.ticks.specs.Tick.{rowOf, Ticked, ticked, stopped, moved, keepsFull, pushed, popped, tickBy, tick}
 use Rattle.ticks.specs.Parts.{topOf}
 use Rattle.ticks.specs.Functions.{findsFull, CallClears, Drop, Drops, writesOne, returnsAt, Unwritten, none, more, returned, ZeroRow}
 
@@ -54,7 +54,7 @@ call-clears i s call w m code t e =
     drops m false = cleared-own (i .handler) b
 
     pushes : (m code : ℕ) (r : Bool) → Cleared (pick r (i .handler) h) (pushed i s m code h b r)
-    pushes m code true = drops m (eqb (i .handler) 0 || ofHandler i (placeAt s 0))
+    pushes m code true = drops m (keepsFull i s)
     pushes m code false = cleared-own h b
 
     go : (eqb (x .kind) 1 ≡ true) ⊎ (eqb (x .kind) 2 ≡ true)
@@ -77,7 +77,7 @@ drops i s full w m code t e = subst (Dropped i x s) e (go (or-cases (eqb (x .kin
     b : Results
     b = withResult (x .result) (x .owner) (s .bits)
 
-    dropped : (r : Bool) → (eqb (i .handler) 0 || ofHandler i (placeAt s 0)) ≡ r → Dropped i x s (pick r (stopped 17)
+    dropped : (r : Bool) → keepsFull i s ≡ r → Dropped i x s (pick r (stopped 17)
         (ticked (x .mask) 96 (record { size = s .size; depth = 1; places = set noPlaces 0 (entryAt i (i .handler)); bits = cleared (i .handler) b })))
     dropped true q = tt
     dropped false q = record {
@@ -91,7 +91,7 @@ drops i s full w m code t e = subst (Dropped i x s) e (go (or-cases (eqb (x .kin
     }
 
     pushes : (code : ℕ) (r : Bool) → r ≡ true → Dropped i x s (pushed i s (x .mask) code (x .called) b r)
-    pushes code true q = dropped (eqb (i .handler) 0 || ofHandler i (placeAt s 0)) refl
+    pushes code true q = dropped (keepsFull i s) refl
     pushes code false q = no-both false q refl
 
     go : (eqb (x .kind) 1 ≡ true) ⊎ (eqb (x .kind) 2 ≡ true) → Dropped i x s (tickBy i s w (topOf s) x b (x .kind))
@@ -206,7 +206,7 @@ module _ (i : Image) (sound : Sound i) where
 
     -- its own return
     own-return : (u : State) → Waits (topOf s) (s .depth) h (f .some) deep u → returnsAt i (suc (s .depth)) u ≡ true
-        → (v : ℕ) → tick i u v ≡ returned u (firstRow (topOf s) v 0 (i .rows))
+        → (v : ℕ) → tick i u v ≡ returned u (leads (bestRow (topOf s) v 0 0 (i .rows)))
     unfolding tick
     own-return u y own v =
         let z : Label = labelAt i (topOf u) in
@@ -216,7 +216,7 @@ module _ (i : Image) (sound : Sound i) where
         ap (λ (c : Label). tickBy i u v (topOf u) c (withResult (c .result) (c .owner) (u .bits)) (c .kind)) (return-is (topOf u) k)
         ∙ ap (popped i u v 0 (u .bits)) (lt-leb (u .depth) 1 (omega (arith, f .some)))
         ∙ ap (λ (l : ℕ). returned u (rowOf i (u .bits) l v)) (ap (placeAt u) p ∙ y .label)
-        ∙ ap (λ (t : Bool). returned u (firstRow (topOf s) v (pick t 1 0) (i .rows))) (y .unset)
+        ∙ ap (λ (t : Bool). returned u (leads (bestRow (topOf s) v (pick t 1 0) 0 (i .rows)))) (y .unset)
 
 pub zero-row : ZeroRow
 unfolding ZeroRow

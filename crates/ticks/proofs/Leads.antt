@@ -1,41 +1,37 @@
 -- On a sound image: labels by their kind, and where the rows and the entry of a scheme lead.
 use Prim.Native.Nat.{ℕ, zero, suc, _≤_, _<_}
-use mathlib.Core.Bool.{Bool, true, false, _&&_, _||_, not}
+use mathlib.Core.Bool.{Bool, true, _||_, not}
 use mathlib.Core.Path.{_≡_, refl, ap, _∙_, sym, subst}
 use mathlib.Core.Logic.{_⊎_, inl, inr}
-use mathlib.Core.List.{List, [], _∷_}
 use lib.Dec.{eqb}
-use lib.ListN.{length, getD}
+use lib.ListN.{length}
 use native.Mathlib.Omega.{arith}
 use borrow.Author.Tests.{eqb-true, eqb-false, eq-eqb, ne-eqb}
 use Rattle.lists.specs.Pick.{pick}
 use Rattle.lists.proofs.Tests.{or-cases, or-true-l, or-true-r, and-l, and-r, and-true, not-true}
 use Rattle.image.specs.Image.{Image, Label, Row}
-use Rattle.image.proofs.Sound.{noRow, nthRow, endOf, Reaches, Sound}
+use Rattle.image.proofs.Sound.{nthRow, endOf, Reaches, Sound}
 use Rattle.state.specs.State.{labelAt, isCall, ofHandler}
-use Rattle.rows.specs.Rows.{matches, found, firstRow}
+use Rattle.rows.specs.Rows.{matches, Choice, row, none, bestRow, found, missing, leads}
+use Rattle.rows.specs.Choices.{Best}
 use Rattle.state.proofs.Fitness.{Bottom}
-use Rattle.rows.proofs.FirstRows.{row-here, row-later}
-
--- a row that is found is one of the label's
-found-row : (i : Image) (h l w b u : ℕ) (rs : List Row)
-    → ((k : ℕ) → k < length rs → getD rs k noRow .from ≡ l → Reaches i h (getD rs k noRow .next))
-    → firstRow l w b rs ≡ found u → Reaches i h u
-unfolding firstRow
-found-row i h l w b u [] each e = absurd (let z : _≡_ {A = ℕ} 0 1 = cc in omega arith)
-found-row i h l w b u (r ∷ rs) each e = go (eqb (r .from) l && matches w b r) refl (found-row i h l w b u rs (λ k m. each (suc k) (omega arith)))
-  where
-    go : (t : Bool) → (eqb (r .from) l && matches w b r) ≡ t → (firstRow l w b rs ≡ found u → Reaches i h u) → Reaches i h u
-    go true q ih =
-        let p : found (r .next) ≡ found u = sym (row-here l w b r rs q) ∙ e in
-        let same : r .next ≡ u = cc in
-        subst (Reaches i h) same (each 0 (omega arith) (eqb-true (r .from) l (and-l (eqb (r .from) l) (matches w b r) q)))
-    go false q ih = ih (sym (row-later l w b r rs q) ∙ e)
+use Rattle.rows.proofs.BestRows.{best-is}
 
 module _ (i : Image) (sound : Sound i) where
-  pub row-leads : (l w b u : ℕ) → firstRow l w b (i .rows) ≡ found u → Reaches i (labelAt i l .owner) u
-  row-leads l w b u e = found-row i (labelAt i l .owner) l w b u (i .rows)
-      (λ k m q. subst (λ (x : ℕ). Reaches i (labelAt i x .owner) (nthRow i k .next)) q (sound .each k m .leading)) e
+  -- a row that is taken is one of the label's
+  pub row-leads : (l w b u : ℕ) → leads (bestRow l w b 0 (i .rows)) ≡ found u → Reaches i (labelAt i l .owner) u
+  row-leads l w b u e = go (bestRow l w b 0 (i .rows)) refl
+    where
+      go : (x : Choice) → bestRow l w b 0 (i .rows) ≡ x → Reaches i (labelAt i l .owner) u
+      go none q = absurd (let p : missing ≡ found u = sym (ap leads q) ∙ e in let z : _≡_ {A = ℕ} 0 1 = cc in omega arith)
+      go (row k r) q =
+          let best : Best l w b (i .rows) k r = best-is l w b (i .rows) k r q in
+          let from : r .from ≡ l = eqb-true (r .from) l (and-l (eqb (r .from) l) (matches w b r) (best .matches)) in
+          let p : found (r .next) ≡ found u = sym (ap leads q) ∙ e in
+          let next : r .next ≡ u = cc in
+          subst (Reaches i (labelAt i l .owner)) (ap (λ (x : Row). x .next) (best .is) ∙ next)
+          (subst (λ (m : ℕ). Reaches i (labelAt i m .owner) (nthRow i k .next)) (ap (λ (x : Row). x .from) (best .is) ∙ from)
+          (sound .each k (best .inside) .leading))
 
   -- ---- labels by their kind
   pub data Sort (l : ℕ) : Type 0 where

@@ -1,7 +1,7 @@
 -- What every tick keeps, on any image and from any state, and the numbers that stop one.
 use Prim.Native.Nat.{ℕ, zero, suc, _+_, _-_, _≤_}
 use mathlib.Core.Path.{_≡_, refl, _∙_}
-use mathlib.Core.Bool.{Bool, true, false, _||_}
+use mathlib.Core.Bool.{Bool, true, false}
 use mathlib.Core.List.{List}
 use native.Mathlib.Omega.{arith}
 use lib.Dec.{leb, eqb}
@@ -10,8 +10,8 @@ use Rattle.lists.specs.Pick.{pick}
 use Rattle.bits.specs.Results.{Results, withResult, cleared}
 use Rattle.image.specs.Image.{Image, Label}
 use Rattle.state.specs.declared.State.{State}
-use Rattle.state.specs.State.{noPlaces, labelAt, entryAt, placeAt, ofHandler}
-use Rattle.ticks.specs.Tick.{rowOf, Ticked, ticked, stopped, moved, full, pushed, popped, tickBy, tick}
+use Rattle.state.specs.State.{noPlaces, labelAt, entryAt, placeAt}
+use Rattle.ticks.specs.Tick.{rowOf, Ticked, ticked, stopped, moved, keepsFull, full, pushed, popped, tickBy, tick}
 use Rattle.rows.specs.Rows.{Found, found, missing}
 
 length-result : (r h : ℕ) (b : Results) → length (withResult r h b) ≡ length b
@@ -38,7 +38,7 @@ module _ (i : Image) (s : State) where
     moved-normal m code k d ps missing p = omega arith
 
     full-normal : (m : ℕ) → Normal s (full i s m b)
-    full-normal m = go (eqb (i .handler) 0 || ofHandler i (placeAt s 0))
+    full-normal m = go (keepsFull i s)
       where
         go : (t : Bool) → Normal s (pick t (stopped 17)
             (ticked m 96 (record { size = s .size; depth = 1; places = set noPlaces 0 (entryAt i (i .handler)); bits = cleared (i .handler) b })))

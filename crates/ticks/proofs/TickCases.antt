@@ -1,7 +1,6 @@
 -- One tick on any table whose header holds: what it is for each kind of the top label, and what a function that makes it answers.
 use mathlib.Core.Path.{_≡_, refl, sym, _∙_, ap, ap₂, subst}
-use mathlib.Core.Bool.{Bool, true, false, _||_}
-use mathlib.Core.Logic.{_⊎_, inl, inr}
+use mathlib.Core.Bool.{Bool, true, false}
 use mathlib.Core.List.{List}
 use Prim.Native.Nat.{ℕ, zero, suc, _+_, _-_, _≤_, _<_}
 use native.Mathlib.Numerals.{add-one}
@@ -11,7 +10,7 @@ use lib.Dec.{leb, eqb}
 use lib.ListN.{getD, set}
 use borrow.Author.Tests.{le-leb, lt-leb, leb-false, eq-eqb, ne-eqb}
 use Rattle.lists.specs.Pick.{pick}
-use Rattle.lists.proofs.Tests.{split, yes-pick, no-pick}
+use Rattle.lists.proofs.Tests.{yes-pick, no-pick}
 use Rattle.bits.specs.Results.{Results, resultOf, withResult, cleared}
 use Rattle.image.specs.Image.{Image, Label, noLabel, homeLabel, returnLabel}
 use Rattle.image.specs.Decode.{schemeCount, lastLabel}
@@ -20,14 +19,14 @@ use Rattle.tables.specs.Labels.{asLabel, Numbered}
 use Rattle.tables.specs.declared.Label as declared
 use Rattle.ticks.specs.declared.Stepped.{Stepped}
 use Rattle.tables.proofs.TableReads.{counts-told, label-on, label-above, label-at, entry-at, label-values}
-use Rattle.rows.specs.Rows.{Found, found, missing, firstRow, nextOf}
+use Rattle.rows.specs.Rows.{Choice, none, bestRow, Found, found, missing, leads, nextOf}
 use Rattle.rows.specs.Search.{Deciding}
 use Rattle.rows.proofs.TableRows.{row-none, row-above, any-row, next-small}
 use Rattle.codes.specs.Codes.{codeOf}
 use Rattle.state.specs.declared.State.{State}
-use Rattle.state.specs.State.{noPlaces, labelAt, entryAt, placeAt, ofHandler}
+use Rattle.state.specs.State.{noPlaces, labelAt, entryAt, placeAt}
 use Rattle.state.specs.Bytes.{stateOf, withDepth, withPlace, afterResult}
-use Rattle.ticks.specs.Tick.{rowOf, Ticked, ticked, stopped, moved, full, pushed, popped, tickBy, tick}
+use Rattle.ticks.specs.Tick.{calledBit, choice, rowOf, Ticked, ticked, stopped, moved, keepsFull, full, pushed, popped, tickBy, tick}
 use Rattle.ticks.specs.Parts.{Stands, topOf, TopHome, TopReturn, TopBack, TopNumbered, TopCalls, TopPlain, beneath, bitOf, after, stepOf, Steps}
 use Rattle.ticks.proofs.Depths.{Deep, deep-told}
 
@@ -133,7 +132,7 @@ module _ (b : List ℕ) (s : State) (y : Stands b s) where
 
     -- a label above M holds nothing and has no row
     tick-high : lastLabel b < l → tick i s w ≡ stopped 18
-    tick-high h = tick-as noLabel (label-above b l h) ∙ ap (moved 0 0 s (s .depth - 1) (s .depth) (s .places) (s .bits)) (row-above b l w _ h)
+    tick-high h = tick-as noLabel (label-above b l h) ∙ ap (moved 0 0 s (s .depth - 1) (s .depth) (s .places) (s .bits)) (ap leads (row-above b l w _ h))
 
     tick-return : l ≡ 1 → tick i s w ≡ popped i s w 0 (s .bits) (leb (s .depth) 1)
     tick-return e = tick-as returnLabel (is-return e)
@@ -171,7 +170,7 @@ module _ (b : List ℕ) (s : State) (y : Stands b s) where
     moved-deep m code k d ps bs missing h = tt
 
     full-deep : (m : ℕ) (bs : Results) → Kept (full i s m bs)
-    full-deep m bs = go (eqb (i .handler) 0 || ofHandler i (placeAt s 0))
+    full-deep m bs = go (keepsFull i s)
       where
         go : (t : Bool) → Kept (pick t (stopped 17)
             (ticked m 96 (record { size = s .size; depth = 1; places = set noPlaces 0 (entryAt i (i .handler)); bits = cleared (i .handler) bs })))
@@ -300,8 +299,8 @@ module _ (b before : List ℕ) (w : ℕ) where
         (tick-back b s (y .top .stands) w (y .top .label) (y .deep) ∙ ap (moved 0 3 s _ _ _ _) (one-found n under e h))
         (e₃ ∙ ap₂ withDepth (e₂ ∙ ap₂ (λ (u : State) (j : ℕ). withPlace u j n) (e₁ ∙ ap (λ (j : ℕ). withPlace s j 0) q) r) q)
 
-  -- l is the top, and n where its first row leads, whatever the bit
-  module _ (y : TopPlain b s) (l : ℕ) (at : l ≡ topOf s) (n : ℕ) (e : n ≡ nextOf (firstRow l w 2 (tableImage b .rows))) where
+  -- l is the top, and n where the row that it takes leads, whatever the bit
+  module _ (y : TopPlain b s) (l : ℕ) (at : l ≡ topOf s) (n : ℕ) (e : n ≡ nextOf (leads (bestRow l w 2 0 (tableImage b .rows)))) where
     abbrev top : Label
     top = labelOf b (topOf s)
 
@@ -313,8 +312,8 @@ module _ (b before : List ℕ) (w : ℕ) where
 
     row-is : n ≡ nextOf row
     row-is =
-        e ∙ ap (λ (k : ℕ). nextOf (firstRow k w 2 (tableImage b .rows))) at
-        ∙ ap nextOf (any-row b (topOf s) w 2 _ (λ k. omega (arith, y .kind)) (y .label .low) (y .label .high))
+        e ∙ ap (λ (k : ℕ). nextOf (leads (bestRow k w 2 0 (tableImage b .rows)))) at
+        ∙ ap (λ (x : Choice). nextOf (leads x)) (any-row b (topOf s) w 2 _ (λ k. omega (arith, y .kind)) (y .label .low) (y .label .high))
 
     pub plain-stop : ((k : ℕ) → getD b k 0 < 256) → 256 ≤ n → (r : Stepped) → r ≡ stepOf (stopped 18) → Steps b before w r before
     plain-stop bytes h r q =
@@ -364,24 +363,29 @@ module _ (b : List ℕ) (l : ℕ) (z : declared.Label) (read : asLabel z ≡ lab
 
 -- ---- where the label beneath a return leads
 module _ (b : List ℕ) (s : State) (w l : ℕ) (at : l ≡ placeAt s (s .depth - 2)) where
-  leads : (bit : ℕ) → bit ≡ pick (resultOf (labelAt (tableImage b) l .called) (s .bits)) 1 0
-      → firstRow l w bit (tableImage b .rows) ≡ beneath (tableImage b) s w
-  leads bit e =
-      ap (λ (k : ℕ). firstRow l w k (tableImage b .rows)) e ∙ ap (λ (k : ℕ). rowOf (tableImage b) (s .bits) k w) at
+  abbrev rowBeneath : Choice
+  rowBeneath = choice (tableImage b) (s .bits) (placeAt s (s .depth - 2)) w
+
+  chosen : (bit : ℕ) → bit ≡ calledBit (tableImage b) (s .bits) l → bestRow l w bit 0 (tableImage b .rows) ≡ rowBeneath
+  chosen bit e =
+      ap (λ (k : ℕ). bestRow l w k 0 (tableImage b .rows)) e ∙ ap (λ (k : ℕ). choice (tableImage b) (s .bits) k w) at
+
+  next-is : (x : Choice) → x ≡ rowBeneath → nextOf (leads x) ≡ nextOf (beneath (tableImage b) s w)
+  next-is x e = ap (λ (y : Choice). nextOf (leads y)) e
 
   pub beneath-low : l < 2 → 256 ≡ nextOf (beneath (tableImage b) s w)
-  beneath-low h = ap nextOf (sym (row-none b l w _ h) ∙ leads _ refl)
+  beneath-low h = next-is none (sym (row-none b l w _ h) ∙ chosen _ refl)
 
   pub beneath-high : lastLabel b < l → 256 ≡ nextOf (beneath (tableImage b) s w)
-  beneath-high h = ap nextOf (sym (row-above b l w _ h) ∙ leads _ refl)
+  beneath-high h = next-is none (sym (row-above b l w _ h) ∙ chosen _ refl)
 
   pub beneath-row : Numbered b l → (z : declared.Label) → asLabel z ≡ labelOf b l → (bit : ℕ) → bit ≡ bitOf (z .kind) (z .called) (s .bits)
-      → (n : ℕ) → n ≡ nextOf (firstRow l w bit (tableImage b .rows)) → n ≡ nextOf (beneath (tableImage b) s w)
-  beneath-row g z read bit e n q = q ∙ ap nextOf (go (ℕ-discrete (z .kind) 2))
+      → (n : ℕ) → n ≡ nextOf (leads (bestRow l w bit 0 (tableImage b .rows))) → n ≡ nextOf (beneath (tableImage b) s w)
+  beneath-row g z read bit e n q = q ∙ next-is (bestRow l w bit 0 (tableImage b .rows)) (go (ℕ-discrete (z .kind) 2))
     where
       called : z .called ≡ labelAt (tableImage b) l .called
       called = ap (λ (k : Label). k .called) (read ∙ sym (label-at b l))
 
-      go : Dec (z .kind ≡ 2) → firstRow l w bit (tableImage b .rows) ≡ beneath (tableImage b) s w
-      go (yes k) = leads bit (bit-called b l z read (s .bits) bit e k ∙ ap (λ (h : ℕ). pick (resultOf h (s .bits)) 1 0) called)
-      go (no k) = any-row b l w bit _ (λ m. k (ap (λ (x : Label). x .kind) read ∙ m)) (g .low) (g .high) ∙ leads _ refl
+      go : Dec (z .kind ≡ 2) → bestRow l w bit 0 (tableImage b .rows) ≡ rowBeneath
+      go (yes k) = chosen bit (bit-called b l z read (s .bits) bit e k ∙ ap (λ (h : ℕ). pick (resultOf h (s .bits)) 1 0) called)
+      go (no k) = any-row b l w bit _ (λ m. k (ap (λ (x : Label). x .kind) read ∙ m)) (g .low) (g .high) ∙ chosen _ refl

@@ -13,7 +13,7 @@ use Rattle.frames.specs.Verdict.{fine}
 use Rattle.image.specs.Image.{Image, Label}
 use Rattle.image.specs.Decode.{decoded}
 use Rattle.image.specs.Check.{imageVerdict}
-use Rattle.rows.specs.Rows.{Found, firstRow}
+use Rattle.rows.specs.Rows.{bestRow, Found, leads}
 use Rattle.state.specs.declared.State.{State}
 use Rattle.state.specs.State.{noPlaces, labelAt, entryAt, isCall, unfit}
 use Rattle.ticks.specs.Tick.{Ticked, ticked, moved, tick}
@@ -63,11 +63,11 @@ abbrev pub returned : State → Found → Ticked
 returned s row = moved 0 3 s (s .depth - 2) (s .depth - 1) (set (s .places) (s .depth - 1) 0) (s .bits) row
 
 -- For every accepted image and every state that fits it with a function call's label at the top: after the call that is made, and
--- ticks that drop nothing and write no 1 to the bit of the scheme called, the call's own return goes by the label's first matching row for bit 0.
+-- ticks that drop nothing and write no 1 to the bit of the scheme called, the call's own return goes by the row that the label takes for bit 0.
 unfoldable pub ZeroRow : Type 0
 ZeroRow =
     (text : List ℕ) → imageVerdict text ≡ fine → (s : State) → length (s .places) ≡ 32
     → let i = decoded (contents text) in unfit i s ≡ false
     → let x = labelAt i (topOf s) in x .kind ≡ 2
     → (w m code : ℕ) (t u : State) → tick i s w ≡ ticked m code t → findsFull i s ≡ false → Unwritten i (x .called) (suc (s .depth)) t u
-    → returnsAt i (suc (s .depth)) u ≡ true → (v : ℕ) → tick i u v ≡ returned u (firstRow (topOf s) v 0 (i .rows))
+    → returnsAt i (suc (s .depth)) u ≡ true → (v : ℕ) → tick i u v ≡ returned u (leads (bestRow (topOf s) v 0 0 (i .rows)))

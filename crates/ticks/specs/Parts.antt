@@ -1,6 +1,6 @@
 -- What the functions of a tick on a prepared table and on the fifty bytes of a state ask and promise.
 use Prim.Native.Nat.{ℕ, _-_, _≤_}
-use mathlib.Core.Bool.{Bool, false, _||_}
+use mathlib.Core.Bool.{false}
 use mathlib.Core.Path.{_≡_}
 use mathlib.Core.List.{List}
 use lib.Dec.{eqb}
@@ -12,7 +12,7 @@ use Rattle.tables.specs.Table.{Whole, labelOf, tableImage}
 use Rattle.tables.specs.Labels.{Numbered}
 use Rattle.rows.specs.Rows.{Found}
 use Rattle.state.specs.declared.State.{State}
-use Rattle.state.specs.State.{placeAt, ofHandler, badDepth}
+use Rattle.state.specs.State.{placeAt, badDepth}
 use Rattle.state.specs.Bytes.{stateOf}
 use Rattle.ticks.specs.declared.Stepped.{Stepped}
 use Rattle.ticks.specs.Tick.{rowOf, Ticked, ticked, stopped, tick}

@@ -7,13 +7,20 @@ use lib.ListN.{set}
 use Rattle.lists.specs.Pick.{pick}
 use Rattle.bits.specs.Results.{Results, resultOf, withResult, cleared}
 use Rattle.image.specs.Image.{Image, Label}
-use Rattle.rows.specs.Rows.{Found, found, missing, firstRow}
+use Rattle.rows.specs.Rows.{Choice, bestRow, Found, found, missing, leads}
 use Rattle.state.specs.declared.State.{State}
 use Rattle.state.specs.State.{noPlaces, labelAt, entryAt, placeAt, ofHandler}
 
--- where the row leads that label l takes, with these result bits
+-- the result bit of the scheme that label l calls
+abbrev pub calledBit : Image → Results → ℕ → ℕ
+calledBit i b l = pick (resultOf (labelAt i l .called) b) 1 0
+
+-- the row that label l takes, with its number among the rows of the image; and where it leads
+abbrev pub choice : Image → Results → ℕ → ℕ → Choice
+choice i b l w = bestRow l w (calledBit i b l) 0 (i .rows)
+
 abbrev pub rowOf : Image → Results → ℕ → ℕ → Found
-rowOf i b l w = firstRow l w (pick (resultOf (labelAt i l .called) b) 1 0) (i .rows)
+rowOf i b l w = leads (choice i b l w)
 
 -- a finished tick: mask, code, the state after it; or the number that stops it, and nothing changes
 pub data Ticked : Type 0 where

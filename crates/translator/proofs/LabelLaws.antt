@@ -1,16 +1,18 @@
 -- The labels of a chart's table: 0 and 1, one from 2 on for each numbered stop, and the entries.
-use mathlib.Core.Path.{_≡_, refl, _∙_, ap}
+use mathlib.Core.Path.{_≡_, refl, _∙_, ap, subst}
+use mathlib.Core.Logic.{_⊎_, inl, inr}
 use mathlib.Core.Bool.{Bool, true, false, _&&_, not}
-use Prim.Native.Nat.{ℕ, suc, _+_, _≤_, _<_}
+use Prim.Native.Nat.{ℕ, zero, suc, _+_, _-_, _≤_, _<_}
 use native.Mathlib.Nat.{zero-add}
+use native.Mathlib.Numerals.{add-one}
 use native.Mathlib.Omega.{arith}
 use lib.ListN.{length, getD, length-map}
 use lib.Dec.{eqb}
 use borrow.Author.Tests.{eq-eqb, ne-eqb}
 use Rattle.lists.specs.Pick.{pick}
 use Rattle.lists.specs.Numbers.{count}
-use Rattle.lists.proofs.Tests.{yes-pick}
-use Rattle.lists.proofs.Counts.{count-below, count-apart, count-miss2}
+use Rattle.lists.proofs.Tests.{yes-pick, split}
+use Rattle.lists.proofs.Counts.{count-le, count-below, count-apart, count-yes, count-pass, count-miss2}
 use Rattle.lists.proofs.Ranges.{length-map-range, getD-map-range, length-filter, getD-filter}
 use Rattle.frames.specs.Frame.{size}
 use Rattle.charts.specs.Chart.{Chart, kind, scheme, is, schemes, begin, end}
@@ -20,6 +22,13 @@ use Rattle.image.proofs.Sound.{noLabel, nthLabel}
 use Rattle.chart_labels.specs.Labels.{numbered, numberedNodes, label, entry, homeLabel, returnLabel, labelOf}
 use Rattle.chart_rows.specs.Rows.{rows}
 use Rattle.translator.specs.Table.{table}
+
+-- a numbered stop below n that has label l
+pub record Bearer (c : Chart) (n l : ℕ) : Type 0 where
+  pub node : ℕ
+  pub inside : node < n
+  pub own : numbered c node ≡ true
+  pub is : label c node ≡ l
 
 module _ (c : Chart) where
   pub label-is : (v : ℕ) → numbered c v ≡ true → label c v ≡ suc (suc (count (numbered c) 0 v))
@@ -45,6 +54,23 @@ module _ (c : Chart) where
 
   pub labels-apart : (u v : ℕ) → numbered c u ≡ true → numbered c v ≡ true → label c u ≡ label c v → u ≡ v
   labels-apart u v a b e = count-apart (numbered c) u v a b (omega (arith, label-is u a, label-is v b, e))
+
+  -- from 2 up each label is that of a stop
+  bearer-below : (n k : ℕ) → k < count (numbered c) 0 n → Bearer c n (suc (suc k))
+  bearer-below zero k h = absurd (omega (arith, count-le (numbered c) 0 0))
+  bearer-below (suc n) k h = go (split k (count (numbered c) 0 n)) (numbered c n) refl (bearer-below n k)
+    where
+      next : k < count (numbered c) 0 (n + 1)
+      next = omega (arith, h, ap (count (numbered c) 0) (add-one n))
+
+      go : (k < count (numbered c) 0 n) ⊎ (count (numbered c) 0 n ≤ k) → (t : Bool) → numbered c n ≡ t
+          → (k < count (numbered c) 0 n → Bearer c n (suc (suc k))) → Bearer c (suc n) (suc (suc k))
+      go (inl g) t e ih = let x = ih g in record { node = x .node; inside = omega (arith, x .inside); own = x .own; is = x .is }
+      go (inr g) true e ih = record { node = n; inside = omega arith; own = e; is = label-is n e ∙ omega (arith, next, count-yes (numbered c) n e) }
+      go (inr g) false e ih = absurd (omega (arith, next, count-pass (numbered c) n e))
+
+  pub bearer : (l : ℕ) → 2 ≤ l → l < length (table c .labels) → Bearer c (size c) l
+  bearer l low h = subst (Bearer c (size c)) (omega arith) (bearer-below (size c) (l - 2) (omega (arith, length-labels)))
 
   pub label-home : nthLabel (table c) 0 ≡ homeLabel
   unfolding table

@@ -61,13 +61,20 @@ module _ (l w b : ℕ) where
   pub in-second : (xs ys : List Row) (us : List ℕ) → targets l w b xs ≡ [] → targets l w b ys ≡ us → targets l w b (xs ++ ys) ≡ us
   in-second xs ys us p q = targets-append xs ys ∙ ap₂ _++_ p q
 
-  one-yes : (r : Row) → matching l w b r ≡ true → targets l w b (r ∷ []) ≡ r .next ∷ []
+  -- a row in front
+  pub targets-own : (r : Row) (rs : List Row) → matching l w b r ≡ true → targets l w b (r ∷ rs) ≡ r .next ∷ targets l w b rs
   unfolding targets
-  one-yes r e = ap (map (λ (r : Row). r .next)) (filter-yes (matching l w b) r [] e ∙ ap (λ rs. r ∷ rs) (filter-none (matching l w b)))
+  targets-own r rs e = ap (map (λ (r : Row). r .next)) (filter-yes (matching l w b) r rs e)
+
+  pub targets-other : (r : Row) (rs : List Row) → matching l w b r ≡ false → targets l w b (r ∷ rs) ≡ targets l w b rs
+  unfolding targets
+  targets-other r rs e = ap (map (λ (r : Row). r .next)) (filter-no (matching l w b) r rs e)
+
+  one-yes : (r : Row) → matching l w b r ≡ true → targets l w b (r ∷ []) ≡ r .next ∷ []
+  one-yes r e = targets-own r [] e ∙ ap (λ us. r .next ∷ us) targets-none
 
   one-no : (r : Row) → matching l w b r ≡ false → targets l w b (r ∷ []) ≡ []
-  unfolding targets
-  one-no r e = ap (map (λ (r : Row). r .next)) (filter-no (matching l w b) r [] e ∙ filter-none (matching l w b))
+  one-no r e = targets-other r [] e ∙ targets-none
 
 -- ---- the paths from a node
 abbrev pub rowAt : Chart → ℕ → ℕ → ℕ → ℕ → ℕ → Row

@@ -127,7 +127,7 @@ pub fn run(
 }
 
 /// Ticks until the words end, or 17 or 18.
-fn run_ticks(
+pub fn run_ticks(
     tick: impl Fn(&State, u16) -> Result<Advanced, u8>,
     start: State,
     words: &[u16],

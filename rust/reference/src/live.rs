@@ -97,16 +97,40 @@ impl Held {
             && (above == 1 || self.label(above).owner == kept.called)
     }
 
-    /// The next label by the first row of a label that matches, or refusal 18. Function bits count only in rows of a
-    /// function call's label.
-    fn next(&self, label: u8, results: &[bool; 16], word: u16) -> Result<u8, u8> {
+    /// The rows of a label that match. Function bits decide only over rows of a function call's label.
+    pub fn matching(&self, label: u8, results: &[bool; 16], word: u16) -> Vec<Row> {
         let here = self.label(label);
         let bit = u8::from(results[usize::from(here.called).max(1) - 1]);
-        let decides =
-            |row: &Row| here.kind != FUNCTION_CALL || row.function_bit == 2 || row.function_bit == bit;
-        let rows = self.rows.get(usize::from(label)).map_or(&[][..], Vec::as_slice);
-        let matches = |row: &&Row| word & row.care == row.values && decides(row);
-        rows.iter().find(matches).map(|row| row.next).ok_or(18)
+        let mut rows = self.rows.get(usize::from(label)).cloned().unwrap_or_default();
+        rows.retain(|row| word & row.care == row.values);
+        rows.retain(|row| here.kind != FUNCTION_CALL || row.function_bit == 2 || row.function_bit == bit);
+        rows
+    }
+
+    /// The row that a label takes. A matching row gives way to a later one that tests no fewer conditions.
+    pub fn taken(&self, label: u8, results: &[bool; 16], word: u16) -> Option<Row> {
+        let mut taken: Option<Row> = None;
+        for row in self.matching(label, results, word) {
+            if taken.is_none_or(|before| before.care.count_ones() <= row.care.count_ones()) {
+                taken = Some(row);
+            }
+        }
+        taken
+    }
+
+    /// The label whose row a tick takes, if it takes one: the one at the top, or beneath a return.
+    pub fn row_label(&self, state: &State) -> Option<u8> {
+        let top = usize::from(state.depth) - 1;
+        match self.label(state.places[top]).kind {
+            PLAIN => Some(state.places[top]),
+            RETURN if top > 0 => Some(state.places[top - 1]),
+            _ => None,
+        }
+    }
+
+    /// The next label by the row taken, or refusal 18.
+    fn next(&self, label: u8, results: &[bool; 16], word: u16) -> Result<u8, u8> {
+        self.taken(label, results, word).map(|row| row.next).ok_or(18)
     }
 
     /// One tick of a state with a depth of 1 to its size, or 17 or 18. A call clears the bit of the scheme called; 0 counts as 1.

@@ -1,6 +1,6 @@
 //! The stack machine over a decoded image: fitness (15), one tick, and the refusals 17 and 18 of a tick.
 
-use crate::image::{Image, Label, FUNCTION_CALL, HOME, OPERATION_CALL, RETURN};
+use crate::image::{Image, Label, Row, FUNCTION_CALL, HOME, OPERATION_CALL, PLAIN, RETURN};
 use crate::state::State;
 
 /// What one finished tick emits and the state after it.
@@ -43,13 +43,33 @@ fn entry(image: &Image, scheme: u8) -> u8 {
     image.entries[usize::from(scheme) - 1]
 }
 
-/// The label that the first matching row of a label leads to.
-fn next_label(image: &Image, results: &[bool; 16], from: u8, word: u16) -> Option<u8> {
+/// The rows of a label that match.
+pub fn matching<'a>(
+    image: &'a Image,
+    results: &'a [bool; 16],
+    from: u8,
+    word: u16,
+) -> impl Iterator<Item = &'a Row> {
     let called = label(image, from).called;
-    let bit_agrees = |bit: u8| bit == 2 || results[usize::from(called) - 1] == (bit == 1);
-    let mut rows = image.rows.iter().filter(|row| row.from == from);
-    let matching = rows.find(|row| word & row.care == row.values && bit_agrees(row.function_bit));
-    matching.map(|row| row.next)
+    let bit_agrees = move |bit: u8| bit == 2 || results[usize::from(called) - 1] == (bit == 1);
+    let rows = image.rows.iter().filter(move |row| row.from == from);
+    rows.filter(move |row| word & row.care == row.values && bit_agrees(row.function_bit))
+}
+
+/// The label that the row taken leads to: of those that match, the last of those whose care masks have most ones.
+fn next_label(image: &Image, results: &[bool; 16], from: u8, word: u16) -> Option<u8> {
+    // of equals this hands back the last
+    matching(image, results, from, word).max_by_key(|row| row.care.count_ones()).map(|row| row.next)
+}
+
+/// The label whose row the tick of a fitting state takes, if it takes one: the one at the top, or beneath a return.
+pub fn row_label(image: &Image, state: &State) -> Option<u8> {
+    let top = usize::from(state.depth) - 1;
+    match label(image, state.places[top]).kind {
+        PLAIN => Some(state.places[top]),
+        RETURN if top > 0 => Some(state.places[top - 1]),
+        _ => None,
+    }
 }
 
 /// One tick of a fitting state, or 17 or 18. A call's own result is written before it clears a bit.

@@ -6,7 +6,7 @@ use reference::chart::{Chart, Kind};
 use reference::check::chart_of;
 use reference::compare::{compare, Handled};
 use reference::generate::{charts, images, runs, states, Random};
-use reference::image::{image_of, Image, FUNCTION_CALL, RETURN, ROWS};
+use reference::image::{image_of, Image, Row, FUNCTION_CALL, RETURN, ROWS};
 use reference::machine::{self, handles};
 use reference::translator;
 use reference::{Reference, State};
@@ -54,11 +54,40 @@ fn every_call_that_ticks_meets_the_handler() {
 #[test]
 fn every_call_that_reads_meets_small_letters() {
     let summary = compare(&Reference, 79, 8_000).unwrap_or_else(|difference| panic!("{difference}"));
-    let calls =
-        ["read_chart", "translate", "places", "check_image", "prepare", "run", "tick", "runs", "live_runs", "mixture"];
+    let calls = [
+        "read_chart",
+        "translate",
+        "places",
+        "check_image",
+        "prepare",
+        "run",
+        "tick",
+        "runs",
+        "live_runs",
+        "mixture",
+    ];
     for call in calls {
         assert!(summary.small(call) > 100, "{call}\n{summary}");
     }
+}
+
+/// What the rows that match at a tick of a fitting state have to do with each other, whether those of this tick have it, and at how
+/// many ticks it is to be met.
+fn overlaps(image: &Image, state: &State, word: u16) -> [(&'static str, bool, usize); 6] {
+    let from = machine::row_label(image, state).unwrap_or(0);
+    let rows: Vec<&Row> = machine::matching(image, &state.results, from, word).collect();
+    let ones = |row: &&Row| row.care.count_ones();
+    let most = rows.iter().map(ones).max();
+    let best: Vec<&Row> = rows.iter().copied().filter(|row| Some(ones(row)) == most).collect();
+    let (alone, tied) = (best.len() == 1 && rows.len() > 1, best.len() > 1);
+    [
+        ("two rows or more that match", rows.len() > 1, 4_000),
+        ("a special row before a general one", alone && best[0] != rows[rows.len() - 1], 500),
+        ("a special row behind a general one", alone && best[0] != rows[0], 500),
+        ("a tie", tied, 3_000),
+        ("a tie of rows to different labels", tied && best.iter().any(|row| row.next != best[0].next), 2_000),
+        ("a tie with a function bit", tied && best.iter().any(|row| row.function_bit < 2), 100),
+    ]
 }
 
 /// What the handler brings into a tick of a fitting state, and whether this tick has it.
@@ -94,9 +123,8 @@ fn events(image: &Image, state: &State, word: u16) -> [(&'static str, bool); 14]
     ]
 }
 
-#[test]
-fn ticks_have_every_event() {
-    let mut found = BTreeMap::new();
+/// Looks at the ticks of random images from fitting states.
+fn each_tick(mut look: impl FnMut(&Image, &State, u16)) {
     for seed in 0..10_000 {
         let random = &mut Random::new(seed);
         let image = images::accepted(random);
@@ -105,15 +133,36 @@ fn ticks_have_every_event() {
             continue;
         }
         for word in runs::words(random, 12) {
-            for (event, met) in events(&image, &state, word) {
-                *found.entry(event).or_insert(0) += usize::from(met);
-            }
+            look(&image, &state, word);
             let Ok(advanced) = machine::tick(&image, &state, word) else { break };
             state = advanced.state;
         }
     }
+}
+
+#[test]
+fn ticks_have_every_event() {
+    let mut found = BTreeMap::new();
+    each_tick(|image, state, word| {
+        for (event, met) in events(image, state, word) {
+            *found.entry(event).or_insert(0) += usize::from(met);
+        }
+    });
     println!("{found:?}");
     let rare: Vec<_> = found.iter().filter(|(_, count)| **count < 40).collect();
+    assert!(rare.is_empty(), "too few ticks have {rare:?}");
+}
+
+#[test]
+fn rows_overlap_at_many_ticks() {
+    let mut found = BTreeMap::new();
+    each_tick(|image, state, word| {
+        for (overlap, met, wanted) in overlaps(image, state, word) {
+            *found.entry((overlap, wanted)).or_insert(0) += usize::from(met);
+        }
+    });
+    println!("{found:?}");
+    let rare: Vec<_> = found.iter().filter(|((_, wanted), count)| *count < wanted).collect();
     assert!(rare.is_empty(), "too few ticks have {rare:?}");
 }
 

@@ -7,7 +7,7 @@ use reference::compare::live_alike;
 use reference::fast::{Fast, Kept};
 use reference::frames::text_of;
 use reference::generate::{images, runs, states, tables, Random};
-use reference::image::{Image, Label, Row, HOME, PLAIN, RETURN};
+use reference::image::{Image, Label, HOME, PLAIN, RETURN};
 use reference::live::Held;
 use reference::prepare::table_of;
 use reference::{entry, fresh_state, samples, Answer, Library, Reference, State};
@@ -80,7 +80,7 @@ fn a_kept_machine_ticks_as_the_reference_does() {
 }
 
 /// What only a table at fault can show at a tick, and whether this one does.
-fn oddities(held: &Held, state: &State, word: u16) -> [(&'static str, bool); 17] {
+fn oddities(held: &Held, state: &State, word: u16) -> [(&'static str, bool); 20] {
     let top = usize::from(state.depth) - 1;
     let number = state.places[top];
     let here = held.labels.get(usize::from(number));
@@ -89,9 +89,12 @@ fn oddities(held: &Held, state: &State, word: u16) -> [(&'static str, bool); 17]
     let made = ticked.is_ok();
     let drops = ticked.is_ok_and(|advanced| advanced.code == 0x60);
     let entry = |scheme: u8| held.entries[usize::from(scheme).max(1) - 1];
-    let taken = |row: &Row| word & row.care == row.values;
-    let first = || held.rows[usize::from(number)].iter().find(|row| taken(row));
-    let bit_ignored = |label: &Label| label.kind == PLAIN && first().is_some_and(|row| row.function_bit != 2);
+    let taken = || held.taken(number, &state.results, word);
+    let bit_ignored = |label: &Label| label.kind == PLAIN && taken().is_some_and(|row| row.function_bit != 2);
+    let rows = held.row_label(state).map_or(vec![], |label| held.matching(label, &state.results, word));
+    let most = rows.iter().map(|row| row.care.count_ones()).max();
+    let mut best = rows.clone();
+    best.retain(|row| Some(row.care.count_ones()) == most);
     [
         ("a label above the last", here.is_none()),
         (
@@ -119,6 +122,9 @@ fn oddities(held: &Held, state: &State, word: u16) -> [(&'static str, bool); 17]
             held.entries.iter().any(|entry| usize::from(*entry) >= held.labels.len()),
         ),
         ("a state that does not fit", !held.fits(state)),
+        ("two rows or more that match", rows.len() > 1),
+        ("a special row before a general one", best.len() == 1 && best.last() != rows.last()),
+        ("a tie of rows to different labels", best.iter().any(|row| row.next != best[0].next)),
     ]
 }
 

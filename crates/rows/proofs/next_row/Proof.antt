@@ -1,25 +1,29 @@
--- `rows::next_row` meets its contract: the first matching row among the frames of the label's own rows, or none.
-use Rattle.rows.proofs.TableRows.{next-is}
-use Rattle.rows.proofs.SearchCases.{end-within}
+-- `rows::next_row` meets its contract: where the row in the frame found leads, or nowhere past the table.
+use borrow.Author.Needs.{needs}
+use Rattle.rows.proofs.TableRows.{next-found, next-none}
 use Rattle.rows.proofs.next_row.Statement.{statement}
 use Rattle.rows.proofs.next_row.Tie as tie
 
-first-of-requires : tie.Need-first-of-requires
-first-of-requires c κs = record { label = c .before .pre .0 .label; schemes = c .before .pre .1 }
+find-row-requires : tie.Need-find-row-requires
+find-row-requires c κs = search needs
 
-end-of-requires : tie.Need-end-of-requires
-end-of-requires c κs = let start = c .before .before in record { label = start .pre .0 .label; schemes = start .pre .1 }
+byte-requires : tie.Need-byte-requires
+byte-requires c κs = search needs
 
-find-next-requires : tie.Need-find-next-requires
-find-next-requires c κs =
-    let start = c .before .before .before in
-    end-within _ _ _ (start .pre .0 .label .whole) (c .end-of .ensures)
+cast-result : tie.Need-cast-result
+cast-result c = search needs
 
 returns : tie.Need-returns
 returns c =
     let start = c .before .before .before .before in
-    next-is (start .args .table .now) (start .args .l) _ _ (start .pre .0) _ _ (c .before .before .first-of .ensures)
-    (c .before .end-of .ensures) _ (c .find-next .ensures)
+    next-found (start .args .table .now) (start .args .l) (start .args .word) (start .args .bit) (start .pre .0 .label) _
+    (c .before .before .find-row .ensures) _ (c .byte .ensures) (c .before .if1 .taken)
+
+returns-2 : tie.Need-returns-2
+returns-2 c =
+    let start = c .before .before .before in
+    next-none (start .args .table .now) (start .args .l) (start .args .word) (start .args .bit) (start .pre .0 .label) _
+    (c .before .find-row .ensures) (c .if1 .left)
 
 pub next-row-spec : {M : Type 1} → statement M
-next-row-spec = tie.close (tie.spec first-of-requires end-of-requires find-next-requires returns)
+next-row-spec = tie.close (tie.spec find-row-requires byte-requires cast-result returns returns-2)

@@ -128,14 +128,20 @@ impl<'a> Table<'a> {
         self.frames.get(first..end.min(self.frames.len())).unwrap_or(&[])
     }
 
-    /// With no bit the function bits do not count.
+    /// The next label by the row that tests most, the last of equals. With no bit the function bits decide nothing.
     fn next(&self, number: u8, bit: Option<bool>, word: u16) -> Result<u8, u8> {
-        let matches = |row: &&Frame| {
+        let (mut most, mut next) = (0, Err(18));
+        for row in self.rows(number) {
             let care = u16::from_be_bytes([row[2], row[3]]);
             let values = u16::from_be_bytes([row[4], row[5]]);
-            word & care == values && bit.is_none_or(|bit| row[6] == 2 || row[6] == u8::from(bit))
-        };
-        self.rows(number).iter().find(matches).map(|row| row[7]).ok_or(18)
+            if word & care == values && bit.is_none_or(|bit| row[6] == 2 || row[6] == u8::from(bit)) {
+                let ones = care.count_ones();
+                if ones >= most {
+                    (most, next) = (ones, Ok(row[7]));
+                }
+            }
+        }
+        next
     }
 
     /// The bit that decides rows of a function call's label.

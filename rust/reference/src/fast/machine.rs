@@ -23,6 +23,8 @@ struct Row {
     values: u16,
     function_bit: u8,
     next: u8,
+    /// How many conditions it tests.
+    ones: u8,
 }
 
 /// Result bits: packed for a run, which reads and writes many, or as a state has them for one tick.
@@ -111,7 +113,8 @@ impl Machine {
             label.end = k as u16 + 1;
             let care = u16::from_be_bytes([f[2], f[3]]);
             let values = u16::from_be_bytes([f[4], f[5]]);
-            machine.rows[k] = Row { care, values, function_bit: f[6], next: f[7] };
+            let ones = care.count_ones() as u8;
+            machine.rows[k] = Row { care, values, function_bit: f[6], next: f[7], ones };
         }
         machine
     }
@@ -186,12 +189,14 @@ impl Machine {
     #[inline(always)]
     fn next<B: Bits>(&self, label: &Label, bits: &B, word: u16) -> Result<u8, u8> {
         let bit = bits.bit(label.called);
+        let mut taken: Option<&Row> = None;
         for row in &self.rows[usize::from(label.first)..usize::from(label.end)] {
-            if word & row.care == row.values && (row.function_bit == 2 || row.function_bit == bit) {
-                return Ok(row.next);
+            let matches = word & row.care == row.values && (row.function_bit == 2 || row.function_bit == bit);
+            if matches && taken.is_none_or(|before| before.ones <= row.ones) {
+                taken = Some(row);
             }
         }
-        Err(18)
+        taken.map(|row| row.next).ok_or(18)
     }
 
     /// A call that finds the stack full: 17 or, for a handler that is not at the bottom, a drop.

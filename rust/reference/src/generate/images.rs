@@ -51,14 +51,14 @@ pub fn text(random: &mut Random) -> Vec<u8> {
     letters::sizes(random, text)
 }
 
-/// Removes, doubles, adds or changes a row.
+/// Removes, doubles, adds or changes a row, or adds one that overlaps another, before or behind it.
 fn patch(random: &mut Random, image: &mut Image) {
     let rows = image.rows.len();
     if rows == 0 {
         return;
     }
     let at = random.below(rows);
-    match random.below(5) {
+    match random.below(9) {
         0 | 1 => {
             image.rows.remove(at);
         }
@@ -66,6 +66,10 @@ fn patch(random: &mut Random, image: &mut Image) {
         3 => {
             let row = row(random, image, image.rows[at].from);
             image.rows.insert(random.within(0, rows), row);
+        }
+        4..=7 => {
+            let row = overlapping(random, image, image.rows[at]);
+            image.rows.insert(at + random.below(2), row);
         }
         _ => {
             let care = random.number() as u16;
@@ -93,6 +97,35 @@ fn row(random: &mut Random, image: &Image, from: u8) -> Row {
         function_bit: if label.kind == FUNCTION_CALL { random.below(3) as u8 } else { 2 },
         next: owned(random, &image.labels, label.owner),
     }
+}
+
+/// One condition of a mask, as a mask; 0 where it has none.
+fn one_of(random: &mut Random, mask: u16) -> u16 {
+    let ones: Vec<u16> = (0..16).map(|condition| 1 << condition).filter(|one| mask & one != 0).collect();
+    if ones.is_empty() {
+        return 0;
+    }
+    random.pick(&ones)
+}
+
+/// A row of the same label that some words match along with this one: it tests a condition more, one less, or the same number,
+/// the same ones or not.
+fn overlapping(random: &mut Random, image: &Image, row: Row) -> Row {
+    let label = image.labels[usize::from(row.from)];
+    let (more, less) = (one_of(random, !row.care), one_of(random, row.care));
+    let care = match random.below(5) {
+        0 => row.care | more,
+        1 => row.care & !less,
+        2 | 3 if less != 0 => row.care & !less | more,
+        _ => row.care,
+    };
+    let values = row.values & care | random.number() as u16 & more & care;
+    let function_bit = if label.kind == FUNCTION_CALL && random.once_in(2) {
+        random.below(3) as u8
+    } else {
+        row.function_bit
+    };
+    Row { care, values, function_bit, next: owned(random, &image.labels, label.owner), ..row }
 }
 
 /// None half of the time, or one of the schemes that can be called.
@@ -132,7 +165,7 @@ pub fn small(random: &mut Random) -> Image {
     with_labels(random, schemes, last)
 }
 
-/// An accepted image of so many schemes, with labels up to the last.
+/// An accepted image of so many schemes, with labels up to the last. Some rows overlap the row before them.
 fn with_labels(random: &mut Random, schemes: usize, last: usize) -> Image {
     let mut labels = vec![Label::ZERO, Label::ONE];
     for _ in 2..=last {
@@ -141,8 +174,11 @@ fn with_labels(random: &mut Random, schemes: usize, last: usize) -> Image {
     let entries = (1..=schemes).map(|h| owned(random, &labels, h as u8)).collect();
     let mut image = Image { handler: handler(random, schemes), entries, labels, rows: Vec::new() };
     for from in 2..=last {
-        for _ in 0..random.pick(&[0, 1, 2, 2, 3, 3]) {
-            let row = row(random, &image, from as u8);
+        for k in 0..random.pick(&[0, 1, 2, 2, 3, 3]) {
+            let row = match image.rows.last() {
+                Some(before) if k > 0 && random.once_in(2) => overlapping(random, &image, *before),
+                _ => row(random, &image, from as u8),
+            };
             image.rows.push(row);
         }
     }

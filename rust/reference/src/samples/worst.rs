@@ -227,6 +227,26 @@ mod tests {
         }
     }
 
+    /// The codes of a construction's live run, by its name.
+    fn codes(name: &str) -> Vec<u8> {
+        let named = constructions(EntryPoint::LiveRun).find(|candidate| candidate.name == name);
+        EntryPoint::LiveRun.make(&Reference, &named.expect("there is one of this name").input).codes
+    }
+
+    /// Returns down the stack, one tick after the other, then what is said to follow.
+    #[test]
+    fn deep_returns_go_down_the_stack() {
+        for name in [
+            "deep return, last but one of 1,024 function rows",
+            "deep return, 1,024 function rows that match",
+        ] {
+            let codes = codes(name);
+            assert!(codes[..30] == [0x03; 30] && codes[30..34] == [0x42, 0x03, 0x42, 0x03], "{name}");
+        }
+        let codes = codes("deep return over a whole table");
+        assert!(codes[..31] == [0x03; 31] && codes[31..].iter().all(|code| *code == 0x00));
+    }
+
     #[test]
     fn only_the_tables_made_for_it_are_no_tables_of_images() {
         for candidate in known(EntryPoint::LiveRun) {

@@ -53,6 +53,26 @@ fn operation_rows() -> Image {
     filled(OPERATION_CALL, 2, |_| any_word(BUSY, 2, RETURN_LABEL))
 }
 
+/// A care mask of ever more ones, row by row up to fifteen, without condition 0.
+fn rising(k: usize) -> u16 {
+    ((1 << (k * 16 / ROWS)) - 1) << 1
+}
+
+/// A plain label of scheme 1 that leads to itself: all rows match word 0, none with fewer ones than the row before it.
+fn plain_rows_that_match() -> Image {
+    filled(PLAIN, 1, |k| Row { care: rising(k), ..any_word(BUSY, 2, BUSY) })
+}
+
+/// Functions of scheme 2: nearly all rows match words 0 and 1 and a result of 0, none with fewer ones than the row before it. The
+/// last two have most: they lead to the return on word 0, and back to the label on word 1.
+fn function_rows_that_match() -> Image {
+    filled(FUNCTION_CALL, 2, |k| match ROWS - k {
+        2 => Row { care: u16::MAX, ..any_word(BUSY, 0, RETURN_LABEL) },
+        1 => Row { care: u16::MAX, values: 1, ..any_word(BUSY, 0, BUSY) },
+        _ => Row { care: rising(k), ..any_word(BUSY, 0, RETURN_LABEL) },
+    })
+}
+
 /// Rows spread over all labels, so that none has many.
 fn spread_rows() -> Image {
     filled(FUNCTION_CALL, 2, |k| {
@@ -101,9 +121,11 @@ pub fn worst_ticks() -> Vec<Ticks> {
     let handled = Image { handler: 16, ..function_rows() };
     vec![
         ("last of 1,024 plain rows", plain_rows(), at_top(BUSY), vec![0; WORDS]),
+        ("1,024 plain rows that match", plain_rows_that_match(), at_top(BUSY), vec![0; WORDS]),
         ("no row of 1,024", plain_rows_only(), at_top(BUSY), vec![0; WORDS]),
         ("deep return, last but one of 1,024 function rows", function_rows(), deep, returns_first()),
         ("deep return, last of 1,024 function rows", function_rows(), deep, vec![1; WORDS]),
+        ("deep return, 1,024 function rows that match", function_rows_that_match(), deep, returns_first()),
         ("deep call", function_rows(), calling, vec![1; WORDS]),
         ("deep return, operations", operation_rows(), deep, vec![0; WORDS]),
         ("drop of a full stack", handled, full, vec![1; WORDS]),

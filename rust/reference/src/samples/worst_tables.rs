@@ -9,26 +9,26 @@ use crate::state::State;
 
 const CALLS: u8 = 2;
 const GOES_ON: u8 = 4;
-/// The bit of a word that decides between the two: no frame but the last matches a word with it, all match one without it.
+/// The bit of a word that decides between the last two rows.
 const DECIDES: u8 = 4;
 
-/// Each even label's rows begin at frame 0 and end with the table. Taken as rows, all frames lead nowhere but for the last
-/// two: the last but one to a return, the last, which any word matches, to the plain label.
+/// Each even label's rows begin at frame 0 and end with the table. Taken as rows, nearly all frames match words without any other
+/// bit than DECIDES, the rows among them with fifteen ones each, and lead nowhere. The last two have sixteen: on a word without it
+/// the last but one leads to a return, on a word with it the last one to the plain label.
 fn whole_table_rows() -> Vec<Frame> {
-    let mut frames = vec![[15, 16, 255, 4, 0, 0, 0, 0, 0, 0]];
-    frames.extend((1..=16).map(|scheme| [16, scheme, 0, DECIDES, 0, 0, 0, 0, 0, 0]));
+    let mut frames = vec![[15, 16, 255, 4, 0, 0, 2, 0, 0, 0]];
+    frames.extend((1..=16).map(|scheme| [16, scheme, 0, 0, 0, 0, 2, 0, 0, 0]));
     frames.extend((0..=255u8).map(|label| {
         let note = if label % 2 == 0 { 0xFF } else { 0 };
         match label {
-            CALLS => [note, note, FUNCTION_CALL, 1, 1, 0, 0, 0, 0, 0],
-            GOES_ON => [note, note, PLAIN, DECIDES, 1, 0, 0, 0, 0, 0],
-            _ => [note, note, PLAIN, DECIDES, 0, 0, 0, 0, 0, 0],
+            CALLS => [note, note, FUNCTION_CALL, 1, 1, 0, 2, 0, 0, 0],
+            GOES_ON => [note, note, PLAIN, 0, 1, 0, 2, 0, 0, 0],
+            _ => [note, note, PLAIN, 0, 0, 0, 2, 0, 0, 0],
         }
     }));
-    let row = [18, 0, 0, DECIDES, 0, 0, 0, 0, 0, 0];
-    frames.extend([row; 1022]);
-    frames.push([18, 0, 0, DECIDES, 0, 0, 2, 1, 0, 0]);
-    frames.push([18, 0, 0, 0, 0, 0, 2, GOES_ON, 0, 0]);
+    frames.extend([[18, 0, 255, !DECIDES, 0, 0, 2, 0, 0, 0]; 1022]);
+    frames.push([18, 0, 255, 255, 0, 0, 2, 1, 0, 0]);
+    frames.push([18, 0, 255, 255, 0, DECIDES, 2, GOES_ON, 0, 0]);
     frames
 }
 

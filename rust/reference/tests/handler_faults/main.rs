@@ -9,7 +9,7 @@ use std::cell::Cell;
 
 use common::is_found;
 use reference::answer::Refusal;
-use reference::entry::{self, image_from_text};
+use reference::entry::{self, image_from_text, run_ticks};
 use reference::frames::{frames_of, text_of, IMAGE_TEXT};
 use reference::image::{Image, Label, OPERATION_CALL, RETURN};
 use reference::machine::{self, handles, Advanced};
@@ -176,28 +176,6 @@ impl Faulty {
         }
         Ok(advanced)
     }
-
-    fn ticks(
-        &self,
-        image: &Image,
-        start: &State,
-        words: &[u16],
-        masks: &mut [u32],
-        codes: &mut [u8],
-    ) -> (Answer, State) {
-        self.dropped.set(None);
-        let mut state = *start;
-        for (count, word) in words.iter().enumerate() {
-            match self.tick_of(image, &state, *word) {
-                Ok(advanced) => {
-                    (masks[count], codes[count]) = (advanced.mask, advanced.code);
-                    state = advanced.state;
-                }
-                Err(number) => return (Answer::Refused { number, index: 0, count }, state),
-            }
-        }
-        (Answer::Done(words.len()), state)
-    }
 }
 
 impl Library for Faulty {
@@ -245,7 +223,8 @@ impl Library for Faulty {
         if masks.len() < words.len() || codes.len() < words.len() {
             return (refused(16), *state);
         }
-        self.ticks(&image, state, words, masks, codes)
+        self.dropped.set(None);
+        run_ticks(|state, word| self.tick_of(&image, state, word), *state, words, masks, codes)
     }
 }
 
