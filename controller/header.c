@@ -7,6 +7,9 @@ typedef uint8_t (*makes)(size_t, fairleadow_state *, size_t *, size_t *);
 typedef uint8_t (*runs)(const uint8_t *, size_t, fairleadow_state *, const uint16_t *, size_t, uint32_t *, size_t, uint8_t *, size_t,
                         size_t *, size_t *);
 typedef uint8_t (*ticks)(const uint8_t *, size_t, fairleadow_state *, uint16_t, uint32_t *, uint8_t *, size_t *, size_t *);
+typedef uint8_t (*tells)(const uint8_t *, size_t, const fairleadow_state *, uint16_t, uint16_t *, uint16_t *, uint8_t *, size_t *,
+                         size_t *);
+typedef uint8_t (*lists)(const uint8_t *, size_t, uint16_t *, size_t, uint16_t *, size_t, size_t *, size_t *);
 typedef uint8_t (*means)(uint8_t, uint8_t *);
 
 struct every_function {
@@ -15,6 +18,8 @@ struct every_function {
     makes fresh;
     runs run, live_run;
     ticks tick, live_tick;
+    tells cause;
+    lists list_rows;
     means meaning;
 };
 
@@ -24,7 +29,8 @@ struct every_function every_function(void) {
     struct every_function all = {
         fairleadow_read_chart, fairleadow_write_chart, fairleadow_translate, fairleadow_prepare,
         fairleadow_places,     fairleadow_check_image, fairleadow_fresh,     fairleadow_run,
-        fairleadow_live_run,   fairleadow_tick,        fairleadow_live_tick, fairleadow_meaning,
+        fairleadow_live_run,   fairleadow_tick,        fairleadow_live_tick, fairleadow_cause,
+        fairleadow_list_rows,  fairleadow_meaning,
     };
     return all;
 }

@@ -2,17 +2,17 @@
  *
  * Every function answers for everything that it is handed. All but fairleadow_meaning return 0, or the number of a refusal, and write
  *   *index   the frame (a line or a record) that the refusal names, from 0; only 2, 3, 4, 6 to 9, 12 and 13 name one, else it is 0
- *   *count   records, characters, bytes of a table or ticks written, or places needed; with refusals 1 to 16, 19 and 20 it is 0,
- *            with 17 and 18 the ticks finished before
- * With refusals 1 to 16, 19 and 20 no buffer and no state is changed; only 14 writes a state, of zeros. With success, and with 17
- * and 18, nothing past the count is changed.
+ *   *count   records, characters, labels, bytes of a table or ticks written, or places needed; with refusals 1 to 16 and 19 to 21
+ *            it is 0, with 17 and 18 the ticks finished before
+ * With refusals 1 to 16 and 19 to 21 no buffer and no state is changed; only 14 writes a state, of zeros. With success, and with
+ * 17 and 18, nothing past the count is changed.
  * A buffer is a pointer and how many elements it has. No pointer is null, and nothing that a call writes may overlap anything
  * else that the call is given. Nothing is allocated and nothing is kept between calls. The archive of `rt staticlib` is code for
- * x86-64 and calls memcpy and memset and nothing else; there a translation takes 7,320 bytes of stack, a count of places 7,090, a run, a tick or a
- * preparation 13,420, a live run 380, a live tick 300. controller/README.md tells of archives for ARM. This file is for both, and
+ * x86-64 and calls memcpy and memset and nothing else; there a translation takes 7,290 bytes of stack, a count of places 7,090, a run, a
+ * tick, a preparation, a cause or a list of rows 13,560, a live run 520, a live tick 440. controller/README.md tells of archives for ARM. This file is for both, and
  * for C and C++: lengths are of type size_t, and fairleadow_calls.h, which lies beside it, makes of them what the archive takes.
  *
- * The refusals, tried in this order, but 19 directly after 5 (docs/REFUSALS.md tells what to look for):
+ * The refusals, tried in this order, but 19 directly after 5 and 21 before 18 (docs/REFUSALS.md tells what to look for):
  *    1  the length of the text or of the records           10  more than 1,024 rows
  *    2  a character other than 0-9, A-F, a-f, line feed    11  the image's header
  *    3  the sum of a frame                                 12  an image frame that stands in a wrong place
@@ -24,6 +24,7 @@
  *    9  a node cut off from its Begin                      18  no row for the word
  *                                                          19  a handler's mark on scheme 1, or a second one
  *                                                          20  a scheme within reach of scheme 1 that can call itself
+ *                                                          21  a state whose tick takes no row
  */
 #ifndef FAIRLEADOW_H
 #define FAIRLEADOW_H
@@ -40,6 +41,9 @@ extern "C" {
 #define FAIRLEADOW_IMAGE_TEXT 29831
 #define FAIRLEADOW_RECORDS 2560
 #define FAIRLEADOW_TABLE 12970
+
+/* The most labels of an image. */
+#define FAIRLEADOW_LABELS 256
 
 /* The machine's state. Only fairleadow_fresh makes one; the controller keeps it and hands it to each run or tick. */
 typedef struct {
@@ -89,6 +93,20 @@ uint8_t fairleadow_run(const uint8_t *image, size_t image_len, fairleadow_state 
  * and a controller prepares its image and makes live ticks. */
 uint8_t fairleadow_tick(const uint8_t *image, size_t image_len, fairleadow_state *state, uint16_t word,
                         uint32_t *mask, uint8_t *code, size_t *index, size_t *count);
+
+/* What makes the tick of a state by a word go where it goes: the row that it takes, by its number among the image's rows, from 0;
+ * a mask of the conditions that decide, so that every word which agrees with this one on them takes the same row; and the result bit
+ * of the scheme called where the row is a function's, else 2. No tick is made, and the state is only read. A home tick, a call and a
+ * handler's return at depth 1 take no row: they get 21. Tries what the image check tries, then 15, 21 and 18; counts 0. With a
+ * refusal row, mask and bit are 0. */
+uint8_t fairleadow_cause(const uint8_t *image, size_t image_len, const fairleadow_state *state, uint16_t word,
+                         uint16_t *row, uint16_t *mask, uint8_t *bit, size_t *index, size_t *count);
+
+/* For each label of an image, from 0 on, the number of its first row among the image's rows, from 0, and how many rows it has, 0 and
+ * 0 where it has none: the rows of a label stand one after the other, and a tick looks at those of one label alone. Tries what the
+ * image check tries, then 16, for either buffer; counts labels. */
+uint8_t fairleadow_list_rows(const uint8_t *image, size_t image_len, uint16_t *firsts, size_t firsts_len,
+                             uint16_t *counts, size_t counts_len, size_t *index, size_t *count);
 
 /* An image's lines to a table, ten bytes a line, for live runs and live ticks: the image is checked here and not again, and its
  * lines are not needed afterwards. Tries what the image check tries, then 16; counts bytes. */

@@ -18,6 +18,10 @@ uint32_t fairleadow_run(const uint8_t *image, uint64_t image_len, fairleadow_sta
                         uint32_t *masks, uint64_t masks_len, uint8_t *codes, uint64_t codes_len, uint64_t *index, uint64_t *count);
 uint32_t fairleadow_tick(const uint8_t *image, uint64_t image_len, fairleadow_state *state, uint16_t word,
                          uint32_t *mask, uint8_t *code, uint64_t *index, uint64_t *count);
+uint32_t fairleadow_cause(const uint8_t *image, uint64_t image_len, const fairleadow_state *state, uint16_t word,
+                          uint16_t *row, uint16_t *mask, uint8_t *bit, uint64_t *index, uint64_t *count);
+uint32_t fairleadow_list_rows(const uint8_t *image, uint64_t image_len, uint16_t *firsts, uint64_t firsts_len,
+                              uint16_t *counts, uint64_t counts_len, uint64_t *index, uint64_t *count);
 uint32_t fairleadow_prepare(const uint8_t *image, uint64_t image_len, uint8_t *table, uint64_t table_len,
                             uint64_t *index, uint64_t *count);
 uint32_t fairleadow_live_run(const uint8_t *table, uint64_t table_len, fairleadow_state *state, const uint16_t *words,
@@ -93,6 +97,20 @@ static inline uint8_t fairleadow_c_tick(const uint8_t *image, size_t image_len, 
     return fairleadow_tell(number, &told, index, count);
 }
 
+static inline uint8_t fairleadow_c_cause(const uint8_t *image, size_t image_len, const fairleadow_state *state, uint16_t word,
+                                         uint16_t *row, uint16_t *mask, uint8_t *bit, size_t *index, size_t *count) {
+    fairleadow_told told;
+    uint32_t number = fairleadow_cause(image, image_len, state, word, row, mask, bit, &told.index, &told.count);
+    return fairleadow_tell(number, &told, index, count);
+}
+
+static inline uint8_t fairleadow_c_list_rows(const uint8_t *image, size_t image_len, uint16_t *firsts, size_t firsts_len,
+                                             uint16_t *counts, size_t counts_len, size_t *index, size_t *count) {
+    fairleadow_told told;
+    uint32_t number = fairleadow_list_rows(image, image_len, firsts, firsts_len, counts, counts_len, &told.index, &told.count);
+    return fairleadow_tell(number, &told, index, count);
+}
+
 static inline uint8_t fairleadow_c_prepare(const uint8_t *image, size_t image_len, uint8_t *table, size_t table_len,
                                            size_t *index, size_t *count) {
     fairleadow_told told;
@@ -128,6 +146,8 @@ static inline uint8_t fairleadow_c_meaning(uint8_t code, uint8_t *called) {
 #define fairleadow_fresh fairleadow_c_fresh
 #define fairleadow_run fairleadow_c_run
 #define fairleadow_tick fairleadow_c_tick
+#define fairleadow_cause fairleadow_c_cause
+#define fairleadow_list_rows fairleadow_c_list_rows
 #define fairleadow_prepare fairleadow_c_prepare
 #define fairleadow_live_run fairleadow_c_live_run
 #define fairleadow_live_tick fairleadow_c_live_tick

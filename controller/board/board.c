@@ -16,6 +16,8 @@ enum {
     FRESH,
     RUN,
     TICK,
+    CAUSE,
+    LIST_ROWS,
     PREPARE,
     LIVE_RUN,
     LIVE_TICK,
@@ -27,7 +29,7 @@ enum {
 typedef struct {
     uint32_t call;
     uint32_t masks, words, codes, output, input; /* how many of each */
-    uint32_t value;                              /* a stack's size, or a code */
+    uint32_t value;                              /* a stack's size, a code, or how many firsts a list has */
     uint32_t number, index, count;               /* the answer */
     uint32_t stack;                              /* the bytes of stack that the call took */
     uint32_t code;                               /* the bytes of the library's code */
@@ -48,6 +50,22 @@ __attribute__((noinline)) static uint8_t take_known_stack(void) {
     for (uint32_t i = 0; i < sizeof held; i++)
         held[i] = 0;
     return held[head.value];
+}
+
+/* A cause: its row and its mask go to the first two masks. */
+static uint8_t tell_cause(const uint8_t *image, uint16_t word, uint32_t *masks, uint8_t *bit, size_t *index, size_t *count) {
+    uint16_t row = UINT16_MAX, mask = UINT16_MAX;
+    uint8_t number = fairleadow_cause(image, head.input, &head.state, word, &row, &mask, bit, index, count);
+    masks[0] = row;
+    masks[1] = mask;
+    return number;
+}
+
+/* A list of rows: the output is the firsts, as many as the value says, and then the counts. No codes stand before it, so that it
+ * lies at an even address. */
+static uint8_t list_rows(const uint8_t *image, uint8_t *output, size_t *index, size_t *count) {
+    uint16_t *firsts = (uint16_t *)output;
+    return fairleadow_list_rows(image, head.input, firsts, head.value, firsts + head.value, head.output / 2 - head.value, index, count);
 }
 
 /* One call, on the buffers as they lie. A function of its own: its frame is that of a caller, and counted. */
@@ -84,6 +102,12 @@ __attribute__((noinline)) static void make_call(void) {
         break;
     case TICK:
         number = fairleadow_tick(input, head.input, &head.state, words[0], masks, codes, &index, &count);
+        break;
+    case CAUSE:
+        number = tell_cause(input, words[0], masks, codes, &index, &count);
+        break;
+    case LIST_ROWS:
+        number = list_rows(input, output, &index, &count);
         break;
     case PREPARE:
         number = fairleadow_prepare(input, head.input, output, head.output, &index, &count);

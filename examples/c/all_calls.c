@@ -1,6 +1,7 @@
 /* Makes every call of the header on the chart on standard input: reads it and writes it back, counts its places, translates it,
  * checks the image, runs eight words from a fresh state of three places, makes the same ticks one by one, both on the image and on
- * the table prepared from it, and tells what each code stands for. Prints what came of each. */
+ * the table prepared from it, and tells what each code stands for, which signals made each tick go on and which rows each label has.
+ * Prints what came of each. */
 #include <stdio.h>
 #include <string.h>
 
@@ -53,6 +54,39 @@ static void tell_codes(const uint8_t *codes, size_t count) {
             printf(" of scheme %u", called);
         printf("\n");
     }
+}
+
+/* The row by which each tick goes on, with the conditions and the result bit that decided; home ticks and calls take none (21). */
+static int tell_causes(size_t length) {
+    fairleadow_state state;
+    uint32_t tick_mask;
+    uint16_t row, mask;
+    uint8_t number, bit, code;
+    size_t index, count;
+    if ((number = fairleadow_fresh(3, &state, &index, &count)))
+        return refused(number, index);
+    for (size_t i = 0; i < WORDS; i++) {
+        number = fairleadow_cause(image, length, &state, words[i], &row, &mask, &bit, &index, &count);
+        if (number)
+            printf("tick %zu: no cause, %u\n", i, number);
+        else
+            printf("tick %zu: row %u, conditions %04X, bit %u\n", i, row, mask, bit);
+        if ((number = fairleadow_tick(image, length, &state, words[i], &tick_mask, &code, &index, &count)))
+            return refused(number, index);
+    }
+    return 0;
+}
+
+/* The rows of each label. */
+static int tell_rows(size_t length) {
+    static uint16_t firsts[FAIRLEADOW_LABELS], counts[FAIRLEADOW_LABELS];
+    size_t index, count;
+    uint8_t number = fairleadow_list_rows(image, length, firsts, FAIRLEADOW_LABELS, counts, FAIRLEADOW_LABELS, &index, &count);
+    if (number)
+        return refused(number, index);
+    for (size_t label = 0; label < count; label++)
+        printf("label %zu: rows from %u on, %u\n", label, firsts[label], counts[label]);
+    return 0;
 }
 
 /* What the ticks of all words write, and the state after them. */
@@ -121,5 +155,5 @@ int main(void) {
     if (run_and_tick(count, &all) || live_run_and_tick(prepared, &all))
         return 1;
     tell_codes(all.codes, WORDS);
-    return 0;
+    return tell_causes(count) || tell_rows(count);
 }

@@ -7,7 +7,7 @@ use native.Mathlib.Omega.{arith}
 use lib.Dec.{leb}
 use lib.ListN.{length, getD, set}
 use borrow.Author.Tests.{leb-false}
-use Rattle.lists.proofs.Tests.{no-both}
+use Rattle.lists.proofs.Tests.{and-l, no-both}
 use Rattle.bits.specs.Results.{Results, resultOf, withResult}
 use Rattle.frames.specs.Answer.{success}
 use Rattle.frames.specs.Frame.{contents}
@@ -21,8 +21,9 @@ use Rattle.rows.specs.Rows.{isOwn, Choice, row, none, bestRow, Found, leads}
 use Rattle.rows.specs.Choices.{Best}
 use Rattle.rows.proofs.BestRows.{best-is}
 use Rattle.state.specs.declared.State.{State}
-use Rattle.state.specs.State.{labelAt, placeAt, unfit}
-use Rattle.state.proofs.Fitness.{Fits, unfits}
+use Rattle.state.specs.State.{labelAt, placeAt}
+use Rattle.fitness.specs.Fitness.{isCall, unfit}
+use Rattle.fitness.proofs.Fitness.{Fits, unfits}
 use Rattle.ticks.specs.Tick.{calledBit, choice, Ticked, moved, popped, tickBy, tick}
 use Rattle.ticks.specs.Parts.{topOf}
 use Rattle.ticks.proofs.Leads.{Sort, first, second, other, sort, call-kind}
@@ -133,4 +134,5 @@ module _ (text out : List ℕ) (n : ℕ) (done : translate text out .reply ≡ s
       (λ e. let h = g .labels (s .depth - 1) (omega (arith, g .some)) in any-rule (topOf s) (numbered (topOf s) h (omega arith)) h w)
       (λ deep. let m : ℕ = placeAt s (s .depth - 2) in
       let h = g .labels (s .depth - 2) (omega arith) in
-      any-rule m (numbered m h (call-kind i sound m (g .carries (s .depth - 2) (omega arith) .call) .1)) h w)
+      let kept : isCall (labelAt i m) ≡ true = and-l (isCall (labelAt i m)) _ (g .carries (s .depth - 2) (omega arith)) in
+      any-rule m (numbered m h (call-kind i sound m kept .1)) h w)

@@ -14,6 +14,10 @@ use Rattle.image_check.proofs.check_image as check-image
 use Rattle.image_check.proofs.check_image.Reads as check-image-reads
 use Rattle.tables.proofs.prepare as prepare
 use Rattle.tables.proofs.prepare.Reads as prepare-reads
+use Rattle.listing.proofs.list_rows as list-rows
+use Rattle.listing.proofs.list_rows.Reads as list-rows-reads
+use Rattle.cause.proofs.cause_of as cause-of
+use Rattle.cause.proofs.cause_of.Reads as cause-of-reads
 use Rattle.state.proofs.State.fresh as fresh
 use Rattle.state.proofs.State.fresh.Reads as fresh-reads
 use Rattle.machine.proofs.run as run
@@ -40,6 +44,10 @@ use Rattle.fairleadow.proofs.fairleadow_run as c-run
 use Rattle.fairleadow.proofs.fairleadow_run.Reads as c-run-reads
 use Rattle.fairleadow.proofs.fairleadow_tick as c-tick
 use Rattle.fairleadow.proofs.fairleadow_tick.Reads as c-tick-reads
+use Rattle.fairleadow.proofs.fairleadow_cause as c-cause
+use Rattle.fairleadow.proofs.fairleadow_cause.Reads as c-cause-reads
+use Rattle.fairleadow.proofs.fairleadow_list_rows as c-list-rows
+use Rattle.fairleadow.proofs.fairleadow_list_rows.Reads as c-list-rows-reads
 use Rattle.fairleadow.proofs.fairleadow_meaning as c-meaning
 use Rattle.fairleadow.proofs.fairleadow_meaning.Reads as c-meaning-reads
 use Rattle.fairleadow.proofs.fairleadow_prepare as c-prepare
@@ -82,6 +90,12 @@ live-run-asks-nothing κs a = tt
 pub live-tick-asks-nothing : (κs : Lfts 1) (a : ArgsD live-tick.signature κs) → live-tick-reads.Asked κs a
 live-tick-asks-nothing κs a = tt
 
+pub list-rows-asks-nothing : (κs : Lfts 3) (a : ArgsD list-rows.signature κs) → list-rows-reads.Asked κs a
+list-rows-asks-nothing κs a = tt
+
+pub cause-of-asks-nothing : (κs : Lfts 1) (a : ArgsD cause-of.signature κs) → cause-of-reads.Asked κs a
+cause-of-asks-nothing κs a = tt
+
 -- ---- the functions for C
 pub c-read-chart-asks-nothing : (κs : Lfts 4) (a : ArgsD c-read-chart.signature κs) → c-read-chart-reads.Asked κs a
 c-read-chart-asks-nothing κs a = tt
@@ -118,3 +132,9 @@ c-live-run-asks-nothing κs a = tt
 
 pub c-live-tick-asks-nothing : (κs : Lfts 6) (a : ArgsD c-live-tick.signature κs) → c-live-tick-reads.Asked κs a
 c-live-tick-asks-nothing κs a = tt
+
+pub c-list-rows-asks-nothing : (κs : Lfts 5) (a : ArgsD c-list-rows.signature κs) → c-list-rows-reads.Asked κs a
+c-list-rows-asks-nothing κs a = tt
+
+pub c-cause-asks-nothing : (κs : Lfts 7) (a : ArgsD c-cause.signature κs) → c-cause-reads.Asked κs a
+c-cause-asks-nothing κs a = tt

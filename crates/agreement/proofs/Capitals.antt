@@ -1,13 +1,15 @@
 -- Small letters are read as capitals at every entry point, each by the one law of the reader.
 use Prim.Native.Nat.{ℕ}
 use mathlib.Core.List.{List, map}
-use Rattle.frames.specs.Digit.{capital}
+use Rattle.digits.specs.Digit.{capital}
 use Rattle.frames.proofs.Capitals.{capitals-alike}
 use Rattle.charts.proofs.Alike as chart
 use Rattle.image.proofs.Alike as image
 use Rattle.tables.proofs.Alike as table
+use Rattle.listing.proofs.Alike as listing
 use Rattle.translator.proofs.Alike as translation
 use Rattle.places.proofs.Alike as needed
+use Rattle.cause.proofs.Alike as cause
 use Rattle.runs.proofs.Alike as running
 use Rattle.agreement.specs.Capitals.{AsInCapitals}
 
@@ -17,7 +19,9 @@ as-in-capitals t = record {
   translates = translation.translates (map capital t) t (capitals-alike t);
   needs = needed.needs (map capital t) t (capitals-alike t);
   checks = image.image-verdict (map capital t) t (capitals-alike t);
+  lists = listing.lists (map capital t) t (capitals-alike t);
   prepares = table.prepares (map capital t) t (capitals-alike t);
   runs = running.runs (map capital t) t (capitals-alike t);
   ticks = running.advances (map capital t) t (capitals-alike t);
+  explains = cause.explains (map capital t) t (capitals-alike t);
 }

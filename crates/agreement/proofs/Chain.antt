@@ -26,8 +26,8 @@ use Rattle.translator.specs.Table.{table}
 use Rattle.state.specs.declared.State.{State}
 use Rattle.state.specs.State.{fresh, noState, Made, freshState}
 use Rattle.runs.specs.Run.{Ran, ticks, Run, noRoom, runOn, run}
-use Rattle.state.proofs.Fitness.{Fits, fits}
 use Rattle.state.proofs.Sizes.{size-good}
+use Rattle.fitness.proofs.Fitness.{Fits, fits}
 use Rattle.ticks.proofs.Keeps.{fresh-fits}
 use Rattle.runs.proofs.Keeps.{ticks-keep}
 use Rattle.agreement.specs.Agreement.{Asked, Told, told, chain, short, joined, bound, refusedShort, expectedAll}

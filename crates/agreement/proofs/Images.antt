@@ -13,7 +13,7 @@ use Rattle.translator.specs.Entry.{translateVerdict}
 use Rattle.translator.proofs.SoundTable.{table-fine, table-decoded}
 use Rattle.translator.proofs.Translated.{translated-few}
 use Rattle.state.specs.declared.State.{State}
-use Rattle.state.specs.State.{unfit}
+use Rattle.fitness.specs.Fitness.{unfit}
 use Rattle.runs.specs.Run.{Run, noRoom, ticks, runOn, runVerdict, run}
 
 -- refusals 15 and 16, and the ticks, on an image that is given as such

@@ -12,6 +12,7 @@ pub mod Chain
 pub mod TableFactsHold
 pub mod OnlyRow
 pub mod AnyRule
+pub mod CareMask
 pub mod Demand
 pub mod OneCall
 pub mod Delivered
@@ -20,5 +21,7 @@ pub mod OneCallC
 pub mod ForC
 pub mod RunsAlone
 pub mod Contracts
+pub mod Causes
+pub mod Listings
 pub mod Capitals
 pub mod Asks

@@ -1,5 +1,5 @@
--- No refusal of the translator or of prepare has the number 0, so that a caller from C can tell success by it.
-use Prim.Native.Nat.{ℕ, _/_, _≤_}
+-- No refusal of the translator, of prepare, of a listing or of a cause has the number 0, so that a caller from C can tell success by it.
+use Prim.Native.Nat.{ℕ, _+_, _/_, _≤_}
 use mathlib.Core.Path.{_≡_, refl}
 use mathlib.Core.Bool.{Bool, true, false}
 use mathlib.Core.List.{List}
@@ -9,16 +9,25 @@ use lib.ListN.{length}
 use Rattle.lists.specs.Pick.{pick}
 use Rattle.lists.specs.Sequences.{over}
 use Rattle.frames.specs.Frame.{contents}
-use Rattle.frames.specs.Verdict.{Verdict, fine, refused}
+use Rattle.frames.specs.Verdict.{Verdict, fine, refused, next, when}
 use Rattle.frames.specs.Answer.{success, refusal, number, count, Lent, lent}
-use Rattle.frames.proofs.Refuses.{Refuses}
-use Rattle.image.specs.Image.{imageText}
+use Rattle.frames.proofs.Refuses.{Refuses, next-refuses, when-refuses}
+use Rattle.image.specs.Image.{Image, Row, imageText}
+use Rattle.image.specs.Decode.{lastLabel, decoded}
 use Rattle.image.specs.Check.{imageVerdict}
 use Rattle.image.proofs.Refuses.{Early, early-image}
 use Rattle.tables.specs.Prepare.{noted, prepare}
 use Rattle.translator.specs.Table.{table}
 use Rattle.translator.specs.Entry.{translateVerdict, translate}
 use Rattle.translator.proofs.Refuses.{OfChart, translate-refuses}
+use Rattle.listing.specs.Listing.{listedOn, noRoomFor, list}
+use Rattle.bits.specs.Results.{Results}
+use Rattle.rows.specs.Rows.{Choice, row, none}
+use Rattle.state.specs.declared.State.{State}
+use Rattle.state.specs.State.{labelAt}
+use Rattle.fitness.specs.Fitness.{unfit}
+use Rattle.ticks.specs.Tick.{calledBit, choice}
+use Rattle.cause.specs.Cause.{Leaving, label, nothing, leaving, Caused, because, unexplained, causeBy, causeAt, causeOf, toldOn, explain}
 
 -- 1 or above
 abbrev pub Positive : ℕ → Type 0
@@ -54,3 +63,46 @@ translate-success t old = lent-success (translateVerdict t) 1 (λ _. imageText (
 pub prepare-success : (t old : List ℕ) → let x = prepare t old in number (x .reply) ≡ 0 → x .reply ≡ success (count (x .reply))
 unfolding prepare
 prepare-success t old = lent-success (imageVerdict t) 1 (λ _. noted (contents t)) old (image-positive t)
+
+-- ---- a listing
+listed-success : (v : Verdict) (go : Unit {0} → Image) (xs ys : List ℕ) → Refuses Positive v
+    → let x = listedOn v go xs ys in number (x .reply) ≡ 0 → x .reply ≡ success (count (x .reply))
+listed-success (refused k i) go xs ys p e = absurd (omega arith)
+listed-success fine go xs ys p e = refl
+
+pub list-success : (t xs ys : List ℕ) → let x = list t xs ys in number (x .reply) ≡ 0 → x .reply ≡ success (count (x .reply))
+unfolding list
+list-success t xs ys =
+    let full : Bool = noRoomFor (lastLabel (contents t) + 1) xs ys in
+    listed-success (next (imageVerdict t) λ _. when 16 full) (λ _. decoded (contents t)) xs ys
+    (next-refuses Positive (imageVerdict t) _ (image-positive t) (when-refuses Positive 16 full (omega arith)))
+
+-- ---- a cause: 21 and 18 besides
+abbrev CausedHigh : Caused → Type 0
+CausedHigh (because c) = Unit {0}
+CausedHigh (unexplained n) = Positive n
+
+by-choice : (rs : List Row) (kind l w b : ℕ) (x : Choice) → CausedHigh (causeBy rs kind l w b x)
+by-choice rs kind l w b (row k r) = tt
+by-choice rs kind l w b none = omega arith
+
+by-leaving : (i : Image) (b : Results) (w : ℕ) (x : Leaving) → CausedHigh (causeAt i b w x)
+by-leaving i b w (label l) = by-choice (i .rows) (labelAt i l .kind) l w (calledBit i b l) (choice i b l w)
+by-leaving i b w nothing = omega arith
+
+cause-high : (i : Image) (s : State) (w : ℕ) → CausedHigh (causeOf i s w)
+unfolding causeOf
+cause-high i s w = by-leaving i (s .bits) w (leaving i s)
+
+told-success : (v : Verdict) (x : Caused) → Refuses Positive v → CausedHigh x
+    → let t = toldOn v (λ _. x) in number (t .reply) ≡ 0 → t .reply ≡ success (count (t .reply))
+told-success (refused k i) x p q e = absurd (omega arith)
+told-success fine (unexplained k) p q e = absurd (omega arith)
+told-success fine (because c) p q e = refl
+
+pub cause-success : (t : List ℕ) (s : State) (w : ℕ) → let x = explain t s w in number (x .reply) ≡ 0 → x .reply ≡ success (count (x .reply))
+unfolding explain
+cause-success t s w =
+    let i : Image = decoded (contents t) in
+    told-success (next (imageVerdict t) λ _. when 15 (unfit i s)) (causeOf i s w)
+    (next-refuses Positive (imageVerdict t) _ (image-positive t) (when-refuses Positive 15 (unfit i s) (omega arith))) (cause-high i s w)

@@ -14,8 +14,8 @@ use Rattle.frames.proofs.Refuses.{Refuses, next-refuses, when-refuses}
 use Rattle.image.specs.Decode.{decoded}
 use Rattle.image.specs.Check.{imageVerdict}
 use Rattle.state.specs.declared.State.{State}
-use Rattle.state.specs.State.{unfit}
 use Rattle.state.specs.Bytes.{stateOf, bytesOf}
+use Rattle.fitness.specs.Fitness.{unfit}
 use Rattle.ticks.specs.Tick as machine
 use Rattle.runs.specs.Run.{Run, runVerdict, run}
 use Rattle.runs.specs.Advance.{Advance, advance}

@@ -24,7 +24,8 @@ use Rattle.translator.specs.Labels.{numbered, label}
 use Rattle.translator.specs.Rows.{rows}
 use Rattle.translator.specs.Table.{table}
 use Rattle.state.specs.declared.State.{State}
-use Rattle.state.specs.State.{labelAt, placeAt, ofHandler}
+use Rattle.state.specs.State.{labelAt, placeAt}
+use Rattle.fitness.specs.Fitness.{ofHandler}
 use Rattle.ticks.specs.Tick.{rowOf, Ticked, ticked, stopped, moved, keepsFull, pushed, popped, tickBy, tick}
 use Rattle.rows.specs.Rows.{bestRow, Found, found, leads}
 use Rattle.agreement.specs.Agreement.{isFullCall}

@@ -3,13 +3,15 @@
 use Prim.Native.Nat.{ℕ}
 use mathlib.Core.Path.{_≡_}
 use mathlib.Core.List.{List, map}
-use Rattle.frames.specs.Digit.{capital}
+use Rattle.digits.specs.Digit.{capital}
 use Rattle.charts.specs.Entry.{readChart}
 use Rattle.image.specs.Check.{imageVerdict}
 use Rattle.tables.specs.Prepare.{prepare}
+use Rattle.listing.specs.Listing.{list}
 use Rattle.translator.specs.Entry.{translate}
 use Rattle.places.specs.Entry.{placesNeeded}
 use Rattle.state.specs.declared.State.{State}
+use Rattle.cause.specs.Cause.{explain}
 use Rattle.runs.specs.Run.{run}
 use Rattle.runs.specs.Advance.{advance}
 
@@ -18,6 +20,8 @@ pub record AsInCapitals (t : List ℕ) : Type 0 where
   pub translates : (image : List ℕ) → translate (map capital t) image ≡ translate t image
   pub needs : placesNeeded (map capital t) ≡ placesNeeded t
   pub checks : imageVerdict (map capital t) ≡ imageVerdict t
+  pub lists : (firsts counts : List ℕ) → list (map capital t) firsts counts ≡ list t firsts counts
   pub prepares : (table : List ℕ) → prepare (map capital t) table ≡ prepare t table
   pub runs : (s : State) (words masks codes : List ℕ) → run (map capital t) s words masks codes ≡ run t s words masks codes
   pub ticks : (s : State) (word : ℕ) → advance (map capital t) s word ≡ advance t s word
+  pub explains : (s : State) (word : ℕ) → explain (map capital t) s word ≡ explain t s word

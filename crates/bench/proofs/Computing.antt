@@ -2,7 +2,7 @@
 use Rattle.lists.specs.Numbers.{lowest, any, count, sum, highest}
 use Rattle.lists.specs.Sequences.{some, filter, concatMap, mapFrom}
 use Rattle.graph.specs.Reach.{reach}
-use Rattle.frames.specs.Digit.{digitOf, charOf}
+use Rattle.digits.specs.Digit.{digitOf, charOf}
 use Rattle.frames.specs.Frame.{contents, total, frameText, textOf}
 use Rattle.frames.specs.Check.{badForm, badSum, textVerdict}
 use Rattle.charts.specs.Chart.{handler, nodeOf}
@@ -19,7 +19,8 @@ use Rattle.translator.specs.Table.{table}
 use Rattle.translator.specs.Entry.{translateVerdict, translate}
 use Rattle.chains.specs.Calls.{calls, circular, endsOf, places}
 use Rattle.places.specs.Entry.{placesVerdict, placesNeeded}
-use Rattle.state.specs.State.{freshState, unfit}
+use Rattle.state.specs.State.{freshState}
+use Rattle.fitness.specs.Fitness.{unfit}
 use Rattle.ticks.specs.Tick.{tick}
 use Rattle.rows.specs.Rows.{bestRow}
 use Rattle.runs.specs.Run.{ticks, runVerdict, run}

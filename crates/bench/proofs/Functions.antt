@@ -16,7 +16,8 @@ use Rattle.walk.proofs.Functions.{zero-arc}
 use Rattle.lists.specs.Sequences.{some}
 use Rattle.image.specs.Decode.{decoded}
 use Rattle.state.specs.declared.State.{State}
-use Rattle.state.specs.State.{fresh, unfit}
+use Rattle.state.specs.State.{fresh}
+use Rattle.fitness.specs.Fitness.{unfit}
 use Rattle.ticks.specs.Tick.{ticked, tick}
 use Rattle.ticks.specs.Functions.{Unwritten as UnwrittenTicks, none, more, ZeroRow}
 use Rattle.ticks.proofs.Functions.{zero-row}

@@ -5,7 +5,8 @@ use mathlib.Core.List.{List, [], _∷_}
 use Prim.Native.Nat.{ℕ, _≤_}
 use native.Mathlib.Omega.{arith}
 use Rattle.frames.specs.Verdict.{fine}
-use Rattle.state.specs.State.{fresh, unfit}
+use Rattle.state.specs.State.{fresh}
+use Rattle.fitness.specs.Fitness.{unfit}
 use Rattle.rows.specs.Rows.{bestRow}
 use Rattle.ticks.specs.Tick.{tick}
 use Rattle.runs.specs.Run.{Run, ticks, runOn}

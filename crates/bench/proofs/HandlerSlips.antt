@@ -14,7 +14,8 @@ use Rattle.frames.specs.Answer.{number}
 use Rattle.image.specs.Image.{Image, Label}
 use Rattle.translator.specs.Entry.{translate}
 use Rattle.state.specs.declared.State.{State}
-use Rattle.state.specs.State.{noPlaces, labelAt, entryAt, placeAt, isCall, ofHandler, fresh, freshState}
+use Rattle.state.specs.State.{noPlaces, labelAt, entryAt, placeAt, fresh, freshState}
+use Rattle.fitness.specs.Fitness.{isCall, ofHandler}
 use Rattle.ticks.specs.Tick.{rowOf, Ticked, ticked, stopped, moved, full, tick}
 use Rattle.ticks.specs.Parts.{topOf, beneath}
 use Rattle.ticks.specs.Functions.{findsFull, returned}

@@ -5,6 +5,8 @@ pub mod BenchSheet
 pub mod Cases
 pub mod Handler
 pub mod Patched
+pub mod Causes
+pub mod LooseMask
 pub mod Outputs
 pub mod Instances
 pub mod Variants
@@ -14,3 +16,4 @@ pub mod RowSlips
 pub mod Idlers
 pub mod Live
 pub mod Functions
+pub mod Listing

@@ -1,4 +1,4 @@
--- The cases of a patched image hold, computed. Ones of a care mask are counted here and in the slips of the rule, and nowhere else on the bench.
+-- The cases of a patched image hold, computed. Ones of a care mask are counted here, in causes and in the slips of the rule, and nowhere else on the bench.
 use mathlib.Core.Path.{_≡_, ap}
 use mathlib.Core.List.{List}
 use Prim.Native.Nat.{ℕ}

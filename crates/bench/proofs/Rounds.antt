@@ -23,7 +23,7 @@ use Rattle.state.specs.State.{fresh}
 use Rattle.ticks.specs.Tick.{Ticked, ticked, pushed, tick}
 use Rattle.rows.specs.Rows.{bestRow}
 use Rattle.runs.specs.Run.{Run, Ran, then, ticks, noRoom, runOn, run}
-use Rattle.state.proofs.Fitness.{fits}
+use Rattle.fitness.proofs.Fitness.{fits}
 use Rattle.ticks.proofs.Keeps.{fresh-fits}
 use Rattle.agreement.proofs.Images.{run-image}
 use Rattle.agreement.proofs.Chain.{fresh-is}

@@ -15,7 +15,8 @@ use Rattle.image.proofs.Sound.{noRow}
 use Rattle.translator.specs.Entry.{translate}
 use Rattle.rows.specs.Rows.{isOwn, Choice, row, none}
 use Rattle.state.specs.declared.State.{State}
-use Rattle.state.specs.State.{fresh, unfit}
+use Rattle.state.specs.State.{fresh}
+use Rattle.fitness.specs.Fitness.{unfit}
 use Rattle.ticks.specs.Tick.{tick}
 use Rattle.runs.specs.Run.{Run, run}
 use Rattle.agreement.specs.Agreement.{Runner}

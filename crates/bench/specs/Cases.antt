@@ -1,4 +1,4 @@
--- One small chart, image or state, made by hand, for each refusal 1 to 19.
+-- One small chart, image or state, made by hand, for each refusal 1 to 20; those of 21 stand in Causes.
 use Prim.Native.Nat.{ℕ, _+_, _*_}
 use mathlib.Core.Bool.{false}
 use mathlib.Core.Path.{_≡_}

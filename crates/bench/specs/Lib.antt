@@ -2,5 +2,8 @@ pub mod Bench
 pub mod Cases
 pub mod Handler
 pub mod Patched
+pub mod Causes
+pub mod LooseMask
 pub mod Outputs
 pub mod Live
+pub mod Listing

@@ -15,12 +15,11 @@ use Rattle.lists.specs.Pick.{pick}
 use Rattle.lists.specs.Numbers.{any, lowest}
 use Rattle.lists.specs.Sequences.{some}
 use Rattle.lists.proofs.Tests.{cases, and-true, and-no, or-true-r, yes-pick, no-pick}
-use Rattle.lists.proofs.Searches.{lowest-alike, lowest-none, lowest-most, Searching, searching-first, searching-found, searching-next, searching-over}
+use Rattle.lists.proofs.Searches.{any-snoc, lowest-alike, lowest-none, lowest-most, Searching, searching-first, searching-found, searching-next, searching-over}
 use Rattle.lists.proofs.Tabulated.{length-tabulate, getD-tabulate, tabulate-alike, tabulate-set, tabulate-none}
 use Rattle.bits.specs.Word.{bit}
 use Rattle.graph.specs.Reach.{marked}
 use Rattle.frames.specs.Frame.{size}
-use Rattle.frames.proofs.ReadFrame.{any-snoc}
 use Rattle.charts.specs.Chart.{Chart, kind, scheme, argument}
 use Rattle.walk.proofs.Facts.{Facts}
 use Rattle.chains.specs.Calls.{holdsCall, isCall, calls, circular, endsOf, noEnd, places}

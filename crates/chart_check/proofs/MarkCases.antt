@@ -4,6 +4,7 @@ use mathlib.Core.Logic.{_⊎_, inl, inr}
 use mathlib.Core.Bool.{Bool, true, false, _&&_, not}
 use mathlib.Core.List.{List, [], _∷_, _++_, map, append-nil}
 use Prim.Native.Nat.{ℕ, zero, suc, _+_, _≤_, _<_}
+use native.Mathlib.Nat.{zero-add}
 use native.Mathlib.Numerals.{add-one}
 use native.Mathlib.Decide.{ℕ-discrete}
 use native.Mathlib.Omega.{arith}
@@ -13,10 +14,12 @@ use lib.Seq.{drop-cons, set-at, append-snoc}
 use borrow.Author.Tests.{eq-eqb, ne-eqb}
 use Rattle.lists.specs.Pick.{pick}
 use Rattle.lists.specs.Numbers.{range, lowest}
-use Rattle.lists.proofs.Tests.{no-both}
+use Rattle.lists.proofs.Tests.{no-both, cases}
+use Rattle.lists.proofs.Searches.{lowest-none}
+use Rattle.lists.proofs.Counts.{count-miss}
 use Rattle.lists.proofs.Ranges.{length-map-range, map-range-snoc}
 use Rattle.graph.specs.Reach.{marked, only, reach, joinedFrom}
-use Rattle.graph.specs.Listed.{Listing, listing, enlist, enlistAll, Listed}
+use Rattle.graph.specs.Listed.{many, Listing, listing, enlist, enlistAll, Listed}
 use Rattle.graph.proofs.Lists.{listed-none}
 use Rattle.graph.proofs.Enlisted.{Enlisted, enlisted-all}
 use Rattle.frames.specs.Frame.{size}
@@ -156,6 +159,14 @@ spread-apart c begins joined r first spread long found = (
   spread ∙ ap (λ (xs : List Bool). reach (size c) (arcs c) (size c) xs) first,
   found ∙ ap (λ (k : ℕ). lowest (λ v. not (marked joined v)) 0 k) long,
 )
+
+-- where as many are marked as there are, there is none without
+pub all-marked : (ms : List Bool) → many ms ≡ length ms → length ms ≡ lowest (λ v. not (marked ms v)) 0 (length ms)
+all-marked ms e = sym (lowest-none (λ v. not (marked ms v)) 0 (length ms) (λ k h. one k h (cases (marked ms (0 + k)))) ∙ zero-add (length ms))
+  where
+    one : (k : ℕ) → k < length ms → (marked ms (0 + k) ≡ true) ⊎ (marked ms (0 + k) ≡ false) → not (marked ms (0 + k)) ≡ false
+    one k h (inl t) = ap not t
+    one k h (inr t) = absurd (omega (arith, count-miss (marked ms) (length ms) (0 + k) (omega arith) t))
 
 -- ---- marks that a table of 256 lends
 pub part-of : {A : Type 0} (m n : ℕ) (a : A) → n ≤ m → take n (replicate m a) ≡ replicate n a

@@ -15,7 +15,8 @@ ghost use Rattle.charts.specs.Check.{arcs, cutOff};
 ghost use Rattle.charts.specs.Marks.{kindMarks};
 ghost use Rattle.chart_check.specs.Asked.{Room, Passed, joinedVerdict};
 
-// The nodes that arcs join from some Begin are marked; the lowest other one, or the number of nodes.
+// The nodes that arcs join from some Begin are marked; the lowest other one, or the number of nodes. It is looked for only
+// where not all are marked.
 fn lowest_apart(records: &[u8], marks: &mut [bool], list: &mut [u8]) -> usize
     requires { ⌜ length (now marks) ≡ size (now records) ⌝ }
     requires { ⌜ Room (now records) (now list) ⌝ }
@@ -23,7 +24,10 @@ fn lowest_apart(records: &[u8], marks: &mut [bool], list: &mut [u8]) -> usize
 {
     mark_kind(records, 0, marks);
     let count = graph::list_marked(marks, list);
-    join(records, false, marks, list, count);
+    let joined = join(records, false, marks, list, count);
+    if joined == marks.len() {
+        return joined;
+    }
     graph::lowest_unmarked(marks)
 }
 

@@ -4,7 +4,7 @@ ghost use mathlib.Core.Path.{_≡_};
 ghost use Prim.Native.Nat.{_+_, _*_, _≤_, _<_};
 ghost use lib.ListN.{length};
 ghost use Rattle.graph.specs.Reach.{reach};
-ghost use Rattle.graph.specs.Listed.{listing, enlistAll};
+ghost use Rattle.graph.specs.Listed.{many, listing, enlistAll};
 ghost use Rattle.frames.specs.Frame.{size};
 ghost use Rattle.charts.specs.Marks.{arcsBy, kindMarks};
 ghost use Rattle.chart_check.specs.Asked.{Lent};
@@ -51,10 +51,16 @@ pub fn follow(
     graph::enlist(marks, list, first, field(records, v, 4))
 }
 
-// Every node that arcs join from a marked one is marked; the first of the list are the marked ones.
-pub fn join(records: &[u8], conditions: bool, marks: &mut [bool], list: &mut [u8], count: usize)
+// Every node that arcs join from a marked one is marked; the first of the list are the marked ones. How many are marked then.
+pub fn join(
+    records: &[u8],
+    conditions: bool,
+    marks: &mut [bool],
+    list: &mut [u8],
+    count: usize,
+) -> usize
     requires { ⌜ Lent (now records) (now marks) (now list) count ⌝ }
-    ensures { λ _. ⌜ now (marks .exit) ≡ reach (size (now (records .entry))) (arcsBy (now (records .entry)) conditions) (size (now (records .entry))) (now (marks .entry)) ⌝ }
+    ensures { λ r. ⌜ (now (marks .exit) ≡ reach (size (now (records .entry))) (arcsBy (now (records .entry)) conditions) (size (now (records .entry))) (now (marks .entry))) × (r ≡ many (now (marks .exit))) ⌝ }
 {
     let mut end = count;
     let mut i: usize = 0;
@@ -62,6 +68,7 @@ pub fn join(records: &[u8], conditions: bool, marks: &mut [bool], list: &mut [u8
         end = follow(records, conditions, list[i] as usize, marks, list, end);
         i += 1;
     }
+    end
 }
 
 // The nodes of a kind are marked, and no others.

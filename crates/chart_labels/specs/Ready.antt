@@ -5,7 +5,7 @@ use mathlib.Core.List.{List}
 use lib.ListN.{length, getD}
 use Rattle.frames.specs.Frame.{size}
 use Rattle.frames.specs.Verdict.{fine}
-use Rattle.charts.specs.Chart.{Chart, kind, next0, begin}
+use Rattle.charts.specs.Chart.{Chart, kind, next0, schemes, begin}
 use Rattle.charts.specs.Check.{chartVerdict}
 use Rattle.chart_labels.specs.Labels.{label}
 
@@ -21,6 +21,11 @@ pub record Ready (c : Chart) : Type 0 where
 pub record Labelled (c : Chart) (labels : List ℕ) : Type 0 where
   pub long : size c ≤ length labels
   pub at : (v : ℕ) → v < size c → getD labels v 0 ≡ label c v
+
+-- the Begin of each scheme, by scheme
+pub record Begun (c : Chart) (begins : List ℕ) : Type 0 where
+  pub long : length begins ≡ 17
+  pub at : (h : ℕ) → 1 ≤ h → h ≤ schemes c → getD begins h 0 ≡ begin c h
 
 -- a node, beside `first`, the node that the Begin of scheme 1 leads to
 pub record Beside (c : Chart) (first v : ℕ) : Type 0 where

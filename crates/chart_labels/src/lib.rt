@@ -3,4 +3,4 @@ mod labels;
 mod nodes;
 
 pub use labels::label_nodes;
-pub use nodes::begin;
+pub use nodes::note_begins;

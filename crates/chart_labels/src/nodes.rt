@@ -9,7 +9,7 @@ ghost use Rattle.frames.specs.Frame.{field};
 ghost use Rattle.charts.specs.Chart.{scheme, is, isOf, begin, next0};
 ghost use Rattle.walk.specs.Stops.{stops};
 ghost use Rattle.chart_labels.specs.Labels.{numbered};
-ghost use Rattle.chart_labels.specs.Ready.{Ready, Beside};
+ghost use Rattle.chart_labels.specs.Ready.{Ready, Begun, Beside};
 
 fn is_begin(records: &[u8], v: usize, scheme: u8) -> bool
     requires { ⌜ 10 * v + 1 < length (now records) ⌝ }
@@ -32,6 +32,22 @@ pub fn begin(records: &[u8], scheme: u8) -> usize
         v += 1;
     }
     v
+}
+
+// Notes the Begin of each scheme at the scheme's number, from the last node down: the one noted last is the lowest.
+pub fn note_begins(records: &[u8], begins: &mut [u8])
+    requires { ⌜ Ready (now records) ⌝ }
+    requires { ⌜ length (now begins) ≡ 17 ⌝ }
+    ensures { λ _. ⌜ Begun (now (records .entry)) (now (begins .exit)) ⌝ }
+{
+    let mut v = records.len() / 10;
+    while 0 < v {
+        v -= 1;
+        if field(records, v, 0) == 0 {
+            let scheme = field(records, v, 1) as usize;
+            begins[scheme] = v as u8;
+        }
+    }
 }
 
 // Whether a Begin of another scheme than 1 leads to a condition.

@@ -97,7 +97,15 @@ untested-ones m care h =
     count-within (free m care) (λ j. eqb (bit m j) 1) 0 16 (λ k a b e. and-l (eqb (bit m k) 1) (eqb (bit care k) 0) e) in
     omega arith
 
--- two values for each bit
+-- one value for no bit, and two for each bit
+pub no-values : (m : ℕ) → m ≡ 0 → ((care : ℕ) → 2 ^ untested m care ≤ 1) × (1 ≤ 65536)
+no-values m e = (
+  λ care.
+      let none : untested m care ≤ 0 = omega (arith, untested-ones m care (omega arith), ones-le 0 m (omega arith)) in
+      omega (arith, pow-mono {i = untested m care} {j = 0} none),
+  omega arith,
+)
+
 pub count-values : (m : ℕ) → m < 65536
     → ((care : ℕ) → 2 ^ untested m care ≤ 1 * 2 ^ ones m % 18446744073709551616) × (1 * 2 ^ ones m % 18446744073709551616 ≤ 65536)
 count-values m h =

@@ -1,2 +1,3 @@
+pub mod SpreadSteps
 pub mod Entries
 pub mod RoundTrips

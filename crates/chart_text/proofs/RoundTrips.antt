@@ -6,7 +6,7 @@ use mathlib.Core.Path.{_≡_, _∙_, ap, ap₂}
 use mathlib.Core.List.{List, map}
 use native.Mathlib.Omega.{arith}
 use lib.ListN.{length, getD, take, length-map}
-use Rattle.frames.specs.Digit.{capital}
+use Rattle.digits.specs.Digit.{capital}
 use Rattle.frames.specs.Frame.{contents, frameCount, size, textOf}
 use Rattle.frames.specs.Verdict.{Verdict, fine, next, when}
 use Rattle.frames.specs.Check.{badLength, textVerdict}

@@ -1,11 +1,11 @@
 // The chart reader and the chart writer. Nothing is written before every refusal is settled.
+use crate::in_place::write_text;
 use chart_check::check_chart;
 use frames::Answer;
 use frames::bad_length;
 use frames::put_bytes;
-use frames::put_text;
-use frames::read_text;
 use frames::refused;
+use reading::read_text;
 ghost use Rattle.frames.specs.Answer.{Lends};
 ghost use Rattle.charts.specs.Entry.{readChart, writeChart};
 
@@ -46,6 +46,6 @@ pub fn write_chart(records: &[u8], out: &mut [u8]) -> Answer
     if out.len() < count {
         return refused(16, 0);
     }
-    put_text(out, 0, records);
+    write_text(out, records);
     Answer::Done(count)
 }

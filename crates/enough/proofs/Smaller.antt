@@ -13,7 +13,7 @@ use Rattle.lists.proofs.Joins.{All}
 use Rattle.bits.specs.Word.{bit}
 use Rattle.bits.specs.Results.{Results, noResults}
 use Rattle.graph.specs.Reach.{reach}
-use Rattle.frames.specs.Digit.{digitOf, charOf}
+use Rattle.digits.specs.Digit.{digitOf, charOf}
 use Rattle.frames.specs.Frame.{contents, total, frameText, textOf}
 use Rattle.frames.specs.Answer.{success}
 use Rattle.frames.specs.Check.{badForm, badSum, textVerdict}

@@ -1,15 +1,18 @@
--- What a call from C hands back, and what it leaves in the bytes of a state: for each of Lends, Makes, Runs and Advances the record for C.
+-- What a call from C hands back, and what it leaves in the bytes of a state: for each of Lends, Lists, Makes, Runs, Advances and Tells the record
+-- for C.
 use Prim.Native.Nat.{ℕ}
 use mathlib.Core.Path.{_≡_}
 use mathlib.Core.List.{List}
 use lib.Dec.{eqb}
 use Rattle.lists.specs.Pick.{pick}
 use Rattle.frames.specs.Answer.{Reply, number, index, count, reply, Lent}
+use Rattle.listing.specs.Listing.{Listed}
 use Rattle.state.specs.State.{Made}
 use Rattle.runs.specs.Run.{Run, run}
 use Rattle.runs.specs.declared.TickReport.{TickReport}
 use Rattle.runs.specs.Advance.{Advance, advance}
 use Rattle.machine.specs.Live.{liveRun, liveTick}
+use Rattle.cause.specs.Cause as cause
 use Rattle.runs.specs.InPlace.{bytesAfter, ifTicked}
 use Rattle.state.specs.Bytes.{stateOf, bytesOf}
 
@@ -23,6 +26,12 @@ pub record Told (x : Reply) (returned at made : ℕ) : Type 0 where
 pub record LendsC (x : Lent) (returned at made : ℕ) (after : List ℕ) : Type 0 where
   pub told : Told (x .reply) returned at made
   pub written : after ≡ x .buffer
+
+-- a call that lists rows in two lent buffers
+pub record ListsC (x : Listed) (returned at made : ℕ) (xs ys : List ℕ) : Type 0 where
+  pub told : Told (x .reply) returned at made
+  pub firsts : xs ≡ x .firsts
+  pub counts : ys ≡ x .counts
 
 -- a call that makes a state: its bytes are written, after 14 too, and then each is 0
 pub record MakesC (x : Made) (returned at made : ℕ) (after : List ℕ) : Type 0 where
@@ -64,3 +73,14 @@ pub record AdvancesC (x : Advance) (before : List ℕ) (m₀ k₀ : ℕ) (return
   pub bytes : after ≡ ifTicked x (bytesOf (x .state)) before
   pub mask : m ≡ ifTicked x (x .mask) m₀
   pub code : k ≡ ifTicked x (x .code) k₀
+
+-- what made the tick of the state that the bytes hold go on
+abbrev pub causeFor : List ℕ → List ℕ → ℕ → cause.Told
+causeFor image state word = cause.explain image (stateOf state) word
+
+-- a call that tells it: row, mask and bit are written in every case, each 0 with a refusal
+pub record CausesC (x : cause.Told) (returned at made k m b : ℕ) : Type 0 where
+  pub told : Told (x .reply) returned at made
+  pub row : k ≡ x .cause .row
+  pub mask : m ≡ x .cause .mask
+  pub bit : b ≡ x .cause .bit

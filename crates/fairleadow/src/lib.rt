@@ -4,6 +4,7 @@ mod answers;
 
 use answers::tell;
 use answers::tell_tick;
+use cause::cause_bytes;
 use codes::Meaning;
 use codes::meaning_of;
 use machine::State;
@@ -19,7 +20,8 @@ ghost use Rattle.translator.specs.Entry.{translate};
 ghost use Rattle.places.specs.Entry.{placesNeeded};
 ghost use Rattle.state.specs.State.{freshState};
 ghost use Rattle.tables.specs.Prepare.{prepare};
-ghost use Rattle.fairleadow.specs.Calls.{Told, LendsC, MakesC, runFor, liveRunFor, RunsC, tickFor, liveTickFor, AdvancesC};
+ghost use Rattle.listing.specs.Listing.{list};
+ghost use Rattle.fairleadow.specs.Calls.{Told, LendsC, ListsC, MakesC, runFor, liveRunFor, RunsC, tickFor, liveTickFor, AdvancesC, causeFor, CausesC};
 ghost use Rattle.fairleadow.specs.Meant.{Meant};
 
 #[no_mangle]
@@ -74,6 +76,20 @@ pub extern "C" fn fairleadow_check_image(image: &[u8], at: &mut usize, made: &mu
     ensures { λ r. ⌜ Told (judged (imageVerdict (now (image .entry))) 0) r (now (at .exit)) (now (made .exit)) ⌝ }
 {
     let answer = image_check::check_image(image);
+    tell(answer, at, made)
+}
+
+#[no_mangle]
+pub extern "C" fn fairleadow_list_rows(
+    image: &[u8],
+    firsts: &mut [u16],
+    counts: &mut [u16],
+    at: &mut usize,
+    made: &mut usize,
+) -> u8
+    ensures { λ r. ⌜ ListsC (list (now (image .entry)) (now (firsts .entry)) (now (counts .entry))) r (now (at .exit)) (now (made .exit)) (now (firsts .exit)) (now (counts .exit)) ⌝ }
+{
+    let answer = listing::list_rows(image, firsts, counts);
     tell(answer, at, made)
 }
 
@@ -171,6 +187,28 @@ pub extern "C" fn fairleadow_live_tick(
 {
     let report = live_tick_bytes(table, state, word);
     tell_tick(report, mask, code, at, made)
+}
+
+// What made a tick go on: writes the row's number, the conditions that decide it and the result bit, each 0 with a refusal.
+#[no_mangle]
+pub extern "C" fn fairleadow_cause(
+    image: &[u8],
+    state: &[u8; 50],
+    word: u16,
+    row: &mut u16,
+    mask: &mut u16,
+    bit: &mut u8,
+    at: &mut usize,
+    made: &mut usize,
+) -> u8
+    ensures { λ r. ⌜ CausesC (causeFor (now (image .entry)) (now (state .entry)) word) r (now (at .exit)) (now (made .exit)) (now (row .exit)) (now (mask .exit)) (now (bit .exit)) ⌝ }
+{
+    let found = cause_bytes(image, state, word);
+    let answer = found.answer;
+    *row = found.row;
+    *mask = found.mask;
+    *bit = found.bit;
+    tell(answer, at, made)
 }
 
 // What a code stands for: returns the tick kind, 5 for a drop, 255 for a code that no tick has, and writes the scheme called, 0 for none.

@@ -10,12 +10,12 @@ use borrow.Author.Tests.{ne-eqb}
 use Rattle.lists.specs.Pick.{pick}
 use Rattle.lists.specs.Numbers.{range, any, sum}
 use Rattle.lists.specs.Sequences.{concatMap, over}
-use Rattle.frames.specs.Digit.{digitOf, capital}
+use Rattle.digits.specs.Digit.{digitOf, capital}
+use Rattle.digits.proofs.Digits.{Class, numeral, large, small, other, class-of, capital-same, capital-of-small, capital-at, digit-capital}
 use Rattle.frames.specs.Frame.{byteAt, contents}
 use Rattle.frames.specs.Verdict.{next, when, atLowest}
 use Rattle.frames.specs.Check.{badLength, badForm, badSum, textVerdict}
 use Rattle.frames.specs.Read.{readInto}
-use Rattle.frames.proofs.Digits.{Class, numeral, large, small, other, class-of, capital-same, capital-of-small, capital-at, digit-capital}
 
 -- all that is read of a text
 pub record Alike (t u : List ℕ) : Type 0 where

@@ -14,12 +14,12 @@ use Rattle.lists.proofs.Tests.{split, or-l, or-r, not-false}
 use Rattle.lists.proofs.Searches.{any-false}
 use Rattle.lists.proofs.Ranges.{length-map-range, getD-map-range}
 use Rattle.lists.proofs.Joins.{All, all-map, all-every, length-concat-range, concat-range-at}
-use Rattle.frames.specs.Digit.{digitOf, charOf, capital}
+use Rattle.digits.specs.Digit.{digitOf, charOf, capital}
+use Rattle.digits.proofs.Digits.{capital-same, capital-at, char-digit}
 use Rattle.frames.specs.Frame.{frameCount, byteAt, contents, size, field, byteText, total, sumByte, frameText, framesText, tenAt, textOf}
 use Rattle.frames.specs.Verdict.{Verdict, fine, next, when, atLowest}
 use Rattle.frames.specs.Check.{badLength, badForm, badSum, textVerdict}
 use Rattle.frames.proofs.Verdicts.{next-first, next-rest, when-fine, at-lowest-fine}
-use Rattle.frames.proofs.Digits.{capital-same, capital-at, char-digit}
 use Rattle.frames.proofs.Frames.{Frame, eleven, total-snoc, sum-places, frame-char, frame-feed, eleven-at, eleven-last}
 use Rattle.frames.proofs.Texts.{text-length, text-here, text-fine, contents-length, contents-at}
 

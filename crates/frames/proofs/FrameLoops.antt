@@ -1,27 +1,18 @@
--- The loops that write a frame: its sum and its characters.
+-- The loop that writes a frame: its sum and its characters.
 use mathlib.Core.Path.{_≡_, refl, sym, _∙_, ap}
 use mathlib.Core.List.{List, [], _∷_, _++_, append-assoc}
-use Prim.Native.Nat.{ℕ, suc, _+_, _-_, _*_, _%_, _≤_, _<_}
-use native.Mathlib.Numerals.{add-one}
+use Prim.Native.Nat.{ℕ, _+_, _-_, _*_, _%_, _≤_, _<_}
 use native.Mathlib.Omega.{arith}
 use lib.ListN.{length, set, getD, length-append}
 use Rattle.lists.specs.Numbers.{sum, range}
 use Rattle.lists.specs.Sequences.{concatMap, written}
-use Rattle.lists.proofs.Searches.{sum-snoc}
+use Rattle.lists.proofs.Searches.{sum-turn}
 use Rattle.lists.proofs.Joins.{concat-places, length-concat, all-every}
 use Rattle.lists.proofs.Written.{written-more, written-snoc}
 use Rattle.lists.proofs.Fills.{Pieces, pieces-none, pieces-turn, pieces-all}
 use Rattle.frames.specs.Frame.{byteText, total, sumByte, frameText}
 use Rattle.frames.proofs.Frames.{sum-places}
 
--- ---- the sum
--- a turn of the loop that adds
-pub sum-turn : (g : ℕ → ℕ) (s k v : ℕ) → s ≡ sum g 0 k → v ≡ g k → s + v ≡ sum g 0 (k + 1)
-sum-turn g s k v e q =
-    let z : g (0 + k) ≡ g k = ap g (omega arith) in
-    rw (add-one k) (let w : sum g 0 (suc k) ≡ sum g 0 k + g (0 + k) = sum-snoc g 0 k in omega arith)
-
--- ---- writing
 pub length-frame : (bs : List ℕ) → length bs ≡ 10 → length (frameText bs) ≡ 23
 unfolding frameText
 length-frame bs e =

@@ -1,5 +1,5 @@
 -- One frame: ten bytes and their sum byte as 23 characters, and a text that holds it at a place.
-use Prim.Native.Nat.{ℕ, suc, _+_, _*_, _/_, _%_, _≤_, _<_}
+use Prim.Native.Nat.{ℕ, zero, suc, _+_, _*_, _/_, _%_, _≤_, _<_}
 use mathlib.Core.Bool.{Bool, false, _||_, not}
 use mathlib.Core.Path.{_≡_, refl, sym, _∙_, ap, ap₂, subst}
 use mathlib.Core.Logic.{⊎-elim}
@@ -14,10 +14,19 @@ use Rattle.lists.specs.Sequences.{concatMap}
 use Rattle.lists.proofs.Tests.{split}
 use Rattle.lists.proofs.Searches.{any-none}
 use Rattle.lists.proofs.Joins.{All, all-at, all-every, concat-append, length-concat, getD-concat}
-use Rattle.frames.specs.Digit.{digitOf}
+use Rattle.digits.specs.Digit.{digitOf}
+use Rattle.digits.proofs.Digits.{digit-char}
 use Rattle.frames.specs.Frame.{byteAt, byteText, total, sumByte, frameText}
 use Rattle.frames.specs.Check.{badForm, badSum}
-use Rattle.frames.proofs.Digits.{pair-digit, pair-byte}
+
+-- the two characters of a byte
+pair-digit : (b t : ℕ) → b < 256 → t < 2 → digitOf (getD (byteText b) t 0) < 16
+pair-digit b zero h l = omega (arith, digit-char (b / 16) (omega arith))
+pair-digit b (suc zero) h l = omega (arith, digit-char (b % 16) (omega arith))
+pair-digit b (suc (suc t)) h l = absurd (omega arith)
+
+pair-byte : (b : ℕ) → b < 256 → 16 * digitOf (getD (byteText b) 0 0) + digitOf (getD (byteText b) 1 0) ≡ b
+pair-byte b h = omega (arith, digit-char (b / 16) (omega arith), digit-char (b % 16) (omega arith))
 
 -- ten bytes
 pub record Frame (bs : List ℕ) : Type 0 where

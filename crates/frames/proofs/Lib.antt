@@ -1,6 +1,5 @@
 pub mod Verdicts
 pub mod Chains
-pub mod Digits
 pub mod Frames
 pub mod Texts
 pub mod Contents
@@ -8,7 +7,5 @@ pub mod Capitals
 pub mod Reading
 pub mod Lent
 pub mod FrameLoops
-pub mod ReadFrame
-pub mod ReadLoops
 pub mod TextLoops
 pub mod Refuses

@@ -5,7 +5,7 @@ use mathlib.Core.List.{List}
 use lib.Dec.{leb, ltb, eqb}
 use lib.ListN.{length, getD}
 use Rattle.lists.specs.Numbers.{any, sum}
-use Rattle.frames.specs.Digit.{digitOf}
+use Rattle.digits.specs.Digit.{digitOf}
 use Rattle.frames.specs.Frame.{byteAt, frameCount}
 use Rattle.frames.specs.Verdict.{Verdict, next, when, atLowest}
 

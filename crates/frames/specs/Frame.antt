@@ -4,7 +4,7 @@ use mathlib.Core.List.{List, [], _∷_, _++_, map}
 use lib.ListN.{length, getD}
 use Rattle.lists.specs.Numbers.{range}
 use Rattle.lists.specs.Sequences.{concatMap}
-use Rattle.frames.specs.Digit.{digitOf, charOf}
+use Rattle.digits.specs.Digit.{digitOf, charOf}
 
 -- ---- reading
 abbrev pub frameCount : List ℕ → ℕ

@@ -1,7 +1,5 @@
-pub mod Digit
 pub mod Frame
 pub mod Verdict
 pub mod Check
 pub mod Read
 pub mod Answer
-pub mod Reads

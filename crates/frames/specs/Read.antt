@@ -3,14 +3,9 @@ use Prim.Native.Nat.{ℕ, _%_}
 use mathlib.Core.List.{List, map}
 use lib.ListN.{length}
 use Rattle.lists.specs.Pick.{pick}
-use Rattle.lists.specs.Numbers.{range}
 use Rattle.lists.specs.Sequences.{over}
-use Rattle.frames.specs.Frame.{byteAt, contents}
+use Rattle.frames.specs.Frame.{contents}
 use Rattle.frames.specs.Check.{badLength}
-
--- the ten bytes that are stored of frame f; they are the frame's own where 2 does not refuse it
-abbrev pub storedOf : List ℕ → ℕ → List ℕ
-storedOf t f = map (λ k. byteAt t f k % 256) (range 0 10)
 
 -- the contents, modulo 256, at the front of the buffer; where 1 refuses, nothing is stored. The buffer is scratch space, which a
 -- later refusal leaves changed: a function that promises this is no entry point

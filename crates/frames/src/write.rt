@@ -1,5 +1,5 @@
 // Bytes and frames written into a lent buffer.
-use crate::characters::character;
+use digits::character;
 ghost use mathlib.Core.Path.{_≡_};
 ghost use Prim.Native.Nat.{_+_, _*_, _≤_, _<_};
 ghost use lib.ListN.{length};
@@ -49,7 +49,7 @@ pub fn put_frame(out: &mut [u8], at: usize, bytes: &[u8])
 }
 
 // The ten bytes of frame f of contents.
-fn ten_at(bytes: &[u8], f: usize) -> [u8; 10]
+pub fn ten_at(bytes: &[u8], f: usize) -> [u8; 10]
     requires { ⌜ 10 * f + 10 ≤ length (now bytes) ⌝ }
     ensures { λ r. ⌜ r ≡ tenAt (now (bytes .entry)) f ⌝ }
 {

@@ -1,7 +1,7 @@
 // An image's text: read and checked, refusals 1 to 3 and 11 to 13.
 use crate::check::check_table;
 use frames::Answer;
-use frames::read_text;
+use reading::read_text;
 ghost use mathlib.Core.Path.{_≡_};
 ghost use Prim.Native.Nat.{_≤_};
 ghost use lib.ListN.{length};

@@ -12,8 +12,7 @@ use Rattle.lists.specs.Sequences.{written}
 use Rattle.lists.proofs.Tests.{yes-pick, no-pick}
 use Rattle.lists.proofs.Written.{written-more}
 use Rattle.lists.proofs.Fills.{Pieces, pieces-turn}
-use Rattle.frames.specs.Frame.{size, quad, frameText}
-use Rattle.frames.proofs.FrameLoops.{length-frame}
+use Rattle.frames.specs.Frame.{size, quad}
 use Rattle.charts.specs.Chart.{Chart, kind, scheme, argument, next0, result, mask, begin}
 use Rattle.walk.specs.Stops.{stops, start}
 use Rattle.walk.proofs.Facts.{Facts}
@@ -21,7 +20,7 @@ use Rattle.image.specs.Image.{Label, entryFrame, labelFrame}
 use Rattle.chart_labels.specs.Labels.{numbered, label, entry, labelOf}
 use Rattle.chart_labels.specs.Ready.{Labelled, OfKind, AtNode}
 use Rattle.label_text.specs.Ready.{OfScheme}
-use Rattle.label_text.specs.Parts.{entryText, nodeLabelText, Put}
+use Rattle.label_text.specs.Parts.{entryBytes, nodeLabelBytes, Put}
 use Rattle.chart_labels.proofs.ReadyLaws.{ready-facts}
 use Rattle.chart_labels.proofs.LabelSteps.{own-label, no-own-label}
 
@@ -76,18 +75,18 @@ module _ {c : Chart} {labels : List ℕ} {h v : ℕ} (s : OfScheme c labels h) (
       ap (λ (x : ℕ). getD labels x 0) q ∙ ok .at (next0 c v) next-inside
       ∙ ap (label c) (sym (starts false (sym stop-by ∙ no-own-label c v (omega arith))))
 
-pub entries-turn : (c : Chart) (out₀ out out′ : List ℕ) (at n k place l : ℕ) → Pieces (entryText c) 23 out₀ out at n k → k < n
-    → place ≡ at + 23 * k → at + 23 * n ≤ length out₀
-    → length out′ ≡ length out → l ≡ entry c (k + 1) → out′ ≡ written out place (frameText (entryFrame (k + 1) l))
-    → Pieces (entryText c) 23 out₀ out′ at n (k + 1)
+pub entries-turn : (c : Chart) (out₀ out out′ : List ℕ) (at n k place l : ℕ) → Pieces (entryBytes c) 10 out₀ out at n k → k < n
+    → place ≡ at + 10 * k → at + 10 * n ≤ length out₀
+    → length out′ ≡ length out → l ≡ entry c (k + 1) → out′ ≡ written out place (entryFrame (k + 1) l)
+    → Pieces (entryBytes c) 10 out₀ out′ at n (k + 1)
 entries-turn c out₀ out out′ at n k place l w h p room s m e =
-    pieces-turn (entryText c) 23 out₀ at n (λ j. length-frame (entryFrame (j + 1) (entry c (j + 1))) refl) out out′ k place w h p (omega arith) s
-    (e ∙ ap (λ (x : ℕ). written out place (frameText (entryFrame (k + 1) x))) m)
+    pieces-turn (entryBytes c) 10 out₀ at n (λ j. refl) out out′ k place w h p (omega arith) s
+    (e ∙ ap (λ (x : ℕ). written out place (entryFrame (k + 1) x)) m)
 
 -- ---- labels
-pub fixed-done : (out out₁ out₂ a b : List ℕ) (at : ℕ) → length a ≡ 23 → at + 46 ≤ length out
-    → out₁ ≡ written out at a → out₂ ≡ written out₁ (at + 23) b → out₂ ≡ written out at (a ++ b)
-fixed-done out out₁ out₂ a b at n h e₁ e₂ = written-more out at a b out₁ out₂ (at + 23) (omega arith) (omega arith) e₁ e₂
+pub fixed-done : (out out₁ out₂ a b : List ℕ) (at : ℕ) → length a ≡ 10 → at + 20 ≤ length out
+    → out₁ ≡ written out at a → out₂ ≡ written out₁ (at + 10) b → out₂ ≡ written out at (a ++ b)
+fixed-done out out₁ out₂ a b at n h e₁ e₂ = written-more out at a b out₁ out₂ (at + 10) (omega arith) (omega arith) e₁ e₂
 
 quad-bytes : (a b d e : ℕ) → a < 256 → b < 256 → d < 256 → e < 256 → quad ((a * 256 + b) * 65536 + (d * 256 + e)) ≡ a ∷ b ∷ d ∷ e ∷ []
 quad-bytes a b d e ha hb hd he =
@@ -136,24 +135,24 @@ module _ {c : Chart} {labels : List ℕ} {v : ℕ} (node : AtNode c labels v) wh
   read : getD labels v 0 ≡ label c v
   read = node .chart .labelled .at v (node .inside)
 
-  pub label-none : getD labels v 0 < 2 → nodeLabelText c v ≡ []
+  pub label-none : getD labels v 0 < 2 → nodeLabelBytes c v ≡ []
   label-none h =
-      no-pick (numbered c v) (frameText (labelFrame (label c v) (labelOf c v))) [] (no-own-label c v (omega (arith, read)))
+      no-pick (numbered c v) (labelFrame (label c v) (labelOf c v)) [] (no-own-label c v (omega (arith, read)))
 
-  label-one : 2 ≤ getD labels v 0 → nodeLabelText c v ≡ frameText (labelFrame (label c v) (labelOf c v))
+  label-one : 2 ≤ getD labels v 0 → nodeLabelBytes c v ≡ labelFrame (label c v) (labelOf c v)
   label-one h =
-      yes-pick (numbered c v) (frameText (labelFrame (label c v) (labelOf c v))) [] (own-label c v (omega (arith, read)))
+      yes-pick (numbered c v) (labelFrame (label c v) (labelOf c v)) [] (own-label c v (omega (arith, read)))
 
-  label-long : 2 ≤ getD labels v 0 → length (nodeLabelText c v) ≡ 23
-  label-long h = ap (λ (x : List ℕ). length x) (label-one h) ∙ length-frame (labelFrame (label c v) (labelOf c v)) refl
+  label-long : 2 ≤ getD labels v 0 → length (nodeLabelBytes c v) ≡ 10
+  label-long h = ap (λ (x : List ℕ). length x) (label-one h)
 
-  pub label-room : 2 ≤ getD labels v 0 → (at n : ℕ) → at + length (nodeLabelText c v) ≤ n → at + 23 ≤ n
+  pub label-room : 2 ≤ getD labels v 0 → (at n : ℕ) → at + length (nodeLabelBytes c v) ≤ n → at + 10 ≤ n
   label-room h at n r = omega (arith, label-long h)
 
   pub label-done : 2 ≤ getD labels v 0 → (out out′ : List ℕ) (at : ℕ)
-      → out′ ≡ written out at (frameText (labelFrame (getD labels v 0) (labelOf c v)))
-      → Put out at (nodeLabelText c v) (at + 23) out′
+      → out′ ≡ written out at (labelFrame (getD labels v 0) (labelOf c v))
+      → Put out at (nodeLabelBytes c v) (at + 10) out′
   label-done h out out′ at e = record {
     ends = omega (arith, label-long h);
-    holds = e ∙ ap (λ (x : ℕ). written out at (frameText (labelFrame x (labelOf c v)))) read ∙ ap (written out at) (sym (label-one h));
+    holds = e ∙ ap (λ (x : ℕ). written out at (labelFrame x (labelOf c v))) read ∙ ap (written out at) (sym (label-one h));
   }

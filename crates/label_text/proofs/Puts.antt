@@ -1,4 +1,4 @@
--- Texts put into a buffer one after the other, at plain values.
+-- Bytes put into a buffer one after the other, at plain values.
 use mathlib.Core.Path.{_≡_, refl, sym, _∙_, ap, subst}
 use mathlib.Core.List.{List, [], _++_}
 use Prim.Native.Nat.{ℕ, zero, suc, _+_, _-_, _≤_, _<_}
@@ -11,7 +11,7 @@ use Rattle.lists.proofs.Joins.{concat-range-snoc}
 use Rattle.lists.proofs.Written.{written-none, written-length, written-more}
 use Rattle.label_text.specs.Parts.{upTo, Put}
 
--- ---- a text put, and one put after another
+-- ---- bytes put, and others put after them
 pub put-length : {out out′ t : List ℕ} {at r : ℕ} → at + length t ≤ length out → Put out at t r out′ → length out′ ≡ length out
 put-length {out} {out′} {t} {at} h p = ap (λ (x : List ℕ). length x) (p .holds) ∙ written-length out at t h
 

@@ -1,6 +1,6 @@
-// The labels of an image, written as frames: 0 and 1, and those of the nodes that have one of their own.
+// The labels of an image, written as frames of ten bytes: 0 and 1, and those of the nodes that have one of their own.
 use charts::field;
-use frames::put_frame;
+use frames::put_bytes;
 ghost use mathlib.Core.Path.{_≡_};
 ghost use mathlib.Core.Bool.{not};
 ghost use Prim.Native.Nat.{_+_, _≤_};
@@ -8,28 +8,28 @@ ghost use lib.Dec.{eqb};
 ghost use lib.ListN.{length};
 ghost use Rattle.lists.specs.Pick.{pick};
 ghost use Rattle.lists.specs.Sequences.{written};
-ghost use Rattle.frames.specs.Frame.{size, frameText};
+ghost use Rattle.frames.specs.Frame.{size};
 ghost use Rattle.image.specs.Image.{labelFrame};
 ghost use Rattle.chart_labels.specs.Labels.{labelOf};
 ghost use Rattle.chart_labels.specs.Ready.{Inner, OfKind, Charted, AtNode};
-ghost use Rattle.label_text.specs.Parts.{fixedText, nodeLabelText, upTo, Put};
+ghost use Rattle.label_text.specs.Parts.{fixedBytes, nodeLabelBytes, upTo, Put};
 
 // Labels 0 and 1.
 pub fn put_fixed(out: &mut [u8], at: usize)
-    requires { ⌜ at + 46 ≤ length (now out) ⌝ }
-    ensures { λ _. ⌜ now (out .exit) ≡ written (now (out .entry)) at fixedText ⌝ }
+    requires { ⌜ at + 20 ≤ length (now out) ⌝ }
+    ensures { λ _. ⌜ now (out .exit) ≡ written (now (out .entry)) at fixedBytes ⌝ }
 {
     let home = [17, 0, 4, 0, 1, 0, 0, 0, 0, 0];
-    put_frame(out, at, &home);
+    put_bytes(out, at, &home);
     let back = [17, 1, 3, 0, 0, 0, 0, 0, 0, 0];
-    put_frame(out, at + 23, &back);
+    put_bytes(out, at + 10, &back);
 }
 
 // The label of an operation: with a call its kind is 1.
 fn put_operation(records: &[u8], v: usize, label: u8, out: &mut [u8], at: usize)
     requires { ⌜ OfKind (now records) 2 v ⌝ }
-    requires { ⌜ at + 23 ≤ length (now out) ⌝ }
-    ensures { λ _. ⌜ now (out .exit) ≡ written (now (out .entry)) at (frameText (labelFrame label (labelOf (now (records .entry)) v))) ⌝ }
+    requires { ⌜ at + 10 ≤ length (now out) ⌝ }
+    ensures { λ _. ⌜ now (out .exit) ≡ written (now (out .entry)) at (labelFrame label (labelOf (now (records .entry)) v)) ⌝ }
 {
     let called = field(records, v, 2);
     let tick = call_kind(called);
@@ -51,7 +51,7 @@ fn put_operation(records: &[u8], v: usize, label: u8, out: &mut [u8], at: usize)
         mask2,
         mask3,
     ];
-    put_frame(out, at, &bytes);
+    put_bytes(out, at, &bytes);
 }
 
 // The kind of an operation's tick: 1 with a call, else 0.
@@ -64,8 +64,8 @@ fn call_kind(called: u8) -> u8
 // The label of a stop: an operation's, a function's, or that of a Begin or a condition.
 fn put_label(records: &[u8], v: usize, label: u8, out: &mut [u8], at: usize)
     requires { ⌜ Inner (now records) v ⌝ }
-    requires { ⌜ at + 23 ≤ length (now out) ⌝ }
-    ensures { λ _. ⌜ now (out .exit) ≡ written (now (out .entry)) at (frameText (labelFrame label (labelOf (now (records .entry)) v))) ⌝ }
+    requires { ⌜ at + 10 ≤ length (now out) ⌝ }
+    ensures { λ _. ⌜ now (out .exit) ≡ written (now (out .entry)) at (labelFrame label (labelOf (now (records .entry)) v)) ⌝ }
 {
     let owner = field(records, v, 1);
     match field(records, v, 0) {
@@ -73,11 +73,11 @@ fn put_label(records: &[u8], v: usize, label: u8, out: &mut [u8], at: usize)
         4 => {
             let called = field(records, v, 2);
             let bytes = [17, label, 2, called, owner, 0, 0, 0, 0, 0];
-            put_frame(out, at, &bytes);
+            put_bytes(out, at, &bytes);
         }
         _ => {
             let bytes = [17, label, 0, 0, owner, 0, 0, 0, 0, 0];
-            put_frame(out, at, &bytes);
+            put_bytes(out, at, &bytes);
         }
     }
 }
@@ -85,22 +85,22 @@ fn put_label(records: &[u8], v: usize, label: u8, out: &mut [u8], at: usize)
 // The label of a node, where it has one of its own; the offset after it.
 fn put_node_label(records: &[u8], labels: &[u8], v: usize, out: &mut [u8], at: usize) -> usize
     requires { ⌜ AtNode (now records) (now labels) v ⌝ }
-    requires { ⌜ at + length (nodeLabelText (now records) v) ≤ length (now out) ⌝ }
-    ensures { λ r. ⌜ Put (now (out .entry)) at (nodeLabelText (now (records .entry)) v) r (now (out .exit)) ⌝ }
+    requires { ⌜ at + length (nodeLabelBytes (now records) v) ≤ length (now out) ⌝ }
+    ensures { λ r. ⌜ Put (now (out .entry)) at (nodeLabelBytes (now (records .entry)) v) r (now (out .exit)) ⌝ }
 {
     let label = labels[v];
     if label < 2 {
         return at;
     }
     put_label(records, v, label, out, at);
-    at + 23
+    at + 10
 }
 
 // The labels of all nodes that have one of their own.
 pub fn put_labels(records: &[u8], labels: &[u8], out: &mut [u8], at: usize)
     requires { ⌜ Charted (now records) (now labels) ⌝ }
-    requires { ⌜ at + length (upTo (nodeLabelText (now records)) (size (now records))) ≤ length (now out) ⌝ }
-    ensures { λ _. ⌜ now (out .exit) ≡ written (now (out .entry)) at (upTo (nodeLabelText (now (records .entry))) (size (now (records .entry)))) ⌝ }
+    requires { ⌜ at + length (upTo (nodeLabelBytes (now records)) (size (now records))) ≤ length (now out) ⌝ }
+    ensures { λ _. ⌜ now (out .exit) ≡ written (now (out .entry)) at (upTo (nodeLabelBytes (now (records .entry))) (size (now (records .entry)))) ⌝ }
 {
     let n = records.len() / 10;
     let mut place = at;

@@ -1,4 +1,4 @@
-// The text of an image before its rows: header, entries and labels, written as frames.
+// The bytes of an image before its rows: header, entries and labels, written as frames of ten bytes.
 mod entries;
 mod label_frames;
 

@@ -69,6 +69,20 @@ any-none p i zero h = refl
 any-none p i (suc n) h =
     ap₂ _||_ (ap p (omega arith) ∙ h 0 (omega arith)) (any-none p (suc i) n (λ k l. ap p (omega arith) ∙ h (suc k) (omega arith)))
 
+-- a test at the far end
+pub any-snoc : (p : ℕ → Bool) (i n : ℕ) → any p i (suc n) ≡ (any p i n || p (i + n))
+unfolding any
+any-snoc p i zero = go (p i) refl
+  where
+    go : (b : Bool) → p i ≡ b → (p i || false) ≡ p (i + 0)
+    go true e = ap (λ (a : Bool). a || false) e ∙ sym (ap p (omega arith) ∙ e)
+    go false e = ap (λ (a : Bool). a || false) e ∙ sym (ap p (omega arith) ∙ e)
+any-snoc p i (suc n) = go (p i) (any-snoc p (suc i) n ∙ ap (λ (k : ℕ). any p (suc i) n || p k) (omega arith))
+  where
+    go : (b : Bool) → any p (suc i) (suc n) ≡ (any p (suc i) n || p (i + suc n)) → (b || any p (suc i) (suc n)) ≡ ((b || any p (suc i) n) || p (i + suc n))
+    go true e = refl
+    go false e = e
+
 -- ---- the largest value
 pub highest-ge : (f : ℕ → ℕ) (i n k : ℕ) → i ≤ k → k < i + n → f k ≤ highest f i n
 unfolding highest
@@ -152,6 +166,12 @@ pub sum-snoc : (f : ℕ → ℕ) (i n : ℕ) → sum f i (suc n) ≡ sum f i n +
 unfolding sum
 sum-snoc f i zero = let e : f i ≡ f (i + 0) = ap f (omega arith) in omega arith
 sum-snoc f i (suc n) = let e : f (suc i + n) ≡ f (i + suc n) = ap f (omega arith) in omega (arith, sum-snoc f (suc i) n)
+
+-- a turn of the loop that adds
+pub sum-turn : (g : ℕ → ℕ) (s k v : ℕ) → s ≡ sum g 0 k → v ≡ g k → s + v ≡ sum g 0 (k + 1)
+sum-turn g s k v e q =
+    let z : g (0 + k) ≡ g k = ap g (omega arith) in
+    rw (add-one k) (let w : sum g 0 (suc k) ≡ sum g 0 k + g (0 + k) = sum-snoc g 0 k in omega arith)
 
 pub highest-snoc : (f : ℕ → ℕ) (i n : ℕ) → highest f i (suc n) ≡ max (highest f i n) (f (i + n))
 unfolding highest

@@ -8,23 +8,19 @@ use lib.Dec.{eqb}
 use lib.ListN.{length, take, length-take}
 use borrow.Author.Tests.{ne-eqb}
 use Rattle.lists.proofs.Tests.{no-pick}
-use Rattle.frames.specs.Frame.{contents, frameCount}
+use Rattle.frames.specs.Frame.{contents}
 use Rattle.frames.specs.Verdict.{Verdict, fine, refused}
 use Rattle.frames.specs.Answer.{refusal, reply, judged}
 use Rattle.frames.specs.declared.Answer.{Answer}
-use Rattle.frames.specs.declared.Answer.the-variants.{Done, Refused}
+use Rattle.frames.specs.declared.Answer.the-variants.{Refused}
 use Rattle.frames.proofs.Refuses.{Refuses}
-use Rattle.frames.proofs.Chains.{done-fine, refused-verdict}
-use Rattle.frames.proofs.Contents.{any-contents-length}
+use Rattle.frames.proofs.Chains.{refused-verdict}
 use Rattle.image.specs.Image.{Image}
 use Rattle.image.specs.Decode.{decoded}
-use Rattle.image.specs.Check.{tableVerdict, imageVerdict}
-use Rattle.image.proofs.Accepted.{image-table, image-bytes}
+use Rattle.image.specs.Check.{imageVerdict}
 use Rattle.image.proofs.Refuses.{Early, early-image}
-use Rattle.tables.specs.Prepare.{noted, Prepares}
 use Rattle.tables.specs.Table.{tableEnd, badTable, front, Whole, tableImage}
-use Rattle.tables.proofs.PrepareCases.{frames-few, made-front, made-length}
-use Rattle.tables.proofs.PreparedImage.{noted-whole, prepared-image}
+use Rattle.tables.proofs.Made.{Made}
 use Rattle.tables.proofs.Front.{end-holds, front-image, front-whole}
 use Rattle.state.specs.declared.State.{State}
 use Rattle.state.specs.Bytes.{stateOf, bytesOf}
@@ -104,27 +100,6 @@ module _ (b before : List ℕ) where
           (ap (λ (c : List ℕ). tableRun c s (w ∷ []) (0 ∷ []) (0 ∷ [])) (cut-is b n q) ∙ live-good (w ∷ []) (0 ∷ []) (0 ∷ []) (sym e ∙ h)) x
 
 -- ---- on an image
--- the table that preparing an accepted image leaves in front
-pub record Made (t b : List ℕ) : Type 0 where
-  pub accepted : imageVerdict t ≡ fine
-  pub few : 10 * frameCount t ≤ 12970
-  pub long : 10 * frameCount t ≡ length b
-  pub whole : Whole b
-  pub holds : tableImage b ≡ decoded (contents t)
-
-pub image-made : (t old table : List ℕ) (a : Answer) → Prepares t old a table → (m : ℕ) → a ≡ Done m → Made t (take (10 * frameCount t) table)
-image-made t old table a x m done =
-    let ok : imageVerdict t ≡ fine = done-fine a (imageVerdict t) 0 (x .answered) m done .0 in
-    let fine-table : tableVerdict (contents t) ≡ fine = image-table t ok in
-    let front : take (10 * frameCount t) table ≡ noted (contents t) = made-front t ok old table (x .written) in
-    record {
-      accepted = ok;
-      few = frames-few t ok;
-      long = made-length t ok old table (x .written);
-      whole = subst Whole (sym front) (noted-whole (contents t) fine-table (omega (arith, any-contents-length t)));
-      holds = ap tableImage front ∙ prepared-image (contents t) fine-table (image-bytes t ok);
-    }
-
 module _ (t before : List ℕ) where
   abbrev state₀ : State
   state₀ = stateOf before

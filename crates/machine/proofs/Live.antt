@@ -10,7 +10,7 @@ use Rattle.image.specs.Decode.{decoded}
 use Rattle.image.specs.Check.{imageVerdict}
 use Rattle.tables.specs.Table.{badTable, tableImage}
 use Rattle.state.specs.declared.State.{State}
-use Rattle.state.specs.State.{unfit}
+use Rattle.fitness.specs.Fitness.{unfit}
 use Rattle.runs.specs.Run.{noRoom, ticks, runOn, run, runVerdict}
 use Rattle.runs.specs.Advance.{advanced, advance}
 use Rattle.machine.specs.Live.{liveVerdict, liveRun, liveTick}

@@ -9,7 +9,7 @@ use Rattle.frames.specs.Answer.{success, refusal}
 use Rattle.image.specs.Decode.{decoded}
 use Rattle.image.specs.Check.{imageVerdict}
 use Rattle.state.specs.declared.State.{State}
-use Rattle.state.specs.State.{unfit}
+use Rattle.fitness.specs.Fitness.{unfit}
 use Rattle.ticks.specs.Tick.{Ticked, ticked, stopped, tick}
 use Rattle.runs.specs.Run.{Run, run, runVerdict, ticks}
 use Rattle.runs.specs.Advance.{Advance, advanced, advance}

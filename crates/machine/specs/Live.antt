@@ -4,7 +4,7 @@ use mathlib.Core.List.{List, [], _∷_}
 use Rattle.frames.specs.Verdict.{Verdict, next, when}
 use Rattle.tables.specs.Table.{badTable, tableImage}
 use Rattle.state.specs.declared.State.{State}
-use Rattle.state.specs.State.{unfit}
+use Rattle.fitness.specs.Fitness.{unfit}
 use Rattle.runs.specs.Run.{Run, noRoom, ticks, runOn}
 use Rattle.runs.specs.Advance.{Advance, advanced}
 

@@ -1,5 +1,5 @@
 // What the programs print: the frame that tells a refusal, and the line of a tick's code.
-use frames::character;
+use digits::character;
 use frames::put_frame;
 ghost use mathlib.Core.Path.{_≡_};
 ghost use Rattle.printing.specs.Lines.{codeLine, refusalLine};

@@ -3,7 +3,7 @@ use Prim.Native.Nat.{ℕ}
 use mathlib.Core.Path.{_≡_, ap, ap₂}
 use mathlib.Core.List.{List, map}
 use lib.ListN.{replicate}
-use Rattle.frames.specs.Digit.{capital}
+use Rattle.digits.specs.Digit.{capital}
 use Rattle.frames.specs.Verdict.{Verdict}
 use Rattle.frames.proofs.Capitals.{capitals-alike}
 use Rattle.image.specs.Image.{imageText}

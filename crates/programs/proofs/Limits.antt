@@ -23,7 +23,8 @@ use Rattle.image.specs.Check.{tableVerdict, imageVerdict}
 use Rattle.translator.specs.Rows.{rows}
 use Rattle.translator.specs.Table.{table}
 use Rattle.translator.specs.Entry.{translateVerdict}
-use Rattle.state.specs.State.{freshState, unfit}
+use Rattle.state.specs.State.{freshState}
+use Rattle.fitness.specs.Fitness.{unfit}
 use Rattle.runs.specs.Run.{Run, noRoom, ticks, runVerdict, runOn, run}
 use Rattle.printing.specs.Lines.{refusalLine}
 use Rattle.programs.specs.Programs.{words, imageOr, translateOutput, runLines, runOutput}

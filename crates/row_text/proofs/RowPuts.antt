@@ -1,87 +1,152 @@
 -- The steps of the functions that write rows, at plain values.
 use mathlib.Core.Path.{_≡_, refl, sym, _∙_, ap, ap₂}
-use mathlib.Core.Bool.{true}
-use mathlib.Core.List.{List, [], _∷_, _++_, map, append-nil}
+use mathlib.Core.Bool.{Bool, true, _&&_, not}
+use mathlib.Core.List.{List, [], _∷_, _++_, append-assoc, append-nil}
 use Prim.Native.Nat.{ℕ, _+_, _^_, _≤_, _<_}
 use native.Mathlib.Omega.{arith}
+use lib.Dec.{eqb}
 use lib.ListN.{length, getD}
-use Rattle.lists.specs.Sequences.{concatMap, written}
-use Rattle.lists.proofs.Ranges.{map-append}
+use Rattle.lists.specs.Sequences.{concatMap}
 use Rattle.lists.proofs.Joins.{concat-cons, concat-append}
-use Rattle.frames.specs.Frame.{size, frameText, framesText}
-use Rattle.frames.proofs.FrameLoops.{length-frame}
+use Rattle.bits.specs.Word.{bit}
+use Rattle.frames.specs.Frame.{size}
 use Rattle.charts.specs.Chart.{Chart, kind, argument, next0, next1}
+use Rattle.charts.proofs.Rank.{rank}
 use Rattle.walk.specs.Stops.{stops}
 use Rattle.image.specs.Image.{Row, rowFrame}
 use Rattle.chart_labels.specs.Labels.{label}
 use Rattle.chart_rows.specs.Rows.{paths, rowsOf}
+use Rattle.chart_rows.specs.Ready.{Entered, PathAt}
 use Rattle.chart_labels.specs.Ready.{Charted}
-use Rattle.row_text.specs.Parts.{rowOf, rowsText, nodeRowsText}
+use Rattle.row_text.specs.Parts.{rowOf, rowsBytes, nodeRowsBytes}
 use Rattle.chart_rows.specs.Parts.{sides, nodeRows}
 use Rattle.label_text.specs.Parts.{Put}
-use Rattle.label_text.proofs.Puts.{Parted}
+use Rattle.label_text.proofs.Puts.{Parted, put-length, both-first, both-second, both-done, nothing-put, done-as}
 use Rattle.chart_rows.proofs.RowSteps.{rows-function, rows-condition, rows-other}
 use Rattle.chart_rows.proofs.Settled.{Settled}
 use Rattle.chart_rows.proofs.PathCases.{Fork, stop-paths}
 
 -- ---- the paths on from a node
-pub rows-append : (a b : List Row) → rowsText (a ++ b) ≡ rowsText a ++ rowsText b
-rows-append a b = ap framesText (map-append rowFrame a b) ∙ concat-append frameText (map rowFrame a) (map rowFrame b)
+pub rows-append : (a b : List Row) → rowsBytes (a ++ b) ≡ rowsBytes a ++ rowsBytes b
+rows-append a b = concat-append rowFrame a b
 
-pub row-alone : (r : Row) → rowsText (r ∷ []) ≡ frameText (rowFrame r)
-row-alone r = concat-cons frameText (rowFrame r) [] ∙ (unfold concatMap in append-nil (frameText (rowFrame r)))
+row-alone : (r : Row) → rowsBytes (r ∷ []) ≡ rowFrame r
+row-alone r = concat-cons rowFrame r [] ∙ (unfold concatMap in append-nil (rowFrame r))
 
 module _ (c : Chart) (labels : List ℕ) (chart : Charted c labels) (care values v u : ℕ) (st : Settled c care values v u)
     (s : stops c u ≡ true) (l f : ℕ) where
-  leaf-text : rowsText (paths (size c) c l f care values v) ≡ frameText (rowFrame (rowOf l care values f (label c u)))
-  leaf-text = ap rowsText (stop-paths c (chart .ready) care values v u st s l f) ∙ row-alone (rowOf l care values f (label c u))
+  leaf-bytes : rowsBytes (paths (size c) c l f care values v) ≡ rowFrame (rowOf l care values f (label c u))
+  leaf-bytes = ap rowsBytes (stop-paths c (chart .ready) care values v u st s l f) ∙ row-alone (rowOf l care values f (label c u))
 
-  leaf-length : length (rowsText (paths (size c) c l f care values v)) ≡ 23
-  leaf-length = ap (λ (x : List ℕ). length x) leaf-text ∙ length-frame (rowFrame (rowOf l care values f (label c u))) refl
+  leaf-length : length (rowsBytes (paths (size c) c l f care values v)) ≡ 10
+  leaf-length = ap (λ (x : List ℕ). length x) leaf-bytes
 
-  pub leaf-room : (at n : ℕ) → at + length (rowsText (paths (size c) c l f care values v)) ≤ n → at + 23 ≤ n
+  pub leaf-room : (at n : ℕ) → at + length (rowsBytes (paths (size c) c l f care values v)) ≤ n → at + 10 ≤ n
   leaf-room at n h = omega (arith, leaf-length)
 
-  pub leaf-done : (out out′ : List ℕ) (at : ℕ) → out′ ≡ written out at (frameText (rowFrame (rowOf l care values f (getD labels u 0))))
-      → Put out at (rowsText (paths (size c) c l f care values v)) (at + 23) out′
-  leaf-done out out′ at e = record {
-    ends = omega (arith, leaf-length);
-    holds = e
-        ∙ ap (λ (x : ℕ). written out at (frameText (rowFrame (rowOf l care values f x))))
-        (chart .labelled .at u (st .entered .inside))
-        ∙ ap (written out at) (sym leaf-text);
-  }
+  pub leaf-done : (out out′ : List ℕ) (at r : ℕ) → Put out at (rowFrame (rowOf l care values f (getD labels u 0))) r out′
+      → Put out at (rowsBytes (paths (size c) c l f care values v)) r out′
+  leaf-done out out′ at r p =
+      done-as _ _ out out′ at r
+      (leaf-bytes ∙ ap (λ (x : ℕ). rowFrame (rowOf l care values f x)) (sym (chart .labelled .at u (st .entered .inside)))) p
+
+-- a path is settled at a stop that it comes to
+pub at-end : (c : Chart) (care values v : ℕ) → Entered c v → stops c v ≡ true → Settled c care values v v
+at-end c care values v t s = record {
+  entered = t;
+  lower = omega arith;
+  same = λ l f. refl;
+  fresh = ap (λ (b : Bool). not b && eqb (bit care (argument c v)) 1) s;
+}
 
 module _ (c : Chart) (care values v tested valued w0 w1 : ℕ) (k : Fork c care values v tested valued w0 w1) (l f : ℕ) where
-  pub fork-text : Parted (rowsText (paths (size c) c l f care values v)) (rowsText (paths (size c) c l f tested values w0))
-      (rowsText (paths (size c) c l f tested valued w1))
-  fork-text = record {
-    parts = ap rowsText (k .all l f) ∙ rows-append (paths (size c) c l f tested values w0) (paths (size c) c l f tested valued w1);
+  pub fork-bytes : Parted (rowsBytes (paths (size c) c l f care values v)) (rowsBytes (paths (size c) c l f tested values w0))
+      (rowsBytes (paths (size c) c l f tested valued w1))
+  fork-bytes = record {
+    parts = ap rowsBytes (k .all l f) ∙ rows-append (paths (size c) c l f tested values w0) (paths (size c) c l f tested valued w1);
   }
 
+-- ---- the loop along 1 sides: of all rows some are put, and the others are those of the paths on from node v
+pub record Walked (c : Chart) (notes all out₀ out : List ℕ) (at place l f top care values v : ℕ) : Type 0 where
+  pub path : PathAt c notes care values v
+  pub below : rank c v ≤ top
+  pub done : List ℕ
+  pub put : Put out₀ at done place out
+  pub rest : Parted all done (rowsBytes (paths (size c) c l f care values v))
+
+pub walked-start : (c : Chart) (notes out : List ℕ) (at l f top care values v : ℕ) → PathAt c notes care values v → rank c v ≡ top
+    → Walked c notes (rowsBytes (paths (size c) c l f care values v)) out out at at l f top care values v
+walked-start c notes out at l f top care values v p e = record {
+  path = p;
+  below = omega arith;
+  done = [];
+  put = nothing-put out [] at refl;
+  rest = record { parts = refl };
+}
+
+module _ {c : Chart} {notes all out₀ out : List ℕ} {at place l f top care values v : ℕ}
+    (w : Walked c notes all out₀ out at place l f top care values v) (room : at + length all ≤ length out₀) where
+  pub walked-room : place + length (rowsBytes (paths (size c) c l f care values v)) ≤ length out
+  walked-room = both-second (w .rest) room (w .put)
+
+  pub walked-long : length out ≡ length out₀
+  walked-long = put-length (both-first (w .rest) at (length out₀) room) (w .put)
+
+  pub walked-done : {out′ : List ℕ} {r : ℕ} → Put out place (rowsBytes (paths (size c) c l f care values v)) r out′
+      → Put out₀ at all r out′
+  walked-done q = both-done (w .rest) room (w .put) q
+
+  module _ {tested valued w0 w1 : ℕ} (k : Fork c care values v tested valued w0 w1) where
+    abbrev low : List ℕ
+    low = rowsBytes (paths (size c) c l f tested values w0)
+
+    abbrev high : List ℕ
+    high = rowsBytes (paths (size c) c l f tested valued w1)
+
+    pub low-room : place + length low ≤ length out
+    low-room = both-first (fork-bytes c care values v tested valued w0 w1 k l f) place (length out) walked-room
+
+    on-parts : all ≡ (w .done ++ low) ++ high
+    on-parts =
+        w .rest .parts ∙ ap (λ (x : List ℕ). w .done ++ x) (fork-bytes c care values v tested valued w0 w1 k l f .parts)
+        ∙ sym (append-assoc (w .done) low high)
+
+    on-room : at + length (w .done ++ low) ≤ length out₀
+    on-room = both-first {a = w .done ++ low} {b = high} (record { parts = on-parts }) at (length out₀) room
+
+    pub walked-on : {out′ : List ℕ} {mid : ℕ} → Put out place low mid out′
+        → Walked c notes all out₀ out′ at mid l f top tested valued w1
+    walked-on q = record {
+      path = record { noted = w .path .noted; entered = k .entered1; within = k .within1 };
+      below = omega (arith, k .falls1, w .below);
+      done = w .done ++ low;
+      put = both-done (record { parts = refl }) on-room (w .put) q;
+      rest = record { parts = on-parts };
+    }
+
 -- ---- a node's rows, by its kind
-pub node-none : (c : Chart) (v : ℕ) → nodeRows c v ≡ [] → nodeRowsText c v ≡ []
-node-none c v e = ap rowsText e ∙ (unfold concatMap in refl)
+pub node-none : (c : Chart) (v : ℕ) → nodeRows c v ≡ [] → nodeRowsBytes c v ≡ []
+node-none c v e = ap rowsBytes e ∙ (unfold concatMap in refl)
 
 module _ (c : Chart) (v k : ℕ) (ek : k ≡ kind c v) (own : nodeRows c v ≡ rowsOf c v) where
-  pub node-function : k ≡ 4 → nodeRowsText c v ≡ rowsText (sides c (label c v) 0 1 0 0 v)
-  node-function e = ap rowsText (own ∙ rows-function c v k ek e)
+  pub node-function : k ≡ 4 → nodeRowsBytes c v ≡ rowsBytes (sides c (label c v) 0 1 0 0 v)
+  node-function e = ap rowsBytes (own ∙ rows-function c v k ek e)
 
-  pub node-condition : k ≡ 3 → (o : ℕ) → o ≡ 2 ^ argument c v → nodeRowsText c v ≡ rowsText (sides c (label c v) 2 2 o o v)
-  node-condition e o m = ap rowsText (own ∙ rows-condition c v k ek e ∙ ap (λ (x : ℕ). sides c (label c v) 2 2 x x v) (sym m))
+  pub node-condition : k ≡ 3 → (o : ℕ) → o ≡ 2 ^ argument c v → nodeRowsBytes c v ≡ rowsBytes (sides c (label c v) 2 2 o o v)
+  node-condition e o m = ap rowsBytes (own ∙ rows-condition c v k ek e ∙ ap (λ (x : ℕ). sides c (label c v) 2 2 x x v) (sym m))
 
   pub node-other : k < 3 → (l w : ℕ) → l ≡ label c v → w ≡ next0 c v
-      → nodeRowsText c v ≡ rowsText (paths (size c) c l 2 0 0 w)
+      → nodeRowsBytes c v ≡ rowsBytes (paths (size c) c l 2 0 0 w)
   node-other h l w el ew =
-      ap rowsText (own ∙ rows-other c v k ek h ∙ ap₂ (λ (x y : ℕ). paths (size c) c x 2 0 0 y) (sym el) (sym ew))
+      ap rowsBytes (own ∙ rows-other c v k ek h ∙ ap₂ (λ (x y : ℕ). paths (size c) c x 2 0 0 y) (sym el) (sym ew))
 
 module _ (c : Chart) (v f g care values l w0 w1 : ℕ) (el : l ≡ label c v) (e0 : w0 ≡ next0 c v) (e1 : w1 ≡ next1 c v) where
-  pub sides-text : Parted (rowsText (sides c (label c v) f g care values v)) (rowsText (paths (size c) c l f care 0 w0))
-      (rowsText (paths (size c) c l g care values w1))
+  pub sides-text : Parted (rowsBytes (sides c (label c v) f g care values v)) (rowsBytes (paths (size c) c l f care 0 w0))
+      (rowsBytes (paths (size c) c l g care values w1))
   sides-text = record {
     parts =
         rows-append (paths (size c) c (label c v) f care 0 (next0 c v)) (paths (size c) c (label c v) g care values (next1 c v))
         ∙ ap₂ (λ (x y : List ℕ). x ++ y)
-        (ap₂ (λ (x y : ℕ). rowsText (paths (size c) c x f care 0 y)) (sym el) (sym e0))
-        (ap₂ (λ (x y : ℕ). rowsText (paths (size c) c x g care values y)) (sym el) (sym e1));
+        (ap₂ (λ (x y : ℕ). rowsBytes (paths (size c) c x f care 0 y)) (sym el) (sym e0))
+        (ap₂ (λ (x y : ℕ). rowsBytes (paths (size c) c x g care values y)) (sym el) (sym e1));
   }

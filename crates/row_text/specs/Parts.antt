@@ -1,7 +1,7 @@
--- Rows as text, as the functions that write them have them, node by node.
+-- Rows as bytes, as the functions that write them have them, node by node.
 use Prim.Native.Nat.{ℕ}
-use mathlib.Core.List.{List, map}
-use Rattle.frames.specs.Frame.{framesText}
+use mathlib.Core.List.{List}
+use Rattle.lists.specs.Sequences.{concatMap}
 use Rattle.charts.specs.Chart.{Chart}
 use Rattle.image.specs.Image.{Row, rowFrame}
 use Rattle.chart_rows.specs.Parts.{nodeRows}
@@ -9,9 +9,9 @@ use Rattle.chart_rows.specs.Parts.{nodeRows}
 abbrev pub rowOf : ℕ → ℕ → ℕ → ℕ → ℕ → Row
 rowOf l care values f n = record { from = l; care = care; values = values; bit = f; next = n }
 
-abbrev pub rowsText : List Row → List ℕ
-rowsText rs = framesText (map rowFrame rs)
+abbrev pub rowsBytes : List Row → List ℕ
+rowsBytes = concatMap rowFrame
 
 -- the frames of the rows of node v
-abbrev pub nodeRowsText : Chart → ℕ → List ℕ
-nodeRowsText c v = rowsText (nodeRows c v)
+abbrev pub nodeRowsBytes : Chart → ℕ → List ℕ
+nodeRowsBytes c v = rowsBytes (nodeRows c v)

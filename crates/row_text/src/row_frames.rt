@@ -1,34 +1,75 @@
-// The rows of all labels, written as frames. Functions that return a number return the offset after what they wrote.
+// The rows of all labels, written as frames of ten bytes. Functions that return a number return the offset after what they wrote.
 use bits::with_bit;
 use chart_rows::settle;
 use charts::field;
-use frames::put_frame;
-ghost use mathlib.Core.Path.{_≡_};
+use frames::put_bytes;
 ghost use Prim.Native.Nat.{_+_, _≤_};
 ghost use lib.ListN.{length};
-ghost use Rattle.lists.specs.Sequences.{written};
-ghost use Rattle.frames.specs.Frame.{size, frameText};
+ghost use Rattle.frames.specs.Frame.{size};
 ghost use Rattle.image.specs.Image.{rowFrame};
 ghost use Rattle.chart_labels.specs.Labels.{label};
 ghost use Rattle.chart_rows.specs.Rows.{paths};
 ghost use Rattle.chart_rows.specs.Ready.{Noted, NotedAt, PathAt, SidesAt};
-ghost use Rattle.row_text.specs.Parts.{rowOf, rowsText, nodeRowsText};
+ghost use Rattle.row_text.specs.Parts.{rowOf, rowsBytes, nodeRowsBytes};
 ghost use Rattle.chart_rows.specs.Parts.{sides};
 ghost use Rattle.label_text.specs.Parts.{upTo, Put};
 
-fn put_row(out: &mut [u8], at: usize, from: u8, care: u16, values: u16, bit: u8, next: u8)
-    requires { ⌜ at + 23 ≤ length (now out) ⌝ }
-    ensures { λ _. ⌜ now (out .exit) ≡ written (now (out .entry)) at (frameText (rowFrame (rowOf from care values bit next))) ⌝ }
+// One row; the offset after it.
+fn put_row(out: &mut [u8], at: usize, from: u8, care: u16, values: u16, bit: u8, next: u8) -> usize
+    requires { ⌜ at + 10 ≤ length (now out) ⌝ }
+    ensures { λ r. ⌜ Put (now (out .entry)) at (rowFrame (rowOf from care values bit next)) r (now (out .exit)) ⌝ }
 {
     let care0 = (care / 256) as u8;
     let care1 = (care % 256) as u8;
     let values0 = (values / 256) as u8;
     let values1 = (values % 256) as u8;
     let bytes = [18, from, care0, care1, values0, values1, bit, next, 0, 0];
-    put_frame(out, at, &bytes);
+    put_bytes(out, at, &bytes);
+    at + 10
 }
 
-// The paths on from a node, the 0 side first.
+// The paths on from a node, the 0 side of each new condition first: those of a 0 side by recursion, unless it ends at once;
+// then the path goes on along the 1 side.
+fn put_forks(
+    records: &[u8],
+    notes: &[u8],
+    node: u8,
+    care: u16,
+    values: u16,
+    from: u8,
+    bit: u8,
+    out: &mut [u8],
+    at: usize,
+) -> usize
+    requires { ⌜ PathAt (now records) (now notes) care values node ⌝ }
+    requires { ⌜ at + length (rowsBytes (paths (size (now records)) (now records) from bit care values node)) ≤ length (now out) ⌝ }
+    ensures { λ r. ⌜ Put (now (out .entry)) at (rowsBytes (paths (size (now (records .entry))) (now (records .entry)) from bit care values node)) r (now (out .exit)) ⌝ }
+{
+    let mut place = at;
+    let mut tested = care;
+    let mut valued = values;
+    let mut next = node;
+    loop {
+        let v = settle(records, notes, next, tested, valued) as usize;
+        let i = notes[256 + v];
+        if i > 15 {
+            return put_row(out, place, from, tested, valued, bit, notes[v]);
+        }
+        tested = with_bit(tested, i);
+        let side = with_bit(valued, i);
+        next = field(records, v, 4);
+        let low = field(records, v, 3);
+        let end = low as usize;
+        if notes[256 + end] > 15 {
+            place = put_row(out, place, from, tested, valued, bit, notes[end]);
+        } else {
+            place = put_forks(records, notes, low, tested, valued, from, bit, out, place);
+        }
+        valued = side;
+    }
+}
+
+// The paths on from a node: one row where it is a stop.
 fn put_paths(
     records: &[u8],
     notes: &[u8],
@@ -41,21 +82,14 @@ fn put_paths(
     at: usize,
 ) -> usize
     requires { ⌜ PathAt (now records) (now notes) care values node ⌝ }
-    requires { ⌜ at + length (rowsText (paths (size (now records)) (now records) from bit care values node)) ≤ length (now out) ⌝ }
-    ensures { λ r. ⌜ Put (now (out .entry)) at (rowsText (paths (size (now (records .entry))) (now (records .entry)) from bit care values node)) r (now (out .exit)) ⌝ }
+    requires { ⌜ at + length (rowsBytes (paths (size (now records)) (now records) from bit care values node)) ≤ length (now out) ⌝ }
+    ensures { λ r. ⌜ Put (now (out .entry)) at (rowsBytes (paths (size (now (records .entry))) (now (records .entry)) from bit care values node)) r (now (out .exit)) ⌝ }
 {
-    let v = settle(records, notes, node, care, values) as usize;
-    let i = notes[256 + v];
-    if i > 15 {
-        put_row(out, at, from, care, values, bit, notes[v]);
-        return at + 23;
+    let v = node as usize;
+    if notes[256 + v] > 15 {
+        return put_row(out, at, from, care, values, bit, notes[v]);
     }
-    let tested = with_bit(care, i);
-    let valued = with_bit(values, i);
-    let next0 = field(records, v, 3);
-    let next1 = field(records, v, 4);
-    let mid = put_paths(records, notes, next0, tested, values, from, bit, out, at);
-    put_paths(records, notes, next1, tested, valued, from, bit, out, mid)
+    put_forks(records, notes, node, care, values, from, bit, out, at)
 }
 
 // The paths on from the two arcs of a node.
@@ -71,8 +105,8 @@ fn put_sides(
     at: usize,
 ) -> usize
     requires { ⌜ SidesAt (now records) (now notes) care values v ⌝ }
-    requires { ⌜ at + length (rowsText (sides (now records) (label (now records) v) first second care values v)) ≤ length (now out) ⌝ }
-    ensures { λ r. ⌜ Put (now (out .entry)) at (rowsText (sides (now (records .entry)) (label (now (records .entry)) v) first second care values v)) r (now (out .exit)) ⌝ }
+    requires { ⌜ at + length (rowsBytes (sides (now records) (label (now records) v) first second care values v)) ≤ length (now out) ⌝ }
+    ensures { λ r. ⌜ Put (now (out .entry)) at (rowsBytes (sides (now (records .entry)) (label (now (records .entry)) v) first second care values v)) r (now (out .exit)) ⌝ }
 {
     let from = notes[v];
     let next0 = field(records, v, 3);
@@ -84,8 +118,8 @@ fn put_sides(
 // The rows of a node: none where it has no label of its own.
 fn put_node(records: &[u8], notes: &[u8], v: usize, out: &mut [u8], at: usize) -> usize
     requires { ⌜ NotedAt (now records) (now notes) v ⌝ }
-    requires { ⌜ at + length (nodeRowsText (now records) v) ≤ length (now out) ⌝ }
-    ensures { λ r. ⌜ Put (now (out .entry)) at (nodeRowsText (now (records .entry)) v) r (now (out .exit)) ⌝ }
+    requires { ⌜ at + length (nodeRowsBytes (now records) v) ≤ length (now out) ⌝ }
+    ensures { λ r. ⌜ Put (now (out .entry)) at (nodeRowsBytes (now (records .entry)) v) r (now (out .exit)) ⌝ }
 {
     let from = notes[v];
     if from < 2 {
@@ -104,8 +138,8 @@ fn put_node(records: &[u8], notes: &[u8], v: usize, out: &mut [u8], at: usize) -
 // The rows of all nodes.
 pub fn put_rows(records: &[u8], notes: &[u8], out: &mut [u8], at: usize) -> usize
     requires { ⌜ Noted (now records) (now notes) ⌝ }
-    requires { ⌜ at + length (upTo (nodeRowsText (now records)) (size (now records))) ≤ length (now out) ⌝ }
-    ensures { λ r. ⌜ Put (now (out .entry)) at (upTo (nodeRowsText (now (records .entry))) (size (now (records .entry)))) r (now (out .exit)) ⌝ }
+    requires { ⌜ at + length (upTo (nodeRowsBytes (now records)) (size (now records))) ≤ length (now out) ⌝ }
+    ensures { λ r. ⌜ Put (now (out .entry)) at (upTo (nodeRowsBytes (now (records .entry))) (size (now (records .entry)))) r (now (out .exit)) ⌝ }
 {
     let n = records.len() / 10;
     let mut place = at;

@@ -2,14 +2,14 @@
 use Prim.Native.Nat.{ℕ, suc, _+_, _*_, _-_, _≤_, _<_}
 use mathlib.Core.Bool.{Bool, true, false, _&&_, _||_}
 use mathlib.Core.Path.{_≡_, refl, sym, _∙_, ap, ap₂}
-use mathlib.Core.List.{List, _∷_, map}
+use mathlib.Core.List.{List, [], _∷_, map}
 use native.Mathlib.Decide.{ℕ-discrete}
 use native.Mathlib.Numerals.{add-one}
 use native.Mathlib.Omega.{arith}
 use lib.Bits.{bitAnd}
 use lib.Count.{ones}
 use lib.Dec.{ltb, eqb}
-use lib.ListN.{getD}
+use lib.ListN.{length, getD}
 use borrow.Author.Tests.{lt-ltb, le-ltb, eq-eqb, ne-eqb}
 use Rattle.lists.specs.Pick.{pick}
 use Rattle.lists.specs.Numbers.{range}
@@ -21,7 +21,7 @@ use Rattle.tables.specs.Table.{tableEnd, labelOf, notedIn, firstOn, endOn, rowO
 use Rattle.tables.specs.Labels.{Framed}
 use Rattle.tables.proofs.Front.{end-inside}
 use Rattle.rows.specs.Rows.{matches, isOwn, Choice, row, none, better, bestRow}
-use Rattle.rows.specs.Search.{swapped, matching, foundAt, BetterOf, Deciding}
+use Rattle.rows.specs.Search.{swapped, matching, foundAt, BetterOf, Chosen, Deciding}
 use Rattle.rows.proofs.Swaps.{swapped-twice, turned-agrees}
 use Rattle.rows.proofs.ChoiceLaws.{best-nothing, best-own, best-other, better-none, better-first, better-second, better-three}
 
@@ -120,8 +120,8 @@ module _ (b : List ℕ) (l w bit first end : ℕ) where
   abbrev pub Searched : ℕ → ℕ → Type 0
   Searched f best = better (foundAt b l best) (bestFrom f) ≡ bestFrom first
 
-  pub search-start : Searched first (size b)
-  search-start = ap (λ (x : Choice). better x (bestFrom first)) (past-table b (size b) l (omega arith))
+  pub search-start : (best : ℕ) → size b ≤ best → Searched first best
+  search-start best h = ap (λ (x : Choice). better x (bestFrom first)) (past-table b best l h)
 
   module _ (f best : ℕ) (s : Searched f best) where
     pub search-over : end ≤ f → first ≡ firstOn b l → end ≡ endOn b l → foundAt b l best ≡ bestRow l w bit (firstOn b l) (rowsOn b l)
@@ -160,39 +160,118 @@ module _ (b : List ℕ) (l w bit first end : ℕ) where
 
 -- ---- one pass that keeps the last match and counts: as long as there is one at most, it is the best so far
 pub record Passed (b : List ℕ) (l w bit first end f frame count : ℕ) : Type 0 where
-  pub none : count ≡ 0 → frame ≡ size b
+  pub table : size b < 131072
+  pub none : count ≡ 0 → frame ≡ 131072
+  pub some : (count ≡ 0 → ⊥) → frame < size b
   pub one : count < 2 → Searched b l w bit first end f frame
   pub few : count ≤ f
 
+-- a table has fewer frames
+pub few-frames : (b : List ℕ) → Whole b → ((k : ℕ) → getD b k 0 < 256) → size b < 131072
+few-frames b x bytes = omega (arith, x .alone, bytes 1, bytes 2, bytes 3, bytes 4)
+
 module _ (b : List ℕ) (l w bit first end : ℕ) where
-  pub pass-start : Passed b l w bit first end first (size b) 0
-  pass-start = record { none = λ _. refl; one = λ _. search-start b l w bit first end; few = omega arith }
+  pub pass-start : size b < 131072 → Passed b l w bit first end first 131072 0
+  pass-start small-table = record {
+    table = small-table;
+    none = λ _. refl;
+    some = λ n. absurd (n refl);
+    one = λ _. search-start b l w bit first end 131072 (omega arith);
+    few = omega arith;
+  }
 
   module _ (f frame count : ℕ) (s : Passed b l w bit first end f frame count) where
-    pub pass-over : end ≤ f → first ≡ firstOn b l → end ≡ endOn b l → count < 2
-        → foundAt b l frame ≡ bestRow l w bit (firstOn b l) (rowsOn b l)
-    pass-over h p q few = search-over b l w bit first end f frame (s .one few) h p q
+    pub pass-over : end ≤ f → first ≡ firstOn b l → end ≡ endOn b l → count < 2 → Chosen b l w bit frame
+    pass-over h p q few = go (ℕ-discrete count 0)
+      where
+        is : foundAt b l frame ≡ bestRow l w bit (firstOn b l) (rowsOn b l)
+        is = search-over b l w bit first end f frame (s .one few) h p q
+
+        go : Dec (count ≡ 0) → Chosen b l w bit frame
+        go (yes z) = record { taken = is; inside = λ k. absurd (omega (arith, s .none z)); outside = λ k. omega (arith, s .none z, s .table) }
+        go (no z) = record { taken = is; inside = λ k. s .some z; outside = λ k. absurd (omega (arith, s .some z, s .table)) }
 
     module _ (d : Deciding b l bit) (h : f < end) (inside : f < size b) (turned : ℕ) (e : turned ≡ swapped w) (small : w < 65536)
         (t : Bool) (q : t ≡ matching b (swapped turned) bit f) where
       pub pass-other : t ≡ false → Passed b l w bit first end (f + 1) frame count
       pass-other n = record {
+        table = s .table;
         none = s .none;
+        some = s .some;
         one = λ k. search-other b l w bit first end f frame (s .one k) d h turned e small t q n;
         few = omega (arith, s .few);
       }
 
       pub pass-own : t ≡ true → Passed b l w bit first end (f + 1) f (count + 1)
       pass-own y = record {
+        table = s .table;
         none = λ k. absurd (omega arith);
+        some = λ _. inside;
         one = λ k. search-own b l w bit first end f frame (s .one (omega arith)) d h turned e small t q y f
-            (better-only b frame f inside (omega (arith, s .none (omega arith))));
+            (better-only b frame f inside (omega (arith, s .none (omega arith), s .table)));
         few = omega (arith, s .few);
       }
+
+-- ---- a label with one row
+module _ (b : List ℕ) (w bit f : ℕ) (small : w < 65536) (turned : ℕ) (e : turned ≡ swapped w) (t : Bool) (q : t ≡ matching b (swapped turned) bit f) where
+  one-test : t ≡ matching b w bit f
+  one-test = q ∙ ap (λ (v : ℕ). matching b v bit f) (ap (λ (v : ℕ). swapped v) e ∙ swapped-twice w small)
+
+  pub one-matches : t ≡ true → f ≡ pick (matching b w bit f) f 131072
+  one-matches y = sym (yes-pick (matching b w bit f) f 131072 (sym one-test ∙ y))
+
+  pub one-fails : t ≡ false → 131072 ≡ pick (matching b w bit f) f 131072
+  one-fails n = sym (no-pick (matching b w bit f) f 131072 (sym one-test ∙ n))
+
+module _ (b : List ℕ) (l w bit first end : ℕ) (d : Deciding b l bit) (p : first ≡ firstOn b l) (q : end ≡ endOn b l) (one : end ≡ first + 1)
+    (inside : first < size b) where
+  alone : bestRow l w bit first (map (rowOn b l) (range first 1)) ≡ bestRow l w bit (firstOn b l) (rowsOn b l)
+  alone =
+      ap (λ (n : ℕ). bestRow l w bit first (map (rowOn b l) (range first n))) (let z : 1 ≡ end - first = omega arith in z)
+      ∙ ap₂ (λ (i j : ℕ). bestRow l w bit i (map (rowOn b l) (range i (j - i)))) p q
+
+  pub one-found : size b < 131072 → (r : ℕ) → r ≡ pick (matching b w bit first) first 131072 → Chosen b l w bit r
+  one-found small-table r z = go (matching b w bit first) refl
+    where
+      go : (t : Bool) → matching b w bit first ≡ t → Chosen b l w bit r
+      go true y =
+          let at : r ≡ first = z ∙ yes-pick (matching b w bit first) first 131072 y in
+          record {
+            taken = ap (foundAt b l) at ∙ at-frame b first l inside
+                ∙ sym (best-own l w bit first (rowOn b l first) [] (own-test b l w bit d first ∙ y)
+                ∙ ap (better (row first (rowOn b l first))) (best-nothing l w bit (suc first)))
+                ∙ alone;
+            inside = λ k. omega arith;
+            outside = λ k. absurd (omega arith);
+          }
+      go false n =
+          let at : r ≡ 131072 = z ∙ no-pick (matching b w bit first) first 131072 n in
+          record {
+            taken = ap (foundAt b l) at ∙ past-table b 131072 l (omega arith)
+                ∙ sym (best-other l w bit first (rowOn b l first) [] (own-test b l w bit d first ∙ n) ∙ best-nothing l w bit (suc first))
+                ∙ alone;
+            inside = λ k. absurd (omega arith);
+            outside = λ k. omega arith;
+          }
+
+-- ---- several rows compared
+module _ (b : List ℕ) (l w bit best : ℕ) (small-table : size b < 131072) (is : foundAt b l best ≡ bestRow l w bit (firstOn b l) (rowsOn b l)) where
+  pub compared-some : best < size b → Chosen b l w bit best
+  compared-some h = record { taken = is; inside = λ k. h; outside = λ k. absurd (omega arith) }
+
+  pub compared-none : size b ≤ best → Chosen b l w bit 131072
+  compared-none h = record {
+    taken = past-table b 131072 l (omega arith) ∙ sym (past-table b best l h) ∙ is;
+    inside = λ k. absurd (omega arith);
+    outside = λ k. omega arith;
+  }
 
 -- ---- where the rows of label l stand
 pub end-within : (b : List ℕ) (l end : ℕ) → Whole b → end ≡ endOn b l → end ≤ size b
 end-within b l end x e = omega (arith, end-inside b l, x .alone)
+
+pub first-small : (b : List ℕ) (l : ℕ) → ((k : ℕ) → getD b k 0 < 256) → firstOn b l < 65536
+first-small b l bytes = let f : ℕ = labelsFrom b + (l - 1) in omega (arith, bytes (10 * f + 0), bytes (10 * f + 1))
 
 -- n is H as the caller has it
 module _ (b : List ℕ) (n l : ℕ) (x : Framed b n l) where
@@ -204,12 +283,12 @@ module _ (b : List ℕ) (n l : ℕ) (x : Framed b n l) where
       q ∙ ap (λ (f : ℕ). field b f 0 + field b f 1 * 256)
       (let e : n + l ≡ labelsFrom b + (l - 1) = omega (arith, x .schemes, x .label .low) in e)
 
-  module _ (all end : ℕ) (e : all ≡ size b) (q : end ≡ field b (1 + n + l) 0 + field b (1 + n + l) 1 * 256) where
+  module _ (end : ℕ) (q : end ≡ field b (1 + n + l) 0 + field b (1 + n + l) 1 * 256) where
     end-read : end ≡ notedIn b l
     end-read = q ∙ ap (λ (m : ℕ). field b (1 + m + l) 0 + field b (1 + m + l) 1 * 256) (x .schemes)
 
-    pub end-here : end < all → end ≡ endOn b l
-    end-here k = omega (arith, end-read, frames-all)
+    pub end-here : 10 * end < length b → end ≡ endOn b l
+    end-here k = omega (arith, end-read, frames-all, x .label .whole .alone)
 
-    pub end-clipped : all ≤ end → all ≡ endOn b l
-    end-clipped k = omega (arith, end-read, frames-all)
+    pub end-clipped : length b ≤ 10 * end → (all : ℕ) → all ≡ size b → all ≡ endOn b l
+    end-clipped k all e = omega (arith, end-read, frames-all, x .label .whole .alone)

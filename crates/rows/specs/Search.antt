@@ -1,5 +1,5 @@
 -- What the search for a row among the frames of a table asks and promises.
-use Prim.Native.Nat.{ℕ, _+_, _*_, _/_, _%_, _<_}
+use Prim.Native.Nat.{ℕ, _+_, _*_, _/_, _%_, _≤_, _<_}
 use mathlib.Core.Bool.{Bool, _&&_, _||_}
 use mathlib.Core.Path.{_≡_}
 use mathlib.Core.List.{List}
@@ -28,9 +28,15 @@ foundAt b l f = pick (ltb f (size b)) (row f (rowOn b l f)) none
 abbrev pub BetterOf : List ℕ → ℕ → ℕ → ℕ → Type 0
 BetterOf b best f r = (l : ℕ) → foundAt b l r ≡ better (foundAt b l best) (row f (rowOn b l f))
 
+-- r is the frame of the row that label l takes; where none matches it is 131072 or more, and past the table
+pub record Chosen (b : List ℕ) (l w bit r : ℕ) : Type 0 where
+  pub taken : foundAt b l r ≡ bestRow l w bit (firstOn b l) (rowsOn b l)
+  pub inside : r < 131072 → r < size b
+  pub outside : 131072 ≤ r → size b ≤ r
+
 -- what one pass over the rows of label l tells: the last that matches, and how many do; with no more than one it is the row taken
 abbrev pub LastTaken : List ℕ → ℕ → ℕ → ℕ → LastMatch → Type 0
-LastTaken b l w bit r = r .count < 2 → foundAt b l (r .frame) ≡ bestRow l w bit (firstOn b l) (rowsOn b l)
+LastTaken b l w bit r = r .count < 2 → Chosen b l w bit (r .frame)
 
 -- a label that has rows of its own, and a bit that decides among them where it calls a function and nowhere else
 pub record Deciding (b : List ℕ) (l bit : ℕ) : Type 0 where

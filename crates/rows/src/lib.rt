@@ -3,14 +3,18 @@ use image::byte;
 use image::pair;
 ghost use mathlib.Core.Path.{_≡_};
 ghost use Prim.Native.Nat.{_+_, _*_, _<_};
+ghost use Rattle.lists.specs.Pick.{pick};
 ghost use Rattle.frames.specs.Frame.{size, field};
 ghost use Rattle.image.specs.Decode.{schemeCount};
-ghost use Rattle.tables.specs.Table.{firstOn, endOn, rowsOn, tableImage};
+ghost use Rattle.tables.specs.Table.{firstOn, endOn, tableImage};
 ghost use Rattle.tables.specs.Labels.{Framed};
 ghost use Rattle.rows.specs.Rows.{bestRow, leads, nextOf};
-ghost use Rattle.rows.specs.Search.{swapped, matching, foundAt, BetterOf, LastTaken, Deciding};
+ghost use Rattle.rows.specs.Search.{swapped, matching, BetterOf, Chosen, LastTaken, Deciding};
 
-// The frame of the last matching row of a label, or the end of the table, and how many of its rows match.
+// The number of no frame: whatever bytes its header has, a table has fewer.
+const NO_FRAME: usize = 131072;
+
+// The frame of the last matching row of a label, or none, and how many of its rows match.
 struct LastMatch {
     frame: usize,
     count: usize,
@@ -51,24 +55,24 @@ fn is_matching(table: &[u8], f: usize, turned: u16, bit: u8) -> bool
 }
 
 // Where the rows of label l begin: the frame that the label before it notes.
-fn first_of(table: &[u8], schemes: u8, l: usize) -> usize
+pub fn first_of(table: &[u8], schemes: u8, l: usize) -> usize
     requires { ⌜ Framed (now table) schemes l ⌝ }
     ensures { λ r. ⌜ r ≡ firstOn (now (table .entry)) l ⌝ }
 {
     low_pair(table, (schemes as usize) + l, 0) as usize
 }
 
-// Where the rows of label l end: the frame that it notes, within the table.
-fn end_of(table: &[u8], schemes: u8, l: usize) -> usize
+// Where the rows of label l end: the frame that it notes, within the table. It divides only where that frame is not: controllers divide
+// slowly.
+pub fn end_of(table: &[u8], schemes: u8, l: usize) -> usize
     requires { ⌜ Framed (now table) schemes l ⌝ }
     ensures { λ r. ⌜ r ≡ endOn (now (table .entry)) l ⌝ }
 {
-    let all = table.len() / 10;
     let end = low_pair(table, 1 + (schemes as usize) + l, 0) as usize;
-    if end < all {
+    if 10 * end < table.len() {
         return end;
     }
-    all
+    table.len() / 10
 }
 
 // Of the row in frame best, none where that is past the table, and a later one in frame f: the later, unless the care mask of the first
@@ -96,7 +100,7 @@ fn last_match(table: &[u8], schemes: u8, l: usize, word: u16, bit: u8) -> LastMa
     let turned = swap(word);
     let end = end_of(table, schemes, l);
     let mut f = first_of(table, schemes, l);
-    let mut frame = table.len() / 10;
+    let mut frame = NO_FRAME;
     let mut count: usize = 0;
     while f < end {
         if is_matching(table, f, turned, bit) {
@@ -112,7 +116,7 @@ fn last_match(table: &[u8], schemes: u8, l: usize, word: u16, bit: u8) -> LastMa
 fn compare_rows(table: &[u8], schemes: u8, l: usize, word: u16, bit: u8) -> usize
     requires { ⌜ Deciding (now table) l bit ⌝ }
     requires { ⌜ schemes ≡ schemeCount (now table) ⌝ }
-    ensures { λ r. ⌜ foundAt (now (table .entry)) l r ≡ bestRow l word bit (firstOn (now (table .entry)) l) (rowsOn (now (table .entry)) l) ⌝ }
+    ensures { λ r. ⌜ Chosen (now (table .entry)) l word bit r ⌝ }
 {
     let turned = swap(word);
     let end = end_of(table, schemes, l);
@@ -124,16 +128,36 @@ fn compare_rows(table: &[u8], schemes: u8, l: usize, word: u16, bit: u8) -> usiz
         }
         frame += 1;
     }
-    best
+    if best < table.len() / 10 {
+        return best;
+    }
+    NO_FRAME
 }
 
-// The frame of the row that label l takes, which has a frame with rows of its own, or the end of the table where none matches. The bit is 2
-// for a label that calls no function. Rows are compared only where more than one matches: on the image of a chart never.
+// The frame where its row matches, else none.
+fn one_row(table: &[u8], f: usize, word: u16, bit: u8) -> usize
+    requires { ⌜ f < size (now table) ⌝ }
+    ensures { λ r. ⌜ r ≡ pick (matching (now (table .entry)) word bit f) f 131072 ⌝ }
+{
+    if is_matching(table, f, swap(word), bit) {
+        return f;
+    }
+    NO_FRAME
+}
+
+// The frame of the row that label l takes, which has a frame with rows of its own, or none where none matches. The bit is 2
+// for a label that calls no function. Of a single row it is foreseen that it matches; of more, rows are compared only where more than one
+// matches, on the image of a chart never.
 pub fn find_row(table: &[u8], schemes: u8, l: usize, word: u16, bit: u8) -> usize
     requires { ⌜ Deciding (now table) l bit ⌝ }
     requires { ⌜ schemes ≡ schemeCount (now table) ⌝ }
-    ensures { λ r. ⌜ foundAt (now (table .entry)) l r ≡ bestRow l word bit (firstOn (now (table .entry)) l) (rowsOn (now (table .entry)) l) ⌝ }
+    ensures { λ r. ⌜ Chosen (now (table .entry)) l word bit r ⌝ }
 {
+    let first = first_of(table, schemes, l);
+    let end = end_of(table, schemes, l);
+    if end == first + 1 {
+        return one_row(table, first, word, bit);
+    }
     let last = last_match(table, schemes, l, word, bit);
     if last.count < 2 {
         return last.frame;
@@ -148,7 +172,7 @@ pub fn next_row(table: &[u8], schemes: u8, l: usize, word: u16, bit: u8) -> u16
     ensures { λ r. ⌜ r ≡ nextOf (leads (bestRow l word bit 0 (tableImage (now (table .entry)) .rows))) ⌝ }
 {
     let f = find_row(table, schemes, l, word, bit);
-    if f < table.len() / 10 {
+    if f < NO_FRAME {
         return byte(table, f, 7) as u16;
     }
     256

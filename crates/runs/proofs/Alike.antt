@@ -7,7 +7,7 @@ use Rattle.frames.proofs.Capitals.{Alike}
 use Rattle.image.specs.Decode.{decoded}
 use Rattle.image.proofs.Alike.{image-verdict}
 use Rattle.state.specs.declared.State.{State}
-use Rattle.state.specs.State.{unfit}
+use Rattle.fitness.specs.Fitness.{unfit}
 use Rattle.runs.specs.Run.{Run, noRoom, ticks, runVerdict, runOn, run}
 use Rattle.runs.specs.Advance.{advanced, advance}
 

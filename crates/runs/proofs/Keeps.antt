@@ -12,8 +12,8 @@ use Rattle.image.specs.Check.{imageVerdict}
 use Rattle.image.proofs.Sound.{Sound}
 use Rattle.image.proofs.Accepted.{image-sound}
 use Rattle.state.specs.declared.State.{State}
-use Rattle.state.specs.State.{unfit}
-use Rattle.state.proofs.Fitness.{Fits, fits, unfits}
+use Rattle.fitness.specs.Fitness.{unfit}
+use Rattle.fitness.proofs.Fitness.{Fits, fits, unfits}
 use Rattle.ticks.specs.Tick.{Ticked, ticked, stopped, tick}
 use Rattle.ticks.proofs.Keeps.{Keeps, tick-keeps}
 use Rattle.runs.specs.Run.{then, ticks}

@@ -15,8 +15,8 @@ use Rattle.frames.specs.declared.Answer.{Answer}
 use Rattle.frames.specs.declared.Answer.the-variants.{Done, Refused}
 use Rattle.tables.specs.Table.{Whole, tableImage}
 use Rattle.state.specs.declared.State.{State}
-use Rattle.state.specs.State.{badDepth, unfit}
 use Rattle.state.specs.Bytes.{stateOf, bytesOf}
+use Rattle.fitness.specs.Fitness.{badDepth, unfit}
 use Rattle.runs.specs.declared.Ended.{Ended}
 use Rattle.ticks.specs.Tick.{Ticked, ticked, stopped, tick}
 use Rattle.runs.specs.Run.{Ran, Run, then, ticks, noRoom, runOn}

@@ -7,8 +7,8 @@ use Rattle.lists.specs.Sequences.{over}
 use Rattle.frames.specs.Verdict.{Verdict, fine, refused, next, when}
 use Rattle.tables.specs.Table.{tableImage}
 use Rattle.state.specs.declared.State.{State}
-use Rattle.state.specs.State.{unfit}
 use Rattle.state.specs.Bytes.{stateOf}
+use Rattle.fitness.specs.Fitness.{unfit}
 use Rattle.ticks.specs.Parts.{Stands}
 use Rattle.runs.specs.declared.Ended.{Ended}
 use Rattle.runs.specs.Run.{Run, ticks, noRoom, runOn}

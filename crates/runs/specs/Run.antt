@@ -14,7 +14,7 @@ use Rattle.image.specs.Decode.{decoded}
 use Rattle.image.specs.Check.{imageVerdict}
 use Rattle.state.specs.declared.State.{State}
 use Rattle.state.specs.declared.Answered.{Answered}
-use Rattle.state.specs.State.{unfit}
+use Rattle.fitness.specs.Fitness.{unfit}
 use Rattle.ticks.specs.Tick.{Ticked, ticked, stopped, tick}
 
 -- the finished ticks, the state after them, and 17 or 18 where that ended the run

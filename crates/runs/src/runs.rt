@@ -1,9 +1,9 @@
 // Ticks on a prepared table, one or one for each word, after 15 and 16 were tried.
 use super::Ended;
 use super::TickReport;
+use fitness::is_unfit;
 use frames::Answer;
 use frames::refused;
-use state::is_unfit;
 use state::tidy_results;
 use tables::last_label;
 use tables::scheme_count;

@@ -3,7 +3,3 @@ pub mod ResultBytes
 pub mod ByteParts
 pub mod ClearTurns
 pub mod TidyTurns
-pub mod Fitness
-pub mod FitCases
-pub mod AboveCases
-pub mod UpwardCases

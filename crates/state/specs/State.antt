@@ -1,12 +1,11 @@
--- The state: a fresh one (refusal 14), and whether one fits an image (refusal 15).
-use Prim.Native.Nat.{ℕ, _+_, _-_}
-use mathlib.Core.Bool.{Bool, _&&_, _||_, not}
+-- The state, and a fresh one (refusal 14).
+use Prim.Native.Nat.{ℕ, _-_}
+use mathlib.Core.Bool.{Bool, _||_}
 use mathlib.Core.Path.{_≡_}
 use mathlib.Core.List.{List}
-use lib.Dec.{leb, ltb, eqb}
-use lib.ListN.{length, getD, replicate}
+use lib.Dec.{ltb, eqb}
+use lib.ListN.{getD, replicate}
 use Rattle.lists.specs.Pick.{pick}
-use Rattle.lists.specs.Numbers.{any}
 use Rattle.bits.specs.Results.{noResults}
 use Rattle.frames.specs.Answer.{Reply, success, refusal, reply}
 use Rattle.image.specs.Image.{Image, Label, noLabel}
@@ -48,33 +47,3 @@ entryAt i h = getD (i .entries) (h - 1) 0
 
 abbrev pub placeAt : State → ℕ → ℕ
 placeAt s k = getD (s .places) k 0
-
--- ---- 15
--- a label that is kept under the one it calls
-abbrev pub isCall : Label → Bool
-isCall x = eqb (x .kind) 1 || eqb (x .kind) 2
-
--- above label l stands one of the scheme that it calls, or label 1
-abbrev pub mayCarry : Image → ℕ → ℕ → Bool
-mayCarry i l above = isCall (labelAt i l) && (eqb above 1 || eqb (labelAt i above .owner) (labelAt i l .called))
-
-abbrev pub unfitPlace : Image → State → ℕ → Bool
-unfitPlace i s k =
-    leb (length (i .labels)) (placeAt s k) || (ltb (k + 1) (s .depth) && not (mayCarry i (placeAt s k) (placeAt s (k + 1))))
-
--- a label of the handler, as it stands at the bottom: one that the handler owns, or label 1
-abbrev pub ofHandler : Image → ℕ → Bool
-ofHandler i l = not (eqb (i .handler) 0) && (eqb l 1 || eqb (labelAt i l .owner) (i .handler))
-
--- the bottom is of scheme 1 or of the handler
-abbrev pub badBottom : Image → ℕ → Bool
-badBottom i l = not (eqb (labelAt i l .owner) 1 || ofHandler i l)
-
--- the depth is 1 to Σ
-abbrev pub badDepth : State → Bool
-badDepth s = badSize (s .size) || eqb (s .depth) 0 || ltb (s .size) (s .depth)
-
-unfoldable pub unfit : Image → State → Bool
-unfit i s =
-    badDepth s || any (unfitPlace i s) 0 (s .depth) || badBottom i (placeAt s 0)
-    || any (λ k. not (eqb (placeAt s k) 0)) (s .depth) (32 - s .depth)

@@ -1,14 +1,13 @@
-// The state of the stack machine: a fresh one, its fifty bytes, and whether one fits an image.
+// The state of the stack machine: a fresh one, and its fifty bytes.
 use frames::Answer;
 
 mod bytes;
-mod fit;
 mod fresh;
 mod parts;
 
 pub use bytes::bytes_of;
 pub use bytes::state_of;
-pub use fit::is_unfit;
+pub use fresh::bad_size;
 pub use parts::clear_places;
 pub use parts::depth_of;
 pub use parts::place_of;

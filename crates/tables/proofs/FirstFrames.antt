@@ -36,7 +36,7 @@ module _ (b : List ℕ) (ok : tableVerdict b ≡ fine) where
 
   module _ (bytes : (k : ℕ) → getD b k 0 < 256) where
     -- the row in frame f, as row k of the image
-    from-read : (f : ℕ) → rowsFrom b ≤ f → f < size b → nthRow (decoded b) (f - rowsFrom b) .from ≡ field b f 1
+    pub from-read : (f : ℕ) → rowsFrom b ≤ f → f < size b → nthRow (decoded b) (f - rowsFrom b) .from ≡ field b f 1
     from-read f h g =
         ap (λ (r : Row). r .from) (row-read b (f - rowsFrom b) (omega (arith, counted b ok .all)))
         ∙ ap (λ (i : ℕ). field b i 1) (let z : rowsFrom b + (f - rowsFrom b) ≡ f = omega arith in z)
@@ -66,17 +66,23 @@ module _ (b : List ℕ) (ok : tableVerdict b ≡ fine) where
         let e : field b (suc (f + n)) 1 ≡ field b (f + suc n) 1 = ap (λ (i : ℕ). field b i 1) (omega arith) in
         omega (arith, rises-on f n h (omega arith), rises (f + n) (omega arith) (omega arith))
 
+    -- from the first frame of label l on no row leaves a lower label, and before it none leaves l or a higher one
+    pub at-least : (l f : ℕ) → firstFrame b l ≤ f → f < size b → l ≤ field b f 1
+    at-least l f h g =
+        let first : ℕ = firstFrame b l in
+        let hit : l ≤ field b first 1 =
+        leb-true l (field b first 1) (lowest-hit (reached b l) (rowsFrom b) (size b - rowsFrom b) (omega (arith, rows-inside b ok))) in
+        let up : field b first 1 ≤ field b (first + (f - first)) 1 = rises-on first (f - first) (first-low l) (omega arith) in
+        let e : field b (first + (f - first)) 1 ≡ field b f 1 = ap (λ (i : ℕ). field b i 1) (omega arith) in
+        omega arith
+
+    pub below : (l f : ℕ) → rowsFrom b ≤ f → f < firstFrame b l → field b f 1 < l
+    below l f h g = leb-false l (field b f 1) (lowest-before (reached b l) (rowsFrom b) (size b - rowsFrom b) f h g)
+
     -- frames from the first of label l up to that of the next label hold rows of label l
     pub first-own : (l f : ℕ) → firstFrame b l ≤ f → f < firstFrame b (l + 1) → field b f 1 ≡ l
     first-own l f h g =
-        let first : ℕ = firstFrame b l in
-        let hit : l ≤ field b first 1 =
-        leb-true l (field b first 1) (lowest-hit (reached b l) (rowsFrom b) (size b - rowsFrom b) (omega (arith, first-inside (l + 1), rows-inside b ok))) in
-        let up : field b first 1 ≤ field b (first + (f - first)) 1 = rises-on first (f - first) (first-low l) (omega (arith, first-inside (l + 1))) in
-        let e : field b (first + (f - first)) 1 ≡ field b f 1 = ap (λ (i : ℕ). field b i 1) (omega arith) in
-        let less : field b f 1 < l + 1 =
-        leb-false (l + 1) (field b f 1) (lowest-before (reached b (l + 1)) (rowsFrom b) (size b - rowsFrom b) f (omega (arith, first-low l)) g) in
-        omega arith
+        omega (arith, at-least l f h (omega (arith, first-inside (l + 1))), below (l + 1) f (omega (arith, first-low l)) g)
 
     -- no row leaves a label below 2, and none one above M
     pub first-two : firstFrame b 2 ≡ rowsFrom b

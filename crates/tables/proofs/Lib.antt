@@ -9,3 +9,4 @@ pub mod Front
 pub mod FirstFrames
 pub mod PreparedImage
 pub mod Alike
+pub mod Made

@@ -14,6 +14,7 @@ use Rattle.lists.specs.Pick.{pick}
 use Rattle.lists.specs.Numbers.{range}
 use Rattle.lists.specs.Sequences.{concatMap}
 use Rattle.lists.proofs.Tests.{or-none, yes-pick, no-pick}
+use Rattle.lists.proofs.Ranges.{length-map-range}
 use Rattle.frames.specs.Frame.{size, field, pairAt, contents}
 use Rattle.frames.specs.Verdict.{fine}
 use Rattle.frames.specs.Answer.{success}
@@ -29,12 +30,12 @@ use Rattle.tables.specs.Table.{tableEnd, badTable, labelOn, labelOf, fir
 use Rattle.tables.proofs.RangeLaws.{map-alike, map-moved, concat-alike, ranges-join}
 use Rattle.tables.proofs.Front.{handler-alike, counts-alike, alike-image, counts-same, bad-handler-same, end-same}
 use Rattle.tables.proofs.TableReads.{label-on}
-use Rattle.tables.proofs.Noted.{noted-length, noted-schemes, noted-last, noted-rows, noted-handler, noted-end}
+use Rattle.tables.proofs.Noted.{noted-length, noted-schemes, noted-last, noted-rows, noted-handler, noted-rows-from, noted-end}
 use Rattle.tables.proofs.Noted.{noted-label, noted-late, noted-pair, noted-in}
 use Rattle.tables.proofs.FirstFrames.{first-low, first-inside, first-rises, first-own, first-two, first-last}
 
 -- the row in frame f, with the label that its own byte 1 names
-abbrev rowAt : List ℕ → ℕ → Row
+abbrev pub rowAt : List ℕ → ℕ → Row
 rowAt b f = record { from = field b f 1; care = pairAt b f 2; values = pairAt b f 4; bit = field b f 6; next = field b f 7 }
 
 module _ (b : List ℕ) (ok : tableVerdict b ≡ fine) where
@@ -100,10 +101,10 @@ module _ (b : List ℕ) (ok : tableVerdict b ≡ fine) where
             go (no z) = omega (arith, s .calls z .1, e, entries-count b)
 
     -- ---- rows: between the noted frames of two labels stand the rows of the first
-    first-noted : (l : ℕ) → 1 ≤ l → l ≤ lastLabel b → firstOn (noted b) l ≡ firstFrame b l
+    pub first-noted : (l : ℕ) → 1 ≤ l → l ≤ lastLabel b → firstOn (noted b) l ≡ firstFrame b l
     first-noted l g h = noted-in b ok (l - 1) (omega arith) ∙ ap (firstFrame b) (let e : l - 1 + 1 ≡ l = omega arith in e)
 
-    end-noted : (l : ℕ) → l ≤ lastLabel b → endOn (noted b) l ≡ firstFrame b (l + 1)
+    pub end-noted : (l : ℕ) → l ≤ lastLabel b → endOn (noted b) l ≡ firstFrame b (l + 1)
     end-noted l h = omega (arith, noted-in b ok l h, noted-end b, whole-size, first-inside b ok (l + 1))
 
     -- only a row of a function call's label has a function bit other than 2
@@ -153,21 +154,39 @@ module _ (b : List ℕ) (ok : tableVerdict b ≡ fine) where
         let e₇ : field (noted b) f 7 ≡ field b f 7 = noted-late b f 7 (omega arith) (omega arith) in
         λ j. record { from = e₁ j; care = e₂ j; values = e₄ j; bit = e₆ j; next = e₇ j }
 
-    rows-own : (l : ℕ) → 1 ≤ l → l ≤ lastLabel b → rowsOn (noted b) l ≡ map (rowAt b) (range (firstFrame b l) (firstFrame b (l + 1) - firstFrame b l))
+    pub rows-own : (l : ℕ) → 1 ≤ l → l ≤ lastLabel b → rowsOn (noted b) l ≡ map (rowAt b) (range (firstFrame b l) (firstFrame b (l + 1) - firstFrame b l))
     rows-own l g h =
         ap₂ (λ (f e : ℕ). map (rowOn (noted b) l) (range f (e - f))) (first-noted l g h) (end-noted l h)
         ∙ map-alike (rowOn (noted b) l) (rowAt b) (firstFrame b l) (firstFrame b (l + 1) - firstFrame b l)
         (λ f p q. row-own l f h p (omega (arith, first-rises b ok l)))
 
+    -- the rows of n labels from 2 on stand in the frames from the first one of rows on
+    rows-to : (n : ℕ) → n < lastLabel b
+        → concatMap (rowsOn (noted b)) (range 2 n) ≡ map (rowAt b) (range (rowsFrom b) (firstFrame b (2 + n) - rowsFrom b))
+    rows-to n h =
+        concat-alike (rowsOn (noted b)) (λ l. map (rowAt b) (range (firstFrame b l) (firstFrame b (l + 1) - firstFrame b l)))
+        2 n (λ l p q. rows-own l (omega arith) (omega arith))
+        ∙ ranges-join (rowAt b) (firstFrame b) (first-rises b ok) 2 n
+        ∙ ap (λ (f : ℕ). map (rowAt b) (range f (firstFrame b (2 + n) - f))) (first-two b ok bytes)
+
     rows-all : concatMap (rowsOn (noted b)) (range 2 (lastLabel b - 1)) ≡ map (rowIn b) (range 0 (rowCount b))
     rows-all =
-        concat-alike (rowsOn (noted b)) (λ l. map (rowAt b) (range (firstFrame b l) (firstFrame b (l + 1) - firstFrame b l)))
-        2 (lastLabel b - 1) (λ l p q. rows-own l (omega arith) (omega arith))
-        ∙ ranges-join (rowAt b) (firstFrame b) (first-rises b ok) 2 (lastLabel b - 1)
-        ∙ ap₂ (λ (f e : ℕ). map (rowAt b) (range f (e - f))) (first-two b ok bytes)
+        rows-to (lastLabel b - 1) (omega (arith, counted b ok .two))
+        ∙ ap (λ (e : ℕ). map (rowAt b) (range (rowsFrom b) (e - rowsFrom b)))
         (ap (firstFrame b) (let e : 2 + (lastLabel b - 1) ≡ lastLabel b + 1 = omega (arith, counted b ok .two) in e) ∙ first-last b ok bytes)
         ∙ ap (λ (n : ℕ). map (rowAt b) (range (rowsFrom b) n)) (let e : size b - rowsFrom b ≡ rowCount b = omega (arith, counted b ok .all) in e)
         ∙ map-moved (rowAt b) (rowIn b) (rowsFrom b) 0 (rowCount b) (λ k. ap (λ (n : ℕ). rowIn b n) (sym (zero-add k)))
+
+    -- so that those of label l begin behind those of the labels below it
+    pub prepared-starts : (l : ℕ) → 2 ≤ l → l ≤ lastLabel (noted b)
+        → firstOn (noted b) l ≡ rowsFrom (noted b) + length (concatMap (rowsOn (noted b)) (range 2 (l - 2)))
+    prepared-starts l h g =
+        let m : l ≤ lastLabel b = omega (arith, noted-last b) in
+        let few : length (concatMap (rowsOn (noted b)) (range 2 (l - 2))) ≡ firstFrame b (2 + (l - 2)) - rowsFrom b =
+        ap (λ (rs : List Row). length rs) (rows-to (l - 2) (omega arith))
+        ∙ length-map-range (rowAt b) (rowsFrom b) (firstFrame b (2 + (l - 2)) - rowsFrom b) in
+        let same : firstFrame b (2 + (l - 2)) ≡ firstFrame b l = ap (firstFrame b) (omega arith) in
+        omega (arith, first-noted l (omega arith) m, noted-rows-from b, few, same, first-low b ok l)
 
     pub prepared-image : tableImage (noted b) ≡ decoded b
     unfolding tableImage decoded

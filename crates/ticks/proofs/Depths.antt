@@ -7,7 +7,7 @@ use lib.Dec.{ltb, eqb}
 use borrow.Author.Tests.{ne-eqb, le-ltb, eqb-false, ltb-false}
 use Rattle.lists.proofs.Tests.{or-l, or-r}
 use Rattle.state.specs.declared.State.{State}
-use Rattle.state.specs.State.{badDepth}
+use Rattle.fitness.specs.Fitness.{badDepth}
 
 pub record Deep (s : State) : Type 0 where
   pub some : 1 ≤ s .depth

@@ -21,9 +21,10 @@ use Rattle.image.proofs.Sound.{Sound}
 use Rattle.image.proofs.Accepted.{image-sound}
 use Rattle.rows.specs.Rows.{bestRow, Found, found, missing, leads}
 use Rattle.state.specs.declared.State.{State}
-use Rattle.state.specs.State.{noPlaces, labelAt, entryAt, placeAt, isCall, ofHandler}
-use Rattle.state.proofs.FitCases.{kind-call}
-use Rattle.state.proofs.Fitness.{Fits, unfits}
+use Rattle.state.specs.State.{noPlaces, labelAt, entryAt, placeAt}
+use Rattle.fitness.specs.Fitness.{isCall, ofHandler}
+use Rattle.fitness.proofs.FitCases.{kind-call}
+use Rattle.fitness.proofs.Fitness.{Fits, unfits}
 use Rattle.ticks.specs.Tick.{rowOf, Ticked, ticked, stopped, moved, keepsFull, pushed, popped, tickBy, tick}
 use Rattle.ticks.specs.Parts.{topOf}
 use Rattle.ticks.specs.Functions.{findsFull, CallClears, Drop, Drops, writesOne, returnsAt, Unwritten, none, more, returned, ZeroRow}

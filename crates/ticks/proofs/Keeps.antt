@@ -1,7 +1,7 @@
 -- On a sound image a tick keeps a fitting state fitting, however it ends.
 use Prim.Native.Nat.{ℕ, zero, suc, _+_, _-_, _≤_, _<_}
 use mathlib.Core.Bool.{Bool, true, false, _||_}
-use mathlib.Core.Path.{_≡_, refl, ap, _∙_, sym, subst}
+use mathlib.Core.Path.{_≡_, refl, ap, ap₂, _∙_, sym, subst}
 use mathlib.Core.Logic.{_⊎_, inl, inr}
 use mathlib.Core.List.{List, _∷_}
 use lib.Dec.{leb, eqb}
@@ -10,7 +10,7 @@ use lib.Seq.{getD-set-same, getD-set-other}
 use native.Mathlib.Omega.{arith}
 use borrow.Author.Tests.{eqb-false, leb-true, leb-false}
 use Rattle.lists.specs.Pick.{pick}
-use Rattle.lists.proofs.Tests.{split}
+use Rattle.lists.proofs.Tests.{and-l, and-true, split}
 use Rattle.bits.specs.Results.{Results, withResult, cleared}
 use Rattle.frames.specs.Frame.{contents}
 use Rattle.frames.specs.Verdict.{fine}
@@ -20,12 +20,13 @@ use Rattle.image.specs.Check.{imageVerdict}
 use Rattle.image.proofs.Sound.{Reaches, Sound}
 use Rattle.image.proofs.Accepted.{image-sound}
 use Rattle.state.specs.declared.State.{State}
-use Rattle.state.specs.State.{fresh, labelAt, entryAt, placeAt, isCall, ofHandler, unfit}
+use Rattle.state.specs.State.{fresh, labelAt, entryAt, placeAt}
+use Rattle.fitness.specs.Fitness.{isCall, mayCarry, ofHandler, badBottom, unfit}
 use Rattle.ticks.specs.Tick.{rowOf, Ticked, ticked, stopped, moved, full, pushed, popped, tickBy, tick}
 use Rattle.rows.specs.Rows.{Found, found, missing}
-use Rattle.state.proofs.Fitness.{Carries, Bottom, Fits, fits, unfits}
+use Rattle.fitness.proofs.Fitness.{Fits, fits, unfits}
 use Rattle.ticks.proofs.Leads.{Sort, first, second, other, sort}
-use Rattle.ticks.proofs.Leads.{row-leads, call-kind, called-range, not-return, reaches-over, handler-leads, bottom-leads}
+use Rattle.ticks.proofs.Leads.{row-leads, call-kind, called-range, not-return, over, reaches-over, carry-leads, home-bottom, handler-bottom, bottom-leads}
 
 module _ (i : Image) (sound : Sound i) where
   -- ---- the top replaced, a label put above it, the top dropped
@@ -59,33 +60,24 @@ module _ (i : Image) (sound : Sound i) where
       labels k l (inr p) = let q : k ≡ s .depth - 1 = omega arith in
           subst (λ (x : ℕ). x < length (i .labels)) (sym (ap (placeAt t) q ∙ same)) (r .inside)
 
-      under : (k : ℕ) → k + 1 ≡ s .depth - 1 → Carries i (placeAt s k) (placeAt s (s .depth - 1)) → Carries i (placeAt s k) u
-      under k q c = record { call = c .call; over = go (c .over) }
-        where
-          two : 2 ≤ labelAt i (placeAt s k) .called
-          two = called-range i sound (placeAt s k) (f .labels k (omega (arith, f .some))) (call-kind i sound (placeAt s k) (c .call)) .0
-
-          go : (placeAt s (s .depth - 1) ≡ 1) ⊎ (labelAt i (placeAt s (s .depth - 1)) .owner ≡ labelAt i (placeAt s k) .called)
-              → (u ≡ 1) ⊎ (labelAt i u .owner ≡ labelAt i (placeAt s k) .called)
-          go (inl e) = absurd (ne e)
-          go (inr e) = reaches-over i sound (labelAt i (placeAt s k) .called) u two (subst (λ (h : ℕ). Reaches i h u) e r)
-
-      carries : (k : ℕ) → k + 1 < s .depth → (k + 1 < s .depth - 1) ⊎ (s .depth - 1 ≤ k + 1) → Carries i (placeAt t k) (placeAt t (k + 1))
-      carries k l (inl p) = rw (other k (λ q. omega arith), other (k + 1) (λ q. omega arith)) (f .carries k l)
+      carries : (k : ℕ) → k + 1 < s .depth → (k + 1 < s .depth - 1) ⊎ (s .depth - 1 ≤ k + 1) → mayCarry i (placeAt t k) (placeAt t (k + 1)) ≡ true
+      carries k l (inl p) = ap₂ (mayCarry i) (other k (λ q. omega arith)) (other (k + 1) (λ q. omega arith)) ∙ f .carries k l
       carries k l (inr p) = let q : k + 1 ≡ s .depth - 1 = omega arith in
-          rw (other k (λ z. omega arith), q, same) (under k q (subst (λ (j : ℕ). Carries i (placeAt s k) (placeAt s j)) q (f .carries k l)))
+          ap₂ (mayCarry i) (other k (λ z. omega arith)) (ap (placeAt t) q ∙ same)
+          ∙ carry-leads i sound (placeAt s k) (placeAt s (s .depth - 1)) u (f .labels k (omega arith)) ne
+          (ap (λ (j : ℕ). mayCarry i (placeAt s k) (placeAt s j)) (sym q) ∙ f .carries k l) r
 
-      bottom : (0 < s .depth - 1) ⊎ (s .depth - 1 ≤ 0) → Bottom i (placeAt t 0)
-      bottom (inl p) = subst (Bottom i) (sym (other 0 (λ q. omega arith))) (f .bottom)
+      bottom : (0 < s .depth - 1) ⊎ (s .depth - 1 ≤ 0) → badBottom i (placeAt t 0) ≡ false
+      bottom (inl p) = ap (badBottom i) (other 0 (λ q. omega arith)) ∙ f .bottom
       bottom (inr p) = let q : s .depth - 1 ≡ 0 = omega arith in
-          subst (Bottom i) (sym (ap (placeAt t) (sym q) ∙ same))
-          (bottom-leads i sound (placeAt s (s .depth - 1)) u ne (subst (λ (j : ℕ). Bottom i (placeAt s j)) (sym q) (f .bottom)) r)
+          ap (badBottom i) (ap (placeAt t) (sym q) ∙ same)
+          ∙ bottom-leads i sound (placeAt s (s .depth - 1)) u ne (ap (λ (j : ℕ). badBottom i (placeAt s j)) q ∙ f .bottom) r
 
   abbrev above : State → ℕ → Results → State
   above s u b = record { size = s .size; depth = suc (s .depth); places = set (s .places) (s .depth) u; bits = b }
 
   above-fits : (s : State) (u : ℕ) (b : Results) → Fits i s → s .depth < s .size → u < length (i .labels)
-      → Carries i (placeAt s (s .depth - 1)) u → Fits i (above s u b)
+      → mayCarry i (placeAt s (s .depth - 1)) u ≡ true → Fits i (above s u b)
   above-fits s u b f room low c = record {
     whole = length-set (s .places) (s .depth) u ∙ f .whole;
     small = f .small;
@@ -93,7 +85,7 @@ module _ (i : Image) (sound : Sound i) where
     most = room;
     labels = λ k l. labels k (split k (s .depth)) l;
     carries = λ k l. carries k (split (k + 1) (s .depth)) l;
-    bottom = subst (Bottom i) (sym (other 0 (λ q. omega (arith, f .some)))) (f .bottom);
+    bottom = ap (badBottom i) (other 0 (λ q. omega (arith, f .some))) ∙ f .bottom;
     above = λ k l m. other k (λ p. omega arith) ∙ f .above k (omega arith) m;
   }
     where
@@ -111,12 +103,12 @@ module _ (i : Image) (sound : Sound i) where
       labels k (inr p) l = let q : k ≡ s .depth = omega arith in
           subst (λ (x : ℕ). x < length (i .labels)) (sym (ap (placeAt t) q ∙ same)) low
 
-      carries : (k : ℕ) → (k + 1 < s .depth) ⊎ (s .depth ≤ k + 1) → k + 1 < suc (s .depth) → Carries i (placeAt t k) (placeAt t (k + 1))
-      carries k (inl p) l = rw (other k (λ q. omega arith), other (k + 1) (λ q. omega arith)) (f .carries k p)
+      carries : (k : ℕ) → (k + 1 < s .depth) ⊎ (s .depth ≤ k + 1) → k + 1 < suc (s .depth) → mayCarry i (placeAt t k) (placeAt t (k + 1)) ≡ true
+      carries k (inl p) l = ap₂ (mayCarry i) (other k (λ q. omega arith)) (other (k + 1) (λ q. omega arith)) ∙ f .carries k p
       carries k (inr p) l =
           let q : k + 1 ≡ s .depth = omega arith in
-          let z : s .depth - 1 ≡ k = omega arith in
-          rw (other k (λ e. omega arith), q, same) (subst (λ (j : ℕ). Carries i (placeAt s j) u) z c)
+          let z : k ≡ s .depth - 1 = omega arith in
+          ap₂ (mayCarry i) (other k (λ e. omega arith) ∙ ap (placeAt s) z) (ap (placeAt t) q ∙ same) ∙ c
 
   abbrev dropped : State → State
   dropped s = record { size = s .size; depth = s .depth - 1; places = set (s .places) (s .depth - 1) 0; bits = s .bits }
@@ -128,8 +120,8 @@ module _ (i : Image) (sound : Sound i) where
     some = omega arith;
     most = omega (arith, f .most);
     labels = λ k l. subst (λ (x : ℕ). x < length (i .labels)) (sym (other k (λ q. omega arith))) (f .labels k (omega arith));
-    carries = λ k l. rw (other k (λ q. omega arith), other (k + 1) (λ q. omega arith)) (f .carries k (omega arith));
-    bottom = subst (Bottom i) (sym (other 0 (λ q. omega arith))) (f .bottom);
+    carries = λ k l. ap₂ (mayCarry i) (other k (λ q. omega arith)) (other (k + 1) (λ q. omega arith)) ∙ f .carries k (omega arith);
+    bottom = ap (badBottom i) (other 0 (λ q. omega arith)) ∙ f .bottom;
     above = λ k l m. zero-at k m (split k (s .depth)) l;
   }
     where
@@ -148,7 +140,7 @@ module _ (i : Image) (sound : Sound i) where
   abbrev alone : State → ℕ → Results → State
   alone s u b = record { size = s .size; depth = 1; places = u ∷ replicate 31 0; bits = b }
 
-  alone-fits : (s : State) (u : ℕ) (b : Results) → Fits i s → u < length (i .labels) → Bottom i u → Fits i (alone s u b)
+  alone-fits : (s : State) (u : ℕ) (b : Results) → Fits i s → u < length (i .labels) → badBottom i u ≡ false → Fits i (alone s u b)
   alone-fits s u b f low o = record {
     whole = refl;
     small = f .small;
@@ -200,7 +192,7 @@ module _ (i : Image) (sound : Sound i) where
             let range : (2 ≤ h) × (h ≤ length (i .entries)) = sound .handled (eqb-false (i .handler) 0 e) in
             let q : suc (h - 1) ≡ h = omega arith in
             let enters : Reaches i h (entryAt i h) = subst (λ (g : ℕ). Reaches i g (entryAt i h)) q (sound .starts (h - 1) (omega arith)) in
-            alone-fits s (entryAt i h) (cleared h b) f (enters .inside) (inr (handler-leads i sound (entryAt i h) (range .0) enters))
+            alone-fits s (entryAt i h) (cleared h b) f (enters .inside) (handler-bottom i sound (entryAt i h) (range .0) enters)
 
     call-keeps : (m code : ℕ) (b : Results) → isCall (labelAt i top) ≡ true
         → Keeps (pushed i s m code (labelAt i top .called) b (leb (s .size) (s .depth)))
@@ -219,7 +211,7 @@ module _ (i : Image) (sound : Sound i) where
         go : (t : Bool) → leb (s .size) (s .depth) ≡ t → Keeps (pushed i s m code (labelAt i top .called) b t)
         go true q = full-keeps m b
         go false q = above-fits s (entryAt i h) (cleared h b) f (leb-false (s .size) (s .depth) q) (enters .inside)
-            (record { call = e; over = reaches-over i sound h (entryAt i h) (range .0) enters })
+            (and-true (isCall (labelAt i top)) (over i sound h (entryAt i h)) e (reaches-over i sound h (entryAt i h) (range .0) enters))
 
     return-keeps : (m w : ℕ) (b : Results) → labelAt i top .kind ≡ 3 → Keeps (popped i s w m b (leb (s .depth) 1))
     return-keeps m w b e = go (leb (s .depth) 1) refl
@@ -230,7 +222,7 @@ module _ (i : Image) (sound : Sound i) where
             let d : s .depth - 1 - 1 ≡ s .depth - 2 = omega arith in
             let same : placeAt (dropped s) (s .depth - 1 - 1) ≡ placeAt s (s .depth - 2) =
             ap (placeAt (dropped s)) d ∙ getD-set-other (s .places) (s .depth - 1) (s .depth - 2) 0 0 (λ q. omega arith) in
-            let c = call-kind i sound (placeAt s (s .depth - 2)) (f .carries (s .depth - 2) (omega arith) .call) in
+            let c = call-kind i sound (placeAt s (s .depth - 2)) (and-l (isCall (labelAt i (placeAt s (s .depth - 2)))) _ (f .carries (s .depth - 2) (omega arith))) in
             subst (λ (j : ℕ). Fits i (record { size = s .size; depth = s .depth - 1; places = set (set (s .places) (s .depth - 1) 0) j u; bits = b })) d
             (replaced-fits (dropped s) u b (dropped-fits s f two)
             (λ q. not-return i sound (placeAt s (s .depth - 2)) (f .labels (s .depth - 2) (omega arith)) (λ p. omega arith) (sym same ∙ q))
@@ -252,7 +244,7 @@ module _ (i : Image) (sound : Sound i) where
           labels = λ k l. subst (λ (x : ℕ). x < length (i .labels))
               (sym (ap (λ (j : ℕ). getD (set (s .places) 0 0) j 0) (let z : k ≡ 0 = omega arith in z) ∙ same)) (omega (arith, sound .two));
           carries = λ k l. absurd (omega arith);
-          bottom = inl (ap (λ (l : ℕ). labelAt i l .owner) same ∙ ap (λ (x : Label). x .owner) (sound .home));
+          bottom = ap (badBottom i) same ∙ home-bottom i sound;
           above = λ k l m. other k (λ z. omega arith) ∙ f .above k (omega (arith, f .some)) m;
         }
 
@@ -296,7 +288,7 @@ module _ (i : Image) (sound : Sound i) where
     most = l;
     labels = λ k m. subst (λ (x : ℕ). x < length (i .labels)) (sym (zero-at k (omega arith))) (omega (arith, sound .two));
     carries = λ k m. absurd (omega arith);
-    bottom = inl (ap (λ (x : Label). x .owner) (sound .home));
+    bottom = home-bottom i sound;
     above = λ k m j. zero-at k j;
   }
     where

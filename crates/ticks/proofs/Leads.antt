@@ -1,6 +1,6 @@
 -- On a sound image: labels by their kind, and where the rows and the entry of a scheme lead.
 use Prim.Native.Nat.{ℕ, zero, suc, _≤_, _<_}
-use mathlib.Core.Bool.{Bool, true, _||_, not}
+use mathlib.Core.Bool.{Bool, true, false, _||_, not}
 use mathlib.Core.Path.{_≡_, refl, ap, _∙_, sym, subst}
 use mathlib.Core.Logic.{_⊎_, inl, inr}
 use lib.Dec.{eqb}
@@ -8,13 +8,13 @@ use lib.ListN.{length}
 use native.Mathlib.Omega.{arith}
 use borrow.Author.Tests.{eqb-true, eqb-false, eq-eqb, ne-eqb}
 use Rattle.lists.specs.Pick.{pick}
-use Rattle.lists.proofs.Tests.{or-cases, or-true-l, or-true-r, and-l, and-r, and-true, not-true}
+use Rattle.lists.proofs.Tests.{or-cases, or-true-l, or-true-r, and-l, and-r, and-true, not-true, not-false}
 use Rattle.image.specs.Image.{Image, Label, Row}
 use Rattle.image.proofs.Sound.{nthRow, endOf, Reaches, Sound}
-use Rattle.state.specs.State.{labelAt, isCall, ofHandler}
+use Rattle.state.specs.State.{labelAt}
+use Rattle.fitness.specs.Fitness.{isCall, mayCarry, ofHandler, badBottom}
 use Rattle.rows.specs.Rows.{matches, Choice, row, none, bestRow, found, missing, leads}
 use Rattle.rows.specs.Choices.{Best}
-use Rattle.state.proofs.Fitness.{Bottom}
 use Rattle.rows.proofs.BestRows.{best-is}
 
 module _ (i : Image) (sound : Sound i) where
@@ -73,12 +73,30 @@ module _ (i : Image) (sound : Sound i) where
   end-other h l = ap (λ (t : Bool). pick t 0 1) (ne-eqb h 1 (λ p. omega arith))
 
   -- what a scheme of 2 and up may lead to may stand above its call
-  pub reaches-over : (h u : ℕ) → 2 ≤ h → Reaches i h u → (u ≡ 1) ⊎ (labelAt i u .owner ≡ h)
+  abbrev pub over : ℕ → ℕ → Bool
+  over h u = eqb u 1 || eqb (labelAt i u .owner) h
+
+  pub reaches-over : (h u : ℕ) → 2 ≤ h → Reaches i h u → over h u ≡ true
   reaches-over h u l r = go (r .belongs)
     where
-      go : (labelAt i u .owner ≡ h) ⊎ (u ≡ endOf h) → (u ≡ 1) ⊎ (labelAt i u .owner ≡ h)
-      go (inl e) = inr e
-      go (inr e) = inl (e ∙ end-other h l)
+      go : (labelAt i u .owner ≡ h) ⊎ (u ≡ endOf h) → over h u ≡ true
+      go (inl e) = or-true-r (eqb u 1) (eqb (labelAt i u .owner) h) (eq-eqb (labelAt i u .owner) h e)
+      go (inr e) = or-true-l (eqb u 1) (eqb (labelAt i u .owner) h) (eq-eqb u 1 (e ∙ end-other h l))
+
+  over-owned : (h l : ℕ) → (l ≡ 1 → ⊥) → over h l ≡ true → labelAt i l .owner ≡ h
+  over-owned h l n e = go (or-cases (eqb l 1) (eqb (labelAt i l .owner) h) e)
+    where
+      go : (eqb l 1 ≡ true) ⊎ (eqb (labelAt i l .owner) h ≡ true) → labelAt i l .owner ≡ h
+      go (inl p) = absurd (n (eqb-true l 1 p))
+      go (inr p) = eqb-true (labelAt i l .owner) h p
+
+  -- what is kept under a label is kept under what that leads to
+  pub carry-leads : (k l u : ℕ) → k < length (i .labels) → (l ≡ 1 → ⊥) → mayCarry i k l ≡ true → Reaches i (labelAt i l .owner) u → mayCarry i k u ≡ true
+  carry-leads k l u m n e r =
+      let h : ℕ = labelAt i k .called in
+      let c : isCall (labelAt i k) ≡ true = and-l (isCall (labelAt i k)) (over h l) e in
+      let o : labelAt i l .owner ≡ h = over-owned h l n (and-r (isCall (labelAt i k)) (over h l) e) in
+      and-true (isCall (labelAt i k)) (over h u) c (reaches-over h u (called-range k m (call-kind k c) .0) (subst (λ (g : ℕ). Reaches i g u) o r))
 
   -- and what scheme 1 may lead to is owned by it
   reaches-first : (u : ℕ) → Reaches i 1 u → labelAt i u .owner ≡ 1
@@ -89,31 +107,24 @@ module _ (i : Image) (sound : Sound i) where
       go (inr e) = ap (λ (l : ℕ). labelAt i l .owner) e ∙ ap (λ (x : Label). x .owner) (sound .home)
 
   -- ---- the bottom: what scheme 1 leads to, and what the handler leads to
+  first-bottom : (l : ℕ) → labelAt i l .owner ≡ 1 → badBottom i l ≡ false
+  first-bottom l e = ap not (or-true-l (eqb (labelAt i l .owner) 1) (ofHandler i l) (eq-eqb (labelAt i l .owner) 1 e))
+
+  pub home-bottom : badBottom i 0 ≡ false
+  home-bottom = first-bottom 0 (ap (λ (x : Label). x .owner) (sound .home))
+
+  pub handler-bottom : (u : ℕ) → 2 ≤ i .handler → Reaches i (i .handler) u → badBottom i u ≡ false
+  handler-bottom u l r = ap not (or-true-r (eqb (labelAt i u .owner) 1) (ofHandler i u)
+      (and-true (not (eqb (i .handler) 0)) (over (i .handler) u) (ap not (ne-eqb (i .handler) 0 (λ z. omega arith))) (reaches-over (i .handler) u l r)))
+
   handler-deep : (l : ℕ) → ofHandler i l ≡ true → (2 ≤ i .handler) × (i .handler ≤ length (i .entries))
-  handler-deep l e =
-      let o : Bool = eqb l 1 || eqb (labelAt i l .owner) (i .handler) in
-      sound .handled (eqb-false (i .handler) 0 (not-true (eqb (i .handler) 0) (and-l (not (eqb (i .handler) 0)) o e)))
+  handler-deep l e = sound .handled (eqb-false (i .handler) 0 (not-true (eqb (i .handler) 0) (and-l (not (eqb (i .handler) 0)) (over (i .handler) l) e)))
 
-  handler-own : (l : ℕ) → ofHandler i l ≡ true → (l ≡ 1 → ⊥) → labelAt i l .owner ≡ i .handler
-  handler-own l e n =
-      let x : Bool = eqb l 1 in
-      let y : Bool = eqb (labelAt i l .owner) (i .handler) in
-      go (or-cases x y (and-r (not (eqb (i .handler) 0)) (x || y) e))
+  pub bottom-leads : (l u : ℕ) → (l ≡ 1 → ⊥) → badBottom i l ≡ false → Reaches i (labelAt i l .owner) u → badBottom i u ≡ false
+  bottom-leads l u n e r = go (or-cases (eqb (labelAt i l .owner) 1) (ofHandler i l) (not-false _ e))
     where
-      go : (eqb l 1 ≡ true) ⊎ (eqb (labelAt i l .owner) (i .handler) ≡ true) → labelAt i l .owner ≡ i .handler
-      go (inl p) = absurd (n (eqb-true l 1 p))
-      go (inr p) = eqb-true (labelAt i l .owner) (i .handler) p
-
-  -- a label that the handler leads to
-  pub handler-leads : (u : ℕ) → 2 ≤ i .handler → Reaches i (i .handler) u → ofHandler i u ≡ true
-  handler-leads u l r =
-      and-true (not (eqb (i .handler) 0)) (eqb u 1 || eqb (labelAt i u .owner) (i .handler))
-      (ap not (ne-eqb (i .handler) 0 (λ z. omega arith))) (go (reaches-over (i .handler) u l r))
-    where
-      go : (u ≡ 1) ⊎ (labelAt i u .owner ≡ i .handler) → (eqb u 1 || eqb (labelAt i u .owner) (i .handler)) ≡ true
-      go (inl e) = or-true-l (eqb u 1) _ (eq-eqb u 1 e)
-      go (inr e) = or-true-r (eqb u 1) (eqb (labelAt i u .owner) (i .handler)) (eq-eqb (labelAt i u .owner) (i .handler) e)
-
-  pub bottom-leads : (l u : ℕ) → (l ≡ 1 → ⊥) → Bottom i l → Reaches i (labelAt i l .owner) u → Bottom i u
-  bottom-leads l u n (inl e) r = inl (reaches-first u (subst (λ (h : ℕ). Reaches i h u) e r))
-  bottom-leads l u n (inr e) r = inr (handler-leads u (handler-deep l e .0) (subst (λ (h : ℕ). Reaches i h u) (handler-own l e n) r))
+      go : (eqb (labelAt i l .owner) 1 ≡ true) ⊎ (ofHandler i l ≡ true) → badBottom i u ≡ false
+      go (inl p) = first-bottom u (reaches-first u (subst (λ (h : ℕ). Reaches i h u) (eqb-true (labelAt i l .owner) 1 p) r))
+      go (inr p) =
+          let o : labelAt i l .owner ≡ i .handler = over-owned (i .handler) l n (and-r (not (eqb (i .handler) 0)) (over (i .handler) l) p) in
+          handler-bottom u (handler-deep l p .0) (subst (λ (h : ℕ). Reaches i h u) o r)

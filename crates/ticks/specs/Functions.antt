@@ -15,7 +15,8 @@ use Rattle.image.specs.Decode.{decoded}
 use Rattle.image.specs.Check.{imageVerdict}
 use Rattle.rows.specs.Rows.{bestRow, Found, leads}
 use Rattle.state.specs.declared.State.{State}
-use Rattle.state.specs.State.{noPlaces, labelAt, entryAt, isCall, unfit}
+use Rattle.state.specs.State.{noPlaces, labelAt, entryAt}
+use Rattle.fitness.specs.Fitness.{isCall, unfit}
 use Rattle.ticks.specs.Tick.{Ticked, ticked, moved, tick}
 use Rattle.ticks.specs.Parts.{topOf}
 

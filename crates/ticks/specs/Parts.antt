@@ -12,8 +12,9 @@ use Rattle.tables.specs.Table.{Whole, labelOf, tableImage}
 use Rattle.tables.specs.Labels.{Numbered}
 use Rattle.rows.specs.Rows.{Found}
 use Rattle.state.specs.declared.State.{State}
-use Rattle.state.specs.State.{placeAt, badDepth}
+use Rattle.state.specs.State.{placeAt}
 use Rattle.state.specs.Bytes.{stateOf}
+use Rattle.fitness.specs.Fitness.{badDepth}
 use Rattle.ticks.specs.declared.Stepped.{Stepped}
 use Rattle.ticks.specs.Tick.{rowOf, Ticked, ticked, stopped, tick}
 

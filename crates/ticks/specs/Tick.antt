@@ -9,7 +9,8 @@ use Rattle.bits.specs.Results.{Results, resultOf, withResult, cleared}
 use Rattle.image.specs.Image.{Image, Label}
 use Rattle.rows.specs.Rows.{Choice, bestRow, Found, found, missing, leads}
 use Rattle.state.specs.declared.State.{State}
-use Rattle.state.specs.State.{noPlaces, labelAt, entryAt, placeAt, ofHandler}
+use Rattle.state.specs.State.{noPlaces, labelAt, entryAt, placeAt}
+use Rattle.fitness.specs.Fitness.{ofHandler}
 
 -- the result bit of the scheme that label l calls
 abbrev pub calledBit : Image → Results → ℕ → ℕ

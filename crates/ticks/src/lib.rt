@@ -2,6 +2,7 @@
 mod full;
 mod ticks;
 
+pub use ticks::bit_of;
 pub use ticks::tick_on;
 
 // What a tick answers: 0, or the number that stops it, and then nothing is changed.

@@ -22,7 +22,7 @@ ghost use Rattle.ticks.specs.Tick.{stopped};
 ghost use Rattle.ticks.specs.Parts.{Stands, Header, TopNumbered, TopCalls, TopPlain, TopReturn, TopBack, TopHome, beneath, bitOf, stepOf, Steps};
 
 // The bit that decides among the rows of a label: the result of the scheme that it calls, where that is a function, else 2.
-fn bit_of(bytes: &[u8; 50], kind: u8, called: u8) -> u8
+pub fn bit_of(bytes: &[u8; 50], kind: u8, called: u8) -> u8
     ensures { λ r. ⌜ r ≡ bitOf kind called (stateOf (now (bytes .entry)) .bits) ⌝ }
 {
     if kind == 2 {

@@ -1,15 +1,14 @@
--- The text of a chart's table in the parts that the functions write, and how long each part is.
+-- The bytes of a chart's table in the parts that the functions write, and how long each part is.
 use mathlib.Core.Path.{_≡_, refl, sym, _∙_, ap, ap₂, subst}
 use mathlib.Core.Bool.{Bool, true, false}
 use mathlib.Core.List.{List, [], _∷_, _++_, map, append-assoc}
-use Prim.Native.Nat.{ℕ, zero, suc, _+_, _*_, _/_, _%_, _-_, _≤_, _<_}
+use Prim.Native.Nat.{ℕ, zero, suc, _+_, _*_, _/_, _-_, _≤_, _<_}
 use native.Mathlib.Nat.{zero-add, mul-suc}
 use native.Mathlib.Numerals.{add-one}
 use native.Mathlib.Decide.{decLt}
 use native.Mathlib.Omega.{arith}
 use lib.Dec.{ltb}
-use lib.ListN.{length, take, drop, length-append, length-take}
-use lib.Seq.{drop-at}
+use lib.ListN.{length, length-append}
 use borrow.Author.Tests.{lt-ltb, le-ltb}
 use Rattle.lists.specs.Pick.{pick}
 use Rattle.lists.specs.Numbers.{range, count}
@@ -17,13 +16,12 @@ use Rattle.lists.specs.Sequences.{concatMap, filter, mapFrom, written}
 use Rattle.lists.proofs.Tests.{yes-pick, no-pick}
 use Rattle.lists.proofs.Counts.{count-suc, count-snoc}
 use Rattle.lists.proofs.Ranges.{filter-yes, filter-no}
-use Rattle.lists.proofs.Joins.{concat-cons, concat-append, length-concat-range}
+use Rattle.lists.proofs.Joins.{concat-cons, concat-map, concat-append, length-concat-range}
 use Rattle.lists.proofs.Written.{written-more, written-front}
-use Rattle.frames.specs.Frame.{size, frameText, framesText}
+use Rattle.frames.specs.Frame.{size}
 use Rattle.frames.specs.Verdict.{fine, when}
 use Rattle.frames.specs.Answer.{Lends}
 use Rattle.frames.specs.declared.Answer.the-variants.{Done, Refused}
-use Rattle.frames.proofs.FrameLoops.{length-frame}
 use Rattle.frames.proofs.Chains.{when-holds, when-fails}
 use Rattle.frames.proofs.Lent.{lent-refused, lent-short, lent-done}
 use Rattle.charts.specs.Chart.{Chart, handler, schemes}
@@ -31,12 +29,14 @@ use Rattle.image.specs.Image.{Row, entryFrame, labelFrame, rowFrame, imageFrame
 use Rattle.chart_labels.specs.Labels.{numbered, label, entry, homeLabel, returnLabel, labelOf, numberedNodes}
 use Rattle.chart_rows.specs.Rows.{rows}
 use Rattle.translator.specs.Table.{table}
-use Rattle.row_text.specs.Parts.{rowsText, nodeRowsText}
-use Rattle.translator.specs.Parts.{sizeRefusal, imageLent}
+use Rattle.row_text.specs.Parts.{rowsBytes, nodeRowsBytes}
+use Rattle.translator.specs.Parts.{joined, tableBytes, sizeRefusal, imageLent}
 use Rattle.chart_rows.specs.Parts.{nodeRows}
-use Rattle.label_text.specs.Parts.{headerText, entryText, fixedText, nodeLabelText, upTo, Put}
+use Rattle.label_text.specs.Parts.{headerBytes, entryBytes, fixedBytes, nodeLabelBytes, upTo, Put}
 use Rattle.translator.specs.Ready.{Sizes}
 use Rattle.translator.proofs.LabelLaws.{length-labels, length-entries}
+use Rattle.chart_text.proofs.SpreadSteps.{written-before}
+use Rattle.translator.proofs.ImageBytes.{bytes-length, image-length}
 use Rattle.chart_labels.proofs.LabelSteps.{label-own}
 use Rattle.chart_rows.proofs.RowSteps.{below-all}
 use Rattle.row_text.proofs.RowPuts.{rows-append}
@@ -46,155 +46,142 @@ unfolding mapFrom
 from-cons f i x xs = refl
 
 -- ---- entries
-entries-from : (c : Chart) (i n : ℕ) → framesText (mapFrom entryFrame (suc i) (map (entry c) (range (suc i) n))) ≡ concatMap (entryText c) (range i n)
+entries-from : (c : Chart) (i n : ℕ) → joined (mapFrom entryFrame (suc i) (map (entry c) (range (suc i) n))) ≡ concatMap (entryBytes c) (range i n)
 entries-from c i zero = unfold mapFrom concatMap in refl
 entries-from c i (suc n) =
-    ap framesText (from-cons entryFrame (suc i) (entry c (suc i)) (map (entry c) (range (suc (suc i)) n)))
-    ∙ concat-cons frameText (entryFrame (suc i) (entry c (suc i))) (mapFrom entryFrame (suc (suc i)) (map (entry c) (range (suc (suc i)) n)))
-    ∙ ap₂ (λ (x y : List ℕ). x ++ y) (ap (λ (k : ℕ). frameText (entryFrame k (entry c k))) (sym (add-one i))) (entries-from c (suc i) n)
-    ∙ sym (concat-cons (entryText c) i (range (suc i) n))
+    ap joined (from-cons entryFrame (suc i) (entry c (suc i)) (map (entry c) (range (suc (suc i)) n)))
+    ∙ concat-cons (λ f. f) (entryFrame (suc i) (entry c (suc i))) (mapFrom entryFrame (suc (suc i)) (map (entry c) (range (suc (suc i)) n)))
+    ∙ ap₂ (λ (x y : List ℕ). x ++ y) (ap (λ (k : ℕ). entryFrame k (entry c k)) (sym (add-one i))) (entries-from c (suc i) n)
+    ∙ sym (concat-cons (entryBytes c) i (range (suc i) n))
 
 -- ---- labels
 module _ (c : Chart) where
   labels-from : (i n : ℕ)
-      → framesText (mapFrom labelFrame (2 + count (numbered c) 0 i) (map (labelOf c) (filter (numbered c) (range i n))))
-      ≡ concatMap (nodeLabelText c) (range i n)
+      → joined (mapFrom labelFrame (2 + count (numbered c) 0 i) (map (labelOf c) (filter (numbered c) (range i n))))
+      ≡ concatMap (nodeLabelBytes c) (range i n)
   labels-from i zero = unfold mapFrom concatMap filter in refl
   labels-from i (suc n) = go (numbered c i) refl (labels-from (suc i) n)
     where
       go : (b : Bool) → numbered c i ≡ b
-          → framesText (mapFrom labelFrame (2 + count (numbered c) 0 (suc i)) (map (labelOf c) (filter (numbered c) (range (suc i) n))))
-          ≡ concatMap (nodeLabelText c) (range (suc i) n)
-          → framesText (mapFrom labelFrame (2 + count (numbered c) 0 i) (map (labelOf c) (filter (numbered c) (range i (suc n)))))
-          ≡ concatMap (nodeLabelText c) (range i (suc n))
+          → joined (mapFrom labelFrame (2 + count (numbered c) 0 (suc i)) (map (labelOf c) (filter (numbered c) (range (suc i) n))))
+          ≡ concatMap (nodeLabelBytes c) (range (suc i) n)
+          → joined (mapFrom labelFrame (2 + count (numbered c) 0 i) (map (labelOf c) (filter (numbered c) (range i (suc n)))))
+          ≡ concatMap (nodeLabelBytes c) (range i (suc n))
       go true e ih =
           let p : pick {A = ℕ} (numbered c (0 + i)) 1 0 ≡ 1 =
           ap (λ (j : ℕ). pick {A = ℕ} (numbered c j) 1 0) (zero-add i) ∙ yes-pick (numbered c i) 1 0 e in
           let s : suc (2 + count (numbered c) 0 i) ≡ 2 + count (numbered c) 0 (suc i) = omega (arith, count-snoc (numbered c) 0 i, p) in
-          ap (λ (vs : List ℕ). framesText (mapFrom labelFrame (2 + count (numbered c) 0 i) (map (labelOf c) vs)))
+          ap (λ (vs : List ℕ). joined (mapFrom labelFrame (2 + count (numbered c) 0 i) (map (labelOf c) vs)))
           (filter-yes (numbered c) i (range (suc i) n) e)
-          ∙ ap framesText (from-cons labelFrame (2 + count (numbered c) 0 i) (labelOf c i) (map (labelOf c) (filter (numbered c) (range (suc i) n))))
-          ∙ concat-cons frameText (labelFrame (2 + count (numbered c) 0 i) (labelOf c i))
+          ∙ ap joined (from-cons labelFrame (2 + count (numbered c) 0 i) (labelOf c i) (map (labelOf c) (filter (numbered c) (range (suc i) n))))
+          ∙ concat-cons (λ f. f) (labelFrame (2 + count (numbered c) 0 i) (labelOf c i))
           (mapFrom labelFrame (suc (2 + count (numbered c) 0 i)) (map (labelOf c) (filter (numbered c) (range (suc i) n))))
           ∙ ap₂ (λ (x y : List ℕ). x ++ y)
-          (ap (λ (l : ℕ). frameText (labelFrame l (labelOf c i))) (sym (label-own c i e))
-          ∙ sym (yes-pick (numbered c i) (frameText (labelFrame (label c i) (labelOf c i))) [] e))
-          (ap (λ (l : ℕ). framesText (mapFrom labelFrame l (map (labelOf c) (filter (numbered c) (range (suc i) n))))) s ∙ ih)
-          ∙ sym (concat-cons (nodeLabelText c) i (range (suc i) n))
+          (ap (λ (l : ℕ). labelFrame l (labelOf c i)) (sym (label-own c i e))
+          ∙ sym (yes-pick (numbered c i) (labelFrame (label c i) (labelOf c i)) [] e))
+          (ap (λ (l : ℕ). joined (mapFrom labelFrame l (map (labelOf c) (filter (numbered c) (range (suc i) n))))) s ∙ ih)
+          ∙ sym (concat-cons (nodeLabelBytes c) i (range (suc i) n))
       go false e ih =
           let p : pick {A = ℕ} (numbered c (0 + i)) 1 0 ≡ 0 =
           ap (λ (j : ℕ). pick {A = ℕ} (numbered c j) 1 0) (zero-add i) ∙ no-pick (numbered c i) 1 0 e in
           let s : 2 + count (numbered c) 0 i ≡ 2 + count (numbered c) 0 (suc i) = omega (arith, count-snoc (numbered c) 0 i, p) in
-          ap (λ (vs : List ℕ). framesText (mapFrom labelFrame (2 + count (numbered c) 0 i) (map (labelOf c) vs)))
+          ap (λ (vs : List ℕ). joined (mapFrom labelFrame (2 + count (numbered c) 0 i) (map (labelOf c) vs)))
           (filter-no (numbered c) i (range (suc i) n) e)
-          ∙ ap (λ (l : ℕ). framesText (mapFrom labelFrame l (map (labelOf c) (filter (numbered c) (range (suc i) n))))) s ∙ ih
-          ∙ sym (concat-cons (nodeLabelText c) i (range (suc i) n)
-          ∙ ap (λ (x : List ℕ). x ++ concatMap (nodeLabelText c) (range (suc i) n))
-          (no-pick (numbered c i) (frameText (labelFrame (label c i) (labelOf c i))) [] e))
+          ∙ ap (λ (l : ℕ). joined (mapFrom labelFrame l (map (labelOf c) (filter (numbered c) (range (suc i) n))))) s ∙ ih
+          ∙ sym (concat-cons (nodeLabelBytes c) i (range (suc i) n)
+          ∙ ap (λ (x : List ℕ). x ++ concatMap (nodeLabelBytes c) (range (suc i) n))
+          (no-pick (numbered c i) (labelFrame (label c i) (labelOf c i)) [] e))
 
   none-before : 2 + count (numbered c) 0 0 ≡ 2
   unfolding count
   none-before = refl
 
-  labels-text : framesText (mapFrom labelFrame 0 (homeLabel ∷ returnLabel ∷ map (labelOf c) (numberedNodes c)))
-      ≡ fixedText ++ upTo (nodeLabelText c) (size c)
-  labels-text =
-      ap framesText (from-cons labelFrame 0 homeLabel (returnLabel ∷ map (labelOf c) (numberedNodes c)))
-      ∙ concat-cons frameText (labelFrame 0 homeLabel) (mapFrom labelFrame 1 (returnLabel ∷ map (labelOf c) (numberedNodes c)))
-      ∙ ap (λ (x : List ℕ). frameText (labelFrame 0 homeLabel) ++ x)
-      (ap framesText (from-cons labelFrame 1 returnLabel (map (labelOf c) (numberedNodes c)))
-      ∙ concat-cons frameText (labelFrame 1 returnLabel) (mapFrom labelFrame 2 (map (labelOf c) (numberedNodes c)))
-      ∙ ap (λ (x : List ℕ). frameText (labelFrame 1 returnLabel) ++ x)
-      (ap (λ (l : ℕ). framesText (mapFrom labelFrame l (map (labelOf c) (numberedNodes c)))) (sym none-before) ∙ labels-from 0 (size c)))
-      ∙ sym (append-assoc (frameText (labelFrame 0 homeLabel)) (frameText (labelFrame 1 returnLabel)) (upTo (nodeLabelText c) (size c)))
+  labels-joined : joined (mapFrom labelFrame 0 (homeLabel ∷ returnLabel ∷ map (labelOf c) (numberedNodes c)))
+      ≡ fixedBytes ++ upTo (nodeLabelBytes c) (size c)
+  labels-joined =
+      ap joined (from-cons labelFrame 0 homeLabel (returnLabel ∷ map (labelOf c) (numberedNodes c)))
+      ∙ concat-cons (λ f. f) (labelFrame 0 homeLabel) (mapFrom labelFrame 1 (returnLabel ∷ map (labelOf c) (numberedNodes c)))
+      ∙ ap (λ (x : List ℕ). labelFrame 0 homeLabel ++ x)
+      (ap joined (from-cons labelFrame 1 returnLabel (map (labelOf c) (numberedNodes c)))
+      ∙ concat-cons (λ f. f) (labelFrame 1 returnLabel) (mapFrom labelFrame 2 (map (labelOf c) (numberedNodes c)))
+      ∙ ap (λ (x : List ℕ). labelFrame 1 returnLabel ++ x)
+      (ap (λ (l : ℕ). joined (mapFrom labelFrame l (map (labelOf c) (numberedNodes c)))) (sym none-before) ∙ labels-from 0 (size c)))
+      ∙ sym (append-assoc (labelFrame 0 homeLabel) (labelFrame 1 returnLabel) (upTo (nodeLabelBytes c) (size c)))
 
   -- ---- rows
-  rows-each : (xs : List ℕ) → rowsText (concatMap (nodeRows c) xs) ≡ concatMap (nodeRowsText c) xs
+  rows-each : (xs : List ℕ) → rowsBytes (concatMap (nodeRows c) xs) ≡ concatMap (nodeRowsBytes c) xs
   rows-each [] = unfold concatMap in refl
   rows-each (x ∷ xs) =
-      ap rowsText (concat-cons (nodeRows c) x xs) ∙ rows-append (nodeRows c x) (concatMap (nodeRows c) xs)
-      ∙ ap (λ (y : List ℕ). nodeRowsText c x ++ y) (rows-each xs) ∙ sym (concat-cons (nodeRowsText c) x xs)
+      ap rowsBytes (concat-cons (nodeRows c) x xs) ∙ rows-append (nodeRows c x) (concatMap (nodeRows c) xs)
+      ∙ ap (λ (y : List ℕ). nodeRowsBytes c x ++ y) (rows-each xs) ∙ sym (concat-cons (nodeRowsBytes c) x xs)
 
-  pub rows-text : rowsText (rows c) ≡ upTo (nodeRowsText c) (size c)
-  rows-text = ap rowsText (sym (below-all c (size c) refl)) ∙ rows-each (range 0 (size c))
+  rows-parted : rowsBytes (rows c) ≡ upTo (nodeRowsBytes c) (size c)
+  rows-parted = ap rowsBytes (sym (below-all c (size c) refl)) ∙ rows-each (range 0 (size c))
 
   -- ---- the whole
   abbrev pub parts : ℕ → ℕ → ℕ → List ℕ
   parts highest last n =
-      headerText highest last n (handler c)
-      ++ (upTo (entryText c) highest ++ (fixedText ++ (upTo (nodeLabelText c) (size c) ++ upTo (nodeRowsText c) (size c))))
+      headerBytes highest last n (handler c)
+      ++ (upTo (entryBytes c) highest ++ (fixedBytes ++ (upTo (nodeLabelBytes c) (size c) ++ upTo (nodeRowsBytes c) (size c))))
 
   pub image-parts : (highest own n : ℕ) → highest ≡ schemes c → own ≡ count (numbered c) 0 (size c) → n ≡ length (rows c)
-      → imageText (table c) ≡ parts highest (own + 1) n
-  unfolding imageText imageFrames table
+      → tableBytes c ≡ parts highest (own + 1) n
+  unfolding imageFrames table
   image-parts highest own n eh eo en =
-      let h : headerText (length (table c .entries)) (length (table c .labels) - 1) (length (table c .rows)) (handler c)
-      ≡ headerText highest (own + 1) n (handler c) =
-      ap (λ (k : ℕ). headerText k (length (table c .labels) - 1) (length (table c .rows)) (handler c)) (length-entries c ∙ sym eh)
-      ∙ ap₂ (λ (k m : ℕ). headerText highest k m (handler c)) (omega (arith, length-labels c)) (sym en) in
-      concat-cons frameText _ _
+      let h : headerBytes (length (table c .entries)) (length (table c .labels) - 1) (length (table c .rows)) (handler c)
+      ≡ headerBytes highest (own + 1) n (handler c) =
+      ap (λ (k : ℕ). headerBytes k (length (table c .labels) - 1) (length (table c .rows)) (handler c)) (length-entries c ∙ sym eh)
+      ∙ ap₂ (λ (k m : ℕ). headerBytes highest k m (handler c)) (omega (arith, length-labels c)) (sym en) in
+      concat-cons (λ f. f) _ _
       ∙ ap₂ (λ (x y : List ℕ). x ++ y) h
-      (concat-append frameText (mapFrom entryFrame 1 (map (entry c) (range 1 (schemes c)))) _
-      ∙ ap₂ (λ (x y : List ℕ). x ++ y) (entries-from c 0 (schemes c) ∙ ap (upTo (entryText c)) (sym eh))
-      (concat-append frameText (mapFrom labelFrame 0 (homeLabel ∷ returnLabel ∷ map (labelOf c) (numberedNodes c))) (map rowFrame (rows c))
-      ∙ ap₂ (λ (x y : List ℕ). x ++ y) labels-text rows-text
-      ∙ append-assoc fixedText (upTo (nodeLabelText c) (size c)) (upTo (nodeRowsText c) (size c))))
+      (concat-append (λ f. f) (mapFrom entryFrame 1 (map (entry c) (range 1 (schemes c)))) _
+      ∙ ap₂ (λ (x y : List ℕ). x ++ y) (entries-from c 0 (schemes c) ∙ ap (upTo (entryBytes c)) (sym eh))
+      (concat-append (λ f. f) (mapFrom labelFrame 0 (homeLabel ∷ returnLabel ∷ map (labelOf c) (numberedNodes c))) (map rowFrame (rows c))
+      ∙ ap₂ (λ (x y : List ℕ). x ++ y) labels-joined (concat-map (λ f. f) rowFrame (rows c) ∙ rows-parted)
+      ∙ append-assoc fixedBytes (upTo (nodeLabelBytes c) (size c)) (upTo (nodeRowsBytes c) (size c))))
 
   -- ---- lengths
-  pub entries-long : (n : ℕ) → length (upTo (entryText c) n) ≡ 23 * n
-  entries-long n = length-concat-range (entryText c) 23 0 n (λ k. length-frame (entryFrame (k + 1) (entry c (k + 1))) refl)
+  pub entries-long : (n : ℕ) → length (upTo (entryBytes c) n) ≡ 10 * n
+  entries-long n = length-concat-range (entryBytes c) 10 0 n (λ k. refl)
 
-  labels-length : (i n : ℕ) → length (concatMap (nodeLabelText c) (range i n)) ≡ 23 * count (numbered c) i n
+  labels-length : (i n : ℕ) → length (concatMap (nodeLabelBytes c) (range i n)) ≡ 10 * count (numbered c) i n
   labels-length i zero = unfold concatMap count in refl
   labels-length i (suc n) =
       go (numbered c i) refl (labels-length (suc i) n)
     where
-      go : (b : Bool) → numbered c i ≡ b → length (concatMap (nodeLabelText c) (range (suc i) n)) ≡ 23 * count (numbered c) (suc i) n
-          → length (concatMap (nodeLabelText c) (range i (suc n))) ≡ 23 * count (numbered c) i (suc n)
+      go : (b : Bool) → numbered c i ≡ b → length (concatMap (nodeLabelBytes c) (range (suc i) n)) ≡ 10 * count (numbered c) (suc i) n
+          → length (concatMap (nodeLabelBytes c) (range i (suc n))) ≡ 10 * count (numbered c) i (suc n)
       go true e ih =
-          let p : length (nodeLabelText c i) ≡ 23 =
-          ap (λ (x : List ℕ). length x) (yes-pick (numbered c i) (frameText (labelFrame (label c i) (labelOf c i))) [] e)
-          ∙ length-frame (labelFrame (label c i) (labelOf c i)) refl in
+          let p : length (nodeLabelBytes c i) ≡ 10 =
+          ap (λ (x : List ℕ). length x) (yes-pick (numbered c i) (labelFrame (label c i) (labelOf c i)) [] e) in
           let q : pick {A = ℕ} (numbered c i) 1 0 ≡ 1 = yes-pick (numbered c i) 1 0 e in
-          ap (λ (x : List ℕ). length x) (concat-cons (nodeLabelText c) i (range (suc i) n))
-          ∙ length-append (nodeLabelText c i) (concatMap (nodeLabelText c) (range (suc i) n))
+          ap (λ (x : List ℕ). length x) (concat-cons (nodeLabelBytes c) i (range (suc i) n))
+          ∙ length-append (nodeLabelBytes c i) (concatMap (nodeLabelBytes c) (range (suc i) n))
           ∙ omega (arith, p, q, ih, count-suc (numbered c) i n)
       go false e ih =
-          let p : length (nodeLabelText c i) ≡ 0 =
-          ap (λ (x : List ℕ). length x) (no-pick (numbered c i) (frameText (labelFrame (label c i) (labelOf c i))) [] e) in
+          let p : length (nodeLabelBytes c i) ≡ 0 =
+          ap (λ (x : List ℕ). length x) (no-pick (numbered c i) (labelFrame (label c i) (labelOf c i)) [] e) in
           let q : pick {A = ℕ} (numbered c i) 1 0 ≡ 0 = no-pick (numbered c i) 1 0 e in
-          ap (λ (x : List ℕ). length x) (concat-cons (nodeLabelText c) i (range (suc i) n))
-          ∙ length-append (nodeLabelText c i) (concatMap (nodeLabelText c) (range (suc i) n))
+          ap (λ (x : List ℕ). length x) (concat-cons (nodeLabelBytes c) i (range (suc i) n))
+          ∙ length-append (nodeLabelBytes c i) (concatMap (nodeLabelBytes c) (range (suc i) n))
           ∙ omega (arith, p, q, ih, count-suc (numbered c) i n)
 
-  pub labels-long : length (upTo (nodeLabelText c) (size c)) ≡ 23 * count (numbered c) 0 (size c)
+  pub labels-long : length (upTo (nodeLabelBytes c) (size c)) ≡ 10 * count (numbered c) 0 (size c)
   labels-long = labels-length 0 (size c)
 
-  rows-length : (rs : List Row) → length (rowsText rs) ≡ 23 * length rs
+  rows-length : (rs : List Row) → length (rowsBytes rs) ≡ 10 * length rs
   rows-length [] = unfold concatMap in refl
   rows-length (r ∷ rs) =
-      ap (λ (x : List ℕ). length x) (concat-cons frameText (rowFrame r) (map rowFrame rs)) ∙ length-append (frameText (rowFrame r)) (rowsText rs)
-      ∙ omega (arith, length-frame (rowFrame r) refl, rows-length rs, mul-suc 23 (length rs))
+      ap (λ (x : List ℕ). length x) (concat-cons rowFrame r rs) ∙ length-append (rowFrame r) (rowsBytes rs)
+      ∙ omega (arith, rows-length rs, mul-suc 10 (length rs))
 
-  pub rows-long : length (upTo (nodeRowsText c) (size c)) ≡ 23 * length (rows c)
-  rows-long = ap (λ (x : List ℕ). length x) (sym rows-text) ∙ rows-length (rows c)
+  pub rows-long : length (upTo (nodeRowsBytes c) (size c)) ≡ 10 * length (rows c)
+  rows-long = ap (λ (x : List ℕ). length x) (sym rows-parted) ∙ rows-length (rows c)
 
-fixed-long : length fixedText ≡ 46
-fixed-long =
-    length-append (frameText (labelFrame 0 homeLabel)) (frameText (labelFrame 1 returnLabel))
-    ∙ omega (arith, length-frame (labelFrame 0 homeLabel) refl, length-frame (labelFrame 1 returnLabel) refl)
+fixed-long : length fixedBytes ≡ 20
+fixed-long = refl
 
--- a text at the front of a buffer, written after the one behind it
-before : (out a b : List ℕ) → length a + length b ≤ length out → written (written out (length a) b) 0 a ≡ written out 0 (a ++ b)
-before out a b room =
-    let d : drop (length a) (written out (length a) b) ≡ b ++ drop (length a + length b) out =
-    unfold written in drop-at (take (length a) out) (b ++ drop (length a + length b) out) (length a) (simp length-take (omega arith)) in
-    let n : length a + length b ≡ length (a ++ b) = sym (length-append a b) in
-    written-front (written out (length a) b) a ∙ ap (λ (x : List ℕ). a ++ x) d
-    ∙ sym (append-assoc a b (drop (length a + length b) out))
-    ∙ ap (λ (k : ℕ). (a ++ b) ++ drop k out) n ∙ sym (written-front out (a ++ b))
-
--- four texts, each written where the one before ends, and then the one before them all
+-- four parts, each written where the one before ends, and then the one before them all
 chain : (out o₁ o₂ o₃ o₄ o₅ a b d e f : List ℕ) (p q r s : ℕ) → p ≡ length a → q ≡ p + length b → r ≡ q + length d
     → s ≡ r + length e → s + length f ≤ length out
     → o₁ ≡ written out p b → o₂ ≡ written o₁ q d → o₃ ≡ written o₂ r e → o₄ ≡ written o₃ s f
@@ -207,21 +194,21 @@ chain out o₁ o₂ o₃ o₄ o₅ a b d e f p q r s ep eq er es room e₁ e₂ 
     let w₃ : o₃ ≡ written out p ((b ++ d) ++ e) = written-more out p (b ++ d) e o₂ o₃ r (omega arith) (omega arith) w₂ e₃ in
     let w₄ : o₄ ≡ written out p (((b ++ d) ++ e) ++ f) = written-more out p ((b ++ d) ++ e) f o₃ o₄ s (omega arith) (omega arith) w₃ e₄ in
     let g : ((b ++ d) ++ e) ++ f ≡ b ++ (d ++ (e ++ f)) = simp append-assoc in
-    e₅ ∙ ap (λ (o : List ℕ). written o 0 a) (w₄ ∙ ap (λ (k : ℕ). written out k (((b ++ d) ++ e) ++ f)) ep)
-    ∙ before out a (((b ++ d) ++ e) ++ f) (omega arith) ∙ ap (λ (x : List ℕ). written out 0 (a ++ x)) g
+    let k : p ≡ 0 + length a = omega arith in
+    e₅ ∙ ap (λ (o : List ℕ). written o 0 a) (w₄ ∙ ap (λ (j : ℕ). written out j (((b ++ d) ++ e) ++ f)) k)
+    ∙ written-before out a (((b ++ d) ++ e) ++ f) 0 (omega arith) ∙ ap (λ (x : List ℕ). written out 0 (a ++ x)) g
 
 module _ (c : Chart) (highest own n : ℕ) (s : Sizes c highest own n) where
-  pub image-long : length (imageText (table c)) ≡ 23 * (3 + highest + own + n)
-  image-long =
+  pub bytes-long : length (tableBytes c) ≡ 10 * (3 + highest + own + n)
+  bytes-long =
       ap (λ (x : List ℕ). length x) (image-parts c highest own n (s .schemed) (s .owned) (s .rowed))
-      ∙ length-append (headerText highest (own + 1) n (handler c))
-      (upTo (entryText c) highest ++ (fixedText ++ (upTo (nodeLabelText c) (size c) ++ upTo (nodeRowsText c) (size c))))
+      ∙ length-append (headerBytes highest (own + 1) n (handler c))
+      (upTo (entryBytes c) highest ++ (fixedBytes ++ (upTo (nodeLabelBytes c) (size c) ++ upTo (nodeRowsBytes c) (size c))))
       ∙ omega (
         arith,
-        length-frame (15 ∷ highest ∷ (own + 1) ∷ n / 256 ∷ n % 256 ∷ handler c ∷ 0 ∷ 0 ∷ 0 ∷ 0 ∷ []) refl,
-        length-append (upTo (entryText c) highest) (fixedText ++ (upTo (nodeLabelText c) (size c) ++ upTo (nodeRowsText c) (size c))),
-        length-append fixedText (upTo (nodeLabelText c) (size c) ++ upTo (nodeRowsText c) (size c)),
-        length-append (upTo (nodeLabelText c) (size c)) (upTo (nodeRowsText c) (size c)),
+        length-append (upTo (entryBytes c) highest) (fixedBytes ++ (upTo (nodeLabelBytes c) (size c) ++ upTo (nodeRowsBytes c) (size c))),
+        length-append fixedBytes (upTo (nodeLabelBytes c) (size c) ++ upTo (nodeRowsBytes c) (size c)),
+        length-append (upTo (nodeLabelBytes c) (size c)) (upTo (nodeRowsBytes c) (size c)),
         fixed-long,
         entries-long c highest,
         labels-long c,
@@ -230,30 +217,32 @@ module _ (c : Chart) (highest own n : ℕ) (s : Sizes c highest own n) where
         s .rowed,
       )
 
-  -- the parts, the header last; so many rows as their text has frames
-  pub rows-put : (row end : ℕ) → end ≡ row + length (upTo (nodeRowsText c) (size c)) → (end - row) / 23 ≡ n
+  pub image-long : length (imageText (table c)) ≡ 23 * (3 + highest + own + n)
+  image-long = image-length (table c) ∙ omega (arith, bytes-length (table c), bytes-long)
+
+  -- the parts, the header last; so many rows as their bytes are frames
+  pub rows-put : (row end : ℕ) → end ≡ row + length (upTo (nodeRowsBytes c) (size c)) → (end - row) / 10 ≡ n
   rows-put row end e = omega (arith, rows-long c, s .rowed)
 
   module _ (out o₁ o₂ o₃ o₄ o₅ : List ℕ) (end m h : ℕ) (room : 23 * (3 + highest + own + n) ≤ length out) (em : m ≡ n)
       (eh : h ≡ handler c) where
-    pub image-put : o₁ ≡ written out 23 (upTo (entryText c) highest) → o₂ ≡ written o₁ (23 + 23 * highest) fixedText
-        → o₃ ≡ written o₂ (23 + 23 * highest + 46) (upTo (nodeLabelText c) (size c))
-        → Put o₃ (23 + 23 * highest + 46 + 23 * own) (upTo (nodeRowsText c) (size c)) end o₄
-        → o₅ ≡ written o₄ 0 (headerText highest (own + 1) m h) → Put out 0 (imageText (table c)) end o₅
-    image-put e₁ e₂ e₃ put e₅ =
-        let a : length (headerText highest (own + 1) n (handler c)) ≡ 23 =
-        length-frame (15 ∷ highest ∷ (own + 1) ∷ n / 256 ∷ n % 256 ∷ handler c ∷ 0 ∷ 0 ∷ 0 ∷ 0 ∷ []) refl in
-        let b : length (upTo (entryText c) highest) ≡ 23 * highest = entries-long c highest in
-        let d : length (upTo (nodeLabelText c) (size c)) ≡ 23 * own = labels-long c ∙ ap (λ (k : ℕ). 23 * k) (sym (s .owned)) in
-        let e : length (upTo (nodeRowsText c) (size c)) ≡ 23 * n = rows-long c ∙ ap (λ (k : ℕ). 23 * k) (sym (s .rowed)) in
+    pub table-put : o₁ ≡ written out 10 (upTo (entryBytes c) highest) → o₂ ≡ written o₁ (10 + 10 * highest) fixedBytes
+        → o₃ ≡ written o₂ (10 + 10 * highest + 20) (upTo (nodeLabelBytes c) (size c))
+        → Put o₃ (10 + 10 * highest + 20 + 10 * own) (upTo (nodeRowsBytes c) (size c)) end o₄
+        → o₅ ≡ written o₄ 0 (headerBytes highest (own + 1) m h) → Put out 0 (tableBytes c) end o₅
+    table-put e₁ e₂ e₃ put e₅ =
+        let a : length (headerBytes highest (own + 1) n (handler c)) ≡ 10 = refl in
+        let b : length (upTo (entryBytes c) highest) ≡ 10 * highest = entries-long c highest in
+        let d : length (upTo (nodeLabelBytes c) (size c)) ≡ 10 * own = labels-long c ∙ ap (λ (k : ℕ). 10 * k) (sym (s .owned)) in
+        let e : length (upTo (nodeRowsBytes c) (size c)) ≡ 10 * n = rows-long c ∙ ap (λ (k : ℕ). 10 * k) (sym (s .rowed)) in
         record {
-          ends = omega (arith, put .ends, image-long);
+          ends = omega (arith, put .ends, bytes-long);
           holds =
-              chain out o₁ o₂ o₃ o₄ o₅ (headerText highest (own + 1) n (handler c)) (upTo (entryText c) highest) fixedText
-              (upTo (nodeLabelText c) (size c)) (upTo (nodeRowsText c) (size c))
-              23 (23 + 23 * highest) (23 + 23 * highest + 46) (23 + 23 * highest + 46 + 23 * own)
+              chain out o₁ o₂ o₃ o₄ o₅ (headerBytes highest (own + 1) n (handler c)) (upTo (entryBytes c) highest) fixedBytes
+              (upTo (nodeLabelBytes c) (size c)) (upTo (nodeRowsBytes c) (size c))
+              10 (10 + 10 * highest) (10 + 10 * highest + 20) (10 + 10 * highest + 20 + 10 * own)
               (omega arith) (omega arith) (omega (arith, fixed-long)) (omega arith) (omega (arith, fixed-long)) e₁ e₂ e₃ (put .holds)
-              (e₅ ∙ ap₂ (λ (k x : ℕ). written o₄ 0 (headerText highest (own + 1) k x)) em eh)
+              (e₅ ∙ ap₂ (λ (k x : ℕ). written o₄ 0 (headerBytes highest (own + 1) k x)) em eh)
               ∙ ap (written out 0) (sym (image-parts c highest own n (s .schemed) (s .owned) (s .rowed)));
         }
 

@@ -4,12 +4,20 @@ use mathlib.Core.List.{List}
 use lib.Dec.{ltb}
 use lib.ListN.{length}
 use Rattle.lists.specs.Pick.{pick}
+use Rattle.lists.specs.Sequences.{concatMap}
 use Rattle.frames.specs.Verdict.{when}
 use Rattle.frames.specs.Answer.{Lent, lent}
 use Rattle.charts.specs.Chart.{Chart}
-use Rattle.image.specs.Image.{imageText}
+use Rattle.image.specs.Image.{imageFrames, imageText}
 use Rattle.chart_rows.specs.Rows.{rows}
 use Rattle.translator.specs.Table.{table}
+
+-- the bytes of frames, and of those of a chart's table
+abbrev pub joined : List (List ℕ) → List ℕ
+joined = concatMap (λ f. f)
+
+abbrev pub tableBytes : Chart → List ℕ
+tableBytes c = joined (imageFrames (table c))
 
 -- the number of the refusal for a chart with so many frames before its rows and room for so many characters, or 0
 abbrev pub sizeRefusal : Chart → ℕ → ℕ → ℕ

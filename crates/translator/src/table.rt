@@ -2,6 +2,7 @@
 use chart_rows::bound_rows;
 use chart_rows::count_rows;
 use chart_rows::note_nodes;
+use chart_text::spread;
 use charts::handler_scheme;
 use frames::Answer;
 use frames::refused;
@@ -20,7 +21,7 @@ ghost use Rattle.label_text.specs.Parts.{Put};
 ghost use Rattle.translator.specs.Table.{table};
 ghost use Rattle.chart_labels.specs.Ready.{Ready};
 ghost use Rattle.translator.specs.Ready.{ImageRoom};
-ghost use Rattle.translator.specs.Parts.{sizeRefusal, imageLent};
+ghost use Rattle.translator.specs.Parts.{tableBytes, sizeRefusal, imageLent};
 
 // 10, or 16 where there is no room for so many frames before the rows and for the rows, or 0. Where a bound on the rows
 // excludes both, the paths are not walked to count them.
@@ -45,21 +46,32 @@ fn size_refusal(records: &[u8], notes: &[u8], before: usize, room: usize) -> u8
     0
 }
 
-// `own` nodes have a label of their own. The header comes last: it has the number of rows.
+// The bytes of the image's frames. `own` nodes have a label of their own. The header comes last: it has the number of rows.
+fn put_table(records: &[u8], notes: &[u8], highest: u8, own: usize, out: &mut [u8]) -> usize
+    requires { ⌜ ImageRoom (now records) (now notes) highest own (now out) ⌝ }
+    ensures { λ r. ⌜ Put (now (out .entry)) 0 (tableBytes (now (records .entry))) r (now (out .exit)) ⌝ }
+{
+    put_entries(records, notes, highest, out, 10);
+    let fixed = 10 + 10 * (highest as usize);
+    put_fixed(out, fixed);
+    let first = fixed + 20;
+    put_labels(records, notes, out, first);
+    let row = first + 10 * own;
+    let end = put_rows(records, notes, out, row);
+    let handler = handler_scheme(records);
+    put_header(out, highest, (own + 1) as u8, (end - row) / 10, handler);
+    end
+}
+
+// The bytes first, and then all of them made into text in one pass, which the compiler makes of many characters at once.
 fn put_image(records: &[u8], notes: &[u8], highest: u8, own: usize, out: &mut [u8]) -> usize
     requires { ⌜ ImageRoom (now records) (now notes) highest own (now out) ⌝ }
     ensures { λ r. ⌜ Put (now (out .entry)) 0 (imageText (table (now (records .entry)))) r (now (out .exit)) ⌝ }
 {
-    put_entries(records, notes, highest, out, 23);
-    let fixed = 23 + 23 * (highest as usize);
-    put_fixed(out, fixed);
-    let first = fixed + 46;
-    put_labels(records, notes, out, first);
-    let row = first + 23 * own;
-    let end = put_rows(records, notes, out, row);
-    let handler = handler_scheme(records);
-    put_header(out, highest, (own + 1) as u8, (end - row) / 23, handler);
-    end
+    let end = put_table(records, notes, highest, own, out);
+    let n = end / 10;
+    spread(out, n);
+    23 * n
 }
 
 pub fn write_image(records: &[u8], highest: u8, out: &mut [u8]) -> Answer

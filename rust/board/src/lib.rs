@@ -10,7 +10,7 @@ use std::io::{Read, Write};
 use std::process::{Child, ChildStdin, ChildStdout, Command, Stdio};
 
 pub use count::{Count, Counting};
-use interface::{Answer, Library, Meaning, State, Ticked};
+use interface::{Answer, Cause, Library, Meaning, State, Ticked};
 pub use message::Call;
 use message::{Message, Told, HEAD};
 
@@ -133,6 +133,28 @@ impl<'a> Board<'a> {
         Some((told.answer(), message.state))
     }
 
+    /// Row and mask come back as the message's masks, the bit as its code.
+    fn told_cause(&self, image: &[u8], state: &State, word: u16) -> Option<Cause> {
+        let mut message = Message::new(Call::Cause, image);
+        (message.state, message.words) = (*state, vec![word]);
+        (message.masks, message.codes) = (vec![u32::MAX; 2], vec![u8::MAX]);
+        let told = self.made(&mut message)?;
+        assert_eq!(message.state, *state, "a cause changed the state");
+        let number = |at: usize| u16::try_from(message.masks[at]).expect("it was written");
+        Some(Cause { answer: told.answer(), row: number(0), mask: number(1), bit: message.codes[0] })
+    }
+
+    /// Both lists go to the board and come back as its output, the firsts before the counts; the value says how many are firsts.
+    fn listed(&self, image: &[u8], firsts: &mut [u16], counts: &mut [u16]) -> Option<Answer> {
+        let mut message = Message::new(Call::ListRows, image);
+        message.value = u32::try_from(firsts.len()).expect("buffers are short");
+        message.output = firsts.iter().chain(&*counts).flat_map(|number| number.to_le_bytes()).collect();
+        let told = self.made(&mut message)?;
+        let numbers = message.output.chunks_exact(2).map(|bytes| u16::from_le_bytes([bytes[0], bytes[1]]));
+        firsts.iter_mut().chain(counts).zip(numbers).for_each(|(place, number)| *place = number);
+        Some(told.answer())
+    }
+
     fn ticked(&self, call: Call, input: &[u8], state: &mut State, word: u16) -> Option<Ticked> {
         let (mut masks, mut codes) = ([0], [0]);
         let (answer, after) = self.ran(call, input, state, &[word], &mut masks, &mut codes)?;
@@ -185,6 +207,14 @@ impl Library for Board<'_> {
 
     fn tick(&self, image: &[u8], state: &mut State, word: u16) -> Ticked {
         self.ticked(Call::Tick, image, state, word).unwrap_or_else(|| self.instead.tick(image, state, word))
+    }
+
+    fn cause(&self, image: &[u8], state: &State, word: u16) -> Cause {
+        self.told_cause(image, state, word).unwrap_or_else(|| self.instead.cause(image, state, word))
+    }
+
+    fn list_rows(&self, image: &[u8], firsts: &mut [u16], counts: &mut [u16]) -> Answer {
+        self.listed(image, firsts, counts).unwrap_or_else(|| self.instead.list_rows(image, firsts, counts))
     }
 
     fn prepare(&self, image: &[u8], table: &mut [u8]) -> Answer {

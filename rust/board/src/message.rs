@@ -14,6 +14,8 @@ pub enum Call {
     Fresh,
     Run,
     Tick,
+    Cause,
+    ListRows,
     Prepare,
     LiveRun,
     LiveTick,

@@ -12,7 +12,7 @@ use reference::{fresh_state, Reference};
 const CASES: u64 = 20_000;
 
 /// The bytes of stack that each call may take, as controller/README.md states them.
-const STACK: [(Call, usize); 12] = [
+const STACK: [(Call, usize); 14] = [
     (Call::ReadChart, 4_608),
     (Call::WriteChart, 2_048),
     (Call::Translate, 8_192),
@@ -21,9 +21,11 @@ const STACK: [(Call, usize); 12] = [
     (Call::Fresh, 256),
     (Call::Run, 14_336),
     (Call::Tick, 14_336),
+    (Call::Cause, 14_336),
+    (Call::ListRows, 14_336),
     (Call::Prepare, 14_336),
-    (Call::LiveRun, 768),
-    (Call::LiveTick, 512),
+    (Call::LiveRun, 1_024),
+    (Call::LiveTick, 768),
     (Call::Meaning, 256),
 ];
 

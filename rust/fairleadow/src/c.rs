@@ -96,6 +96,27 @@ extern "C" {
         index: *mut usize,
         count: *mut usize,
     ) -> u8;
+    pub fn fairleadow_cause(
+        image: *const u8,
+        image_len: usize,
+        state: *const State,
+        word: u16,
+        row: *mut u16,
+        mask: *mut u16,
+        bit: *mut u8,
+        index: *mut usize,
+        count: *mut usize,
+    ) -> u8;
+    pub fn fairleadow_list_rows(
+        image: *const u8,
+        image_len: usize,
+        firsts: *mut u16,
+        firsts_len: usize,
+        counts: *mut u16,
+        counts_len: usize,
+        index: *mut usize,
+        count: *mut usize,
+    ) -> u8;
     pub fn fairleadow_prepare(
         image: *const u8,
         image_len: usize,

@@ -1,7 +1,7 @@
 //! Safe calls of the C functions. Each borrows its buffers for the call: no reference is null, and what is borrowed for
 //! writing overlaps nothing else, which is all that the header asks.
 
-use interface::{Answer, Library, Meaning, State, Ticked};
+use interface::{Answer, Cause, Library, Meaning, State, Ticked};
 
 use crate::c;
 
@@ -160,6 +160,40 @@ impl Library for Proved {
 
     fn tick(&self, image: &[u8], state: &mut State, word: u16) -> Ticked {
         ticked(c::fairleadow_tick, image, state, word)
+    }
+
+    fn cause(&self, image: &[u8], state: &State, word: u16) -> Cause {
+        let kept = to_c(state);
+        let (mut row, mut mask, mut bit) = (u16::MAX, u16::MAX, u8::MAX);
+        let answer = answered(|index, count| unsafe {
+            c::fairleadow_cause(
+                image.as_ptr(),
+                image.len(),
+                &kept,
+                word,
+                &mut row,
+                &mut mask,
+                &mut bit,
+                index,
+                count,
+            )
+        });
+        Cause { answer, row, mask, bit }
+    }
+
+    fn list_rows(&self, image: &[u8], firsts: &mut [u16], counts: &mut [u16]) -> Answer {
+        answered(|index, count| unsafe {
+            c::fairleadow_list_rows(
+                image.as_ptr(),
+                image.len(),
+                firsts.as_mut_ptr(),
+                firsts.len(),
+                counts.as_mut_ptr(),
+                counts.len(),
+                index,
+                count,
+            )
+        })
     }
 
     fn prepare(&self, image: &[u8], table: &mut [u8]) -> Answer {

@@ -5,7 +5,7 @@
 use std::arch::asm;
 use std::ffi::c_void;
 
-use fairleadow::{c, TABLE};
+use fairleadow::{c, LABELS, TABLE};
 use reference::entry::translated;
 use reference::frames::{text_of, Frame, CHART_TEXT, IMAGE_TEXT};
 use reference::generate::{charts, Random};
@@ -147,6 +147,46 @@ macro_rules! tick_job {
     };
 }
 
+extern "C" fn cause(job: &mut Ticks) {
+    let (mut row, mut mask, mut bit, mut index, mut count) = (0, 0, 0, 0, 0);
+    job.number = unsafe {
+        c::fairleadow_cause(
+            job.ground.as_ptr(),
+            job.ground.len(),
+            &job.state,
+            job.words[0],
+            &mut row,
+            &mut mask,
+            &mut bit,
+            &mut index,
+            &mut count,
+        )
+    };
+}
+
+struct Listing {
+    image: Vec<u8>,
+    firsts: [u16; LABELS],
+    counts: [u16; LABELS],
+    number: u8,
+}
+
+extern "C" fn list_rows(job: &mut Listing) {
+    let (mut index, mut count) = (0, 0);
+    job.number = unsafe {
+        c::fairleadow_list_rows(
+            job.image.as_ptr(),
+            job.image.len(),
+            job.firsts.as_mut_ptr(),
+            LABELS,
+            job.counts.as_mut_ptr(),
+            LABELS,
+            &mut index,
+            &mut count,
+        )
+    };
+}
+
 run_job!(run, c::fairleadow_run);
 run_job!(live_run, c::fairleadow_live_run);
 tick_job!(tick, c::fairleadow_tick);
@@ -239,6 +279,40 @@ fn a_run_and_a_tick_fit_beside_both_texts() {
     let [run, tick] = deepest(&worst_images(), run, tick);
     println!("run: {run} bytes of stack, tick: {tick}");
     assert!(CHART_TEXT + IMAGE_TEXT + run.max(tick) < MEMORY, "run takes {run}, tick {tick}");
+}
+
+/// Of a tick that takes a row and of one that takes none.
+#[test]
+fn a_cause_fits_beside_both_texts() {
+    let (mut deepest, mut answered) = (0, [false; 2]);
+    for image in worst_images() {
+        let mut job = ticks(image);
+        for _ in 0..3 {
+            deepest = deepest.max(depth(&mut job, cause));
+            assert!(matches!(job.number, 0 | 21));
+            answered[usize::from(job.number == 21)] = true;
+            tick(&mut job);
+        }
+    }
+    println!("cause: {deepest} bytes of stack");
+    assert_eq!(answered, [true; 2]);
+    assert!(CHART_TEXT + IMAGE_TEXT + deepest < MEMORY, "cause takes {deepest} bytes of stack");
+}
+
+#[test]
+fn a_list_of_rows_fits_beside_both_texts() {
+    let mut deepest = 0;
+    for image in worst_images() {
+        let mut job = Listing { image, firsts: [0; LABELS], counts: [0; LABELS], number: 0 };
+        deepest = deepest.max(depth(&mut job, list_rows));
+        assert_eq!(job.number, 0);
+    }
+    println!("list of rows: {deepest} bytes of stack");
+    let lists = 4 * LABELS;
+    assert!(
+        CHART_TEXT + IMAGE_TEXT + lists + deepest < MEMORY,
+        "a list of rows takes {deepest} bytes of stack"
+    );
 }
 
 #[test]

@@ -2,7 +2,7 @@
 
 use fairleadow::c;
 use reference::entry::translated;
-use reference::frames::text_of;
+use reference::frames::{text_of, Frame};
 use reference::samples::chart_p;
 
 /// The image of chart P.
@@ -87,6 +87,43 @@ fn a_refused_tick_leaves_the_state_the_mask_and_the_code() {
     };
     assert_eq!((number, index, count, mask, code), (17, 0, 0, 123, 45));
     assert_eq!(state, kept);
+}
+
+/// A function of scheme 1 calls scheme 2, which writes 1; on a 1 an operation follows.
+const FUNCTION: [Frame; 7] = [
+    [0, 1, 0, 1, 0, 0, 0, 0, 0, 0],
+    [4, 1, 2, 2, 3, 0, 0, 0, 0, 0],
+    [1, 1, 0, 0, 0, 0, 0, 0, 0, 0],
+    [2, 1, 0, 2, 0, 0, 0, 0, 0, 1],
+    [0, 2, 0, 5, 0, 0, 0, 0, 0, 0],
+    [2, 2, 0, 6, 0, 2, 0, 0, 0, 0],
+    [1, 2, 0, 0, 0, 0, 0, 0, 0, 0],
+];
+
+#[test]
+fn a_cause_reads_every_byte_but_0_as_a_1() {
+    let image = translated(&text_of(&FUNCTION)).expect("a valid chart");
+    let mut state = fresh(2);
+    state.depth = 2;
+    state.places[..2].copy_from_slice(&[2, 1]);
+    for (byte, wanted) in [(0, (0, 0, 0, 0)), (1, (0, 1, 0, 1)), (7, (0, 1, 0, 1)), (255, (0, 1, 0, 1))] {
+        state.results[1] = byte;
+        let (mut row, mut mask, mut bit, mut index, mut count) = (9, 9, 9, 9, 9);
+        let number = unsafe {
+            c::fairleadow_cause(
+                image.as_ptr(),
+                image.len(),
+                &state,
+                0xFFFF,
+                &mut row,
+                &mut mask,
+                &mut bit,
+                &mut index,
+                &mut count,
+            )
+        };
+        assert_eq!(((number, row, mask, bit), index, count), (wanted, 0, 0), "{byte}");
+    }
 }
 
 #[test]

@@ -30,6 +30,16 @@ pub struct Ticked {
     pub code: u8,
 }
 
+/// What made a tick go where it went: the row taken, by its number among the image's rows, from 0; a mask of conditions that decide
+/// on it; and the result bit of the scheme called where the label is a function call's, else 2. With a refusal all three are 0.
+#[derive(Clone, Copy, Debug, PartialEq, Eq)]
+pub struct Cause {
+    pub answer: Answer,
+    pub row: u16,
+    pub mask: u16,
+    pub bit: u8,
+}
+
 /// What a tick's code stands for; a call has the scheme called, a Drop is a call that finds the stack full and starts the
 /// handler instead, and Unknown is a code that no tick has.
 #[derive(Clone, Copy, Debug, PartialEq, Eq)]
@@ -44,7 +54,7 @@ pub enum Meaning {
 }
 
 /// The entry points of papers 01 and 02, and those for a controller that keeps an image prepared. Counts are records, characters,
-/// bytes of a table, ticks and places; an accepted image and a fresh state count 0.
+/// labels, bytes of a table, ticks and places; an accepted image, a fresh state and a cause count 0.
 pub trait Library {
     /// Chart lines to node records of ten bytes each. Tries 1 to 9, with 19 after 5, and 16; counts records.
     fn read_chart(&self, text: &[u8], out: &mut [u8]) -> Answer;
@@ -83,6 +93,14 @@ pub trait Library {
         *state = after;
         Ticked { answer, mask: masks[0], code: codes[0] }
     }
+
+    /// The cause of the tick that a state would make: every word that agrees with this one on the mask takes the same row. Tries
+    /// what the image check tries, then 15, 21 and 18; counts 0.
+    fn cause(&self, image: &[u8], state: &State, word: u16) -> Cause;
+
+    /// For each label of an image, from 0 on, the number of its first row among the image's rows, from 0, and how many rows it has;
+    /// 0 and 0 where it has none. Tries what the image check tries, then 16, for either buffer; counts labels.
+    fn list_rows(&self, image: &[u8], firsts: &mut [u16], counts: &mut [u16]) -> Answer;
 
     /// An image's lines to the table that live runs and live ticks take. Tries what the image check tries, then 16;
     /// counts bytes.

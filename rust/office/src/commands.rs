@@ -4,3 +4,4 @@ pub mod draw;
 pub mod options;
 pub mod page;
 pub mod trace;
+pub mod why;

@@ -1,4 +1,4 @@
-//! The office program: charts composed, shown, checked, traced and drawn. Every answer comes from the proved library.
+//! The office program: charts composed, shown, checked, traced, drawn and asked about. Every answer comes from the proved library.
 
 pub mod calls;
 pub mod chart;
@@ -9,6 +9,7 @@ pub mod compose;
 pub mod draw;
 pub mod escape;
 pub mod explain;
+pub mod image;
 pub mod kind;
 pub mod marking;
 pub mod names;
@@ -19,4 +20,5 @@ pub mod plan;
 pub mod problem;
 pub mod source;
 pub mod trace;
+pub mod why;
 pub mod wording;

@@ -8,4 +8,4 @@ pub mod words;
 
 pub use arcs::Arc;
 pub use coverage::Coverage;
-pub use ticks::{trace, Happening, Stopped, Tick, Trace};
+pub use ticks::{fresh, trace, Happening, Stopped, Tick, Trace};

@@ -43,7 +43,7 @@ fn executable(path: PathBuf, text: &str) {
     fs::set_permissions(&path, fs::Permissions::from_mode(0o755)).expect("a file of our own");
 }
 
-/// A repository of four crates with a chart, the script and the stand-ins.
+/// A repository of the four crates of a library, and one above it, with a chart, the script and the stand-ins.
 fn repository(name: &str) -> PathBuf {
     let root = Path::new(env!("CARGO_TARGET_TMPDIR")).join(name);
     let _ = fs::remove_dir_all(&root);
@@ -53,7 +53,7 @@ fn repository(name: &str) -> PathBuf {
     executable(root.join("tools/rt"), RT);
     executable(root.join("tools/cargo"), CARGO);
     executable(root.join("dry_run"), &fs::read_to_string(SCRIPT).expect("the script"));
-    let lists = "lists:\n# text\nframes: lists\ncharts: lists frames\nfairleadow: lists frames charts\n";
+    let lists = "lists:\n# text\nframes: lists\ncharts: frames\nfairleadow: lists charts\nbench: lists fairleadow\n";
     fs::write(root.join("crates.txt"), lists).expect("a folder that can be written");
     fs::write(root.join("a.chart"), "").expect("a folder that can be written");
     root

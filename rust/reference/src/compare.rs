@@ -3,6 +3,7 @@
 
 mod alike;
 mod live;
+mod rows;
 mod ticks;
 
 use std::collections::BTreeMap;
@@ -138,7 +139,7 @@ type Call<'a> = fn(&(dyn Library + 'a), &[u8], &mut [u8]) -> Answer;
 
 impl<'a> Case<'a> {
     fn one(&mut self) -> Compared {
-        match self.random.below(15) {
+        match self.random.below(17) {
             0 => self.read_chart(),
             1 => self.write_chart(),
             2 => self.translate().and_then(|()| self.places()),
@@ -151,6 +152,8 @@ impl<'a> Case<'a> {
             9 | 10 => self.live_run(),
             11 | 12 => self.live_tick(),
             13 => self.runs("live_runs", true),
+            14 => self.cause(),
+            15 => self.list_rows(),
             _ => self.mixture(),
         }
     }

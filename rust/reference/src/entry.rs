@@ -1,6 +1,7 @@
 //! The entry points: which refusals each tries, in order, and what it writes.
 
 use crate::answer::{answered, refuse_if, Answer, Refusal};
+use crate::cause::{cause_of, Found};
 use crate::chart::Chart;
 use crate::check::chart_of;
 use crate::frames::{frames_of, text_of, Frame, CHART_TEXT, IMAGE_TEXT, RECORDS};
@@ -9,13 +10,15 @@ use crate::live::Held;
 use crate::machine::{self, Advanced};
 use crate::places::longest_chain;
 use crate::prepare::table_of;
+use crate::row_list::row_list;
 use crate::state::{fresh_state, State};
 use crate::translator;
+use interface::Cause;
 
 /// Writes all of it, or refuses with 16 and writes nothing.
-fn put(bytes: &[u8], out: &mut [u8]) -> Result<(), Refusal> {
-    refuse_if(16, out.len() < bytes.len())?;
-    out[..bytes.len()].copy_from_slice(bytes);
+fn put<T: Copy>(all: &[T], out: &mut [T]) -> Result<(), Refusal> {
+    refuse_if(16, out.len() < all.len())?;
+    out[..all.len()].copy_from_slice(all);
     Ok(())
 }
 
@@ -146,6 +149,25 @@ pub fn run_ticks(
         }
     }
     (Answer::Done(words.len()), state)
+}
+
+/// What the image check tries, then 15, 21 and 18; counts 0.
+pub fn cause(image: &[u8], state: &State, word: u16) -> Cause {
+    match image_for(image, state).and_then(|image| cause_of(&image, state, word)) {
+        Ok(Found { row, mask, bit }) => Cause { answer: Answer::Done(0), row: row as u16, mask, bit },
+        Err(refusal) => Cause { answer: refusal.into(), row: 0, mask: 0, bit: 0 },
+    }
+}
+
+/// Refusals 1 to 3, 11 to 13 and 16; counts labels.
+pub fn list_rows(image: &[u8], firsts: &mut [u16], counts: &mut [u16]) -> Answer {
+    answered(image_from_text(image).and_then(|image| {
+        let (all_firsts, all_counts) = row_list(&image);
+        refuse_if(16, counts.len() < all_counts.len())?;
+        put(&all_firsts, firsts)?;
+        put(&all_counts, counts)?;
+        Ok(image.labels.len())
+    }))
 }
 
 /// Refusals 1 to 3, 11 to 13 and 16; counts bytes.

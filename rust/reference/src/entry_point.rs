@@ -3,9 +3,9 @@
 
 use crate::answer::Answer;
 use crate::frames::{text_of, Frame};
-use crate::library::{Library, Meaning, Ticked};
+use crate::library::{Cause, Library, Meaning, Ticked};
 use crate::state::State;
-use interface::{CHART_TEXT, IMAGE_TEXT, RECORDS, TABLE};
+use interface::{CHART_TEXT, IMAGE_TEXT, LABELS, RECORDS, TABLE};
 
 #[derive(Clone, Copy, Debug, PartialEq, Eq)]
 pub enum EntryPoint {
@@ -17,6 +17,8 @@ pub enum EntryPoint {
     Prepare,
     Tick,
     Run,
+    Cause,
+    ListRows,
     LiveTick,
     LiveRun,
     Fresh,
@@ -45,15 +47,17 @@ impl Input {
 #[derive(Debug, PartialEq, Eq)]
 pub struct Made {
     pub answer: Answer,
+    pub cause: Option<Cause>,
     pub meaning: Option<Meaning>,
     pub bytes: Vec<u8>,
+    pub numbers: Vec<u16>,
     pub masks: Vec<u32>,
     pub codes: Vec<u8>,
     pub state: State,
 }
 
 impl EntryPoint {
-    pub const ALL: [EntryPoint; 12] = [
+    pub const ALL: [EntryPoint; 14] = [
         EntryPoint::ReadChart,
         EntryPoint::WriteChart,
         EntryPoint::Translate,
@@ -62,6 +66,8 @@ impl EntryPoint {
         EntryPoint::Prepare,
         EntryPoint::Tick,
         EntryPoint::Run,
+        EntryPoint::Cause,
+        EntryPoint::ListRows,
         EntryPoint::LiveTick,
         EntryPoint::LiveRun,
         EntryPoint::Fresh,
@@ -78,6 +84,8 @@ impl EntryPoint {
             EntryPoint::Prepare => "prepare",
             EntryPoint::Tick => "tick",
             EntryPoint::Run => "run",
+            EntryPoint::Cause => "cause",
+            EntryPoint::ListRows => "list_rows",
             EntryPoint::LiveTick => "live_tick",
             EntryPoint::LiveRun => "live_run",
             EntryPoint::Fresh => "fresh",
@@ -101,6 +109,15 @@ impl EntryPoint {
             EntryPoint::Run => {
                 ran(words.len(), |masks, codes| library.run(&text(), state, words, masks, codes))
             }
+            EntryPoint::Cause => {
+                let cause = library.cause(&text(), state, words[0]);
+                Made { cause: Some(cause), ..answered(cause.answer) }
+            }
+            EntryPoint::ListRows => {
+                let (mut firsts, mut counts) = (vec![0xAAAA; LABELS], vec![0xAAAA; LABELS]);
+                let answer = library.list_rows(&text(), &mut firsts, &mut counts);
+                Made { numbers: [firsts, counts].concat(), ..answered(answer) }
+            }
             EntryPoint::LiveRun => {
                 ran(words.len(), |masks, codes| library.live_run(&bytes(), state, words, masks, codes))
             }
@@ -117,8 +134,8 @@ impl EntryPoint {
 }
 
 fn answered(answer: Answer) -> Made {
-    let (bytes, masks, codes) = (Vec::new(), Vec::new(), Vec::new());
-    Made { answer, meaning: None, bytes, masks, codes, state: State::NONE }
+    let (bytes, numbers, masks, codes) = (Vec::new(), Vec::new(), Vec::new(), Vec::new());
+    Made { answer, cause: None, meaning: None, bytes, numbers, masks, codes, state: State::NONE }
 }
 
 fn written(room: usize, call: impl FnOnce(&mut [u8]) -> Answer) -> Made {

@@ -3,6 +3,7 @@
 //! the fast one.
 
 pub mod answer;
+pub mod cause;
 pub mod chart;
 pub mod check;
 pub mod codes;
@@ -20,6 +21,7 @@ pub mod machine;
 pub mod places;
 pub mod prepare;
 pub mod programs;
+pub mod row_list;
 pub mod samples;
 pub mod show;
 pub mod state;
@@ -27,5 +29,5 @@ pub mod translator;
 pub mod walk;
 
 pub use answer::Answer;
-pub use library::{Library, Meaning, Reference, Ticked};
+pub use library::{Cause, Library, Meaning, Reference, Ticked};
 pub use state::{fresh_state, State};

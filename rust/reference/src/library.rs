@@ -1,7 +1,7 @@
 //! The reference as a library.
 
 use crate::{codes, entry};
-pub use interface::{Answer, Library, Meaning, State, Ticked};
+pub use interface::{Answer, Cause, Library, Meaning, State, Ticked};
 
 /// The reference itself.
 pub struct Reference;
@@ -40,6 +40,14 @@ impl Library for Reference {
         codes: &mut [u8],
     ) -> (Answer, State) {
         entry::run(image, state, words, masks, codes)
+    }
+
+    fn cause(&self, image: &[u8], state: &State, word: u16) -> Cause {
+        entry::cause(image, state, word)
+    }
+
+    fn list_rows(&self, image: &[u8], firsts: &mut [u16], counts: &mut [u16]) -> Answer {
+        entry::list_rows(image, firsts, counts)
     }
 
     fn prepare(&self, image: &[u8], table: &mut [u8]) -> Answer {

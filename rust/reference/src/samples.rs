@@ -104,6 +104,22 @@ pub fn most_rows() -> Vec<Frame> {
     records
 }
 
+/// 200 labels and 1,024 rows: some operations lead on through conditions, the others to the next operation.
+pub fn many_rows() -> Vec<Frame> {
+    let before_conditions = [9, 8, 5, 4, 3, 2, 1, 1, 1, 1];
+    let mut records = Vec::new();
+    begin(&mut records, 1);
+    for exponent in before_conditions {
+        operation(&mut records, 1, 0);
+        conditions(&mut records, 1, 0..exponent);
+    }
+    for _ in before_conditions.len()..198 {
+        operation(&mut records, 1, 0);
+    }
+    end(&mut records, 1);
+    records
+}
+
 /// Sixteen schemes and 256 nodes. Each scheme but the last calls the next one as a function and then by an operation.
 pub fn most_schemes() -> Vec<Frame> {
     let mut records = Vec::new();
@@ -275,6 +291,7 @@ mod tests {
         assert_eq!(frame_count(&operations(254)), 1 + 1 + 256 + 254);
         assert_eq!(frame_count(&one_label()), 1 + 1 + 3 + 1024);
         assert_eq!(frame_count(&most_rows()), 1 + 1 + 229 + 1024);
+        assert_eq!(frame_count(&many_rows()), 1 + 1 + 200 + 1024);
         assert_eq!(most_schemes().len(), 256);
         assert!(frame_count(&most_schemes()) > 200);
         for before in [Before::Begin, Before::Operation, Before::Function] {

@@ -4,7 +4,7 @@
 mod common;
 
 use common::is_found;
-use reference::{Answer, Library, Reference, State};
+use reference::{Answer, Cause, Library, Reference, State};
 
 /// Which character is read in the place of each.
 type Reading = fn(u8) -> u8;
@@ -29,7 +29,7 @@ impl Misreading {
 }
 
 impl Library for Misreading {
-    as_the_reference!(write_chart, fresh, live_run, meaning);
+    as_the_reference!(write_chart, live_run, value_calls);
 
     fn read_chart(&self, text: &[u8], out: &mut [u8]) -> Answer {
         Reference.read_chart(&self.read(text), out)
@@ -56,6 +56,14 @@ impl Library for Misreading {
         codes: &mut [u8],
     ) -> (Answer, State) {
         Reference.run(&self.read(image), state, words, masks, codes)
+    }
+
+    fn cause(&self, image: &[u8], state: &State, word: u16) -> Cause {
+        Reference.cause(&self.read(image), state, word)
+    }
+
+    fn list_rows(&self, image: &[u8], firsts: &mut [u16], counts: &mut [u16]) -> Answer {
+        Reference.list_rows(&self.read(image), firsts, counts)
     }
 
     fn prepare(&self, image: &[u8], table: &mut [u8]) -> Answer {

@@ -101,17 +101,7 @@ fn counted(fault: Fault, chart: Chart) -> Result<usize, Refusal> {
 }
 
 impl Library for Faulty {
-    as_the_reference!(
-        read_chart,
-        write_chart,
-        translate,
-        check_image,
-        fresh,
-        run,
-        prepare,
-        live_run,
-        meaning
-    );
+    as_the_reference!(read_chart, write_chart, translate, image_calls, run_calls, value_calls);
 
     fn places(&self, text: &[u8]) -> Answer {
         let answer = answered(chart_from_text(text).and_then(|chart| counted(self.0, chart)));

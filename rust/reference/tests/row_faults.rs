@@ -74,7 +74,7 @@ impl Faulty {
 }
 
 impl Library for Faulty {
-    as_the_reference!(read_chart, write_chart, translate, places, check_image, fresh, prepare, meaning);
+    as_the_reference!(chart_calls, image_calls, value_calls);
 
     fn run(
         &self,

@@ -4,7 +4,7 @@ use Prim.Native.Nat.{_+_, _-_}
 use mathlib.Core.Path.{sym, subst}
 use mathlib.Core.Logic.{⊎-elim}
 use native.Mathlib.Omega.{arith}
-use Rattle.rows.proofs.SearchCases.{end-within, Searched, search-start, search-over, search-other, search-own}
+use Rattle.rows.proofs.SearchCases.{end-within, few-frames, compared-some, compared-none, Searched, search-start, search-over, search-other, search-own}
 use Rattle.rows.proofs.compare_rows.Statement.{statement}
 use Rattle.rows.proofs.compare_rows.Tie as tie
 
@@ -26,7 +26,7 @@ first-of-requires c κs = let start = c .before .before .before in record { labe
 loop-holds : tie.Need-loop-holds Inv-loop μ-loop
 loop-holds c =
     let given = c .before .before .before .before .args in
-    search-start (given .table .now) (given .l) (given .word) (given .bit) (c .first-of .result) (c .before .end-of .result)
+    search-start (given .table .now) (given .l) (given .word) (given .bit) (c .first-of .result) (c .before .end-of .result) _ (omega arith)
 
 is-matching-requires : tie.Need-is-matching-requires Inv-loop μ-loop
 is-matching-requires c κs =
@@ -65,11 +65,27 @@ loop-again c =
 
 returns : tie.Need-returns Inv-loop μ-loop
 returns c =
-    let first = c .before .before in
+    let loop = c .before .before in
+    let first = loop .before in
     let ended = first .before in
-    let start = ended .before .before .before in
-    search-over (start .args .table .now) (start .args .l) (start .args .word) (start .args .bit) _ _ _ _ (c .before .loop .inv)
-    (c .loop-test .left) (first .first-of .ensures) (ended .end-of .ensures)
+    let known = ended .before .before in
+    let start = known .before in
+    let small = few-frames _ (start .pre .0 .label .whole) (λ k. omega (arith, known .shared-slice-known .given k)) in
+    compared-some (start .args .table .now) (start .args .l) (start .args .word) (start .args .bit) _ small
+    (search-over (start .args .table .now) (start .args .l) (start .args .word) (start .args .bit) _ _ _ _ (loop .loop .inv)
+    (c .before .loop-test .left) (first .first-of .ensures) (ended .end-of .ensures)) (c .if2 .taken)
+
+returns-2 : tie.Need-returns-2 Inv-loop μ-loop
+returns-2 c =
+    let loop = c .before .before in
+    let first = loop .before in
+    let ended = first .before in
+    let known = ended .before .before in
+    let start = known .before in
+    let small = few-frames _ (start .pre .0 .label .whole) (λ k. omega (arith, known .shared-slice-known .given k)) in
+    compared-none (start .args .table .now) (start .args .l) (start .args .word) (start .args .bit) _ small
+    (search-over (start .args .table .now) (start .args .l) (start .args .word) (start .args .bit) _ _ _ _ (loop .loop .inv)
+    (c .before .loop-test .left) (first .first-of .ensures) (ended .end-of .ensures)) (c .if2 .left)
 
 pub compare-rows-spec : {M : Type 1} → statement M
 compare-rows-spec =
@@ -86,4 +102,5 @@ compare-rows-spec =
     add-frame
     loop-less
     loop-again
-    returns)
+    returns
+    returns-2)

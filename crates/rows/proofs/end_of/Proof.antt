@@ -17,11 +17,14 @@ low-pair-requires c κs = search needs
 cast-end : tie.Need-cast-end
 cast-end c = search needs
 
+mul-if1 : tie.Need-mul-if1
+mul-if1 c = search needs
+
 returns : tie.Need-returns
-returns c = end-here _ _ _ (c .before .before .before .pre) _ _ refl (c .before .low-pair .ensures) (search needs)
+returns c = end-here _ _ _ (c .before .before .before .pre) _ (c .before .low-pair .ensures) (c .if1 .taken)
 
 returns-2 : tie.Need-returns-2
-returns-2 c = end-clipped _ _ _ (c .before .before .before .pre) _ _ refl (c .before .low-pair .ensures) (search needs)
+returns-2 c = end-clipped _ _ _ (c .before .before .before .pre) _ (c .before .low-pair .ensures) (c .if1 .left) _ refl
 
 pub end-of-spec : {M : Type 1} → statement M
-end-of-spec = tie.close (tie.spec add-low-pair add-low-pair-2 low-pair-requires cast-end returns returns-2)
+end-of-spec = tie.close (tie.spec add-low-pair add-low-pair-2 low-pair-requires cast-end mul-if1 returns returns-2)

@@ -5,7 +5,7 @@ use mathlib.Core.Path.{sym, subst₂}
 use mathlib.Core.Logic.{⊎-elim}
 use native.Mathlib.Omega.{arith}
 use Rattle.frames.specs.Frame.{size}
-use Rattle.rows.proofs.SearchCases.{end-within, Passed, pass-start, pass-over, pass-other, pass-own}
+use Rattle.rows.proofs.SearchCases.{end-within, few-frames, Passed, pass-start, pass-over, pass-other, pass-own}
 use Rattle.rows.proofs.last_match.Statement.{statement}
 use Rattle.rows.proofs.last_match.Tie as tie
 
@@ -26,8 +26,10 @@ first-of-requires c κs = let start = c .before .before .before in record { labe
 
 loop-holds : tie.Need-loop-holds Inv-loop μ-loop
 loop-holds c =
-    let given = c .before .before .before .before .args in
-    pass-start (given .table .now) (given .l) (given .word) (given .bit) (c .first-of .result) (c .before .end-of .result)
+    let known = c .before .before .before in
+    let start = known .before in
+    pass-start (start .args .table .now) (start .args .l) (start .args .word) (start .args .bit) (c .first-of .result) (c .before .end-of .result)
+    (few-frames _ (start .pre .0 .label .whole) (λ k. omega (arith, known .shared-slice-known .given k)))
 
 is-matching-requires : tie.Need-is-matching-requires Inv-loop μ-loop
 is-matching-requires c κs =

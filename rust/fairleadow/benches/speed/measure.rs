@@ -76,9 +76,18 @@ fn times(line: &mut Line) -> Vec<f64> {
     best
 }
 
+/// A ratio with two digits behind the point, or with three where it is small.
+fn shown(ratio: f64) -> String {
+    if ratio < 0.1 {
+        format!("{ratio:.3}")
+    } else {
+        format!("{ratio:.2}")
+    }
+}
+
 /// The first side's number, then each other's and the ratio to it.
 fn cells(numbers: &[f64]) -> String {
-    let ratios = numbers[1..].iter().map(|other| format!(" {other:.0} | {:.2} |", numbers[0] / other));
+    let ratios = numbers[1..].iter().map(|other| format!(" {other:.0} | {} |", shown(numbers[0] / other)));
     format!(" {:.0} |{}", numbers[0], ratios.collect::<String>())
 }
 

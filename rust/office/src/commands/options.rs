@@ -78,7 +78,8 @@ impl Arguments {
         self.values.get(option).map(String::as_str)
     }
 
-    fn number(&self, option: &str) -> Result<Option<usize>, Failure> {
+    /// The number that an option has.
+    pub fn number(&self, option: &str) -> Result<Option<usize>, Failure> {
         let parse = |value: &str| {
             let number = value.parse();
             number.map_err(|_| Failure::Usage(format!("{option} takes a number, not {value}")))
@@ -116,8 +117,19 @@ impl Arguments {
         self.value("--words").unwrap_or(WORDS)
     }
 
+    /// The bytes of the chart's file.
+    pub fn bytes(&self) -> Result<Vec<u8>, Failure> {
+        source::read(&self.chart).map_err(|problem| self.failure(problem))
+    }
+
     /// Traces the chart over the words that are asked for.
     pub fn trace(&self, plan: &Plan) -> Result<Trace, Failure> {
+        let (places, words) = self.places_and_words()?;
+        trace::trace(plan, places, &words).map_err(|problem| self.failure(problem))
+    }
+
+    /// The places of the stack and the words that are asked for, one at least.
+    pub fn places_and_words(&self) -> Result<(usize, Vec<u16>), Failure> {
         let places = self.number("--places")?.unwrap_or(PLACES);
         let ticks = self.number("--ticks")?;
         if ticks.is_some_and(|ticks| !(1..=MOST_TICKS).contains(&ticks)) {
@@ -130,6 +142,6 @@ impl Arguments {
                 "{given} words are given; --ticks takes 1 to {MOST_TICKS} of them"
             )));
         }
-        trace::trace(plan, places, &words).map_err(|problem| self.failure(problem))
+        Ok((places, words))
     }
 }

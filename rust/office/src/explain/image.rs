@@ -34,12 +34,16 @@ impl Header {
         1 + self.schemes
     }
 
+    /// The index of row 0.
+    pub fn first_row(&self) -> usize {
+        self.first_label() + self.last + 1
+    }
+
     pub fn part(&self, index: usize) -> Part {
-        let first_row = self.first_label() + self.last + 1;
         match index {
             0 => Part::Header,
             entry if entry < self.first_label() => Part::Entry(entry),
-            label if label < first_row => Part::Label(label - self.first_label()),
+            label if label < self.first_row() => Part::Label(label - self.first_label()),
             _ => Part::Row,
         }
     }

@@ -1,7 +1,7 @@
 //! A refusal of the library in words. The library's answer decides; here the reason for that very answer is found.
 
 mod circles;
-mod image;
+pub mod image;
 mod image_fields;
 mod lines;
 mod nodes;
@@ -71,7 +71,7 @@ fn node_count(nodes: usize, lines: &[usize]) -> Problem {
 }
 
 /// The ten bytes of each line; the library has accepted lines and sums.
-fn frames(text: &[u8]) -> Option<Vec<[u8; RECORD]>> {
+pub fn frames(text: &[u8]) -> Option<Vec<[u8; RECORD]>> {
     text.chunks(LINE).map(|line| lines::bytes_of(line)?[..RECORD].try_into().ok()).collect()
 }
 
@@ -90,7 +90,7 @@ fn of_records(records: &[[u8; RECORD]], refusal: &Refusal, voice: Voice) -> Opti
     }
 }
 
-/// Refusals 14 to 18, which name no line.
+/// Refusals 14 to 18 and 21, which name no line.
 fn of_run(refusal: &Refusal) -> Option<Problem> {
     let ticks = counted(refusal.count, "tick");
     let (words, advice) = match refusal.number {
@@ -105,6 +105,10 @@ fn of_run(refusal: &Refusal) -> Option<Problem> {
         18 => (
             format!("after {ticks} no row of the label matches the word"),
             "a row that was taken out of the image by hand; the image of a chart has them all",
+        ),
+        21 => (
+            "the tick takes no row".to_string(),
+            "a tick before it or after it that is plain or a return",
         ),
         _ => return None,
     };

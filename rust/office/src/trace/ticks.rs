@@ -5,6 +5,8 @@ use fairleadow::{Answer, Library, Proved, State};
 use super::arcs::{path, Arc};
 use super::Coverage;
 use crate::check::translated;
+use crate::explain;
+use crate::kind::Kind;
 use crate::marking::called;
 use crate::plan::Plan;
 use crate::problem::{counted, Problem};
@@ -21,7 +23,7 @@ pub enum Happening {
 }
 
 impl Happening {
-    fn of(code: u8) -> Happening {
+    pub fn of(code: u8) -> Happening {
         match code {
             0x03 => Happening::Return,
             0x04 => Happening::Home,
@@ -76,11 +78,7 @@ pub struct Trace {
 /// Translates the chart once and ticks it over the words, or tells why chart or stack size are refused.
 pub fn trace(plan: &Plan, places: usize, words: &[u16]) -> Result<Trace, Problem> {
     let image = translated(&plan.source)?;
-    let (answer, mut state) = Proved.fresh(places);
-    if answer.number() != 0 {
-        let words = format!("a stack of {} is asked for", counted(places, "place"));
-        return Err(Problem { words, ..plan.source.problem(answer) });
-    }
+    let mut state = fresh(places)?;
     let mut trace = Trace { places, ticks: Vec::new(), stopped: None, coverage: Coverage::none(plan) };
     for word in words {
         match tick(plan, &image, &mut state, *word) {
@@ -95,6 +93,16 @@ pub fn trace(plan: &Plan, places: usize, words: &[u16]) -> Result<Trace, Problem
         }
     }
     Ok(trace)
+}
+
+/// A fresh state, or why there is none of so many places.
+pub fn fresh(places: usize) -> Result<State, Problem> {
+    let (answer, state) = Proved.fresh(places);
+    if answer.number() == 0 {
+        return Ok(state);
+    }
+    let words = format!("a stack of {} is asked for", counted(places, "place"));
+    Err(Problem { words, ..explain::refusal(&[], Kind::Image, answer) })
 }
 
 /// One tick of the library's, with its node and arcs.

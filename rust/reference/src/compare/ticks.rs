@@ -128,6 +128,20 @@ impl<'a> Case<'a> {
         self.some_ticks("tick", <dyn Library>::tick, ground, &state)
     }
 
+    /// The causes of some ticks of one state, most of which are no refusals.
+    pub(super) fn cause(&mut self) -> Compared {
+        let (image, state) = self.image_and_state();
+        self.summary.note_letters("cause", &image);
+        for word in runs::words(&mut self.random, 4) {
+            let wanted = Reference.cause(&image, &state, word);
+            let got = self.library.cause(&image, &state, word);
+            self.hold("cause", wanted.answer, &wanted, &got, || {
+                format!("{}state: {}\nword {word:04X}", show::text(&image), show::state(&state))
+            })?;
+        }
+        Ok(())
+    }
+
     /// Demand 3: a list of runs against the walk over the joined words. Where `live`, some of them are made on the table.
     pub(super) fn runs(&mut self, name: &'static str, live: bool) -> Compared {
         let (records, image) = images::translated(&mut self.random);

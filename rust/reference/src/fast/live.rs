@@ -130,18 +130,17 @@ impl<'a> Table<'a> {
 
     /// The next label by the row that tests most, the last of equals. With no bit the function bits decide nothing.
     fn next(&self, number: u8, bit: Option<bool>, word: u16) -> Result<u8, u8> {
-        let (mut most, mut next) = (0, Err(18));
+        let mut taken: Option<(u16, u8)> = None;
         for row in self.rows(number) {
             let care = u16::from_be_bytes([row[2], row[3]]);
             let values = u16::from_be_bytes([row[4], row[5]]);
-            if word & care == values && bit.is_none_or(|bit| row[6] == 2 || row[6] == u8::from(bit)) {
-                let ones = care.count_ones();
-                if ones >= most {
-                    (most, next) = (ones, Ok(row[7]));
-                }
+            let matches =
+                word & care == values && bit.is_none_or(|bit| row[6] == 2 || row[6] == u8::from(bit));
+            if matches && taken.is_none_or(|(before, _)| before.count_ones() <= care.count_ones()) {
+                taken = Some((care, row[7]));
             }
         }
-        next
+        taken.map(|(_, next)| next).ok_or(18)
     }
 
     /// The bit that decides rows of a function call's label.

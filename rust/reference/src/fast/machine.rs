@@ -3,7 +3,7 @@
 use super::image::Parts;
 use crate::answer::{Answer, Refusal};
 use crate::frames::Frame;
-use crate::image::{FUNCTION_CALL, HOME, OPERATION_CALL, PLAIN, ROWS};
+use crate::image::{FUNCTION_CALL, HOME, OPERATION_CALL, PLAIN, RETURN, ROWS};
 use crate::state::State;
 
 #[derive(Clone, Copy, Default)]
@@ -25,6 +25,7 @@ struct Row {
     next: u8,
     /// How many conditions it tests.
     ones: u8,
+    from: u8,
 }
 
 /// Result bits: packed for a run, which reads and writes many, or as a state has them for one tick.
@@ -79,21 +80,24 @@ impl<B: Bits> Stack<B> {
     }
 }
 
-pub struct Machine {
+/// A machine that looks at the rows of one label at a tick or, where it `SCANS`, at all rows in order, to compare times.
+pub struct Machine<const SCANS: bool = false> {
     entries: [u8; 17],
     labels: [Label; 256],
     rows: [Row; ROWS],
     count: usize,
+    row_count: usize,
     handler: u8,
 }
 
-impl Machine {
-    pub fn new(frames: &[Frame], parts: &Parts) -> Machine {
+impl<const SCANS: bool> Machine<SCANS> {
+    pub fn new(frames: &[Frame], parts: &Parts) -> Machine<SCANS> {
         let mut machine = Machine {
             entries: [0; 17],
             labels: [Label::default(); 256],
             rows: [Row::default(); ROWS],
             count: parts.labels,
+            row_count: frames.len() - 1 - parts.schemes - parts.labels,
             handler: parts.handler,
         };
         let (entries, rest) = frames[1..].split_at(parts.schemes);
@@ -114,7 +118,7 @@ impl Machine {
             let care = u16::from_be_bytes([f[2], f[3]]);
             let values = u16::from_be_bytes([f[4], f[5]]);
             let ones = care.count_ones() as u8;
-            machine.rows[k] = Row { care, values, function_bit: f[6], next: f[7], ones };
+            machine.rows[k] = Row { care, values, function_bit: f[6], next: f[7], ones, from: f[1] };
         }
         machine
     }
@@ -186,11 +190,47 @@ impl Machine {
         Ok(ticked)
     }
 
+    /// Refusals 15, 21 and 18, or the number of the row that a tick takes, the conditions that decide and the bit.
+    pub fn cause(&self, state: &State, word: u16) -> Result<(u16, u16, u8), u8> {
+        if !self.fits(state) {
+            return Err(15);
+        }
+        let at = |place: usize| &self.labels[usize::from(state.places[place])];
+        let top = usize::from(state.depth) - 1;
+        let label = match at(top).kind {
+            PLAIN => at(top),
+            RETURN if top > 0 => at(top - 1),
+            _ => return Err(21),
+        };
+        let bit = if label.kind == FUNCTION_CALL { state.results.bit(label.called) } else { 2 };
+        let (mut taken, mut conditions) = (None, 0);
+        for number in label.first..label.end {
+            let row = &self.rows[usize::from(number)];
+            let against = (word & row.care) ^ row.values;
+            if row.function_bit != 2 && row.function_bit != bit {
+                continue;
+            }
+            // of the bits that differ the lowest; of none, none
+            conditions |= against & against.wrapping_neg();
+            if against == 0 && taken.is_none_or(|(_, before): (u16, &Row)| before.ones <= row.ones) {
+                taken = Some((number, row));
+            }
+        }
+        let (number, row) = taken.ok_or(18)?;
+        Ok((number, row.care | conditions, bit))
+    }
+
     #[inline(always)]
-    fn next<B: Bits>(&self, label: &Label, bits: &B, word: u16) -> Result<u8, u8> {
+    fn next<B: Bits>(&self, from: u8, bits: &B, word: u16) -> Result<u8, u8> {
+        let label = &self.labels[usize::from(from)];
         let bit = bits.bit(label.called);
+        let looked_at =
+            if SCANS { 0..self.row_count } else { usize::from(label.first)..usize::from(label.end) };
         let mut taken: Option<&Row> = None;
-        for row in &self.rows[usize::from(label.first)..usize::from(label.end)] {
+        for row in &self.rows[looked_at] {
+            if SCANS && row.from != from {
+                continue;
+            }
             let matches = word & row.care == row.values && (row.function_bit == 2 || row.function_bit == bit);
             if matches && taken.is_none_or(|before| before.ones <= row.ones) {
                 taken = Some(row);
@@ -220,7 +260,7 @@ impl Machine {
         let label = self.labels[usize::from(stack.places[top])];
         let code = match label.kind {
             PLAIN => {
-                stack.places[top] = self.next(&label, &stack.bits, word)?;
+                stack.places[top] = self.next(stack.places[top], &stack.bits, word)?;
                 0x00
             }
             OPERATION_CALL | FUNCTION_CALL => {
@@ -243,8 +283,7 @@ impl Machine {
                 0x03
             }
             _ => {
-                let beneath = self.labels[usize::from(stack.places[top - 1])];
-                stack.places[top - 1] = self.next(&beneath, &stack.bits, word)?;
+                stack.places[top - 1] = self.next(stack.places[top - 1], &stack.bits, word)?;
                 stack.places[top] = 0;
                 stack.depth = top;
                 0x03

@@ -12,9 +12,10 @@ mod table;
 
 use crate::answer::{answered, Answer, Refusal};
 use crate::frames::{Frame, CHARACTERS, CHART_TEXT, IMAGE_TEXT};
-use crate::library::{Library, Meaning, Ticked};
+use crate::library::{Cause, Library, Meaning, Ticked};
 use crate::state::State;
 pub use kept::Kept;
+use machine::Machine;
 
 const NODES: usize = 256;
 const IMAGE_FRAMES: usize = IMAGE_TEXT / CHARACTERS;
@@ -89,6 +90,47 @@ fn put_table(text: &[u8], out: &mut [u8]) -> Result<usize, Refusal> {
     Ok(10 * frames.len())
 }
 
+/// The row that a tick takes, the conditions that decide, and the bit.
+fn cause_of(text: &[u8], state: &State, word: u16) -> Result<(u16, u16, u8), Refusal> {
+    let mut frames = [[0; 10]; IMAGE_FRAMES];
+    let (frames, parts) = accepted(text, &mut frames)?;
+    Machine::<false>::new(frames, &parts).cause(state, word).map_err(|number| Refusal { number, index: 0 })
+}
+
+fn put_list(text: &[u8], firsts: &mut [u16], counts: &mut [u16]) -> Result<usize, Refusal> {
+    let mut frames = [[0; 10]; IMAGE_FRAMES];
+    let (frames, parts) = accepted(text, &mut frames)?;
+    let (Some(firsts), Some(counts)) = (firsts.get_mut(..parts.labels), counts.get_mut(..parts.labels))
+    else {
+        return refuse(16, 0);
+    };
+    firsts.fill(0);
+    counts.fill(0);
+    for (number, row) in frames[1 + parts.schemes + parts.labels..].iter().enumerate() {
+        let label = usize::from(row[1]);
+        if counts[label] == 0 {
+            firsts[label] = number as u16;
+        }
+        counts[label] += 1;
+    }
+    Ok(parts.labels)
+}
+
+/// A run on an image's text. Where it `SCANS`, each tick that takes a row looks through all rows of the image, to compare times.
+pub fn run_on<const SCANS: bool>(
+    image: &[u8],
+    state: &State,
+    words: &[u16],
+    masks: &mut [u32],
+    codes: &mut [u8],
+) -> (Answer, State) {
+    let mut frames = [[0; 10]; IMAGE_FRAMES];
+    match accepted(image, &mut frames) {
+        Ok((frames, parts)) => Machine::<SCANS>::new(frames, &parts).run(state, words, masks, codes),
+        Err(refusal) => (refusal.into(), *state),
+    }
+}
+
 /// What a tick hands back for its mask and code, or for its refusal.
 fn ticked_of(ticked: Result<(u32, u8), u8>) -> Ticked {
     match ticked {
@@ -134,12 +176,17 @@ impl Library for Fast {
         masks: &mut [u32],
         codes: &mut [u8],
     ) -> (Answer, State) {
-        let mut frames = [[0; 10]; IMAGE_FRAMES];
-        let (frames, parts) = match accepted(image, &mut frames) {
-            Ok(accepted) => accepted,
-            Err(refusal) => return (refusal.into(), *state),
-        };
-        machine::Machine::new(frames, &parts).run(state, words, masks, codes)
+        run_on::<false>(image, state, words, masks, codes)
+    }
+
+    fn cause(&self, image: &[u8], state: &State, word: u16) -> Cause {
+        let found = cause_of(image, state, word);
+        let (row, mask, bit) = found.unwrap_or((0, 0, 0));
+        Cause { answer: answered(found.map(|_| 0)), row, mask, bit }
+    }
+
+    fn list_rows(&self, image: &[u8], firsts: &mut [u16], counts: &mut [u16]) -> Answer {
+        answered(put_list(image, firsts, counts))
     }
 
     fn prepare(&self, image: &[u8], table: &mut [u8]) -> Answer {

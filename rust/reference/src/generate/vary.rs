@@ -41,14 +41,18 @@ fn change(random: &mut Random, entry: EntryPoint, input: &mut Input) {
         EntryPoint::ReadChart | EntryPoint::WriteChart | EntryPoint::Translate | EntryPoint::Places => {
             chart(random, &mut input.frames);
         }
-        EntryPoint::CheckImage | EntryPoint::Prepare => image(random, &mut input.frames),
-        EntryPoint::Tick | EntryPoint::Run | EntryPoint::LiveTick | EntryPoint::LiveRun => {
-            match random.below(6) {
-                0 => state(random, input),
-                1 => word(random, &mut input.words),
-                _ => image(random, &mut input.frames),
-            }
+        EntryPoint::CheckImage | EntryPoint::Prepare | EntryPoint::ListRows => {
+            image(random, &mut input.frames)
         }
+        EntryPoint::Tick
+        | EntryPoint::Run
+        | EntryPoint::Cause
+        | EntryPoint::LiveTick
+        | EntryPoint::LiveRun => match random.below(6) {
+            0 => state(random, input),
+            1 => word(random, &mut input.words),
+            _ => image(random, &mut input.frames),
+        },
         EntryPoint::Fresh | EntryPoint::Meaning => input.value = random.below(256),
     }
 }

@@ -56,8 +56,8 @@ pub fn known(entry: EntryPoint) -> Vec<Candidate> {
         EntryPoint::ReadChart | EntryPoint::WriteChart | EntryPoint::Translate | EntryPoint::Places => {
             charts()
         }
-        EntryPoint::CheckImage | EntryPoint::Prepare => images(),
-        EntryPoint::Tick | EntryPoint::Run => ticks(entry),
+        EntryPoint::CheckImage | EntryPoint::Prepare | EntryPoint::ListRows => images(),
+        EntryPoint::Tick | EntryPoint::Run | EntryPoint::Cause => ticks(entry),
         EntryPoint::LiveTick | EntryPoint::LiveRun => live(entry),
         EntryPoint::Fresh => values("stack of", 0..=33),
         EntryPoint::Meaning => values("code", 0..=255),

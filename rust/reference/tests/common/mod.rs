@@ -20,10 +20,14 @@ macro_rules! faults {
     };
 }
 
-/// The calls of `impl Library` that a faulty library answers as the reference does. A tick that is not named here or written out
-/// is made by the library's own run.
+/// The calls of `impl Library` that a faulty library answers as the reference does, by their names or those of some together. A
+/// tick that is not written out is made by the library's own run.
 macro_rules! as_the_reference {
     ($($call:ident),* $(,)?) => { $(as_the_reference!(@$call);)* };
+    (@chart_calls) => { as_the_reference!(read_chart, write_chart, translate, places); };
+    (@image_calls) => { as_the_reference!(check_image, cause, list_rows, prepare); };
+    (@run_calls) => { as_the_reference!(run, live_run); };
+    (@value_calls) => { as_the_reference!(fresh, meaning); };
     (@read_chart) => { as_the_reference!(@fn read_chart(text: &[u8], out: &mut [u8]) -> reference::Answer); };
     (@write_chart) => { as_the_reference!(@fn write_chart(records: &[u8], out: &mut [u8]) -> reference::Answer); };
     (@translate) => { as_the_reference!(@fn translate(text: &[u8], out: &mut [u8]) -> reference::Answer); };
@@ -31,6 +35,10 @@ macro_rules! as_the_reference {
     (@check_image) => { as_the_reference!(@fn check_image(text: &[u8]) -> reference::Answer); };
     (@fresh) => { as_the_reference!(@fn fresh(size: usize) -> (reference::Answer, reference::State)); };
     (@run) => { as_the_reference!(@run run); };
+    (@cause) => { as_the_reference!(@fn cause(image: &[u8], state: &reference::State, word: u16) -> reference::Cause); };
+    (@list_rows) => {
+        as_the_reference!(@fn list_rows(image: &[u8], firsts: &mut [u16], counts: &mut [u16]) -> reference::Answer);
+    };
     (@prepare) => { as_the_reference!(@fn prepare(image: &[u8], table: &mut [u8]) -> reference::Answer); };
     (@live_run) => { as_the_reference!(@run live_run); };
     (@meaning) => { as_the_reference!(@fn meaning(code: u8) -> reference::Meaning); };

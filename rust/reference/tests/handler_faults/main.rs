@@ -179,7 +179,7 @@ impl Faulty {
 }
 
 impl Library for Faulty {
-    as_the_reference!(write_chart, places, fresh, prepare, live_run, meaning);
+    as_the_reference!(write_chart, places, cause, list_rows, prepare, live_run, value_calls);
 
     fn read_chart(&self, text: &[u8], out: &mut [u8]) -> Answer {
         self.judged(text).map_or_else(Answer::from, |text| entry::read_chart(&text, out))

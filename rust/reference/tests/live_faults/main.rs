@@ -252,7 +252,7 @@ fn write(state: &mut State, label: &Label) {
 }
 
 impl Library for Faulty {
-    as_the_reference!(read_chart, write_chart, translate, places, check_image, fresh, run, meaning);
+    as_the_reference!(chart_calls, check_image, cause, list_rows, run, value_calls);
 
     fn prepare(&self, image: &[u8], table: &mut [u8]) -> Answer {
         let answer = entry::prepare(image, table);

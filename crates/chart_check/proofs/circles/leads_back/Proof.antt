@@ -54,7 +54,7 @@ returns c =
     let first = followed (listed (joined c)) in
     let begun = start (first .before) in
     let marks = enlisted-first _ _ _ _ _ (begun .pre .1 .none) (begun .pre .1 .room) (first .follow .ensures) .0 in
-    (spread-back (begun .args .records .now) (begun .args .v) _ _ marks (joined c .join .ensures), refl)
+    (spread-back (begun .args .records .now) (begun .args .v) _ _ marks (joined c .join .ensures .0), refl)
 
 pub leads-back-spec : {M : Type 1} → statement M
 leads-back-spec =

@@ -1,6 +1,7 @@
--- `chart_check::joined::lowest_apart` meets its contract: the Begins are marked, the marks spread, the lowest node without one is found.
-use mathlib.Core.Path.{_∙_}
-use Rattle.chart_check.proofs.MarkCases.{spread-apart}
+-- `chart_check::joined::lowest_apart` meets its contract: the Begins are marked, the marks spread; where some node has none, the
+-- lowest is found.
+use mathlib.Core.Path.{sym, _∙_}
+use Rattle.chart_check.proofs.MarkCases.{spread-apart, all-marked}
 use Rattle.graph.proofs.MarkedNodes.{listed-lowest}
 use borrow.Author.Needs.{needs}
 use Rattle.chart_check.proofs.joined.lowest_apart.Statement.{statement}
@@ -16,8 +17,8 @@ begins c = c .before .before .before .before .before
 abbrev listed : tie.After-join → tie.After-list-marked
 listed c = c .before .before .before .before .before
 
-abbrev joined : tie.After-lowest-unmarked → tie.After-join
-joined c = let lent = c .before .before in lent .before .before .before .before
+abbrev joined : tie.After-slice-known6 → tie.After-join
+joined c = c .before .before .before .before
 
 -- ---- the needs
 mark-kind-requires : tie.Need-mark-kind-requires
@@ -30,9 +31,6 @@ join-requires : tie.Need-join-requires
 join-requires c κs =
     record { long = search needs; room = search needs; listed = listed-lowest _ _ _ _ (c .before .before .before .before .list-marked .ensures) }
 
-lowest-unmarked-requires : tie.Need-lowest-unmarked-requires
-lowest-unmarked-requires c κs = search needs
-
 same-length : tie.Need-same-length
 same-length c = search needs
 
@@ -41,10 +39,29 @@ same-length-2 c = search needs
 
 returns : tie.Need-returns
 returns c =
-    let join = joined c .join in
-    let first = begins (listed (joined c)) in
+    let join = joined (c .before) .join in
+    let first = begins (listed (joined (c .before))) in
     let begun = start first in
-    spread-apart (begun .args .records .now) _ _ _ (first .mark-kind .ensures) (join .ensures)
+    spread-apart (begun .args .records .now) _ _ _ (first .mark-kind .ensures) (join .ensures .0)
+    (join .kept .1 .1 .0 ∙ first .mark-kind .kept .1 .1 .0 ∙ begun .pre .0)
+    (c .if1 .taken ∙ all-marked (join .last .1 .1 .0) (sym (join .ensures .1) ∙ c .if1 .taken))
+
+lowest-unmarked-requires : tie.Need-lowest-unmarked-requires
+lowest-unmarked-requires c κs = search needs
+
+same-length-3 : tie.Need-same-length-3
+same-length-3 c = search needs
+
+same-length-4 : tie.Need-same-length-4
+same-length-4 c = search needs
+
+returns-2 : tie.Need-returns-2
+returns-2 c =
+    let after = joined (c .before .before .before) in
+    let join = after .join in
+    let first = begins (listed after) in
+    let begun = start first in
+    spread-apart (begun .args .records .now) _ _ _ (first .mark-kind .ensures) (join .ensures .0)
     (join .kept .1 .1 .0 ∙ first .mark-kind .kept .1 .1 .0 ∙ begun .pre .0) (c .lowest-unmarked .ensures)
 
 pub lowest-apart-spec : {M : Type 1} → statement M
@@ -54,7 +71,10 @@ lowest-apart-spec =
     mark-kind-requires
     list-marked-requires
     join-requires
-    lowest-unmarked-requires
     same-length
     same-length-2
-    returns)
+    returns
+    lowest-unmarked-requires
+    same-length-3
+    same-length-4
+    returns-2)

@@ -119,10 +119,12 @@ returns c =
     let records = begun .args .records .now in
     let conditions = begun .args .conditions in
     let loop = c .before .loop in
-    let e : loop .i ≡ loop .end = omega arith in
-    joining-done (size records) (arcsBy records conditions) (begun .args .marks .now) (begun .pre .long) (loop .marks) (loop .inv .joining)
-    (followed-closed (size records) (arcsBy records conditions) (loop .marks) (loop .list) (loop .end) (loop .inv .listed)
-    (subst (λ (k : ℕ). Followed (size records) (arcsBy records conditions) (loop .marks) (loop .list) k) e (loop .inv .followed)))
+    let e : loop .i ≡ loop .end = omega arith in (
+      joining-done (size records) (arcsBy records conditions) (begun .args .marks .now) (begun .pre .long) (loop .marks) (loop .inv .joining)
+          (followed-closed (size records) (arcsBy records conditions) (loop .marks) (loop .list) (loop .end) (loop .inv .listed)
+          (subst (λ (k : ℕ). Followed (size records) (arcsBy records conditions) (loop .marks) (loop .list) k) e (loop .inv .followed))),
+      loop .inv .listed .counted,
+    )
 
 pub join-spec : {M : Type 1} → statement M
 join-spec =

@@ -2,21 +2,32 @@
 use Prim.Native.Nat.{_-_}
 use mathlib.Core.Path.{refl}
 use Rattle.lists.proofs.Fills.{Pieces, pieces-none, pieces-all}
-use Rattle.label_text.specs.Parts.{entryText}
+use Rattle.chart_labels.specs.Ready.{Begun}
+use Rattle.label_text.specs.Parts.{entryBytes}
 use Rattle.label_text.proofs.LabelPuts.{entries-turn}
 use borrow.Author.Needs.{needs}
-use native.Mathlib.Omega.{arith}
 use Rattle.label_text.proofs.entries.put_entries.Statement.{statement}
 use Rattle.label_text.proofs.entries.put_entries.Tie as tie
 
 abbrev Inv-loop : tie.InvT-loop
-Inv-loop records labels highest out₀ at n k₀ out k = Pieces (entryText records) 23 out₀ out at n k
+Inv-loop records labels highest out₀ at begins n k₀ out k = Begun records begins × Pieces (entryBytes records) 10 out₀ out at n k
 
 abbrev μ-loop : tie.MeasureT-loop
-μ-loop records labels highest out₀ at n k₀ out k = n - k
+μ-loop records labels highest out₀ at begins n k₀ out k = n - k
+
+-- ---- a turn of the loop, and the start before it
+abbrev start : tie.At-loop Inv-loop μ-loop → tie.Start Inv-loop μ-loop
+start c = c .before .before .before .before .before .before .before
+
+-- ---- the needs
+slice-aggregate-note-begins : tie.Need-slice-aggregate-note-begins Inv-loop μ-loop
+slice-aggregate-note-begins c = search needs
+
+note-begins-requires : tie.Need-note-begins-requires Inv-loop μ-loop
+note-begins-requires c κs = search needs
 
 loop-holds : tie.Need-loop-holds Inv-loop μ-loop
-loop-holds c = pieces-none _ _ _ _ _
+loop-holds c = (search needs, pieces-none _ _ _ _ _)
 
 add-scheme : tie.Need-add-scheme Inv-loop μ-loop
 add-scheme c = search needs
@@ -24,14 +35,11 @@ add-scheme c = search needs
 cast-scheme : tie.Need-cast-scheme Inv-loop μ-loop
 cast-scheme c = search needs
 
--- ---- the stages: a turn of the loop and the function's start
-abbrev start : tie.At-loop Inv-loop μ-loop → tie.Start Inv-loop μ-loop
-start c = c .before .before .before .before
+slice-aggregate-entry-of : tie.Need-slice-aggregate-entry-of Inv-loop μ-loop
+slice-aggregate-entry-of c = search needs
 
 entry-of-requires : tie.Need-entry-of-requires Inv-loop μ-loop
-entry-of-requires c κs =
-    let asked = start (c .before) .pre in
-    record { chart = asked .0 .chart; low = omega arith; high = omega (arith, asked .0 .schemed) }
+entry-of-requires c κs = (record { chart = search needs; low = search needs; high = search needs }, search needs)
 
 mul-put-entry : tie.Need-mul-put-entry Inv-loop μ-loop
 mul-put-entry c = search needs
@@ -52,15 +60,17 @@ loop-again : tie.Need-loop-again Inv-loop μ-loop
 loop-again c =
     let put = c .before .before in
     let entry = put .before .before in
-    let turn = entry .before .before in
-    entries-turn _ _ _ _ _ _ _ _ _ (turn .loop .inv) (search needs) refl (start turn .pre .1)
-    (put .put-entry .kept .0) (entry .entry-of .ensures) (put .put-entry .ensures)
+    let turn = entry .before .before .before in (
+      turn .loop .inv .0,
+      entries-turn _ _ _ _ _ _ _ _ _ (turn .loop .inv .1) (search needs) refl (start turn .pre .1) (put .put-entry .kept .0)
+          (entry .entry-of .ensures) (put .put-entry .ensures),
+    )
 
 same-length : tie.Need-same-length Inv-loop μ-loop
-same-length c = c .before .loop .inv .size
+same-length c = c .before .loop .inv .1 .size
 
 returns : tie.Need-returns Inv-loop μ-loop
-returns c = pieces-all _ _ _ _ _ _ _ (c .before .loop .inv) (search needs)
+returns c = pieces-all _ _ _ _ _ _ _ (c .before .loop .inv .1) (search needs)
 
 pub put-entries-spec : {M : Type 1} → statement M
 put-entries-spec =
@@ -68,9 +78,12 @@ put-entries-spec =
     (tie.spec
     Inv-loop
     μ-loop
+    slice-aggregate-note-begins
+    note-begins-requires
     loop-holds
     add-scheme
     cast-scheme
+    slice-aggregate-entry-of
     entry-of-requires
     mul-put-entry
     add-put-entry

@@ -3,7 +3,6 @@ use mathlib.Core.Path.{_≡_, sym, _∙_, ap}
 use mathlib.Core.List.{List}
 use Prim.Native.Nat.{ℕ}
 use Rattle.lists.specs.Sequences.{written}
-use Rattle.frames.specs.Frame.{frameText}
 use Rattle.charts.specs.Chart.{scheme}
 use Rattle.label_text.proofs.LabelPuts.{function-bytes, other-bytes}
 use borrow.Author.Needs.{needs}
@@ -30,17 +29,17 @@ put-operation-requires c κs = search needs
 field-requires-3 : tie.Need-field-requires-3
 field-requires-3 c κs = search needs
 
-slice-aggregate-put-frame : tie.Need-slice-aggregate-put-frame
-slice-aggregate-put-frame c = search needs
+slice-aggregate-put-bytes : tie.Need-slice-aggregate-put-bytes
+slice-aggregate-put-bytes c = search needs
 
-put-frame-requires : tie.Need-put-frame-requires
-put-frame-requires c κs = search needs
+put-bytes-requires : tie.Need-put-bytes-requires
+put-bytes-requires c κs = search needs
 
-slice-aggregate-put-frame-2 : tie.Need-slice-aggregate-put-frame-2
-slice-aggregate-put-frame-2 c = search needs
+slice-aggregate-put-bytes-2 : tie.Need-slice-aggregate-put-bytes-2
+slice-aggregate-put-bytes-2 c = search needs
 
-put-frame-requires-2 : tie.Need-put-frame-requires-2
-put-frame-requires-2 c κs = search needs
+put-bytes-requires-2 : tie.Need-put-bytes-requires-2
+put-bytes-requires-2 c κs = search needs
 
 same-length : tie.Need-same-length
 same-length c = search needs
@@ -58,8 +57,8 @@ returns-2 c =
     let arm = called .before in
     let kind = arm .before in
     let a = start kind .args in
-    put .put-frame .ensures
-    ∙ ap (λ (bs : List ℕ). written (a .out .now) (a .at) (frameText bs))
+    put .put-bytes .ensures
+    ∙ ap (λ (bs : List ℕ). written (a .out .now) (a .at) bs)
     (function-bytes (a .records .now) (a .v) _ (sym (kind .field2 .ensures) ∙ arm .match .keys2) _ _
     (called .field3 .ensures) (owner kind))
 
@@ -72,8 +71,8 @@ returns-3 c =
     let arm = put .before .before .before in
     let kind = arm .before in
     let a = start kind .args in
-    put .put-frame2 .ensures
-    ∙ ap (λ (bs : List ℕ). written (a .out .now) (a .at) (frameText bs))
+    put .put-bytes2 .ensures
+    ∙ ap (λ (bs : List ℕ). written (a .out .now) (a .at) bs)
     (other-bytes (a .records .now) (a .v) _ (λ e. arm .match .rest .0 .1 (kind .field2 .ensures ∙ e))
     (λ e. arm .match .rest .1 (kind .field2 .ensures ∙ e)) _ (owner kind))
 
@@ -85,10 +84,10 @@ put-label-spec =
     field-requires-2
     put-operation-requires
     field-requires-3
-    slice-aggregate-put-frame
-    put-frame-requires
-    slice-aggregate-put-frame-2
-    put-frame-requires-2
+    slice-aggregate-put-bytes
+    put-bytes-requires
+    slice-aggregate-put-bytes-2
+    put-bytes-requires-2
     same-length
     returns
     same-length-2

@@ -1,13 +1,13 @@
 -- `label_text::put_labels`: the labels of the nodes before v stand in the buffer.
 use Prim.Native.Nat.{_-_}
-use Rattle.label_text.specs.Parts.{nodeLabelText}
+use Rattle.label_text.specs.Parts.{nodeLabelBytes}
 use Rattle.label_text.proofs.Puts.{Appended, appended-start, appended-room, appended-on, appended-done}
 use borrow.Author.Needs.{needs}
 use Rattle.label_text.proofs.label_frames.put_labels.Statement.{statement}
 use Rattle.label_text.proofs.label_frames.put_labels.Tie as tie
 
 abbrev Inv-loop : tie.InvT-loop
-Inv-loop records labels out₀ at n place₀ v₀ out place v = Appended (nodeLabelText records) out₀ out at place n v
+Inv-loop records labels out₀ at n place₀ v₀ out place v = Appended (nodeLabelBytes records) out₀ out at place n v
 
 abbrev μ-loop : tie.MeasureT-loop
 μ-loop records labels out₀ at n place₀ v₀ out place v = n - v

@@ -3,7 +3,6 @@ use mathlib.Core.Path.{_∙_, ap}
 use mathlib.Core.List.{List}
 use Prim.Native.Nat.{ℕ}
 use Rattle.lists.specs.Sequences.{written}
-use Rattle.frames.specs.Frame.{frameText}
 use Rattle.label_text.proofs.LabelPuts.{operation-bytes}
 use borrow.Author.Needs.{needs}
 use Rattle.label_text.proofs.label_frames.put_operation.Statement.{statement}
@@ -33,11 +32,11 @@ field-requires-6 c κs = search needs
 field-requires-7 : tie.Need-field-requires-7
 field-requires-7 c κs = search needs
 
-slice-aggregate-put-frame : tie.Need-slice-aggregate-put-frame
-slice-aggregate-put-frame c = search needs
+slice-aggregate-put-bytes : tie.Need-slice-aggregate-put-bytes
+slice-aggregate-put-bytes c = search needs
 
-put-frame-requires : tie.Need-put-frame-requires
-put-frame-requires c κs = search needs
+put-bytes-requires : tie.Need-put-bytes-requires
+put-bytes-requires c κs = search needs
 
 same-length : tie.Need-same-length
 same-length c = search needs
@@ -55,8 +54,8 @@ returns c =
     let called = tick .before in
     let start = called .before .before .before in
     let a = start .args in
-    put .put-frame .ensures
-    ∙ ap (λ (bs : List ℕ). written (a .out .now) (a .at) (frameText bs))
+    put .put-bytes .ensures
+    ∙ ap (λ (bs : List ℕ). written (a .out .now) (a .at) bs)
     (operation-bytes (a .records .now) (a .v) _ (start .pre .0) _ _ _ _ _ _ _ _ (tick .call-kind .ensures)
     (called .field .ensures) (owner .field2 .ensures) (result .field3 .ensures) (mask0 .field4 .ensures)
     (mask1 .field5 .ensures) (mask2 .field6 .ensures) (mask3 .field7 .ensures))
@@ -73,7 +72,7 @@ put-operation-spec =
     field-requires-5
     field-requires-6
     field-requires-7
-    slice-aggregate-put-frame
-    put-frame-requires
+    slice-aggregate-put-bytes
+    put-bytes-requires
     same-length
     returns)

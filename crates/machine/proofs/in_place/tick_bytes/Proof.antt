@@ -4,7 +4,8 @@ use Prim.Native.Nat.{_*_}
 use native.Mathlib.Omega.{arith}
 use lib.ListN.{take}
 use Rattle.frames.specs.Frame.{frameCount}
-use Rattle.machine.proofs.EntryCases.{Made, image-made, image-stays, image-advances}
+use Rattle.tables.proofs.Made.{Made, image-made}
+use Rattle.machine.proofs.EntryCases.{image-stays, image-advances}
 use Rattle.machine.proofs.in_place.tick_bytes.Statement.{statement}
 use Rattle.machine.proofs.in_place.tick_bytes.Tie as tie
 

@@ -5,7 +5,7 @@ use lib.ListN.{getD}
 use Rattle.frames.specs.Frame.{size}
 use Rattle.chart_labels.specs.Labels.{label}
 use Rattle.chart_rows.specs.Rows.{paths, rowsOf}
-use Rattle.row_text.specs.Parts.{rowsText, nodeRowsText}
+use Rattle.row_text.specs.Parts.{rowsBytes, nodeRowsBytes}
 use Rattle.chart_rows.specs.Parts.{sides, nodeRows}
 use Rattle.chart_rows.proofs.NumberLaws.{small-number}
 use Rattle.chart_rows.proofs.RowSteps.{no-rows, own-rows, own-mask, other-entered, function-kind}
@@ -27,7 +27,7 @@ own : (c : tie.After-field) → let a = begun c .args in nodeRows (a .records .n
 own c = own-rows (begun c .pre .0) (c .before .if1 .left)
 
 condition : (c : tie.After-with-bit) → let a = begun (c .before .before .before) .args in let own = c .with-bit .result in
-    nodeRowsText (a .records .now) (a .v) ≡ rowsText (sides (a .records .now) (label (a .records .now) (a .v)) 2 2 own own (a .v))
+    nodeRowsBytes (a .records .now) (a .v) ≡ rowsBytes (sides (a .records .now) (label (a .records .now) (a .v)) 2 2 own own (a .v))
 condition c =
     let arm = c .before .before in
     let a = begun (arm .before) .args in
@@ -35,8 +35,8 @@ condition c =
     (own-mask (a .records .now) (a .v) _ _ (c .before .field2 .ensures) (c .with-bit .ensures))
 
 other : (c : tie.After-field3) → let a = begun (c .before .before .before) .args in
-    nodeRowsText (a .records .now) (a .v)
-    ≡ rowsText (paths (size (a .records .now)) (a .records .now) (getD (a .notes .now) (a .v) 0) 2 0 0 (c .field3 .result))
+    nodeRowsBytes (a .records .now) (a .v)
+    ≡ rowsBytes (paths (size (a .records .now)) (a .records .now) (getD (a .notes .now) (a .v) 0) 2 0 0 (c .field3 .result))
 other c =
     let kind = c .before .before .before in
     let a = begun kind .args in
@@ -45,7 +45,7 @@ other c =
     (node .noted .chart .labelled .at (a .v) (node .inside)) (c .field3 .ensures)
 
 function : (c : tie.Else2) → let a = begun (c .before .before) .args in
-    nodeRowsText (a .records .now) (a .v) ≡ rowsText (sides (a .records .now) (label (a .records .now) (a .v)) 0 1 0 0 (a .v))
+    nodeRowsBytes (a .records .now) (a .v) ≡ rowsBytes (sides (a .records .now) (label (a .records .now) (a .v)) 0 1 0 0 (a .v))
 function c =
     let kind = c .before .before in
     let a = begun kind .args in

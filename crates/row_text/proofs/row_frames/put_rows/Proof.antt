@@ -1,13 +1,13 @@
 -- `row_text::put_rows`: the rows of the nodes before v stand in the buffer.
 use Prim.Native.Nat.{_-_}
-use Rattle.row_text.specs.Parts.{nodeRowsText}
+use Rattle.row_text.specs.Parts.{nodeRowsBytes}
 use Rattle.label_text.proofs.Puts.{Appended, appended-start, appended-room, appended-on, appended-put}
 use borrow.Author.Needs.{needs}
 use Rattle.row_text.proofs.row_frames.put_rows.Statement.{statement}
 use Rattle.row_text.proofs.row_frames.put_rows.Tie as tie
 
 abbrev Inv-loop : tie.InvT-loop
-Inv-loop records labels out₀ at n place₀ v₀ out place v = Appended (nodeRowsText records) out₀ out at place n v
+Inv-loop records labels out₀ at n place₀ v₀ out place v = Appended (nodeRowsBytes records) out₀ out at place n v
 
 abbrev μ-loop : tie.MeasureT-loop
 μ-loop records labels out₀ at n place₀ v₀ out place v = n - v

@@ -4,7 +4,7 @@ use lib.ListN.{getD}
 use Rattle.frames.specs.Frame.{size}
 use Rattle.chart_labels.specs.Labels.{label}
 use Rattle.chart_rows.specs.Rows.{paths}
-use Rattle.row_text.specs.Parts.{rowsText}
+use Rattle.row_text.specs.Parts.{rowsBytes}
 use Rattle.chart_rows.specs.Parts.{sides}
 use Rattle.chart_rows.proofs.RowSteps.{side-entered0, side-entered1}
 use Rattle.label_text.proofs.Puts.{Parted, both-first, both-second, both-done}
@@ -27,9 +27,9 @@ first c = c .before .before .before .before
 sided : (c : tie.After-field2) → let a = start c .args in let from = getD (a .notes .now) (a .v) 0 in
     let n = size (a .records .now) in
     Parted
-    (rowsText (sides (a .records .now) (label (a .records .now) (a .v)) (a .first) (a .second) (a .care) (a .values) (a .v)))
-    (rowsText (paths n (a .records .now) from (a .first) (a .care) 0 (c .before .field .result)))
-    (rowsText (paths n (a .records .now) from (a .second) (a .care) (a .values) (c .field2 .result)))
+    (rowsBytes (sides (a .records .now) (label (a .records .now) (a .v)) (a .first) (a .second) (a .care) (a .values) (a .v)))
+    (rowsBytes (paths n (a .records .now) from (a .first) (a .care) 0 (c .before .field .result)))
+    (rowsBytes (paths n (a .records .now) from (a .second) (a .care) (a .values) (c .field2 .result)))
 sided c =
     let a = start c .args in
     let node = start c .pre .0 in

@@ -1,0 +1,9 @@
+pub mod Masks
+pub mod Leaves
+pub mod Explained
+pub mod Answers
+pub mod ConditionCases
+pub mod TableConditions
+pub mod CauseCases
+pub mod EntryCases
+pub mod Alike

@@ -1,0 +1,166 @@
+-- The conditions against the rows of a label, among all rows of a table: only its own rows have any, they stand in its frames, and each has its
+-- values within its care mask.
+use Prim.Native.Nat.{ℕ, zero, suc, _+_, _-_, _^_, _≤_, _<_}
+use mathlib.Core.Bool.{Bool, _&&_, _||_, not}
+use mathlib.Core.Path.{_≡_, refl, sym, _∙_, ap, ap₂, subst}
+use mathlib.Core.List.{List, [], _∷_, _++_, map}
+use native.Mathlib.Decide.{ℕ-discrete}
+use native.Mathlib.Omega.{arith}
+use lib.Bits.{bitAnd, bitOr, or-zero-l}
+use lib.Dec.{eqb}
+use borrow.Author.Tests.{eq-eqb, ne-eqb}
+use Rattle.lists.specs.Pick.{pick}
+use Rattle.lists.specs.Numbers.{range, lowest}
+use Rattle.lists.specs.Sequences.{concatMap}
+use Rattle.lists.proofs.Tests.{yes-pick, no-pick}
+use Rattle.lists.proofs.Ranges.{length-map-range, getD-map-range}
+use Rattle.lists.proofs.Joins.{All, all-at, all-places, concat-cons}
+use Rattle.bits.specs.Word.{agrees}
+use Rattle.frames.specs.Frame.{field, pairAt}
+use Rattle.image.specs.Image.{Row}
+use Rattle.image.specs.Decode.{lastLabel}
+use Rattle.image.proofs.Sound.{noRow, Sound}
+use Rattle.tables.specs.Table.{labelOf, firstOn, endOn, rowOn, rowsOn, tableImage}
+use Rattle.rows.specs.Search.{Deciding}
+use Rattle.cause.specs.Cause.{differs, against, againstAll}
+use Rattle.cause.specs.Parts.{Kept, lets, againstFrom}
+
+-- ---- rows of other labels have none
+module _ (b : List ℕ) (l w bit : ℕ) where
+  abbrev all : List Row → ℕ
+  all = againstAll l w bit
+
+  abbrev let-in : Row → Bool
+  let-in r = eqb (r .bit) 2 || eqb (r .bit) bit
+
+  other-none : (r : Row) → (r .from ≡ l → ⊥) → against l w bit r ≡ 0
+  other-none r h =
+      ap (λ (t : Bool). pick (t && (let-in r && not (agrees w (r .care) (r .values)))) (2 ^ lowest (differs w (r .care) (r .values)) 0 16) 0)
+      (ne-eqb (r .from) l h)
+
+  others-first : (m : ℕ) → (m ≡ l → ⊥) → (i n : ℕ) (rs : List Row) → all (map (rowOn b m) (range i n) ++ rs) ≡ all rs
+  unfolding againstAll
+  others-first m h i zero rs = refl
+  others-first m h i (suc n) rs = ap₂ bitOr (other-none (rowOn b m i) h) (others-first m h (suc i) n rs) ∙ or-zero-l (all rs)
+
+  none-last : (xs ys : List Row) → all ys ≡ 0 → all (xs ++ ys) ≡ all xs
+  unfolding againstAll
+  none-last [] ys e = e
+  none-last (x ∷ xs) ys e = ap (bitOr (against l w bit x)) (none-last xs ys e)
+
+  -- the rows of n labels from i on
+  abbrev over : ℕ → ℕ → List Row
+  over i n = concatMap (rowsOn b) (range i n)
+
+  over-other : (i n : ℕ) → (i ≡ l → ⊥) → all (over i (suc n)) ≡ all (over (suc i) n)
+  over-other i n h =
+      ap all (concat-cons (rowsOn b) i (range (suc i) n)) ∙ others-first i h (firstOn b i) (endOn b i - firstOn b i) (over (suc i) n)
+
+  over-none : (i n : ℕ) → ((m : ℕ) → i ≤ m → m < i + n → m ≡ l → ⊥) → all (over i n) ≡ 0
+  unfolding concatMap againstAll
+  over-none i zero h = refl
+  over-none i (suc n) h =
+      over-other i n (h i (omega arith) (omega arith)) ∙ over-none (suc i) n (λ m p q. h m (omega arith) (omega arith))
+
+  over-own : (i n : ℕ) → i ≤ l → l < i + n → all (over i n) ≡ all (rowsOn b l)
+  over-own i zero p q = absurd (omega arith)
+  over-own i (suc n) p q = go (ℕ-discrete i l) (over-own (suc i) n)
+    where
+      go : Dec (i ≡ l) → (suc i ≤ l → l < suc i + n → all (over (suc i) n) ≡ all (rowsOn b l)) → all (over i (suc n)) ≡ all (rowsOn b l)
+      go (yes e) ih =
+          ap all (concat-cons (rowsOn b) i (range (suc i) n))
+          ∙ none-last (rowsOn b i) (over (suc i) n) (over-none (suc i) n (λ m u v z. omega arith)) ∙ ap (λ (m : ℕ). all (rowsOn b m)) e
+      go (no e) ih = over-other i n e ∙ ih (omega arith) (omega arith)
+
+  pub own-conditions : 2 ≤ l → l ≤ lastLabel b → againstAll l w bit (tableImage b .rows) ≡ againstAll l w bit (rowsOn b l)
+  unfolding tableImage
+  own-conditions h g = over-own 2 (lastLabel b - 1) h (omega arith)
+
+-- ---- one of its own rows, by its frame
+module _ (b : List ℕ) (l w : ℕ) where
+  abbrev kind : ℕ
+  kind = labelOf b l .kind
+
+  abbrev only : ℕ → ℕ
+  only f = rowOn b l f .bit
+
+  abbrev agreed : ℕ → Bool
+  agreed f = agrees w (pairAt b f 2) (pairAt b f 4)
+
+  abbrev low : ℕ → ℕ
+  low f = 2 ^ lowest (differs w (pairAt b f 2) (pairAt b f 4)) 0 16
+
+  by-bit : (bit f : ℕ) → against l w bit (rowOn b l f) ≡ pick ((eqb (only f) 2 || eqb (only f) bit) && not (agreed f)) (low f) 0
+  by-bit bit f = ap (λ (t : Bool). pick (t && ((eqb (only f) 2 || eqb (only f) bit) && not (agreed f))) (low f) 0) (eq-eqb l l refl)
+
+  -- no row of a label that calls no function looks at the bit
+  module _ (n : kind ≡ 2 → ⊥) where
+    free : (f : ℕ) → only f ≡ 2
+    free f = no-pick (eqb kind 2) (field b f 6) 2 (ne-eqb kind 2 n)
+
+    free-lets : (bit f : ℕ) → against l w bit (rowOn b l f) ≡ pick (not (agreed f)) (low f) 0
+    free-lets bit f = by-bit bit f ∙ ap (λ (k : ℕ). pick ((eqb k 2 || eqb k bit) && not (agreed f)) (low f) 0) (free f)
+
+    free-rows : (p q f n : ℕ) → againstAll l w p (map (rowOn b l) (range f n)) ≡ againstAll l w q (map (rowOn b l) (range f n))
+    unfolding againstAll
+    free-rows p q f zero = refl
+    free-rows p q f (suc n) = ap₂ bitOr (free-lets p f ∙ sym (free-lets q f)) (free-rows p q (suc f) n)
+
+    pub any-conditions : (p q : ℕ) → 2 ≤ l → l ≤ lastLabel b → againstAll l w p (tableImage b .rows) ≡ againstAll l w q (tableImage b .rows)
+    any-conditions p q h g = own-conditions b l w p h g ∙ free-rows p q (firstOn b l) (endOn b l - firstOn b l) ∙ sym (own-conditions b l w q h g)
+
+  module _ (bit : ℕ) (x : Deciding b l bit) where
+    lets-is : (f : ℕ) → lets (field b f 6) bit ≡ (eqb (only f) 2 || eqb (only f) bit)
+    lets-is f = go (ℕ-discrete kind 2) (ℕ-discrete bit 2)
+      where
+        go : Dec (kind ≡ 2) → Dec (bit ≡ 2) → lets (field b f 6) bit ≡ (eqb (only f) 2 || eqb (only f) bit)
+        go (yes k) (yes e) = absurd (x .none e k)
+        go (yes k) (no e) =
+            ap (λ (t : Bool). t || (eqb (field b f 6) 2 || eqb (field b f 6) bit)) (ne-eqb bit 2 e)
+            ∙ ap (λ (o : ℕ). eqb o 2 || eqb o bit) (sym (yes-pick (eqb kind 2) (field b f 6) 2 (eq-eqb kind 2 k)))
+        go (no k) (yes e) =
+            ap (λ (t : Bool). t || (eqb (field b f 6) 2 || eqb (field b f 6) bit)) (eq-eqb bit 2 e)
+            ∙ sym (ap (λ (o : ℕ). eqb o 2 || eqb o bit) (free k f))
+        go (no k) (no e) = absurd (k (x .some e))
+
+    frames-are : (f n : ℕ) → againstFrom b w bit f n ≡ againstAll l w bit (map (rowOn b l) (range f n))
+    unfolding againstFrom againstAll
+    frames-are f zero = refl
+    frames-are f (suc n) =
+        ap₂ bitOr (ap (λ (t : Bool). pick (t && not (agreed f)) (low f) 0) (lets-is f) ∙ sym (by-bit bit f)) (frames-are (suc f) n)
+
+    pub frame-conditions : 2 ≤ l → l ≤ lastLabel b
+        → againstFrom b w bit (firstOn b l) (endOn b l - firstOn b l) ≡ againstAll l w bit (tableImage b .rows)
+    frame-conditions h g = frames-are (firstOn b l) (endOn b l - firstOn b l) ∙ sym (own-conditions b l w bit h g)
+
+-- ---- on a sound image every row has its values within its care mask
+all-split : (P : Row → Type 0) (xs ys : List Row) → All P (xs ++ ys) → All P xs × All P ys
+all-split P [] ys a = (tt, a)
+all-split P (x ∷ xs) ys (p, a) = let r = all-split P xs ys a in ((p, r .0), r .1)
+
+module _ (b : List ℕ) (l : ℕ) where
+  abbrev Within : Row → Type 0
+  Within r = bitAnd (r .values) (r .care) ≡ r .values
+
+  own-within : (i n : ℕ) → i ≤ l → l < i + n → All Within (concatMap (rowsOn b) (range i n)) → All Within (rowsOn b l)
+  own-within i zero p q a = absurd (omega arith)
+  own-within i (suc n) p q a = go (ℕ-discrete i l) (own-within (suc i) n)
+    where
+      parts : All Within (rowsOn b i) × All Within (concatMap (rowsOn b) (range (suc i) n))
+      parts = all-split Within (rowsOn b i) (concatMap (rowsOn b) (range (suc i) n)) (subst (All Within) (concat-cons (rowsOn b) i (range (suc i) n)) a)
+
+      go : Dec (i ≡ l) → (suc i ≤ l → l < suc i + n → All Within (concatMap (rowsOn b) (range (suc i) n)) → All Within (rowsOn b l))
+          → All Within (rowsOn b l)
+      go (yes e) ih = subst (λ (m : ℕ). All Within (rowsOn b m)) e (parts .0)
+      go (no e) ih = ih (omega arith) (omega arith) (parts .1)
+
+  pub rows-kept : Sound (tableImage b) → 2 ≤ l → l ≤ lastLabel b → (f : ℕ) → firstOn b l ≤ f → f < endOn b l → Kept b f
+  unfolding tableImage
+  rows-kept sound h g f p q =
+      let first : ℕ = firstOn b l in
+      let count : ℕ = endOn b l - first in
+      let own : All Within (rowsOn b l) =
+      own-within 2 (lastLabel b - 1) h (omega arith) (all-places Within noRow (tableImage b .rows) (λ k m. sound .each k m .within)) in
+      subst Within
+      (getD-map-range (rowOn b l) noRow first count (f - first) (omega arith) ∙ ap (rowOn b l) (let z : first + (f - first) ≡ f = omega arith in z))
+      (all-at Within noRow (rowsOn b l) own (f - first) (omega (arith, length-map-range (rowOn b l) first count)))

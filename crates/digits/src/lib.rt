@@ -1,0 +1,42 @@
+// Characters and digits, each found from the other by arithmetic.
+ghost use mathlib.Core.Path.{_≡_};
+ghost use Prim.Native.Nat.{_<_};
+ghost use Rattle.digits.specs.Digit.{numeralOf, letterOf, digitOf, charOf};
+
+// What stands for no digit.
+const NONE: u8 = 255;
+
+fn numeral_digit(c: u8) -> u8
+    ensures { λ r. ⌜ r ≡ numeralOf c ⌝ }
+{
+    if (48 <= c) & (c <= 57) {
+        return c - 48;
+    }
+    NONE
+}
+
+// A small letter is its capital with one bit more, 32.
+fn letter_digit(c: u8) -> u8
+    ensures { λ r. ⌜ r ≡ letterOf c ⌝ }
+{
+    let letter = c & 223;
+    if (65 <= letter) & (letter <= 70) {
+        return letter - 55;
+    }
+    NONE
+}
+
+// The digit that a character stands for, or 255. One of the two is 255, which has every bit, so that the other is left.
+pub fn digit(c: u8) -> u8
+    ensures { λ r. ⌜ r ≡ digitOf c ⌝ }
+{
+    numeral_digit(c) & letter_digit(c)
+}
+
+// The character of a digit.
+pub fn character(d: u8) -> u8
+    requires { ⌜ d < 16 ⌝ }
+    ensures { λ r. ⌜ r ≡ charOf d ⌝ }
+{
+    d + 48 + 7 * ((9 < d) as u8)
+}

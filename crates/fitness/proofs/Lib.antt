@@ -1,0 +1,4 @@
+pub mod Fitness
+pub mod FitCases
+pub mod AboveCases
+pub mod UpwardCases

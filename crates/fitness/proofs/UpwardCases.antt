@@ -1,0 +1,191 @@
+-- The places up to the depth, looked at from the bottom up with the scheme that the label below calls.
+use Prim.Native.Nat.{ℕ, _+_, _-_, _≤_, _<_}
+use mathlib.Core.Bool.{Bool, true, false, _&&_, _||_, not}
+use mathlib.Core.Path.{_≡_, refl, sym, _∙_, ap, ap₂, subst}
+use mathlib.Core.Logic.{_⊎_, inl, inr}
+use mathlib.Core.List.{List}
+use native.Mathlib.Omega.{arith}
+use lib.Dec.{leb, ltb, eqb}
+use lib.ListN.{length}
+use borrow.Author.Tests.{lt-ltb, le-ltb, le-leb, lt-leb}
+use Rattle.lists.specs.Numbers.{any}
+use Rattle.lists.proofs.Tests.{or-none, or-true-l, or-true-r, split}
+use Rattle.lists.proofs.Searches.{any-true, any-none}
+use Rattle.image.specs.Image.{Image, Label}
+use Rattle.image.specs.Decode.{lastLabel, handlerIn}
+use Rattle.tables.specs.Table.{tableImage, labelOf}
+use Rattle.tables.specs.Labels.{asLabel}
+use Rattle.tables.specs.declared.Label as declared
+use Rattle.tables.proofs.TableReads.{labels-count, label-at}
+use Rattle.state.specs.declared.State.{State}
+use Rattle.state.specs.State.{labelAt, placeAt}
+use Rattle.fitness.specs.Fitness.{isCall, mayCarry, unfitPlace}
+use Rattle.fitness.specs.Parts.{unfitBottom, astray, astrayAtBottom}
+
+module _ (i : Image) (s : State) where
+  -- the label at place k
+  abbrev pub atPlace : ℕ → Label
+  atPlace k = labelAt i (placeAt s k)
+
+  abbrev pub total : Bool
+  total = any (unfitPlace i s) 0 (s .depth) || unfitBottom i s
+
+  -- ---- one place
+  one-unfit : (k : ℕ) → k < s .depth → unfitPlace i s k ≡ true → total ≡ true
+  one-unfit k h e = or-true-l (any (unfitPlace i s) 0 (s .depth)) (unfitBottom i s) (any-true (unfitPlace i s) 0 (s .depth) k (omega arith) (omega arith) e)
+
+  abbrev Inside : ℕ → Type 0
+  Inside k = placeAt s k < length (i .labels)
+
+  pub place-high : (k : ℕ) → k < s .depth → length (i .labels) ≤ placeAt s k → total ≡ true
+  place-high k h g = one-unfit k h (or-true-l _ _ (le-leb (length (i .labels)) (placeAt s k) g))
+
+  carries : (k : ℕ) → k + 1 < s .depth → (t : Bool) → mayCarry i (placeAt s k) (placeAt s (k + 1)) ≡ t
+      → (ltb (k + 1) (s .depth) && not (mayCarry i (placeAt s k) (placeAt s (k + 1)))) ≡ not t
+  carries k h t e = rw (lt-ltb (k + 1) (s .depth) h, e)
+
+  place-loose : (k : ℕ) → k + 1 < s .depth → mayCarry i (placeAt s k) (placeAt s (k + 1)) ≡ false → total ≡ true
+  place-loose k h e = one-unfit k (omega arith) (or-true-r (leb (length (i .labels)) (placeAt s k)) _ (carries k h false e))
+
+  place-kept : (k : ℕ) → k + 1 < s .depth → Inside k → mayCarry i (placeAt s k) (placeAt s (k + 1)) ≡ true → unfitPlace i s k ≡ false
+  place-kept k h g e = or-none _ _ (lt-leb (length (i .labels)) (placeAt s k) g) (carries k h true e)
+
+  place-top : (k : ℕ) → s .depth ≤ k + 1 → Inside k → unfitPlace i s k ≡ false
+  place-top k h g =
+      or-none _ _ (lt-leb (length (i .labels)) (placeAt s k) g)
+      (ap (λ (t : Bool). t && not (mayCarry i (placeAt s k) (placeAt s (k + 1)))) (le-ltb (k + 1) (s .depth) h))
+
+  -- a label that is no call is kept under none
+  pub place-idle : (k : ℕ) → k + 1 < s .depth → isCall (atPlace k) ≡ false → total ≡ true
+  place-idle k h e =
+      place-loose k h
+      (ap (λ (t : Bool). t && (eqb (placeAt s (k + 1)) 1 || eqb (atPlace (k + 1) .owner) (atPlace k .called))) e)
+
+  bottom-bad : unfitBottom i s ≡ true → total ≡ true
+  bottom-bad e = or-true-r (any (unfitPlace i s) 0 (s .depth)) (unfitBottom i s) e
+
+  -- ---- what is known once the label at place k was found to belong there, and when the place above a call is reached
+  pub record Belongs (k : ℕ) : Type 0 where
+    pub held : Inside k
+    pub lower : (j : ℕ) → j < k → unfitPlace i s j ≡ false
+    pub bottom : unfitBottom i s ≡ false
+
+  pub record Passed (scheme k : ℕ) : Type 0 where
+    pub some : 1 ≤ k
+    pub below : Belongs (k - 1)
+    pub call : isCall (atPlace (k - 1)) ≡ true
+    pub called : atPlace (k - 1) .called ≡ scheme
+
+  pub belongs-first : Inside 0 → unfitBottom i s ≡ false → Belongs 0
+  belongs-first g e = record { held = g; lower = λ j l. absurd (omega arith); bottom = e }
+
+  module _ (scheme k : ℕ) (c : Passed scheme k) (here : k < s .depth) where
+    above : k - 1 + 1 ≡ k
+    above = omega (arith, c .some)
+
+    -- whether the label below carries this one
+    carried : mayCarry i (placeAt s (k - 1)) (placeAt s (k - 1 + 1)) ≡ (eqb (placeAt s k) 1 || eqb (atPlace k .owner) scheme)
+    carried =
+        ap₂ (λ (t : Bool) (h : ℕ). t && (eqb (placeAt s (k - 1 + 1)) 1 || eqb (atPlace (k - 1 + 1) .owner) h)) (c .call) (c .called)
+        ∙ ap (λ (j : ℕ). eqb (placeAt s j) 1 || eqb (atPlace j .owner) scheme) above
+
+    pub stray : (eqb (placeAt s k) 1 || eqb (atPlace k .owner) scheme) ≡ false → total ≡ true
+    stray e = place-loose (k - 1) (omega (arith, c .some)) (carried ∙ e)
+
+    pub belongs-above : (eqb (placeAt s k) 1 || eqb (atPlace k .owner) scheme) ≡ true → Inside k → Belongs k
+    belongs-above e g = record { held = g; lower = λ j h. low j (split (j + 1) k) h; bottom = c .below .bottom }
+      where
+        low : (j : ℕ) → (j + 1 < k) ⊎ (k ≤ j + 1) → j < k → unfitPlace i s j ≡ false
+        low j (inl a) h = c .below .lower j (omega arith)
+        low j (inr a) h =
+            let q : k - 1 ≡ j = omega (arith, c .some) in
+            ap (unfitPlace i s) (sym q) ∙ place-kept (k - 1) (omega (arith, c .some)) (c .below .held) (carried ∙ e)
+
+  module _ (k : ℕ) (y : Belongs k) where
+    pub top-fits : s .depth ≤ k + 1 → total ≡ false
+    top-fits h =
+        or-none (any (unfitPlace i s) 0 (s .depth)) (unfitBottom i s)
+        (any-none (unfitPlace i s) 0 (s .depth) (λ j b. each (0 + j) (split (0 + j) k) (omega arith))) (y .bottom)
+      where
+        each : (j : ℕ) → (j < k) ⊎ (k ≤ j) → j < s .depth → unfitPlace i s j ≡ false
+        each j (inl a) b = y .lower j a
+        each j (inr a) b = let e : k ≡ j = omega arith in ap (unfitPlace i s) (sym e) ∙ place-top k h (y .held)
+
+    pub passed-next : isCall (atPlace k) ≡ true → Passed (atPlace k .called) (k + 1)
+    passed-next e = record {
+      some = omega arith;
+      below = subst Belongs back y;
+      call = ap (λ (m : ℕ). isCall (atPlace m)) (sym back) ∙ e;
+      called = ap (λ (m : ℕ). atPlace m .called) (sym back);
+    }
+      where
+        back : k ≡ k + 1 - 1
+        back = omega arith
+
+  pub passed-all : (scheme k : ℕ) → Passed scheme k → s .depth ≤ k → total ≡ false
+  passed-all scheme k c h = top-fits (k - 1) (c .below) (omega (arith, c .some))
+
+flip : (x u : Bool) → u ≡ not x → x ≡ not u
+flip true u e = sym (ap not e)
+flip false u e = sym (ap not e)
+
+-- ---- as the code meets it: l was read at place k, and the label l as z
+module _ (b : List ℕ) (s : State) (k l last : ℕ) (place : l ≡ placeAt s k) (most : last ≡ lastLabel b) where
+  abbrev image : Image
+  image = tableImage b
+
+  pub pass-high : k < s .depth → last < l → true ≡ total image s
+  pass-high here h = sym (place-high image s k here (omega (arith, labels-count b)))
+
+  module _ (low : l ≤ last) (z : declared.Label) (read : asLabel z ≡ labelOf b l) where
+    held : placeAt s k < length (image .labels)
+    held = omega (arith, labels-count b)
+
+    label-is : atPlace image s k ≡ asLabel z
+    label-is = ap (labelAt image) (sym place) ∙ label-at b l ∙ sym read
+
+    owner-is : atPlace image s k .owner ≡ z .owner
+    owner-is = ap (λ (x : Label). x .owner) label-is
+
+    -- at the bottom
+    module _ (first : k ≡ 0) (t : Bool) (e : t ≡ astrayAtBottom (handlerIn b) (z .owner) l) where
+      bottom-is : unfitBottom image s ≡ t
+      unfolding tableImage
+      bottom-is =
+          ap (λ (j : ℕ). astrayAtBottom (handlerIn b) (labelAt image (placeAt s j) .owner) (placeAt s j)) (sym first)
+          ∙ ap₂ (astrayAtBottom (handlerIn b)) owner-is (sym place) ∙ sym e
+
+      pub bottom-stray : t ≡ true → true ≡ total image s
+      bottom-stray q = sym (bottom-bad image s (bottom-is ∙ q))
+
+      pub bottom-belongs : t ≡ false → Belongs image s k
+      bottom-belongs q =
+          subst (λ (j : ℕ). Belongs image s j) (sym first)
+          (belongs-first image s (subst (λ (j : ℕ). placeAt s j < length (image .labels)) first held) (bottom-is ∙ q))
+
+    -- above a call of that scheme
+    module _ (scheme : ℕ) (c : Passed image s scheme k) (here : k < s .depth) (t : Bool) (e : t ≡ astray (z .owner) scheme l) where
+      carried-is : (eqb (placeAt s k) 1 || eqb (atPlace image s k .owner) scheme) ≡ not t
+      carried-is = ap₂ (λ (j h : ℕ). eqb j 1 || eqb h scheme) (sym place) owner-is ∙ flip (eqb l 1 || eqb (z .owner) scheme) t e
+
+      pub pass-stray : t ≡ true → true ≡ total image s
+      pass-stray q = sym (stray image s scheme k c here (carried-is ∙ ap not q))
+
+      pub pass-belongs : t ≡ false → Belongs image s k
+      pass-belongs q = belongs-above image s scheme k c here (carried-is ∙ ap not q) held
+
+    -- whether it is a call
+    module _ (y : Belongs image s k) (u : Bool) (f : u ≡ not (eqb (z .kind) 1 || eqb (z .kind) 2)) where
+      call-is : isCall (atPlace image s k) ≡ not u
+      call-is = ap isCall label-is ∙ flip (eqb (z .kind) 1 || eqb (z .kind) 2) u f
+
+      pub pass-top : (depth : ℕ) → depth ≡ s .depth → u ≡ true → ltb (k + 1) depth ≡ total image s
+      pass-top depth deep q = go (split (k + 1) depth)
+        where
+          go : (k + 1 < depth) ⊎ (depth ≤ k + 1) → ltb (k + 1) depth ≡ total image s
+          go (inl h) = lt-ltb (k + 1) depth h ∙ sym (place-idle image s k (omega arith) (call-is ∙ ap not q))
+          go (inr h) = le-ltb (k + 1) depth h ∙ sym (top-fits image s k y (omega arith))
+
+      pub pass-next : u ≡ false → Passed image s (z .called) (k + 1)
+      pass-next q =
+          subst (λ (h : ℕ). Passed image s h (k + 1)) (ap (λ (x : Label). x .called) label-is) (passed-next image s k y (call-is ∙ ap not q))

@@ -1,0 +1,7 @@
+pub mod Between
+pub mod Laws
+pub mod Answers
+pub mod RowCases
+pub mod FillCases
+pub mod EntryCases
+pub mod Alike
