@@ -7,6 +7,7 @@ typedef uint8_t (*makes)(size_t, fairleadow_state *, size_t *, size_t *);
 typedef uint8_t (*runs)(const uint8_t *, size_t, fairleadow_state *, const uint16_t *, size_t, uint32_t *, size_t, uint8_t *, size_t,
                         size_t *, size_t *);
 typedef uint8_t (*ticks)(const uint8_t *, size_t, fairleadow_state *, uint16_t, uint32_t *, uint8_t *, size_t *, size_t *);
+typedef uint8_t (*rebinds)(const uint8_t *, size_t, fairleadow_state *, size_t, size_t, size_t *, size_t *);
 typedef uint8_t (*tells)(const uint8_t *, size_t, const fairleadow_state *, uint16_t, uint16_t *, uint16_t *, uint8_t *, size_t *,
                          size_t *);
 typedef uint8_t (*lists)(const uint8_t *, size_t, uint16_t *, size_t, uint16_t *, size_t, size_t *, size_t *);
@@ -18,6 +19,7 @@ struct every_function {
     makes fresh;
     runs run, live_run;
     ticks tick, live_tick;
+    rebinds rebind, live_rebind;
     tells cause;
     lists list_rows;
     means meaning;
@@ -29,10 +31,12 @@ struct every_function every_function(void) {
     struct every_function all = {
         fairleadow_read_chart, fairleadow_write_chart, fairleadow_translate, fairleadow_prepare,
         fairleadow_places,     fairleadow_check_image, fairleadow_fresh,     fairleadow_run,
-        fairleadow_live_run,   fairleadow_tick,        fairleadow_live_tick, fairleadow_cause,
-        fairleadow_list_rows,  fairleadow_meaning,
+        fairleadow_live_run,   fairleadow_tick,        fairleadow_live_tick, fairleadow_rebind,
+        fairleadow_live_rebind, fairleadow_cause,      fairleadow_list_rows, fairleadow_meaning,
     };
     return all;
 }
 
-typedef char a_state_has_fifty_bytes[sizeof(fairleadow_state) == 50 ? 1 : -1];
+typedef char a_state_has_130_bytes[sizeof(fairleadow_state) == 130 ? 1 : -1];
+typedef char the_new_bytes_come_last[offsetof(fairleadow_state, serving) == 50 && offsetof(fairleadow_state, numbers) == 66 &&
+                                     offsetof(fairleadow_state, servers) == 98 ? 1 : -1];

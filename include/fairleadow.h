@@ -2,17 +2,19 @@
  *
  * Every function answers for everything that it is handed. All but fairleadow_meaning return 0, or the number of a refusal, and write
  *   *index   the frame (a line or a record) that the refusal names, from 0; only 2, 3, 4, 6 to 9, 12 and 13 name one, else it is 0
- *   *count   records, characters, labels, bytes of a table or ticks written, or places needed; with refusals 1 to 16 and 19 to 21
+ *   *count   records, characters, labels, bytes of a table or ticks written, or places needed; with refusals 1 to 16 and 19 to 22
  *            it is 0, with 17 and 18 the ticks finished before
- * With refusals 1 to 16 and 19 to 21 no buffer and no state is changed; only 14 writes a state, of zeros. With success, and with
+ * With refusals 1 to 16 and 19 to 22 no buffer and no state is changed; only 14 writes a state, of zeros. With success, and with
  * 17 and 18, nothing past the count is changed.
  * A buffer is a pointer and how many elements it has. No pointer is null, and nothing that a call writes may overlap anything
  * else that the call is given. Nothing is allocated and nothing is kept between calls. The archive of `rt staticlib` is code for
  * x86-64 and calls memcpy and memset and nothing else; there a translation takes 7,290 bytes of stack, a count of places 7,090, a run, a
- * tick, a preparation, a cause or a list of rows 13,560, a live run 520, a live tick 440. controller/README.md tells of archives for ARM. This file is for both, and
- * for C and C++: lengths are of type size_t, and fairleadow_calls.h, which lies beside it, makes of them what the archive takes.
+ * tick, a preparation, a cause, a list of rows or a rebinding 13,560, a live run 520, a live tick 440, a live rebinding 240.
+ * controller/README.md tells of archives for ARM. This file is for both, and for C and C++: lengths are of type size_t, and
+ * fairleadow_calls.h, which lies beside it, makes of them what the archive takes.
  *
- * The refusals, tried in this order, but 19 directly after 5 and 21 before 18 (docs/REFUSALS.md tells what to look for):
+ * The refusals, tried in this order, but 19 directly after 5, 21 before 18 and 22 after 15 (docs/REFUSALS.md tells what to look for;
+ * H is how many schemes there are):
  *    1  the length of the text or of the records           10  more than 1,024 rows
  *    2  a character other than 0-9, A-F, a-f, line feed    11  the image's header
  *    3  the sum of a frame                                 12  an image frame that stands in a wrong place
@@ -25,6 +27,8 @@
  *                                                          19  a handler's mark on scheme 1, or a second one
  *                                                          20  a scheme within reach of scheme 1 that can call itself
  *                                                          21  a state whose tick takes no row
+ *                                                          22  a rebinding of or to a number that is not 2 to H, or of
+ *                                                              the handler's
  */
 #ifndef FAIRLEADOW_H
 #define FAIRLEADOW_H
@@ -45,12 +49,22 @@ extern "C" {
 /* The most labels of an image. */
 #define FAIRLEADOW_LABELS 256
 
-/* The machine's state. Only fairleadow_fresh makes one; the controller keeps it and hands it to each run or tick. */
+/* The machine's state, 130 bytes. Only fairleadow_fresh makes one; the controller keeps it and hands it to each run, tick or rebinding.
+ * A call names a number, and the scheme that serves the number then is opened: its own, unless fairleadow_rebind gave it another.
+ *
+ * Up to the results a state is as it was before numbers could be rebound, when it had 50 bytes; the last three lists are new. Who called
+ * the library then has to compile again with this header and to make room for 130 bytes wherever a state is kept, copied, stored or
+ * sent. A state that was stored with 50 bytes is not to be filled up with zeros, which do not fit (15): begin with a fresh one. */
 typedef struct {
     uint8_t size;        /* places that the stack may use, 1 to 32 */
     uint8_t depth;       /* places in use */
     uint8_t places[32];  /* labels, the bottom first; 0 above the depth */
-    uint8_t results[16]; /* result bits 0 or 1, scheme h's at h - 1, which a call of h sets to 0; another byte is read as 1, and written as 1 by a run or a tick */
+    uint8_t results[16]; /* result bits 0 or 1, number h's at h - 1, which a call of h sets to 0; another byte is read as 1, and
+                          * written as 1 by a run, a tick or a rebinding */
+    uint8_t serving[16]; /* the scheme that serves each number, number h's at h - 1; that of number 1, which no call names, is kept and
+                          * not tried */
+    uint8_t numbers[32]; /* for each place in use the number that its scheme was called by, at the bottom 1 or the handler's; 0 above */
+    uint8_t servers[32]; /* the scheme that served that number at the call, at the bottom the number again; 0 above */
 } fairleadow_state;
 
 #include "fairleadow_calls.h"
@@ -77,11 +91,12 @@ uint8_t fairleadow_places(const uint8_t *chart, size_t chart_len, size_t *index,
 /* Whether an image is in order. Tries 1 to 3 and 11 to 13; counts 0. */
 uint8_t fairleadow_check_image(const uint8_t *image, size_t image_len, size_t *index, size_t *count);
 
-/* A fresh state for a stack of `size` places. Tries 14, and then every number of the state is 0; counts 0. */
+/* A fresh state for a stack of `size` places: scheme 1 is open, and each number is served by its own scheme. Tries 14, and then every
+ * number of the state is 0; counts 0. */
 uint8_t fairleadow_fresh(size_t size, fairleadow_state *state, size_t *index, size_t *count);
 
 /* One tick for each word, a mask and a code for each tick. Bit i of a word is condition i, bit i of a mask micro operation i.
- * Codes: 0x00 plain, 0x03 return, 0x04 home, 0x10 + h an operation's call of scheme h, 0x40 + h a function's, 0x60 a drop: a call
+ * Codes: 0x00 plain, 0x03 return, 0x04 home, 0x10 + h an operation's call of number h, 0x40 + h a function's, 0x60 a drop: a call
  * found the stack full, all open schemes are closed, and the handler starts at the next tick. A return may be the handler's, after
  * which comes a home tick.
  * Tries what the image check tries, then 15 to 18; counts ticks. With 17 and 18 the state is that after the ticks counted. */
@@ -94,9 +109,17 @@ uint8_t fairleadow_run(const uint8_t *image, size_t image_len, fairleadow_state 
 uint8_t fairleadow_tick(const uint8_t *image, size_t image_len, fairleadow_state *state, uint16_t word,
                         uint32_t *mask, uint8_t *code, size_t *index, size_t *count);
 
+/* From now on number `number` is served by scheme `scheme`: each later call of the number opens it. What is open goes on as it is, with
+ * its own scheme. Bits and codes go by the number, whichever scheme serves it. Both are as wide as a length, so that none is cut off
+ * before it is tried. To bind a number to what serves it already is allowed, and so is the handler's scheme for another number; the
+ * handler's own number is never rebound, not even to itself. Tries what the image check tries, then 15 and 22; counts 0. A refused
+ * rebinding leaves the state as it was. */
+uint8_t fairleadow_rebind(const uint8_t *image, size_t image_len, fairleadow_state *state, size_t number, size_t scheme,
+                          size_t *index, size_t *count);
+
 /* What makes the tick of a state by a word go where it goes: the row that it takes, by its number among the image's rows, from 0;
  * a mask of the conditions that decide, so that every word which agrees with this one on them takes the same row; and the result bit
- * of the scheme called where the row is a function's, else 2. No tick is made, and the state is only read. A home tick, a call and a
+ * of the number called where the row is a function's, else 2. No tick is made, and the state is only read. A home tick, a call and a
  * handler's return at depth 1 take no row: they get 21. Tries what the image check tries, then 15, 21 and 18; counts 0. With a
  * refusal row, mask and bit are 0. */
 uint8_t fairleadow_cause(const uint8_t *image, size_t image_len, const fairleadow_state *state, uint16_t word,
@@ -125,8 +148,12 @@ uint8_t fairleadow_live_run(const uint8_t *table, size_t table_len, fairleadow_s
 uint8_t fairleadow_live_tick(const uint8_t *table, size_t table_len, fairleadow_state *state, uint16_t word,
                              uint32_t *mask, uint8_t *code, size_t *index, size_t *count);
 
+/* A rebinding by a table, likewise. Tries 11, 15 and 22; counts 0. A refused rebinding leaves the state as it was. */
+uint8_t fairleadow_live_rebind(const uint8_t *table, size_t table_len, fairleadow_state *state, size_t number, size_t scheme,
+                               size_t *index, size_t *count);
+
 /* What a tick's code stands for. Returns the tick kind as an image has it (0 plain, 1 operation call, 2 function call, 3 return,
- * 4 home), 5 for a drop, or 255 for a code that no tick has, and writes the scheme called, 2 to 16, or 0 where none is. Refuses
+ * 4 home), 5 for a drop, or 255 for a code that no tick has, and writes the number called, 2 to 16, or 0 where none is. Refuses
  * nothing. */
 uint8_t fairleadow_meaning(uint8_t code, uint8_t *called);
 

@@ -1,6 +1,6 @@
 /* How the functions of fairleadow.h reach the archive; to be included by that file alone. Whatever the processor, the archive takes
- * lengths and writes index and count as 64 bits, and of what it returns only the low eight bits have a meaning. The functions below
- * have the types of fairleadow.h, and from there on its names stand for them. */
+ * lengths, and numbers to rebind, and writes index and count as 64 bits, and of what it returns only the low eight bits have a meaning.
+ * The functions below have the types of fairleadow.h, and from there on its names stand for them. */
 #ifndef FAIRLEADOW_CALLS_H
 #define FAIRLEADOW_CALLS_H
 
@@ -18,6 +18,8 @@ uint32_t fairleadow_run(const uint8_t *image, uint64_t image_len, fairleadow_sta
                         uint32_t *masks, uint64_t masks_len, uint8_t *codes, uint64_t codes_len, uint64_t *index, uint64_t *count);
 uint32_t fairleadow_tick(const uint8_t *image, uint64_t image_len, fairleadow_state *state, uint16_t word,
                          uint32_t *mask, uint8_t *code, uint64_t *index, uint64_t *count);
+uint32_t fairleadow_rebind(const uint8_t *image, uint64_t image_len, fairleadow_state *state, uint64_t number, uint64_t scheme,
+                           uint64_t *index, uint64_t *count);
 uint32_t fairleadow_cause(const uint8_t *image, uint64_t image_len, const fairleadow_state *state, uint16_t word,
                           uint16_t *row, uint16_t *mask, uint8_t *bit, uint64_t *index, uint64_t *count);
 uint32_t fairleadow_list_rows(const uint8_t *image, uint64_t image_len, uint16_t *firsts, uint64_t firsts_len,
@@ -29,6 +31,8 @@ uint32_t fairleadow_live_run(const uint8_t *table, uint64_t table_len, fairleado
                              uint64_t *index, uint64_t *count);
 uint32_t fairleadow_live_tick(const uint8_t *table, uint64_t table_len, fairleadow_state *state, uint16_t word,
                               uint32_t *mask, uint8_t *code, uint64_t *index, uint64_t *count);
+uint32_t fairleadow_live_rebind(const uint8_t *table, uint64_t table_len, fairleadow_state *state, uint64_t number, uint64_t scheme,
+                                uint64_t *index, uint64_t *count);
 uint32_t fairleadow_meaning(uint8_t code, uint8_t *called);
 
 typedef struct {
@@ -97,6 +101,13 @@ static inline uint8_t fairleadow_c_tick(const uint8_t *image, size_t image_len, 
     return fairleadow_tell(number, &told, index, count);
 }
 
+static inline uint8_t fairleadow_c_rebind(const uint8_t *image, size_t image_len, fairleadow_state *state, size_t number,
+                                          size_t scheme, size_t *index, size_t *count) {
+    fairleadow_told told;
+    uint32_t refusal = fairleadow_rebind(image, image_len, state, number, scheme, &told.index, &told.count);
+    return fairleadow_tell(refusal, &told, index, count);
+}
+
 static inline uint8_t fairleadow_c_cause(const uint8_t *image, size_t image_len, const fairleadow_state *state, uint16_t word,
                                          uint16_t *row, uint16_t *mask, uint8_t *bit, size_t *index, size_t *count) {
     fairleadow_told told;
@@ -134,6 +145,13 @@ static inline uint8_t fairleadow_c_live_tick(const uint8_t *table, size_t table_
     return fairleadow_tell(number, &told, index, count);
 }
 
+static inline uint8_t fairleadow_c_live_rebind(const uint8_t *table, size_t table_len, fairleadow_state *state, size_t number,
+                                               size_t scheme, size_t *index, size_t *count) {
+    fairleadow_told told;
+    uint32_t refusal = fairleadow_live_rebind(table, table_len, state, number, scheme, &told.index, &told.count);
+    return fairleadow_tell(refusal, &told, index, count);
+}
+
 static inline uint8_t fairleadow_c_meaning(uint8_t code, uint8_t *called) {
     return (uint8_t)(fairleadow_meaning(code, called) & 0xFF);
 }
@@ -146,11 +164,13 @@ static inline uint8_t fairleadow_c_meaning(uint8_t code, uint8_t *called) {
 #define fairleadow_fresh fairleadow_c_fresh
 #define fairleadow_run fairleadow_c_run
 #define fairleadow_tick fairleadow_c_tick
+#define fairleadow_rebind fairleadow_c_rebind
 #define fairleadow_cause fairleadow_c_cause
 #define fairleadow_list_rows fairleadow_c_list_rows
 #define fairleadow_prepare fairleadow_c_prepare
 #define fairleadow_live_run fairleadow_c_live_run
 #define fairleadow_live_tick fairleadow_c_live_tick
+#define fairleadow_live_rebind fairleadow_c_live_rebind
 #define fairleadow_meaning fairleadow_c_meaning
 
 #endif

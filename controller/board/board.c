@@ -18,18 +18,21 @@ enum {
     TICK,
     CAUSE,
     LIST_ROWS,
+    REBIND,
     PREPARE,
     LIVE_RUN,
     LIVE_TICK,
+    LIVE_REBIND,
     MEANING,
     KNOWN,
 };
 
-/* As it stands in a message: numbers with the low byte first, 100 bytes. */
+/* As it stands in a message: numbers with the low byte first, 184 bytes. */
 typedef struct {
     uint32_t call;
     uint32_t masks, words, codes, output, input; /* how many of each */
-    uint32_t value;                              /* a stack's size, a code, or how many firsts a list has */
+    uint32_t value;                              /* a stack's size, a code, how many firsts a list has, or a number to rebind */
+    uint32_t scheme;                             /* the scheme that is to serve it */
     uint32_t number, index, count;               /* the answer */
     uint32_t stack;                              /* the bytes of stack that the call took */
     uint32_t code;                               /* the bytes of the library's code */
@@ -109,6 +112,9 @@ __attribute__((noinline)) static void make_call(void) {
     case LIST_ROWS:
         number = list_rows(input, output, &index, &count);
         break;
+    case REBIND:
+        number = fairleadow_rebind(input, head.input, &head.state, head.value, head.scheme, &index, &count);
+        break;
     case PREPARE:
         number = fairleadow_prepare(input, head.input, output, head.output, &index, &count);
         break;
@@ -118,6 +124,9 @@ __attribute__((noinline)) static void make_call(void) {
         break;
     case LIVE_TICK:
         number = fairleadow_live_tick(input, head.input, &head.state, words[0], masks, codes, &index, &count);
+        break;
+    case LIVE_REBIND:
+        number = fairleadow_live_rebind(input, head.input, &head.state, head.value, head.scheme, &index, &count);
         break;
     case MEANING:
         number = fairleadow_meaning((uint8_t)head.value, codes);
@@ -143,7 +152,7 @@ void fault(void) {
 }
 
 int main(void) {
-    _Static_assert(sizeof head == 100, "the head is as rust/board has it");
+    _Static_assert(sizeof head == 184, "the head is as rust/board has it");
     host_open();
     for (;;) {
         host_read(&head, sizeof head);

@@ -1,5 +1,6 @@
 /* The program of a controller: prepares the image that lies in its flash, once, and then makes a tick for each word of the probes and
- * switches the outputs by the tick's mask. Whatever cannot be done stops it: all outputs are off, and the operator is told why. */
+ * switches the outputs by the tick's mask. Between two ticks the operator may give a number to another scheme to serve. Whatever cannot
+ * be done stops it: all outputs are off, and the operator is told why; only a swap that the chart does not allow is told and left. */
 #include "fairleadow.h"
 #include "port.h"
 
@@ -60,14 +61,35 @@ static void tick(uint16_t word) {
     port_set_outputs(mask);
 }
 
+/* Refusal 22 leaves the state as it was: the operator asked for a swap that there is not, and the ticks go on. */
+static void swap(uint8_t number, uint8_t scheme) {
+    size_t index, count;
+    uint8_t refusal = fairleadow_live_rebind(table, table_length, &state, number, scheme, &index, &count);
+    if (refusal && refusal != 22)
+        stop("refusal", refusal);
+    port_tell("number ");
+    port_tell_number(number);
+    port_tell(refusal ? " not given to scheme " : " given to scheme ");
+    port_tell_number(scheme);
+    port_tell("\n");
+}
+
 int main(void) {
     port_open();
     port_set_outputs(0);
     load();
     for (;;) {
         uint16_t word;
-        if (!port_next_word(&word))
+        uint8_t number, scheme;
+        switch (port_next(&word, &number, &scheme)) {
+        case PORT_WORD:
+            tick(word);
+            break;
+        case PORT_SWAP:
+            swap(number, scheme);
+            break;
+        default:
             stop("no word came, tick", ticks + 1);
-        tick(word);
+        }
     }
 }

@@ -38,17 +38,25 @@ static int digit(char c) {
     return -1;
 }
 
-/* A word is a line of one to four digits. */
-int port_next_word(uint16_t *word) {
+/* A word is a line of one to four digits; after a = the first of two digits is a number and the second a scheme. */
+int port_next(uint16_t *word, uint8_t *number, uint8_t *scheme) {
     uint32_t value = 0;
     int digits = 0;
-    for (char c = receive(); c != '\n'; c = receive()) {
+    char c = receive();
+    int kind = c == '=' ? PORT_SWAP : PORT_WORD;
+    if (kind == PORT_SWAP)
+        c = receive();
+    for (; c != '\n'; c = receive()) {
         if (digit(c) < 0 || ++digits > 4)
-            return 0;
+            return PORT_NOTHING;
         value = value << 4 | (uint32_t)digit(c);
     }
+    if (digits == 0 || (kind == PORT_SWAP && digits != 2))
+        return PORT_NOTHING;
     *word = (uint16_t)value;
-    return digits > 0;
+    *number = (uint8_t)(value >> 4);
+    *scheme = (uint8_t)(value & 15);
+    return kind;
 }
 
 void port_tell(const char *text) {

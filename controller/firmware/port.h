@@ -9,8 +9,10 @@ void port_open(void);
 /* Switches the outputs: bit i is micro operation i. */
 void port_set_outputs(uint32_t mask);
 
-/* Waits for the next word of the probes, bit i of which is condition i. Returns 0 where what came is no word. */
-int port_next_word(uint16_t *word);
+/* Waits for what comes next: a word of the probes, bit i of which is condition i, or a swap, a number that the operator gives to a scheme
+ * to serve. Tells which of them came, PORT_NOTHING where it is neither. */
+enum { PORT_NOTHING, PORT_WORD, PORT_SWAP };
+int port_next(uint16_t *word, uint8_t *number, uint8_t *scheme);
 
 /* Tells the operator. */
 void port_tell(const char *text);

@@ -1,7 +1,7 @@
 /* Makes every call of the header on the chart on standard input: reads it and writes it back, counts its places, translates it,
  * checks the image, runs eight words from a fresh state of three places, makes the same ticks one by one, both on the image and on
- * the table prepared from it, and tells what each code stands for, which signals made each tick go on and which rows each label has.
- * Prints what came of each. */
+ * the table prepared from it, rebinds each number up to 3 to its own scheme, and tells what each code stands for, which signals made
+ * each tick go on and which rows each label has. Prints what came of each. */
 #include <stdio.h>
 #include <string.h>
 
@@ -51,7 +51,7 @@ static void tell_codes(const uint8_t *codes, size_t count) {
         uint8_t kind = fairleadow_meaning(codes[i], &called);
         printf("code %02X: %s", codes[i], kind < 6 ? kinds[kind] : "unknown");
         if (called)
-            printf(" of scheme %u", called);
+            printf(" of number %u", called);
         printf("\n");
     }
 }
@@ -135,6 +135,23 @@ static int live_run_and_tick(size_t length, const outcome *on_image) {
     return 0;
 }
 
+/* Each number to its own scheme, which changes nothing; 1, and a number above the last scheme, cannot be rebound (22). */
+static int rebind(size_t length, size_t prepared) {
+    fairleadow_state state, live;
+    size_t index, count;
+    uint8_t number;
+    if ((number = fairleadow_fresh(3, &state, &index, &count)))
+        return refused(number, index);
+    live = state;
+    for (size_t bound = 1; bound <= 3; bound++) {
+        number = fairleadow_rebind(image, length, &state, bound, bound, &index, &count);
+        printf("number %zu to scheme %zu: %u", bound, bound, number);
+        number = fairleadow_live_rebind(table, prepared, &live, bound, bound, &index, &count);
+        printf(", by the table %u, %s\n", number, memcmp(&state, &live, sizeof state) ? "another state" : "the same state");
+    }
+    return 0;
+}
+
 int main(void) {
     outcome all;
     size_t index, count, prepared, none;
@@ -152,7 +169,7 @@ int main(void) {
     if ((number = fairleadow_prepare(image, count, table, sizeof table, &index, &prepared)))
         return refused(number, index);
     printf("bytes of the table: %zu\n", prepared);
-    if (run_and_tick(count, &all) || live_run_and_tick(prepared, &all))
+    if (run_and_tick(count, &all) || live_run_and_tick(prepared, &all) || rebind(count, prepared))
         return 1;
     tell_codes(all.codes, WORDS);
     return tell_causes(count) || tell_rows(count);

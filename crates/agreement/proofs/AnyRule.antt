@@ -2,12 +2,12 @@
 use mathlib.Core.Path.{_≡_, refl, sym, _∙_, ap, ap₂, subst}
 use mathlib.Core.Bool.{Bool, true, false}
 use mathlib.Core.List.{List}
-use Prim.Native.Nat.{ℕ, zero, suc, _-_, _≤_, _<_}
+use Prim.Native.Nat.{ℕ, zero, suc, _+_, _-_, _≤_, _<_}
 use native.Mathlib.Omega.{arith}
 use lib.Dec.{leb}
-use lib.ListN.{length, getD, set}
+use lib.ListN.{length, getD}
 use borrow.Author.Tests.{leb-false}
-use Rattle.lists.proofs.Tests.{and-l, no-both}
+use Rattle.lists.proofs.Tests.{no-both}
 use Rattle.bits.specs.Results.{Results, resultOf, withResult}
 use Rattle.frames.specs.Answer.{success}
 use Rattle.frames.specs.Frame.{contents}
@@ -21,12 +21,13 @@ use Rattle.rows.specs.Rows.{isOwn, Choice, row, none, bestRow, Found, leads}
 use Rattle.rows.specs.Choices.{Best}
 use Rattle.rows.proofs.BestRows.{best-is}
 use Rattle.state.specs.declared.State.{State}
-use Rattle.state.specs.State.{labelAt, placeAt}
+use Rattle.state.specs.State.{labelAt, placeAt, numberAt, serverAt, Sized}
+use Rattle.state.specs.Changes.{withBits}
 use Rattle.fitness.specs.Fitness.{isCall, unfit}
 use Rattle.fitness.proofs.Fitness.{Fits, unfits}
-use Rattle.ticks.specs.Tick.{calledBit, choice, Ticked, moved, popped, tickBy, tick}
+use Rattle.ticks.specs.Tick.{calledBit, choice, Ticked, moved, dropping, popped, tickBy, tick}
 use Rattle.ticks.specs.Parts.{topOf}
-use Rattle.ticks.proofs.Leads.{Sort, first, second, other, sort, call-kind}
+use Rattle.ticks.proofs.Leads.{Sort, first, second, other, sort, call-kind, carry-told}
 use Rattle.agreement.proofs.OnlyRow.{Only, image, read, image-is, only-translated}
 
 -- which of the rows a label takes by a word and a bit
@@ -59,18 +60,18 @@ rowBy f i b l w = leads (f l w (calledBit i b l) (i .rows))
 
 abbrev poppedBy : Rule → Image → State → ℕ → ℕ → Results → Bool → Ticked
 poppedBy f i s w m b true = popped i s w m b true
-poppedBy f i s w m b false =
-    moved m 3 s (s .depth - 2) (s .depth - 1) (set (s .places) (s .depth - 1) 0) b (rowBy f i b (placeAt s (s .depth - 2)) w)
+poppedBy f i s w m b false = moved m 3 (dropping s b) (s .depth - 2) (rowBy f i b (placeAt s (s .depth - 2)) w)
 
 abbrev kindBy : Rule → Image → State → ℕ → ℕ → Label → Results → ℕ → Ticked
-kindBy f i s w l x b zero = moved (x .mask) 0 s (s .depth - 1) (s .depth) (s .places) b (rowBy f i b l w)
+kindBy f i s w l x b zero = moved (x .mask) 0 (withBits s b) (s .depth - 1) (rowBy f i b l w)
 kindBy f i s w l x b (suc zero) = tickBy i s w l x b 1
 kindBy f i s w l x b (suc (suc zero)) = tickBy i s w l x b 2
 kindBy f i s w l x b (suc (suc (suc zero))) = poppedBy f i s w (x .mask) b (leb (s .depth) 1)
 kindBy f i s w l x b (suc (suc (suc (suc n)))) = tickBy i s w l x b 4
 
 abbrev pub tickWith : Rule → Image → State → ℕ → Ticked
-tickWith f i s w = let l = topOf s in let x = labelAt i l in kindBy f i s w l x (withResult (x .result) (x .owner) (s .bits)) (x .kind)
+tickWith f i s w = let l = topOf s in let x = labelAt i l in
+    kindBy f i s w l x (withResult (x .result) (numberAt s (s .depth - 1)) (s .bits)) (x .kind)
 
 -- where the rule takes the machine's row, for the label at the top or beneath a return, it makes the machine's tick
 module _ (f : Rule) (i : Image) (s : State) (w : ℕ) where
@@ -85,15 +86,14 @@ module _ (f : Rule) (i : Image) (s : State) (w : ℕ) where
       x = labelAt i (topOf s)
 
       b : Results
-      b = withResult (x .result) (x .owner) (s .bits)
+      b = withResult (x .result) (numberAt s (s .depth - 1)) (s .bits)
 
       back : (t : Bool) → leb (s .depth) 1 ≡ t → poppedBy f i s w (x .mask) b t ≡ popped i s w (x .mask) b t
       back true e = refl
-      back false e = ap (λ (c : Choice). moved (x .mask) 3 s (s .depth - 2) (s .depth - 1) (set (s .places) (s .depth - 1) 0) b (leads c))
-          (beneath (leb-false (s .depth) 1 e) b)
+      back false e = ap (λ (c : Choice). moved (x .mask) 3 (dropping s b) (s .depth - 2) (leads c)) (beneath (leb-false (s .depth) 1 e) b)
 
       go : (k : ℕ) → x .kind ≡ k → kindBy f i s w (topOf s) x b k ≡ tickBy i s w (topOf s) x b k
-      go zero e = ap (λ (c : Choice). moved (x .mask) 0 s (s .depth - 1) (s .depth) (s .places) b (leads c)) (top e b)
+      go zero e = ap (λ (c : Choice). moved (x .mask) 0 (withBits s b) (s .depth - 1) (leads c)) (top e b)
       go (suc zero) e = refl
       go (suc (suc zero)) e = refl
       go (suc (suc (suc zero))) e = back (leb (s .depth) 1) refl
@@ -127,12 +127,14 @@ module _ (text out : List ℕ) (n : ℕ) (done : translate text out .reply ≡ s
       go (other z q) = z
 
   -- every tick, of every state that fits
-  pub any-tick : (s : State) → length (s .places) ≡ 32 → unfit i s ≡ false → (w : ℕ) → tickWith f i s w ≡ tick i s w
-  any-tick s whole fit w =
-      let g : Fits i s = unfits i s whole fit in
+  pub any-tick : (s : State) → Sized s → unfit i s ≡ false → (w : ℕ) → tickWith f i s w ≡ tick i s w
+  any-tick s sized fit w =
+      let g : Fits i s = unfits i s sized fit in
       same-tick f i s w
       (λ e. let h = g .labels (s .depth - 1) (omega (arith, g .some)) in any-rule (topOf s) (numbered (topOf s) h (omega arith)) h w)
       (λ deep. let m : ℕ = placeAt s (s .depth - 2) in
       let h = g .labels (s .depth - 2) (omega arith) in
-      let kept : isCall (labelAt i m) ≡ true = and-l (isCall (labelAt i m)) _ (g .carries (s .depth - 2) (omega arith)) in
+      let kept : isCall (labelAt i m) ≡ true =
+      carry-told i sound m (numberAt s (s .depth - 2 + 1)) (serverAt s (s .depth - 2 + 1)) (placeAt s (s .depth - 2 + 1))
+      (g .carries (s .depth - 2) (omega arith)) .0 in
       any-rule m (numbered m h (call-kind i sound m kept .1)) h w)

@@ -28,6 +28,10 @@ use Rattle.machine.proofs.live_run as live-run
 use Rattle.machine.proofs.live_run.Reads as live-run-reads
 use Rattle.machine.proofs.live_tick as live-tick
 use Rattle.machine.proofs.live_tick.Reads as live-tick-reads
+use Rattle.rebinding.proofs.rebind as rebind
+use Rattle.rebinding.proofs.rebind.Reads as rebind-reads
+use Rattle.rebinding.proofs.live_rebind as live-rebind
+use Rattle.rebinding.proofs.live_rebind.Reads as live-rebind-reads
 use Rattle.fairleadow.proofs.fairleadow_read_chart as c-read-chart
 use Rattle.fairleadow.proofs.fairleadow_read_chart.Reads as c-read-chart-reads
 use Rattle.fairleadow.proofs.fairleadow_write_chart as c-write-chart
@@ -56,6 +60,10 @@ use Rattle.fairleadow.proofs.fairleadow_live_run as c-live-run
 use Rattle.fairleadow.proofs.fairleadow_live_run.Reads as c-live-run-reads
 use Rattle.fairleadow.proofs.fairleadow_live_tick as c-live-tick
 use Rattle.fairleadow.proofs.fairleadow_live_tick.Reads as c-live-tick-reads
+use Rattle.fairleadow.proofs.fairleadow_rebind as c-rebind
+use Rattle.fairleadow.proofs.fairleadow_rebind.Reads as c-rebind-reads
+use Rattle.fairleadow.proofs.fairleadow_live_rebind as c-live-rebind
+use Rattle.fairleadow.proofs.fairleadow_live_rebind.Reads as c-live-rebind-reads
 
 pub read-chart-asks-nothing : (κs : Lfts 2) (a : ArgsD read-chart.signature κs) → read-chart-reads.Asked κs a
 read-chart-asks-nothing κs a = tt
@@ -89,6 +97,12 @@ live-run-asks-nothing κs a = tt
 
 pub live-tick-asks-nothing : (κs : Lfts 1) (a : ArgsD live-tick.signature κs) → live-tick-reads.Asked κs a
 live-tick-asks-nothing κs a = tt
+
+pub rebind-asks-nothing : (κs : Lfts 1) (a : ArgsD rebind.signature κs) → rebind-reads.Asked κs a
+rebind-asks-nothing κs a = tt
+
+pub live-rebind-asks-nothing : (κs : Lfts 1) (a : ArgsD live-rebind.signature κs) → live-rebind-reads.Asked κs a
+live-rebind-asks-nothing κs a = tt
 
 pub list-rows-asks-nothing : (κs : Lfts 3) (a : ArgsD list-rows.signature κs) → list-rows-reads.Asked κs a
 list-rows-asks-nothing κs a = tt
@@ -132,6 +146,12 @@ c-live-run-asks-nothing κs a = tt
 
 pub c-live-tick-asks-nothing : (κs : Lfts 6) (a : ArgsD c-live-tick.signature κs) → c-live-tick-reads.Asked κs a
 c-live-tick-asks-nothing κs a = tt
+
+pub c-rebind-asks-nothing : (κs : Lfts 4) (a : ArgsD c-rebind.signature κs) → c-rebind-reads.Asked κs a
+c-rebind-asks-nothing κs a = tt
+
+pub c-live-rebind-asks-nothing : (κs : Lfts 4) (a : ArgsD c-live-rebind.signature κs) → c-live-rebind-reads.Asked κs a
+c-live-rebind-asks-nothing κs a = tt
 
 pub c-list-rows-asks-nothing : (κs : Lfts 5) (a : ArgsD c-list-rows.signature κs) → c-list-rows-reads.Asked κs a
 c-list-rows-asks-nothing κs a = tt

@@ -6,7 +6,7 @@ use mathlib.Core.List.{List, [], _∷_, _++_}
 use lib.ListN.{length}
 use native.Mathlib.Omega.{arith}
 use Rattle.charts.specs.Chart.{Chart}
-use Rattle.walk.specs.Walk.{Tick}
+use Rattle.walk.specs.Walk.{Signal, Tick}
 use Rattle.walk.proofs.Trace.{Position, tickAt, move, trace, reached}
 use Rattle.agreement.specs.Agreement.{isFullCall, bound}
 
@@ -49,12 +49,12 @@ bound-part n (t ∷ ts) us h = go (bound-part n ts us) (isFullCall n t) refl
         omega (arith, bound-go n t (ts ++ us) e, bound-go n t ts e, ih q)
 
 -- the position after the words, or the first one on the way that calls at a full stack
-unfoldable pub stand : Chart → ℕ → List ℕ → Position → Position
+unfoldable pub stand : Chart → ℕ → List Signal → Position → Position
 stand c n [] x = x
 stand c n (w ∷ ws) x = elim (isFullCall n (tickAt n c x)) [ true ↦ x | false ↦ stand c n ws (move n c w x) ]
 
 module _ (c : Chart) (n : ℕ) where
-  module _ (w : ℕ) (ws : List ℕ) (x : Position) where
+  module _ (w : Signal) (ws : List Signal) (x : Position) where
     pub stand-stop : isFullCall n (tickAt n c x) ≡ true → stand c n (w ∷ ws) x ≡ x
     unfolding stand
     stand-stop e = rw (e, stand)
@@ -63,7 +63,7 @@ module _ (c : Chart) (n : ℕ) where
     unfolding stand
     stand-go e = rw (e, stand)
 
-  pub stand-full : (ws : List ℕ) (x : Position) → bound n (trace n c ws x) ≡ length ws → stand c n ws x ≡ reached n c ws x
+  pub stand-full : (ws : List Signal) (x : Position) → bound n (trace n c ws x) ≡ length ws → stand c n ws x ≡ reached n c ws x
   unfolding trace reached stand
   stand-full [] x h = refl
   stand-full (w ∷ ws) x h = go (stand-full ws (move n c w x)) (isFullCall n (tickAt n c x)) refl
@@ -73,7 +73,7 @@ module _ (c : Chart) (n : ℕ) where
       go ih true e = absurd (omega (arith, bound-stop n (tickAt n c x) (trace n c ws (move n c w x)) e))
       go ih false e = stand-go w ws x e ∙ ih (omega (arith, bound-go n (tickAt n c x) (trace n c ws (move n c w x)) e))
 
-  pub stand-part : (ws : List ℕ) (x : Position) → bound n (trace n c ws x) < length ws → isFullCall n (tickAt n c (stand c n ws x)) ≡ true
+  pub stand-part : (ws : List Signal) (x : Position) → bound n (trace n c ws x) < length ws → isFullCall n (tickAt n c (stand c n ws x)) ≡ true
   unfolding trace
   stand-part [] x h = absurd (omega arith)
   stand-part (w ∷ ws) x h = go (stand-part ws (move n c w x)) (isFullCall n (tickAt n c x)) refl
@@ -85,7 +85,7 @@ module _ (c : Chart) (n : ℕ) where
           ∙ ih (omega (arith, bound-go n (tickAt n c x) (trace n c ws (move n c w x)) e))
 
   -- from there on no tick is made
-  pub bound-here : (ws : List ℕ) (x : Position) → isFullCall n (tickAt n c x) ≡ true → bound n (trace n c ws x) ≡ 0
+  pub bound-here : (ws : List Signal) (x : Position) → isFullCall n (tickAt n c x) ≡ true → bound n (trace n c ws x) ≡ 0
   unfolding trace bound
   bound-here [] x e = refl
   bound-here (w ∷ ws) x e = bound-stop n (tickAt n c x) (trace n c ws (move n c w x)) e

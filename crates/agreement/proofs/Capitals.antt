@@ -10,6 +10,7 @@ use Rattle.listing.proofs.Alike as listing
 use Rattle.translator.proofs.Alike as translation
 use Rattle.places.proofs.Alike as needed
 use Rattle.cause.proofs.Alike as cause
+use Rattle.rebinding.proofs.Alike as rebinding
 use Rattle.runs.proofs.Alike as running
 use Rattle.agreement.specs.Capitals.{AsInCapitals}
 
@@ -24,4 +25,5 @@ as-in-capitals t = record {
   runs = running.runs (map capital t) t (capitals-alike t);
   ticks = running.advances (map capital t) t (capitals-alike t);
   explains = cause.explains (map capital t) t (capitals-alike t);
+  rebinds = rebinding.rebinds (map capital t) t (capitals-alike t);
 }

@@ -6,11 +6,11 @@ use borrow.Fn.World.{ArgsD, ResD}
 use Prim.Native.Nat.{ℕ}
 use mathlib.Core.Path.{_≡_, sym, _∙_, subst}
 use mathlib.Core.List.{List}
-use lib.ListN.{length}
 use Rattle.frames.specs.Answer.{success, count, reply}
 use Rattle.state.specs.declared.State.{State}
+use Rattle.state.specs.State.{Sized}
 use Rattle.state.specs.Bytes.{stateOf}
-use Rattle.state.proofs.ResultBytes.{held-places}
+use Rattle.state.proofs.ResultBytes.{held-sized}
 use Rattle.cause.specs.Cause.{Cause, explain, Tells}
 use Rattle.cause.specs.Laws.{Explains}
 use Rattle.cause.proofs.Answers.{answered}
@@ -24,14 +24,14 @@ use Rattle.agreement.proofs.Numbers.{cause-success}
 abbrev pub reported : ℕ → ℕ → ℕ → Cause
 reported k m b = record { row = k; mask = m; bit = b }
 
-explained : (t : List ℕ) (s : State) (w n : ℕ) → length (s .places) ≡ 32 → explain t s w .reply ≡ success n → (k m b : ℕ)
+explained : (t : List ℕ) (s : State) (w n : ℕ) → Sized s → explain t s w .reply ≡ success n → (k m b : ℕ)
     → k ≡ explain t s w .cause .row → m ≡ explain t s w .cause .mask → b ≡ explain t s w .cause .bit → Explains t s w (reported k m b)
 explained t s w n h e k m b p q o =
     let same : reported k m b ≡ explain t s w .cause = λ j. reported (p j) (q j) (o j) in
     subst (Explains t s w) (sym same) (answered t s w n h e)
 
 pub cause-told : (κs : Lfts 1) (a : ArgsD cause-of.signature κs) (r : ResD cause-of.signature κs) (s : AtExit cause-of.ended κs)
-    → cause-of-reads.Learnt κs a r s → length (a .1 .0 .places) ≡ 32 → (n : ℕ) → reply (r .answer) ≡ success n
+    → cause-of-reads.Learnt κs a r s → Sized (a .1 .0) → (n : ℕ) → reply (r .answer) ≡ success n
     → Explains (a .0 .now) (a .1 .0) (a .1 .1 .0) (reported (r .row) (r .mask) (r .bit))
 cause-told κs a r s e h n d =
     let c : Tells (explain (a .0 .now) (a .1 .0) (a .1 .1 .0)) r = e in
@@ -49,5 +49,5 @@ cause-told-c κs a r s e z =
     let m : ℕ = s .1 .1 .1 .1 .0 .now in
     let o : ℕ = s .1 .1 .1 .1 .1 .0 .now in
     let c : CausesC (causeFor t b w) r (s .1 .1 .1 .1 .1 .1 .0 .now) (s .1 .1 .1 .1 .1 .1 .1 .0 .now) k m o = e in
-    explained t (stateOf b) w (count (explain t (stateOf b) w .reply)) (held-places b)
+    explained t (stateOf b) w (count (explain t (stateOf b) w .reply)) (held-sized b)
     (cause-success t (stateOf b) w (sym (c .told .number-is) ∙ z)) k m o (c .row) (c .mask) (c .bit)

@@ -1,4 +1,4 @@
--- A list of runs on the image of a chart hands back what the walk of the joined words gives.
+-- A list of runs and rebindings on the image of a chart hands back what the walk of the joined words gives.
 use Prim.Native.Nat.{ℕ, _-_, _≤_}
 use mathlib.Core.Bool.{Bool, true, false}
 use mathlib.Core.Path.{_≡_, refl, ap, ap₂, _∙_, sym, subst}
@@ -9,13 +9,14 @@ use native.Mathlib.Omega.{arith}
 use Rattle.lists.specs.Pick.{pick}
 use Rattle.lists.specs.Sequences.{over}
 use Rattle.bits.specs.Results.{noResults}
+use Rattle.bits.specs.Binding.{Binding, ownBinding, rebound, badRebinding}
 use Rattle.frames.specs.Frame.{contents}
 use Rattle.frames.specs.Verdict.{fine, refused, next, when}
 use Rattle.frames.specs.Answer.{Reply, success, refusal, replied}
-use Rattle.charts.specs.Chart.{Chart, end}
-use Rattle.walk.specs.Walk.{Tick, walk}
+use Rattle.charts.specs.Chart.{Chart, handler, end}
+use Rattle.walk.specs.Walk.{Signal, signals, Tick, walk}
 use Rattle.walk.proofs.Facts.{Facts}
-use Rattle.walk.proofs.Trace.{Position, trace, atHome, home-good}
+use Rattle.walk.proofs.Trace.{Position, trace, atHome, Serves, home-good}
 use Rattle.walk.proofs.Recursion.{walk-trace}
 use Rattle.image.specs.Image.{Image}
 use Rattle.image.specs.Decode.{decoded}
@@ -23,21 +24,25 @@ use Rattle.image.specs.Check.{imageVerdict}
 use Rattle.image.proofs.Sound.{Sound}
 use Rattle.image.proofs.Accepted.{image-sound}
 use Rattle.translator.specs.Table.{table}
+use Rattle.translator.proofs.LabelLaws.{length-entries}
 use Rattle.state.specs.declared.State.{State}
-use Rattle.state.specs.State.{fresh, noState, Made, freshState}
+use Rattle.state.specs.State.{only, fresh, noState, Made, freshState}
 use Rattle.runs.specs.Run.{Ran, ticks, Run, noRoom, runOn, run}
+use Rattle.rebinding.specs.Rebind.{rebindOn, rebind}
 use Rattle.state.proofs.Sizes.{size-good}
-use Rattle.fitness.proofs.Fitness.{Fits, fits}
+use Rattle.fitness.proofs.Fitness.{Fits, fits, fits-serves}
 use Rattle.ticks.proofs.Keeps.{fresh-fits}
 use Rattle.runs.proofs.Keeps.{ticks-keep}
-use Rattle.agreement.specs.Agreement.{Asked, Told, told, chain, short, joined, bound, refusedShort, expectedAll}
+use Rattle.rebinding.proofs.Keeps.{rebinding-fits}
+use Rattle.agreement.specs.Agreement.{Asked, told, Given, runs, rebinds, Handed, byRun, byRebinding, chain, short, barred, joined, bound}
+use Rattle.agreement.specs.Agreement.{refusedShort, expectedAll}
 use Rattle.agreement.proofs.TableFacts.{TableFacts}
 use Rattle.agreement.proofs.StopLabels.{label-home}
-use Rattle.agreement.proofs.Places.{below, stateOf}
+use Rattle.agreement.proofs.Places.{below, holding, stateOf}
 use Rattle.agreement.proofs.Bounds.{stand}
 use Rattle.agreement.proofs.Ticks.{ranFrom, Stands, stand-stands, ticks-are}
 use Rattle.agreement.proofs.Joins.{joined-short, joined-long, Due, joins}
-use Rattle.agreement.proofs.Images.{run-image}
+use Rattle.agreement.proofs.Images.{run-image, rebind-image}
 use Rattle.agreement.proofs.Expected.{all-short}
 
 -- ---- one run on an image that is accepted and decodes to i, from a state that fits
@@ -47,19 +52,27 @@ module _ (text : List ℕ) (i : Image) (passes : imageVerdict text ≡ fine) (de
       run-image text i passes decodes s ws ms ks
       ∙ ap (λ (t : Bool). runOn (next (when 15 t) λ _. when 16 (noRoom ws ms ks)) (λ _. ticks i s ws) s ms ks) (fits i s f)
 
-  chain-short : (s : State) (a : Asked) (rest : List Asked) → Fits i s → short a ≡ true
-      → chain run text s (a ∷ rest) ≡ refusedShort a ∷ chain run text s rest
+  chain-short : (s : State) (a : Asked) (rest : List Given) → Fits i s → short a ≡ true
+      → chain run rebind text s (runs a ∷ rest) ≡ byRun (refusedShort a) ∷ chain run rebind text s rest
   unfolding chain
-  chain-short s a rest f e = ap (λ (r : Run). told r ∷ chain run text (r .state) rest)
+  chain-short s a rest f e = ap (λ (r : Run). byRun (told r) ∷ chain run rebind text (r .state) rest)
       (run-is s (a .words) (a .masks) (a .codes) f ∙ ap (λ (t : Bool). runOn (when 16 t) (λ _. ticks i s (a .words)) s (a .masks) (a .codes)) e)
 
-  chain-long : (s : State) (a : Asked) (rest : List Asked) → Fits i s → short a ≡ false → {r : Ran} → ticks i s (a .words) ≡ r
-      → chain run text s (a ∷ rest) ≡ told (runOn fine (λ _. r) s (a .masks) (a .codes)) ∷ chain run text (r .state) rest
+  chain-long : (s : State) (a : Asked) (rest : List Given) → Fits i s → short a ≡ false → {r : Ran} → ticks i s (a .words) ≡ r
+      → chain run rebind text s (runs a ∷ rest) ≡ byRun (told (runOn fine (λ _. r) s (a .masks) (a .codes))) ∷ chain run rebind text (r .state) rest
   unfolding chain
   chain-long s a rest f e q =
-      ap (λ (r : Run). told r ∷ chain run text (r .state) rest)
+      ap (λ (r : Run). byRun (told r) ∷ chain run rebind text (r .state) rest)
       (run-is s (a .words) (a .masks) (a .codes) f ∙ ap (λ (t : Bool). runOn (when 16 t) (λ _. ticks i s (a .words)) s (a .masks) (a .codes)) e)
-      ∙ ap (λ (r : Ran). told (runOn fine (λ _. r) s (a .masks) (a .codes)) ∷ chain run text (r .state) rest) q
+      ∙ ap (λ (r : Ran). byRun (told (runOn fine (λ _. r) s (a .masks) (a .codes))) ∷ chain run rebind text (r .state) rest) q
+
+  -- ---- one rebinding, which 22 refuses where t is true
+  chain-rebinds : (s : State) (h k : ℕ) (rest : List Given) → Fits i s → {t : Bool} → badRebinding (length (i .entries)) (i .handler) h k ≡ t
+      → chain run rebind text s (rebinds h k ∷ rest)
+      ≡ (let r = rebindOn (when 22 t) s h k in byRebinding (r .reply) ∷ chain run rebind text (r .state) rest)
+  unfolding chain
+  chain-rebinds s h k rest f e = ap (λ (r : Made). byRebinding (r .reply) ∷ chain run rebind text (r .state) rest)
+      (rebind-image text i passes decodes s h k ∙ ap₂ (λ (t u : Bool). rebindOn (next (when 15 t) λ _. when 22 u) s h k) (fits i s f) e)
 
 replied-by : (t : Bool) (k : ℕ) → replied (pick t (refused 17 0) fine) k ≡ pick t (refusal 17 0 k) (success k)
 replied-by true k = refl
@@ -73,50 +86,90 @@ fresh-is n l h =
     (record { reply = success 0; state = fresh n }) .state)
     (size-good n l h)
 
-home-is : (c : Chart) → Facts c → (n : ℕ) → fresh n ≡ stateOf c n (atHome c noResults)
+home-is : (c : Chart) → Facts c → (n : ℕ) → fresh n ≡ stateOf c n ownBinding (atHome c noResults)
 unfolding below
 home-is c facts n = let e = facts .ends 1 (omega arith) (facts .first) in
-    ap (λ (k : ℕ). record { size = n; depth = 1; places = k ∷ replicate 31 0; bits = noResults }) (sym (label-home c (end c 1) (e .1) (e .2)))
+    ap (λ (k : ℕ). holding n 1 ownBinding noResults (k ∷ replicate 31 0) (only 1) (only 1)) (sym (label-home c (end c 1) (e .1) (e .2)))
 
 module _ (c : Chart) (facts : Facts c) (tableFacts : TableFacts c) (text : List ℕ) (passes : imageVerdict text ≡ fine)
     (decodes : decoded (contents text) ≡ table c) (n : ℕ) (n≤ : n ≤ 32) where
   sound : Sound (table c)
   sound = subst Sound decodes (image-sound text passes)
 
-  chain-is : (asked : List Asked) (x : Position) → Stands c n x → Fits (table c) (stateOf c n x)
-      → chain run text (stateOf c n x) asked ≡ Due c n x asked
-  unfolding chain expectedAll
-  chain-is [] x s f = refl
-  chain-is (a ∷ rest) x s f = go (chain-is rest) (short a) refl
+  -- the table has the chart's schemes and its handler
+  serves : (s : Binding) (x : Position) → Fits (table c) (stateOf c n s x) → Serves c s
+  serves s x f h low high = let l = fits-serves (table c) (sound .most) (stateOf c n s x) f h low (omega (arith, length-entries c)) in
+      (l .0, omega (arith, l .1, length-entries c))
+
+  same-bar : (h k : ℕ) → badRebinding (length (table c .entries)) (table c .handler) h k ≡ barred c h k
+  unfolding table
+  same-bar h k = ap (λ (m : ℕ). badRebinding m (handler c) h k) (length-entries c)
+
+  abbrev ChainIs : List Given → Type 0
+  ChainIs given = (s : Binding) (x : Position) → Stands c n x → Fits (table c) (stateOf c n s x)
+      → chain run rebind text (stateOf c n s x) given ≡ Due c n s x given
+
+  after-run : (a : Asked) (rest : List Given) → ChainIs rest → ChainIs (runs a ∷ rest)
+  after-run a rest ih s x z f = go (short a) refl
     where
-      go : ((y : Position) → Stands c n y → Fits (table c) (stateOf c n y) → chain run text (stateOf c n y) rest ≡ Due c n y rest)
-          → (t : Bool) → short a ≡ t → chain run text (stateOf c n x) (a ∷ rest) ≡ Due c n x (a ∷ rest)
-      go ih true e = chain-short text (table c) passes decodes (stateOf c n x) a rest f e
-          ∙ ap (λ (l : List Told). refusedShort a ∷ l) (ih x s f)
-          ∙ sym (all-short _ _ 0 a rest e)
-          ∙ sym (ap (λ (js : List ℕ). let ts = trace n c js x in expectedAll (bound n ts) ts 0 (a ∷ rest)) (joined-short a rest e))
-      go ih false e =
-          let ts : List Tick = trace n c (a .words) x in
+      go : (t : Bool) → short a ≡ t → chain run rebind text (stateOf c n s x) (runs a ∷ rest) ≡ Due c n s x (runs a ∷ rest)
+      go true e = chain-short text (table c) passes decodes (stateOf c n s x) a rest f e
+          ∙ ap (λ (l : List Handed). byRun (refusedShort a) ∷ l) (ih s x z f)
+          ∙ sym (all-short c _ _ 0 a rest e)
+          ∙ sym (ap (λ (js : List Signal). let ts = trace n c js x in expectedAll c (bound n ts) ts 0 (runs a ∷ rest)) (joined-short c s a rest e))
+      go false e =
+          let ws : List Signal = signals s (a .words) in
+          let ts : List Tick = trace n c ws x in
           let b : ℕ = bound n ts in
-          let y : Position = stand c n (a .words) x in
-          let made : ticks (table c) (stateOf c n x) (a .words) ≡ ranFrom c n (a .words) x = ticks-are c n facts n≤ tableFacts (a .words) x s in
-          let kept : Fits (table c) (stateOf c n y) =
-          subst (λ (r : Ran). Fits (table c) (r .state)) made (ticks-keep (table c) sound (a .words) (stateOf c n x) f) in
-          chain-long text (table c) passes decodes (stateOf c n x) a rest f e made
-          ∙ ap₂ (λ (r : Reply) (l : List Told). record {
+          let y : Position = stand c n ws x in
+          let served : Serves c s = serves s x f in
+          let made : ticks (table c) (stateOf c n s x) (a .words) ≡ ranFrom c n s (a .words) x =
+          ticks-are c n s facts served n≤ tableFacts (a .words) x z in
+          let kept : Fits (table c) (stateOf c n s y) =
+          subst (λ (r : Ran). Fits (table c) (r .state)) made (ticks-keep (table c) sound (a .words) (stateOf c n s x) f) in
+          chain-long text (table c) passes decodes (stateOf c n s x) a rest f e made
+          ∙ ap₂ (λ (r : Reply) (l : List Handed). byRun (record {
             reply = r;
             masks = over (map (λ (t : Tick). t .mask) (take b ts)) (a .masks);
             codes = over (map (λ (t : Tick). t .code) (take b ts)) (a .codes);
-          } ∷ l)
+          }) ∷ l)
           (replied-by (ltb b (length (a .words))) (length (map (λ (t : Tick). t .code) (take b ts))))
-          (ih y (stand-stands c n facts (a .words) x s) kept)
-          ∙ joins c n a rest x e
-          ∙ sym (ap (λ (js : List ℕ). let us = trace n c js x in expectedAll (bound n us) us 0 (a ∷ rest)) (joined-long a rest e))
+          (ih s y (stand-stands c n s facts served (a .words) x z) kept)
+          ∙ joins c n s a rest x e
+          ∙ sym (ap (λ (js : List Signal). let us = trace n c js x in expectedAll c (bound n us) us 0 (runs a ∷ rest)) (joined-long c s a rest e))
 
-  pub runs-agree : 1 ≤ n → (asked : List Asked)
-      → let ts = walk n c (joined asked) in chain run text (freshState n .state) asked ≡ expectedAll (bound n ts) ts 0 asked
-  runs-agree l asked =
-      let at-home : fresh n ≡ stateOf c n (atHome c noResults) = home-is c facts n in
-      ap (λ (s : State). chain run text s asked) (fresh-is n l n≤ ∙ at-home)
-      ∙ chain-is asked (atHome c noResults) (record { low = l; good = home-good c facts noResults }) (subst (Fits (table c)) at-home (fresh-fits (table c) sound n l n≤))
-      ∙ sym (ap (λ (ts : List Tick). expectedAll (bound n ts) ts 0 asked) (walk-trace n c (joined asked)))
+  after-rebinding : (h k : ℕ) (rest : List Given) → ChainIs rest → ChainIs (rebinds h k ∷ rest)
+  unfolding joined expectedAll
+  after-rebinding h k rest ih s x z f = go (barred c h k) refl
+    where
+      -- what is due, with the binding that the rebinding leaves
+      due : (t : Bool) → barred c h k ≡ t
+          → byRebinding (pick t (refusal 22 0 0) (success 0)) ∷ Due c n (pick t s (rebound h k s)) x rest ≡ Due c n s x (rebinds h k ∷ rest)
+      due t e = sym (ap (λ (r : Bool). let ts = trace n c (joined c (pick r s (rebound h k s)) rest) x in
+          byRebinding (pick r (refusal 22 0 0) (success 0)) ∷ expectedAll c (bound n ts) ts 0 rest) e)
+
+      go : (t : Bool) → barred c h k ≡ t → chain run rebind text (stateOf c n s x) (rebinds h k ∷ rest) ≡ Due c n s x (rebinds h k ∷ rest)
+      go true e =
+          chain-rebinds text (table c) passes decodes (stateOf c n s x) h k rest f (same-bar h k ∙ e)
+          ∙ ap (λ (l : List Handed). byRebinding (refusal 22 0 0) ∷ l) (ih s x z f)
+          ∙ due true e
+      go false e =
+          chain-rebinds text (table c) passes decodes (stateOf c n s x) h k rest f (same-bar h k ∙ e)
+          ∙ ap (λ (l : List Handed). byRebinding (success 0) ∷ l)
+          (ih (rebound h k s) x z (rebinding-fits (table c) (sound .most) (stateOf c n s x) h k f (same-bar h k ∙ e)))
+          ∙ due false e
+
+  chain-is : (given : List Given) → ChainIs given
+  unfolding chain joined expectedAll
+  chain-is [] s x z f = refl
+  chain-is (runs a ∷ rest) s x z f = after-run a rest (chain-is rest) s x z f
+  chain-is (rebinds h k ∷ rest) s x z f = after-rebinding h k rest (chain-is rest) s x z f
+
+  pub calls-agree : 1 ≤ n → (given : List Given)
+      → let ts = walk n c (joined c ownBinding given) in chain run rebind text (freshState n .state) given ≡ expectedAll c (bound n ts) ts 0 given
+  calls-agree l given =
+      let at-home : fresh n ≡ stateOf c n ownBinding (atHome c noResults) = home-is c facts n in
+      ap (λ (s : State). chain run rebind text s given) (fresh-is n l n≤ ∙ at-home)
+      ∙ chain-is given ownBinding (atHome c noResults) (record { low = l; good = home-good c facts noResults })
+      (subst (Fits (table c)) at-home (fresh-fits (table c) sound n l n≤))
+      ∙ sym (ap (λ (ts : List Tick). expectedAll c (bound n ts) ts 0 given) (walk-trace n c (joined c ownBinding given)))

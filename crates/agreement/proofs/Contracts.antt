@@ -26,8 +26,13 @@ use Rattle.machine.proofs.live_run as machine-live-run
 use Rattle.machine.proofs.live_run.Reads as machine-live-run-reads
 use Rattle.machine.proofs.live_tick as machine-live-tick
 use Rattle.machine.proofs.live_tick.Reads as machine-live-tick-reads
+use Rattle.rebinding.specs.Rebind.{rebind, liveRebind}
+use Rattle.rebinding.proofs.rebind as rebinding-rebind
+use Rattle.rebinding.proofs.rebind.Reads as rebinding-rebind-reads
+use Rattle.rebinding.proofs.live_rebind as rebinding-live-rebind
+use Rattle.rebinding.proofs.live_rebind.Reads as rebinding-live-rebind-reads
 use Rattle.state.specs.Bytes.{stateOf}
-use Rattle.fairleadow.specs.Calls.{Told, LendsC, MakesC, runFor, RunsC, tickFor, AdvancesC}
+use Rattle.fairleadow.specs.Calls.{Told, LendsC, MakesC, runFor, RunsC, tickFor, AdvancesC, rebindFor, RebindsC}
 use Rattle.fairleadow.proofs.fairleadow_translate as c-translate
 use Rattle.fairleadow.proofs.fairleadow_translate.Reads as c-translate-reads
 use Rattle.places.proofs.places_needed as places-needed
@@ -46,8 +51,13 @@ use Rattle.fairleadow.proofs.fairleadow_live_run as c-live-run
 use Rattle.fairleadow.proofs.fairleadow_live_run.Reads as c-live-run-reads
 use Rattle.fairleadow.proofs.fairleadow_live_tick as c-live-tick
 use Rattle.fairleadow.proofs.fairleadow_live_tick.Reads as c-live-tick-reads
+use Rattle.fairleadow.proofs.fairleadow_rebind as c-rebind
+use Rattle.fairleadow.proofs.fairleadow_rebind.Reads as c-rebind-reads
+use Rattle.fairleadow.proofs.fairleadow_live_rebind as c-live-rebind
+use Rattle.fairleadow.proofs.fairleadow_live_rebind.Reads as c-live-rebind-reads
 
--- ---- translator::translate, tables::prepare, state::State::fresh, and of machine run, tick_image, live_run and live_tick
+-- ---- translator::translate, tables::prepare, state::State::fresh, of machine run, tick_image, live_run and live_tick, and of rebinding rebind
+-- and live_rebind
 pub translate-lends : (κs : Lfts 2) (a : ArgsD translator-translate.signature κs) (r : ResD translator-translate.signature κs)
     (s : AtExit translator-translate.ended κs)
     → translator-translate-reads.Learnt κs a r s → Lends (translate (a .0 .now) (a .1 .0 .now)) r (s .1 .0 .now)
@@ -86,7 +96,17 @@ pub live-tick-advances : (κs : Lfts 1) (a : ArgsD machine-live-tick.signature �
     → machine-live-tick-reads.Learnt κs a r s → Advances (liveTick (a .0 .now) (a .1 .0) (a .1 .1 .0)) (r .report) (r .state)
 live-tick-advances κs a r s e = e
 
--- ---- for C: translate, fresh, run and tick, then prepare, live_run and live_tick
+pub rebind-makes : (κs : Lfts 1) (a : ArgsD rebinding-rebind.signature κs) (r : ResD rebinding-rebind.signature κs)
+    (s : AtExit rebinding-rebind.ended κs)
+    → rebinding-rebind-reads.Learnt κs a r s → Makes (rebind (a .0 .now) (a .1 .0) (a .1 .1 .0) (a .1 .1 .1 .0)) r
+rebind-makes κs a r s e = e
+
+pub live-rebind-makes : (κs : Lfts 1) (a : ArgsD rebinding-live-rebind.signature κs) (r : ResD rebinding-live-rebind.signature κs)
+    (s : AtExit rebinding-live-rebind.ended κs)
+    → rebinding-live-rebind-reads.Learnt κs a r s → Makes (liveRebind (a .0 .now) (a .1 .0) (a .1 .1 .0) (a .1 .1 .1 .0)) r
+live-rebind-makes κs a r s e = e
+
+-- ---- for C: translate, fresh, run and tick, then prepare, live_run and live_tick, and the two rebindings
 pub translate-lends-c : (κs : Lfts 4) (a : ArgsD c-translate.signature κs) (r : ResD c-translate.signature κs) (s : AtExit c-translate.ended κs)
     → c-translate-reads.Learnt κs a r s
     → LendsC (translate (a .0 .now) (a .1 .0 .now)) r (s .1 .1 .0 .now) (s .1 .1 .1 .0 .now) (s .1 .0 .now)
@@ -128,3 +148,16 @@ pub live-tick-advances-c : (κs : Lfts 6) (a : ArgsD c-live-tick.signature κs) 
     → AdvancesC (liveTick (a .0 .now) (stateOf (a .1 .0 .now)) (a .1 .1 .0)) (a .1 .0 .now) (a .1 .1 .1 .0 .now) (a .1 .1 .1 .1 .0 .now)
     r (s .1 .1 .1 .1 .1 .0 .now) (s .1 .1 .1 .1 .1 .1 .0 .now) (s .1 .0 .now) (s .1 .1 .1 .0 .now) (s .1 .1 .1 .1 .0 .now)
 live-tick-advances-c κs a r s e = e
+
+pub rebind-rebinds-c : (κs : Lfts 4) (a : ArgsD c-rebind.signature κs) (r : ResD c-rebind.signature κs) (s : AtExit c-rebind.ended κs)
+    → c-rebind-reads.Learnt κs a r s
+    → RebindsC (rebindFor (a .0 .now) (a .1 .0 .now) (a .1 .1 .0) (a .1 .1 .1 .0)) (a .1 .0 .now)
+    r (s .1 .1 .1 .1 .0 .now) (s .1 .1 .1 .1 .1 .0 .now) (s .1 .0 .now)
+rebind-rebinds-c κs a r s e = e
+
+pub live-rebind-rebinds-c : (κs : Lfts 4) (a : ArgsD c-live-rebind.signature κs) (r : ResD c-live-rebind.signature κs)
+    (s : AtExit c-live-rebind.ended κs)
+    → c-live-rebind-reads.Learnt κs a r s
+    → RebindsC (liveRebind (a .0 .now) (stateOf (a .1 .0 .now)) (a .1 .1 .0) (a .1 .1 .1 .0)) (a .1 .0 .now)
+    r (s .1 .1 .1 .1 .0 .now) (s .1 .1 .1 .1 .1 .0 .now) (s .1 .0 .now)
+live-rebind-rebinds-c κs a r s e = e

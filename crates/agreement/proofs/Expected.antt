@@ -1,4 +1,4 @@
--- What is expected of a list of runs: moved along the ticks, and after the bound.
+-- What is expected of a list of runs and rebindings: moved along the ticks, and after the bound.
 use Prim.Native.Nat.{ℕ, _+_, _-_, _≤_, min}
 use mathlib.Core.Bool.{Bool, true, false, _&&_}
 use mathlib.Core.Path.{_≡_, refl, ap, ap₂, _∙_, sym}
@@ -12,8 +12,10 @@ use Rattle.lists.specs.Pick.{pick}
 use Rattle.lists.specs.Sequences.{over}
 use Rattle.lists.proofs.Tests.{and-no, same-ltb}
 use Rattle.frames.specs.Answer.{success, refusal}
+use Rattle.charts.specs.Chart.{Chart}
 use Rattle.walk.specs.Walk.{Tick}
-use Rattle.agreement.specs.Agreement.{Asked, Told, short, expected, refusedShort, expectedAll}
+use Rattle.agreement.specs.Agreement.{Asked, Told, Given, runs, rebinds, Handed, byRun, byRebinding, short, expected, refusedShort, replyTo}
+use Rattle.agreement.specs.Agreement.{expectedAll}
 
 -- a run that made these ticks, and was stopped by 17 or not
 abbrev pub toldBy : Bool → ℕ → List Tick → Asked → Told
@@ -23,25 +25,26 @@ toldBy stopped done ts a = record {
   codes = over (map (λ (t : Tick). t .code) ts) (a .codes);
 }
 
-module _ (b : ℕ) (ts : List Tick) (p : ℕ) (a : Asked) (rest : List Asked) where
-  pub all-short : short a ≡ true → expectedAll b ts p (a ∷ rest) ≡ refusedShort a ∷ expectedAll b ts p rest
+module _ (c : Chart) (b : ℕ) (ts : List Tick) (p : ℕ) (a : Asked) (rest : List Given) where
+  pub all-short : short a ≡ true → expectedAll c b ts p (runs a ∷ rest) ≡ byRun (refusedShort a) ∷ expectedAll c b ts p rest
   unfolding expectedAll
   all-short e = rw (e, expectedAll)
 
-  pub all-long : short a ≡ false → expectedAll b ts p (a ∷ rest) ≡ expected b ts p a ∷ expectedAll b ts (p + length (a .words)) rest
+  pub all-long : short a ≡ false
+      → expectedAll c b ts p (runs a ∷ rest) ≡ byRun (expected b ts p a) ∷ expectedAll c b ts (p + length (a .words)) rest
   unfolding expectedAll
   all-long e = rw (e, expectedAll)
 
 -- two expectations of a list are equal where those of its first run and of the rest are
-same-all : (b : ℕ) (ts : List Tick) (p b′ : ℕ) (ts′ : List Tick) (p′ : ℕ) (a : Asked) (rest : List Asked)
-    → expected b ts p a ≡ expected b′ ts′ p′ a → expectedAll b ts p rest ≡ expectedAll b′ ts′ p′ rest
-    → expectedAll b ts (p + length (a .words)) rest ≡ expectedAll b′ ts′ (p′ + length (a .words)) rest
-    → expectedAll b ts p (a ∷ rest) ≡ expectedAll b′ ts′ p′ (a ∷ rest)
-same-all b ts p b′ ts′ p′ a rest one here on = go (short a) refl
+same-all : (c : Chart) (b : ℕ) (ts : List Tick) (p b′ : ℕ) (ts′ : List Tick) (p′ : ℕ) (a : Asked) (rest : List Given)
+    → expected b ts p a ≡ expected b′ ts′ p′ a → expectedAll c b ts p rest ≡ expectedAll c b′ ts′ p′ rest
+    → expectedAll c b ts (p + length (a .words)) rest ≡ expectedAll c b′ ts′ (p′ + length (a .words)) rest
+    → expectedAll c b ts p (runs a ∷ rest) ≡ expectedAll c b′ ts′ p′ (runs a ∷ rest)
+same-all c b ts p b′ ts′ p′ a rest one here on = go (short a) refl
   where
-    go : (t : Bool) → short a ≡ t → expectedAll b ts p (a ∷ rest) ≡ expectedAll b′ ts′ p′ (a ∷ rest)
-    go true e = all-short b ts p a rest e ∙ ap (λ (l : List Told). refusedShort a ∷ l) here ∙ sym (all-short b′ ts′ p′ a rest e)
-    go false e = all-long b ts p a rest e ∙ ap₂ (λ (x : Told) (l : List Told). x ∷ l) one on ∙ sym (all-long b′ ts′ p′ a rest e)
+    go : (t : Bool) → short a ≡ t → expectedAll c b ts p (runs a ∷ rest) ≡ expectedAll c b′ ts′ p′ (runs a ∷ rest)
+    go true e = all-short c b ts p a rest e ∙ ap (λ (l : List Handed). byRun (refusedShort a) ∷ l) here ∙ sym (all-short c b′ ts′ p′ a rest e)
+    go false e = all-long c b ts p a rest e ∙ ap₂ (λ (x : Told) (l : List Handed). byRun x ∷ l) one on ∙ sym (all-long c b′ ts′ p′ a rest e)
 
 -- ticks in front of all others, made already
 module _ (us : List Tick) (b : ℕ) (ts : List Tick) where
@@ -56,13 +59,14 @@ module _ (us : List Tick) (b : ℕ) (ts : List Tick) where
       ∙ ap (λ (k : ℕ). toldBy (ltb b (p + n) && ltb 0 n) k (take k (drop (d + p) (us ++ ts))) a) e
       ∙ ap (λ (l : List Tick). toldBy (ltb b (p + n) && ltb 0 n) near (take near l) a) (drop-append-add us ts p)
 
-  pub shift : (p : ℕ) (rest : List Asked) → expectedAll (length us + b) (us ++ ts) (length us + p) rest ≡ expectedAll b ts p rest
+  pub shift : (c : Chart) (p : ℕ) (rest : List Given) → expectedAll c (length us + b) (us ++ ts) (length us + p) rest ≡ expectedAll c b ts p rest
   unfolding expectedAll
-  shift p [] = refl
-  shift p (a ∷ rest) =
+  shift c p [] = refl
+  shift c p (runs a ∷ rest) =
       let q : length us + p + length (a .words) ≡ length us + (p + length (a .words)) = omega arith in
-      same-all _ _ _ b ts p a rest (expected-shift p a) (shift p rest)
-      (ap (λ (k : ℕ). expectedAll (length us + b) (us ++ ts) k rest) q ∙ shift (p + length (a .words)) rest)
+      same-all c _ _ _ b ts p a rest (expected-shift p a) (shift c p rest)
+      (ap (λ (k : ℕ). expectedAll c (length us + b) (us ++ ts) k rest) q ∙ shift c (p + length (a .words)) rest)
+  shift c p (rebinds h k ∷ rest) = ap (λ (l : List Handed). byRebinding (replyTo c h k) ∷ l) (shift c p rest)
 
 -- after the bound nothing depends on the ticks
 expected-halted : (b : ℕ) (ts : List Tick) (p : ℕ) (a : Asked) → b ≤ p → expected b ts p a ≡ toldBy (ltb 0 (length (a .words))) 0 [] a
@@ -77,11 +81,13 @@ expected-halted b ts p a h =
         (lt-ltb b (p + length (a .words)) (omega (arith, ltb-true 0 (length (a .words)) e)))
     go false e = and-no (ltb b (p + length (a .words))) (ltb 0 (length (a .words))) e ∙ sym e
 
-pub halted : (b : ℕ) (ts : List Tick) (p b′ : ℕ) (ts′ : List Tick) (p′ : ℕ) (rest : List Asked) → b ≤ p → b′ ≤ p′
-    → expectedAll b ts p rest ≡ expectedAll b′ ts′ p′ rest
+pub halted : (c : Chart) (b : ℕ) (ts : List Tick) (p b′ : ℕ) (ts′ : List Tick) (p′ : ℕ) (rest : List Given) → b ≤ p → b′ ≤ p′
+    → expectedAll c b ts p rest ≡ expectedAll c b′ ts′ p′ rest
 unfolding expectedAll
-halted b ts p b′ ts′ p′ [] h h′ = refl
-halted b ts p b′ ts′ p′ (a ∷ rest) h h′ =
-    same-all b ts p b′ ts′ p′ a rest (expected-halted b ts p a h ∙ sym (expected-halted b′ ts′ p′ a h′))
-    (halted b ts p b′ ts′ p′ rest h h′)
-    (halted b ts (p + length (a .words)) b′ ts′ (p′ + length (a .words)) rest (omega arith) (omega arith))
+halted c b ts p b′ ts′ p′ [] l l′ = refl
+halted c b ts p b′ ts′ p′ (runs a ∷ rest) l l′ =
+    same-all c b ts p b′ ts′ p′ a rest (expected-halted b ts p a l ∙ sym (expected-halted b′ ts′ p′ a l′))
+    (halted c b ts p b′ ts′ p′ rest l l′)
+    (halted c b ts (p + length (a .words)) b′ ts′ (p′ + length (a .words)) rest (omega arith) (omega arith))
+halted c b ts p b′ ts′ p′ (rebinds h k ∷ rest) l l′ =
+    ap (λ (xs : List Handed). byRebinding (replyTo c h k) ∷ xs) (halted c b ts p b′ ts′ p′ rest l l′)

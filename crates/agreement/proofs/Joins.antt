@@ -9,22 +9,22 @@ use lib.Seq.{take-append-le, length-take-le}
 use native.Mathlib.Omega.{arith}
 use borrow.Author.Tests.{lt-ltb, le-ltb, ltb-true, ltb-false}
 use Rattle.lists.specs.Pick.{pick}
-use Rattle.lists.specs.Sequences.{concatMap}
+use Rattle.bits.specs.Binding.{Binding}
 use Rattle.charts.specs.Chart.{Chart}
-use Rattle.walk.specs.Walk.{Tick}
+use Rattle.walk.specs.Walk.{Signal, signals, Tick}
 use Rattle.walk.proofs.Trace.{Position, trace, reached, trace-length, trace-append}
-use Rattle.agreement.specs.Agreement.{Asked, Told, short, joined, bound, expected, expectedAll}
+use Rattle.agreement.specs.Agreement.{Asked, Told, Given, runs, Handed, byRun, short, joined, bound, expected, expectedAll}
 use Rattle.agreement.proofs.Bounds.{bound-le, bound-full, bound-part, stand, stand-full, stand-part, bound-here}
 use Rattle.agreement.proofs.Expected.{toldBy, all-long, shift, halted}
 
-module _ (a : Asked) (rest : List Asked) where
-  pub joined-short : short a ≡ true → joined (a ∷ rest) ≡ joined rest
-  unfolding concatMap
-  joined-short e = ap (λ (t : Bool). pick t [] (a .words) ++ joined rest) e
+module _ (c : Chart) (s : Binding) (a : Asked) (rest : List Given) where
+  pub joined-short : short a ≡ true → joined c s (runs a ∷ rest) ≡ joined c s rest
+  unfolding joined
+  joined-short e = ap (λ (t : Bool). pick t [] (signals s (a .words)) ++ joined c s rest) e
 
-  pub joined-long : short a ≡ false → joined (a ∷ rest) ≡ a .words ++ joined rest
-  unfolding concatMap
-  joined-long e = ap (λ (t : Bool). pick t [] (a .words) ++ joined rest) e
+  pub joined-long : short a ≡ false → joined c s (runs a ∷ rest) ≡ signals s (a .words) ++ joined c s rest
+  unfolding joined
+  joined-long e = ap (λ (t : Bool). pick t [] (signals s (a .words)) ++ joined c s rest) e
 
 -- ---- the first run, which makes the ticks up to the bound b of its own
 abbrev pub firstTold : ℕ → List Tick → Asked → Told
@@ -41,57 +41,67 @@ first b B ts us a l e q =
     ∙ ap (λ (l₁ : List Tick). toldBy (ltb B (0 + m) && ltb 0 m) b l₁ a) (sym (take-append-le b ts us l))
     ∙ ap (λ (k : ℕ). toldBy (ltb B (0 + m) && ltb 0 m) k (take k (ts ++ us)) a) d
 
-module _ (c : Chart) (n : ℕ) where
-  -- what the trace of the joined words from x on lets expect
-  abbrev pub Due : Position → List Asked → List Told
-  Due x asked = let ts = trace n c (joined asked) x in expectedAll (bound n ts) ts 0 asked
+module _ (c : Chart) (n : ℕ) (s : Binding) where
+  -- what the trace of the joined words from x on lets expect, with binding s before the first call
+  abbrev pub Due : Position → List Given → List Handed
+  Due x given = let ts = trace n c (joined c s given) x in expectedAll c (bound n ts) ts 0 given
 
-  module _ (a : Asked) (rest : List Asked) (x : Position) where
+  module _ (a : Asked) (rest : List Given) (x : Position) where
+    abbrev ws : List Signal
+    ws = signals s (a .words)
+
     abbrev mine : List Tick
-    mine = trace n c (a .words) x
+    mine = trace n c ws x
 
     abbrev Joins : Type 0
-    Joins = short a ≡ false → firstTold (bound n mine) mine a ∷ Due (stand c n (a .words) x) rest
-        ≡ (let ts = trace n c (a .words ++ joined rest) x in expectedAll (bound n ts) ts 0 (a ∷ rest))
+    Joins = byRun (firstTold (bound n mine) mine a) ∷ Due (stand c n ws x) rest
+        ≡ (let ts = trace n c (ws ++ joined c s rest) x in expectedAll c (bound n ts) ts 0 (runs a ∷ rest))
+
+    ws-length : length ws ≡ length (a .words)
+    ws-length = length-map (a .words) (λ w. record { word = w; binding = s })
+
+    mine-length : length mine ≡ length (a .words)
+    mine-length = trace-length n c ws x ∙ ws-length
 
     -- the bound is not in this run
-    joins-full : bound n mine ≡ length (a .words) → Joins
+    joins-full : bound n mine ≡ length (a .words) → short a ≡ false → Joins
     joins-full h e =
-        let ws : List ℕ = a .words in
-        let us : List Tick = trace n c (joined rest) (stand c n ws x) in
+        let m : ℕ = length (a .words) in
+        let us : List Tick = trace n c (joined c s rest) (stand c n ws x) in
         let B : ℕ = length mine + bound n us in
-        let l : length mine ≡ length ws = trace-length n c ws x in
-        let z : length mine + 0 ≡ 0 + length ws = omega arith in
-        ap₂ (λ (t : Told) (ts : List Told). t ∷ ts)
+        let l : length mine ≡ m = mine-length in
+        let z : length mine + 0 ≡ 0 + m = omega arith in
+        ap₂ (λ (t : Told) (ts : List Handed). byRun t ∷ ts)
         (first (bound n mine) B mine us a (bound-le n mine) (omega arith)
-        (ap (λ (t : Bool). t && ltb 0 (length ws)) (le-ltb B (0 + length ws) (omega arith)) ∙ sym (le-ltb (bound n mine) (length ws) (omega arith))))
-        (sym (shift mine (bound n us) us 0 rest) ∙ ap (λ (p : ℕ). expectedAll B (mine ++ us) p rest) z)
-        ∙ sym (all-long B (mine ++ us) 0 a rest e)
-        ∙ sym (ap (λ (k : ℕ). expectedAll k (mine ++ us) 0 (a ∷ rest)) (bound-full n mine us (h ∙ sym l)))
-        ∙ sym (ap (λ (ts : List Tick). expectedAll (bound n ts) ts 0 (a ∷ rest))
-        (trace-append n c ws (joined rest) x ∙ ap (λ (y : Position). mine ++ trace n c (joined rest) y) (sym (stand-full c n ws x h))))
+        (ap (λ (t : Bool). t && ltb 0 m) (le-ltb B (0 + m) (omega arith)) ∙ sym (le-ltb (bound n mine) m (omega arith))))
+        (sym (shift mine (bound n us) us c 0 rest) ∙ ap (λ (p : ℕ). expectedAll c B (mine ++ us) p rest) z)
+        ∙ sym (all-long c B (mine ++ us) 0 a rest e)
+        ∙ sym (ap (λ (k : ℕ). expectedAll c k (mine ++ us) 0 (runs a ∷ rest)) (bound-full n mine us (h ∙ sym l)))
+        ∙ sym (ap (λ (ts : List Tick). expectedAll c (bound n ts) ts 0 (runs a ∷ rest))
+        (trace-append n c ws (joined c s rest) x
+        ∙ ap (λ (y : Position). mine ++ trace n c (joined c s rest) y) (sym (stand-full c n ws x (h ∙ sym ws-length)))))
 
     -- the bound is in this run, and no later one makes a tick
-    joins-part : bound n mine < length (a .words) → Joins
+    joins-part : bound n mine < length (a .words) → short a ≡ false → Joins
     joins-part h e =
-        let ws : List ℕ = a .words in
-        let us : List Tick = trace n c (joined rest) (reached n c ws x) in
-        let vs : List Tick = trace n c (joined rest) (stand c n ws x) in
+        let m : ℕ = length (a .words) in
+        let us : List Tick = trace n c (joined c s rest) (reached n c ws x) in
+        let vs : List Tick = trace n c (joined c s rest) (stand c n ws x) in
         let b : ℕ = bound n mine in
-        let l : length mine ≡ length ws = trace-length n c ws x in
-        let z : bound n vs ≡ 0 = bound-here c n (joined rest) (stand c n ws x) (stand-part c n ws x h) in
-        ap₂ (λ (t : Told) (ts : List Told). t ∷ ts)
+        let l : length mine ≡ m = mine-length in
+        let k : length ws ≡ m = ws-length in
+        let z : bound n vs ≡ 0 = bound-here c n (joined c s rest) (stand c n ws x) (stand-part c n ws x (omega arith)) in
+        ap₂ (λ (t : Told) (ts : List Handed). byRun t ∷ ts)
         (first b b mine us a (bound-le n mine) (omega arith)
-        (ap₂ (λ (t u : Bool). t && u) (lt-ltb b (0 + length ws) (omega arith)) (lt-ltb 0 (length ws) (omega arith)) ∙ sym (lt-ltb b (length ws) h)))
-        (halted (bound n vs) vs 0 b (mine ++ us) (0 + length ws) rest (omega arith) (omega arith))
-        ∙ sym (all-long b (mine ++ us) 0 a rest e)
-        ∙ sym (ap (λ (k : ℕ). expectedAll k (mine ++ us) 0 (a ∷ rest)) (bound-part n mine us (omega arith)))
-        ∙ sym (ap (λ (ts : List Tick). expectedAll (bound n ts) ts 0 (a ∷ rest)) (trace-append n c ws (joined rest) x))
+        (ap₂ (λ (t u : Bool). t && u) (lt-ltb b (0 + m) (omega arith)) (lt-ltb 0 m (omega arith)) ∙ sym (lt-ltb b m h)))
+        (halted c (bound n vs) vs 0 b (mine ++ us) (0 + m) rest (omega arith) (omega arith))
+        ∙ sym (all-long c b (mine ++ us) 0 a rest e)
+        ∙ sym (ap (λ (k : ℕ). expectedAll c k (mine ++ us) 0 (runs a ∷ rest)) (bound-part n mine us (omega arith)))
+        ∙ sym (ap (λ (ts : List Tick). expectedAll c (bound n ts) ts 0 (runs a ∷ rest)) (trace-append n c ws (joined c s rest) x))
 
-    pub joins : Joins
+    pub joins : short a ≡ false → Joins
     joins e = go (ltb (bound n mine) (length (a .words))) refl
       where
-        go : (t : Bool) → ltb (bound n mine) (length (a .words)) ≡ t → firstTold (bound n mine) mine a ∷ Due (stand c n (a .words) x) rest
-            ≡ (let ts = trace n c (a .words ++ joined rest) x in expectedAll (bound n ts) ts 0 (a ∷ rest))
+        go : (t : Bool) → ltb (bound n mine) (length (a .words)) ≡ t → Joins
         go true t = joins-part (ltb-true (bound n mine) (length (a .words)) t) e
-        go false t = joins-full (omega (arith, ltb-false (bound n mine) (length (a .words)) t, bound-le n mine, trace-length n c (a .words) x)) e
+        go false t = joins-full (omega (arith, ltb-false (bound n mine) (length (a .words)) t, bound-le n mine, mine-length)) e

@@ -1,4 +1,5 @@
--- One call from C of any kind that meets its contract hands back what a run on the image's text does, and leaves bytes that hold its state.
+-- One call from C of any kind that meets its contract hands back what a run or a rebinding on the image's text does, and leaves bytes that hold
+-- its state.
 use Prim.Native.Nat.{ℕ}
 use mathlib.Core.Path.{_≡_, refl, sym, _∙_, ap, ap₂, subst}
 use mathlib.Core.List.{List, [], _∷_}
@@ -6,14 +7,16 @@ use native.Mathlib.Omega.{arith}
 use lib.Dec.{eqb}
 use lib.ListN.{take}
 use borrow.Author.Tests.{ne-eqb}
+use Rattle.lists.specs.Pick.{pick}
 use Rattle.lists.proofs.Tests.{no-pick}
 use Rattle.frames.specs.Frame.{contents}
-use Rattle.frames.specs.Verdict.{Verdict, fine, refused}
-use Rattle.frames.specs.Answer.{refusal, success}
+use Rattle.frames.specs.Verdict.{Verdict, fine, refused, next}
+use Rattle.frames.specs.Answer.{refusal, success, number}
 use Rattle.frames.proofs.Refuses.{Refuses, next-refuses, when-refuses}
 use Rattle.image.specs.Decode.{decoded}
 use Rattle.image.specs.Check.{imageVerdict}
 use Rattle.state.specs.declared.State.{State}
+use Rattle.state.specs.State.{Made}
 use Rattle.state.specs.Bytes.{stateOf, bytesOf}
 use Rattle.fitness.specs.Fitness.{unfit}
 use Rattle.ticks.specs.Tick as machine
@@ -24,12 +27,15 @@ use Rattle.ticks.proofs.Normal.{Normal, tick-normal}
 use Rattle.machine.proofs.Held.{run-held, tick-held}
 use Rattle.machine.proofs.OneTick as one
 use Rattle.machine.proofs.Live.{Prepared, live-run-is, live-tick-is}
-use Rattle.fairleadow.specs.Calls.{RunsC, tickFor, AdvancesC}
-use Rattle.agreement.specs.Agreement.{Asked, told}
+use Rattle.rebinding.specs.Rebind.{rebindVerdict, rebind}
+use Rattle.rebinding.proofs.Held.{rebinding-held}
+use Rattle.fairleadow.specs.Calls.{RunsC, tickFor, AdvancesC, rebindFor, RebindsC}
+use Rattle.agreement.specs.Agreement.{Asked, told, Given, runs, rebinds}
 use Rattle.agreement.specs.Calls.{oneWord}
-use Rattle.agreement.specs.ForC.{ToldC, toldC, toldTickC, TableOfC, prepared, CallC, ran, ranLive, ticked, tickedLive}
+use Rattle.agreement.specs.ForC.{ToldC, toldC, HandedC, byRun, byRebinding, handedC, handedByTickC, TableOfC, prepared}
+use Rattle.agreement.specs.ForC.{CallC, ran, ranLive, ticked, tickedLive, rebound, reboundLive}
 use Rattle.agreement.proofs.Numbers.{Positive, image-positive, prepare-success}
-use Rattle.agreement.proofs.OneCall.{prepared-holds, runAsked}
+use Rattle.agreement.proofs.OneCall.{prepared-rebind-is, prepared-holds, runAsked, handedFor, stateAfter}
 
 -- ---- a run of one word where the places for its mask and its code held m₀ and k₀: a refused tick leaves them
 abbrev ranOver : ℕ → ℕ → Advance → Run
@@ -57,12 +63,12 @@ module _ (s : State) (m₀ k₀ : ℕ) where
       ∙ sym (ap (ranOver m₀ k₀) (one.advance-by t s w))
 
 -- ---- one call
-pub record LikeC (image bytes : List ℕ) (a : Asked) (t : ToldC) (after : List ℕ) : Type 0 where
-  pub told-is : t ≡ toldC (told (runAsked image (stateOf bytes) a))
-  pub state-is : stateOf after ≡ runAsked image (stateOf bytes) a .state
+pub record LikeC (image bytes : List ℕ) (g : Given) (d : HandedC) (after : List ℕ) : Type 0 where
+  pub handed-is : d ≡ handedC (handedFor image (stateOf bytes) g)
+  pub state-is : stateOf after ≡ stateAfter image (stateOf bytes) g
 
 module _ (image bytes : List ℕ) where
-  -- after a run and after a tick the bytes hold the state that it hands back
+  -- after a run, a tick and a rebinding the bytes hold the state that it hands back
   ran-holds : (a : Asked) → stateOf (bytesAfter bytes (runAsked image (stateOf bytes) a)) ≡ runAsked image (stateOf bytes) a .state
   unfolding run
   ran-holds a = let ws : List ℕ = a .words in let ms : List ℕ = a .masks in let ks : List ℕ = a .codes in
@@ -72,41 +78,55 @@ module _ (image bytes : List ℕ) where
   unfolding advance run
   ticked-holds w = tick-held bytes (decoded (contents image)) w (runVerdict image (stateOf bytes) (w ∷ []) (0 ∷ []) (0 ∷ []))
 
+  rebound-holds : (h k : ℕ) → let x = rebindFor image bytes h k in stateOf (pick (eqb (number (x .reply)) 0) (bytesOf (x .state)) bytes) ≡ x .state
+  unfolding rebind
+  rebound-holds h k = rebinding-held bytes h k (next (imageVerdict image) λ _. rebindVerdict (decoded (contents image)) (stateOf bytes) h k)
+
   run-like : (a : Asked) {x : Run} {t : ToldC} {after : List ℕ} → x ≡ runAsked image (stateOf bytes) a
-      → RunsC x bytes (t .number) (t .index) (t .count) after (t .masks) (t .codes) → LikeC image bytes a t after
+      → RunsC x bytes (t .number) (t .index) (t .count) after (t .masks) (t .codes) → LikeC image bytes (runs a) (byRun t) after
   run-like a {x} {t} {after} e d =
       let c : RunsC (runAsked image (stateOf bytes) a) bytes (t .number) (t .index) (t .count) after (t .masks) (t .codes) =
       subst (λ (y : Run). RunsC y bytes (t .number) (t .index) (t .count) after (t .masks) (t .codes)) e d in
       record {
-        told-is = λ j. record {
+        handed-is = λ j. byRun (record {
           number = c .told .number-is j;
           index = c .told .index-is j;
           count = c .told .count-is j;
           masks = c .masks j;
           codes = c .codes j;
-        };
+        });
         state-is = ap stateOf (c .bytes) ∙ ran-holds a;
       }
 
   tick-like : (w : ℕ) {x : Advance} {m₀ k₀ returned at made m k : ℕ} {after : List ℕ} → x ≡ tickFor image bytes w
       → AdvancesC x bytes m₀ k₀ returned at made after m k
-      → LikeC image bytes (oneWord w m₀ k₀) (toldTickC returned at made m k) after
+      → LikeC image bytes (oneWord w m₀ k₀) (handedByTickC returned at made m k) after
   tick-like w {x} {m₀} {k₀} {returned} {at} {made} {m} {k} {after} e d =
       let c : AdvancesC (tickFor image bytes w) bytes m₀ k₀ returned at made after m k =
       subst (λ (y : Advance). AdvancesC y bytes m₀ k₀ returned at made after m k) e d in
       let one-run : Run = ranOver m₀ k₀ (tickFor image bytes w) in
       let same : run image (stateOf bytes) (w ∷ []) (m₀ ∷ []) (k₀ ∷ []) ≡ one-run = run-over (stateOf bytes) m₀ k₀ image w in
-      let made-is : toldTickC returned at made m k ≡ toldC (told one-run) =
-      λ j. record {
+      let made-is : handedByTickC returned at made m k ≡ byRun (toldC (told one-run)) =
+      λ j. byRun (record {
         number = c .told .number-is j;
         index = c .told .index-is j;
         count = c .told .count-is j;
         masks = c .mask j ∷ [];
         codes = c .code j ∷ [];
-      } in
+      }) in
       record {
-        told-is = made-is ∙ sym (ap (λ (y : Run). toldC (told y)) same);
+        handed-is = made-is ∙ sym (ap (λ (y : Run). byRun (toldC (told y))) same);
         state-is = ap stateOf (c .bytes) ∙ ticked-holds w ∙ sym (ap (λ (y : Run). y .state) same);
+      }
+
+  rebinding-like : (h k : ℕ) {x : Made} {returned at made : ℕ} {after : List ℕ} → x ≡ rebindFor image bytes h k
+      → RebindsC x bytes returned at made after → LikeC image bytes (rebinds h k) (byRebinding returned at made) after
+  rebinding-like h k {x} {returned} {at} {made} {after} e d =
+      let c : RebindsC (rebindFor image bytes h k) bytes returned at made after =
+      subst (λ (y : Made). RebindsC y bytes returned at made after) e d in
+      record {
+        handed-is = λ j. byRebinding (c .told .number-is j) (c .told .index-is j) (c .told .count-is j);
+        state-is = ap stateOf (c .bytes) ∙ rebound-holds h k;
       }
 
   -- a call of fairleadow_prepare that returned 0 succeeded with the count that it wrote
@@ -115,8 +135,10 @@ module _ (image bytes : List ℕ) where
       subst (λ (b : List ℕ). Prepared image (take k b)) (sym (c .written))
       (prepared-holds image before n (prepare-success image before (sym (c .told .number-is)) ∙ ap success (sym (c .told .count-is))) k h)
 
-  pub call-like : {a : Asked} {t : ToldC} {after : List ℕ} → CallC image bytes a t after → LikeC image bytes a t after
+  pub call-like : {g : Given} {d : HandedC} {after : List ℕ} → CallC image bytes g d after → LikeC image bytes g d after
   call-like (ran {a = a} c) = run-like a refl c
   call-like (ranLive {a = a} t c) = run-like a (live-run-is (table-prepared t) (stateOf bytes) (a .words) (a .masks) (a .codes)) c
   call-like (ticked {w = w} c) = tick-like w refl c
   call-like (tickedLive {w = w} t c) = tick-like w (live-tick-is (table-prepared t) (stateOf bytes) w) c
+  call-like (rebound {h = h} {k = k} c) = rebinding-like h k refl c
+  call-like (reboundLive {h = h} {k = k} t c) = rebinding-like h k (prepared-rebind-is (table-prepared t) (stateOf bytes) h k) c

@@ -17,7 +17,8 @@ use Rattle.walk.proofs.FactsHold.{facts}
 use Rattle.image.specs.Image.{Row}
 use Rattle.image.proofs.Sound.{noRow}
 use Rattle.translator.specs.Labels.{entry}
-use Rattle.translator.proofs.LabelLaws.{label-low, label-inside, label-holds, labels-apart, label-home, label-return, labels-two, labels-few, entry-holds}
+use Rattle.translator.proofs.LabelLaws.{label-low, label-inside, label-holds, labels-apart, label-home, label-return}
+use Rattle.translator.proofs.LabelLaws.{labels-two, labels-few, entry-holds}
 use Rattle.translator.proofs.Matching.{matching, targets, targets-none, targets-own, targets-other}
 use Rattle.translator.proofs.RowLaws.{row-plain, row-begin, row-condition, row-function}
 use Rattle.rows.specs.Rows.{row, none, better, bestRow, found, leads}

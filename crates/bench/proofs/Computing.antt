@@ -54,6 +54,11 @@ unfoldable pub checking : Unit {0}
 unfolding framing badHeader positionOf stray badContent tableVerdict imageVerdict decoded
 checking = tt
 
+-- ticks on a table, and whether a state fits it
+unfoldable pub ticking : Unit {0}
+unfolding any unfit bestRow tick ticks
+ticking = tt
+
 unfoldable pub running : Unit {0}
-unfolding checking freshState unfit bestRow tick ticks runVerdict run
+unfolding checking ticking freshState runVerdict run
 running = tt

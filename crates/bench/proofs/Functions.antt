@@ -10,32 +10,33 @@ use Rattle.frames.specs.Verdict.{fine}
 use Rattle.charts.specs.Chart.{next0}
 use Rattle.charts.specs.Entry.{readVerdict}
 use Rattle.walk.specs.Stops.{byArc}
-use Rattle.walk.specs.Walk.{Tick, walk}
+use Rattle.bits.specs.Binding.{ownBinding}
+use Rattle.walk.specs.Walk.{signals, Tick, walk}
 use Rattle.walk.specs.Functions.{writesOne, Unwritten, ZeroArc}
 use Rattle.walk.proofs.Functions.{zero-arc}
 use Rattle.lists.specs.Sequences.{some}
 use Rattle.image.specs.Decode.{decoded}
 use Rattle.state.specs.declared.State.{State}
-use Rattle.state.specs.State.{fresh}
+use Rattle.state.specs.State.{fresh, Sized}
 use Rattle.fitness.specs.Fitness.{unfit}
 use Rattle.ticks.specs.Tick.{ticked, tick}
 use Rattle.ticks.specs.Functions.{Unwritten as UnwrittenTicks, none, more, ZeroRow}
 use Rattle.ticks.proofs.Functions.{zero-row}
 use Rattle.runs.specs.Run.{ticks}
-use Rattle.bench.specs.Bench.{chartBore, boreWords, one}
+use Rattle.bench.specs.Bench.{chartBore, boreWords, one, beside}
 use Rattle.bench.proofs.Computing.{walking, running}
 use Rattle.bench.proofs.Tables.{imageBore, of-bore}
 
 -- ---- the walk
 abbrev firstBlock : List Tick
-firstBlock = one 4 0 4 1 ∷ one 1 0 66 1 ∷ one 5 0 0 2 ∷ one 7 0 0 2 ∷ one 8 0 3 2 ∷ one 3 1 0 1 ∷ one 4 0 4 1 ∷ []
+firstBlock = one 4 1 0 4 1 ∷ one 1 1 0 66 1 ∷ one 5 2 0 0 2 ∷ one 7 2 0 0 2 ∷ one 8 2 0 3 2 ∷ one 3 1 1 0 1 ∷ one 4 1 0 4 1 ∷ []
 
-bore-walk : walk 2 (contents chartBore) boreWords
-    ≡ firstBlock ++ (one 1 0 66 1 ∷ ((one 5 0 0 2 ∷ []) ++ (one 8 0 3 2 ∷ (one 2 2 0 1 ∷ (one 4 0 4 1 ∷ [])))))
+bore-walk : walk 2 (contents chartBore) (signals ownBinding boreWords)
+    ≡ firstBlock ++ (one 1 1 0 66 1 ∷ ((one 5 2 0 0 2 ∷ []) ++ (one 8 2 0 3 2 ∷ (one 2 1 2 0 1 ∷ (one 4 1 0 4 1 ∷ [])))))
 unfolding walking chartBore boreWords
 bore-walk = refl
 
-bore-unwritten : Unwritten (contents chartBore) (one 1 0 66 1) (one 5 0 0 2 ∷ []) (one 8 0 3 2)
+bore-unwritten : Unwritten (contents chartBore) (one 1 1 0 66 1) (one 5 2 0 0 2 ∷ []) (one 8 2 0 3 2)
 unfolding walking some chartBore
 bore-unwritten = record { function = refl; made = refl; kept = refl; inside = refl; own = refl; unwritten = refl }
 
@@ -46,17 +47,26 @@ bore-read = refl
 pub bore-says-no : _≡_ {A = ℕ} 2 (byArc (contents chartBore) 0 (next0 (contents chartBore) 1))
 unfolding ZeroArc boreWords
 bore-says-no =
-    zero-arc chartBore bore-read 2 boreWords firstBlock (one 5 0 0 2 ∷ []) (one 4 0 4 1 ∷ []) (one 1 0 66 1) (one 8 0 3 2) (one 2 2 0 1)
+    zero-arc chartBore bore-read 2 (signals ownBinding boreWords)
+    firstBlock (one 5 2 0 0 2 ∷ []) (one 4 1 0 4 1 ∷ []) (one 1 1 0 66 1) (one 8 2 0 3 2) (one 2 1 2 0 1)
     bore-walk bore-unwritten
 
--- in the first block the operation of scheme 2 does write 1
+-- in the first block the operation of scheme 2, called by number 2, does write 1
 pub bore-writes : some (writesOne (contents chartBore) 2) firstBlock ≡ true
 unfolding walking some chartBore
 bore-writes = refl
 
--- ---- the machine with two places, by depth, the two labels and the bit of scheme 2
+-- ---- the machine with two places, by depth, the two labels and the bit of number 2
 abbrev stateAt : ℕ → ℕ → ℕ → Bool → State
-stateAt d l above b = record { size = 2; depth = d; places = l ∷ above ∷ replicate 30 0; bits = false ∷ b ∷ replicate 14 false }
+stateAt d l above b = record {
+  size = 2;
+  depth = d;
+  places = l ∷ above ∷ replicate 30 0;
+  bits = false ∷ b ∷ replicate 14 false;
+  serving = ownBinding;
+  numbers = beside d (1 ∷ 2 ∷ []);
+  servers = beside d (1 ∷ 2 ∷ []);
+}
 
 -- before the second call the first block's 1 still stands
 bore-before : ticks (decoded (contents imageBore)) (fresh 2) (take 7 boreWords) .state ≡ stateAt 1 2 0 true
@@ -67,6 +77,9 @@ bore-fits : unfit (decoded (contents imageBore)) (stateAt 1 2 0 true) ≡ false
 unfolding running imageBore
 bore-fits = refl
 
+bore-sized : Sized (stateAt 1 2 0 true)
+bore-sized = record { places = refl; serving = refl; numbers = refl; servers = refl }
+
 bore-unwritten-ticks : UnwrittenTicks (decoded (contents imageBore)) 2 2 (stateAt 2 2 5 false) (stateAt 2 2 1 false)
 unfolding running imageBore
 bore-unwritten-ticks = more 0 refl refl refl refl none
@@ -74,5 +87,5 @@ bore-unwritten-ticks = more 0 refl refl refl refl none
 pub bore-takes-zero : tick (decoded (contents imageBore)) (stateAt 2 2 1 false) 0 ≡ ticked 0 3 (stateAt 1 3 0 false)
 unfolding ZeroRow running imageBore
 bore-takes-zero =
-    zero-row imageBore (of-bore .passes) (stateAt 1 2 0 true) refl bore-fits refl 0 0 66 (stateAt 2 2 5 false) (stateAt 2 2 1 false) refl refl
+    zero-row imageBore (of-bore .passes) (stateAt 1 2 0 true) bore-sized bore-fits refl 0 0 66 (stateAt 2 2 5 false) (stateAt 2 2 1 false) refl refl
     bore-unwritten-ticks refl 0

@@ -6,14 +6,11 @@ use Prim.Native.Nat.{ℕ, _≤_}
 use native.Mathlib.Omega.{arith}
 use Rattle.frames.specs.Verdict.{fine}
 use Rattle.state.specs.State.{fresh}
-use Rattle.fitness.specs.Fitness.{unfit}
-use Rattle.rows.specs.Rows.{bestRow}
-use Rattle.ticks.specs.Tick.{tick}
 use Rattle.runs.specs.Run.{Run, ticks, runOn}
 use Rattle.agreement.proofs.Images.{runImage, run-image}
 use Rattle.bench.specs.Bench.{freshRun}
 use Rattle.bench.specs.Handler.{chartHandler, imageHandler, dropWords, bottomWords, ordinaryWords, stateAt, oneWord, HandlerCases}
-use Rattle.bench.proofs.Computing.{walking, checking}
+use Rattle.bench.proofs.Computing.{walking, checking, ticking}
 use Rattle.bench.proofs.Tables.{tableHandler, of-handler}
 use Rattle.bench.proofs.Rounds.{blank, fresh-run}
 
@@ -26,13 +23,13 @@ two : (ws : List ℕ) → freshRun imageHandler 2 ws ≡ runOn fine (λ _. ticks
 two = run-handler 2 (omega arith) (omega arith)
 
 -- a run of one word, tried on the table too
-tried : (d l above : ℕ)
-    → oneWord d l above ≡ runImage tableHandler (stateAt d l above false false) (0 ∷ []) (0 ∷ []) (0 ∷ []) .reply
-tried d l above = ap (λ (r : Run). r .reply)
-    (run-image imageHandler tableHandler (of-handler .passes) (of-handler .decodes) (stateAt d l above false false) (0 ∷ []) (0 ∷ []) (0 ∷ []))
+tried : (d l h above g : ℕ)
+    → oneWord d l h above g ≡ runImage tableHandler (stateAt d l h above g false false) (0 ∷ []) (0 ∷ []) (0 ∷ []) .reply
+tried d l h above g = ap (λ (r : Run). r .reply)
+    (run-image imageHandler tableHandler (of-handler .passes) (of-handler .decodes) (stateAt d l h above g false false) (0 ∷ []) (0 ∷ []) (0 ∷ []))
 
 pub handler-cases : HandlerCases
-unfolding walking checking unfit tick ticks bestRow tableHandler chartHandler imageHandler dropWords bottomWords ordinaryWords
+unfolding walking checking ticking tableHandler chartHandler imageHandler dropWords bottomWords ordinaryWords
 handler-cases =
     let ordinary = two ordinaryWords in
     let roomy = run-handler 32 (omega arith) (omega arith) dropWords in
@@ -50,10 +47,10 @@ handler-cases =
       roomy-walk = refl;
       roomy-run = (ap (λ (r : Run). r .reply) roomy, ap (λ (r : Run). r .codes) roomy, ap (λ (r : Run). r .masks) roomy);
       narrow-run = (ap (λ (r : Run). r .reply) narrow, ap (λ (r : Run). r .codes) narrow, ap (λ (r : Run). r .masks) narrow);
-      fits-handler = tried 1 6 0;
-      fits-return = tried 1 1 0;
-      unfit-other = tried 1 4 0;
-      unfit-above = tried 2 1 4;
+      fits-handler = tried 1 6 3 0 0;
+      fits-return = tried 1 1 3 0 0;
+      unfit-other = tried 1 4 2 0 0;
+      unfit-above = tried 2 1 3 4 2;
       header-other = refl;
       header-first = refl;
       header-high = refl;

@@ -14,26 +14,30 @@ use Rattle.frames.specs.Answer.{number}
 use Rattle.image.specs.Image.{Image, Label}
 use Rattle.translator.specs.Entry.{translate}
 use Rattle.state.specs.declared.State.{State}
-use Rattle.state.specs.State.{noPlaces, labelAt, entryAt, placeAt, fresh, freshState}
+use Rattle.state.specs.State.{labelAt, entryAt, placeAt, numberAt, fresh, freshState}
+use Rattle.state.specs.Changes.{withPlaces, withPlace, withOpened, withBits}
 use Rattle.fitness.specs.Fitness.{isCall, ofHandler}
-use Rattle.ticks.specs.Tick.{rowOf, Ticked, ticked, stopped, moved, full, tick}
+use Rattle.ticks.specs.Tick.{rowOf, Ticked, ticked, stopped, moved, alone, full, tick}
 use Rattle.ticks.specs.Parts.{topOf, beneath}
 use Rattle.ticks.specs.Functions.{findsFull, returned}
 use Rattle.runs.specs.Run.{Run, run}
-use Rattle.agreement.specs.Agreement.{Runner, Told, chain, Agreement}
+use Rattle.agreement.specs.Agreement.{Runner, Rebinder, Given, Handed, chain, Agreement}
 use Rattle.agreement.proofs.Images.{runImage, run-image}
 use Rattle.bench.specs.Handler.{imageHandler, dropWords, bottomWords, ordinaryWords}
 use Rattle.bench.proofs.Computing.{running}
 use Rattle.bench.proofs.Tables.{tableHandler, of-handler}
-use Rattle.bench.proofs.Instances.{alone, second, at-drop, at-bottom, at-ordinary, at-parted}
+use Rattle.bench.proofs.Instances.{alone as asked, asks, second, at-drop, at-bottom, at-ordinary, at-parted}
 use Rattle.bench.proofs.Variants.{Step, ticksBy, runBy, tableRun, by-table, made, chain-made, codeAt}
 
--- ---- the label at the top, and the bits with its result
+-- ---- the label at the top, the number that its scheme was called by, and the bits with its result
+abbrev topNumber : State → ℕ
+topNumber s = numberAt s (s .depth - 1)
+
 abbrev topLabel : Image → State → Label
 topLabel i s = labelAt i (topOf s)
 
 abbrev written : Image → State → Results
-written i s = withResult (topLabel i s .result) (topLabel i s .owner) (s .bits)
+written i s = withResult (topLabel i s .result) (topNumber s) (s .bits)
 
 -- the machine's tick, but after a drop the state is what f makes of the states before and after it
 abbrev altered : (State → State) → Ticked → Ticked
@@ -43,49 +47,52 @@ altered f (stopped n) = stopped n
 abbrev afterDrop : (Image → State → State → State) → Step
 afterDrop f i s w = altered (f i s) (tick i s w)
 
-abbrev withPlaces : ℕ → List ℕ → State → State
-withPlaces d places t = record { size = t .size; depth = d; places = places; bits = t .bits }
-
-abbrev withBits : Results → State → State
-withBits b t = record { size = t .size; depth = t .depth; places = t .places; bits = b }
-
 -- ---- 17 in the place of every drop
 abbrev pub neverDrops : Step
 neverDrops i s w = pick (findsFull i s) (stopped 17) (tick i s w)
 
-pub never-drops-fails : Agreement translate freshState (runBy neverDrops) → ⊥
+pub never-drops-fails : (g : Rebinder) → Agreement translate freshState (runBy neverDrops) g → ⊥
 unfolding running ticksBy tableHandler dropWords
-never-drops-fails claim = let z : _≡_ {A = ℕ} 7 96 = ap (codeAt 3) (made of-handler neverDrops 2 dropWords (at-drop (runBy neverDrops) claim)) in omega arith
+never-drops-fails g claim =
+    let z : _≡_ {A = ℕ} 7 96 =
+    ap (codeAt 3) (made of-handler neverDrops 2 dropWords (at-drop (runBy neverDrops) g claim)) in
+    omega arith
 
 -- ---- a drop at depth Σ - 1
 abbrev pub dropsEarly : Step
 dropsEarly i s w = pick (isCall (topLabel i s) && leb (s .size - 1) (s .depth)) (full i s (topLabel i s .mask) (written i s)) (tick i s w)
 
-pub drops-early-fails : Agreement translate freshState (runBy dropsEarly) → ⊥
+pub drops-early-fails : (g : Rebinder) → Agreement translate freshState (runBy dropsEarly) g → ⊥
 unfolding running ticksBy tableHandler dropWords
-drops-early-fails claim = let z : _≡_ {A = ℕ} 96 66 = ap (codeAt 1) (made of-handler dropsEarly 2 dropWords (at-drop (runBy dropsEarly) claim)) in omega arith
+drops-early-fails g claim =
+    let z : _≡_ {A = ℕ} 96 66 =
+    ap (codeAt 1) (made of-handler dropsEarly 2 dropWords (at-drop (runBy dropsEarly) g claim)) in
+    omega arith
 
 -- ---- a drop though the handler is at the bottom
 abbrev pub dropsAgain : Step
 dropsAgain i s w = pick (findsFull i s && ofHandler i (placeAt s 0))
-    (ticked (topLabel i s .mask) 96 (record {
-      size = s .size;
-      depth = 1;
-      places = set noPlaces 0 (entryAt i (i .handler));
-      bits = cleared (i .handler) (written i s);
-    }))
+    (ticked (topLabel i s .mask) 96 (alone s (entryAt i (i .handler)) (i .handler) (cleared (i .handler) (written i s))))
     (tick i s w)
 
-pub drops-again-fails : Agreement translate freshState (runBy dropsAgain) → ⊥
+pub drops-again-fails : (g : Rebinder) → Agreement translate freshState (runBy dropsAgain) g → ⊥
 unfolding running ticksBy tableHandler bottomWords
-drops-again-fails claim =
+drops-again-fails g claim =
     let z : _≡_ {A = ℕ} 96 7 =
-    ap (codeAt 7) (made of-handler dropsAgain 2 bottomWords (at-bottom (runBy dropsAgain) claim)) in
+    ap (codeAt 7) (made of-handler dropsAgain 2 bottomWords (at-bottom (runBy dropsAgain) g claim)) in
     omega arith
 
 -- ---- a handler that counts zero: with it at the bottom there is a place more
 abbrev resized : ℕ → State → State
-resized n s = record { size = n; depth = s .depth; places = s .places; bits = s .bits }
+resized n s = record {
+  size = n;
+  depth = s .depth;
+  places = s .places;
+  bits = s .bits;
+  serving = s .serving;
+  numbers = s .numbers;
+  servers = s .servers;
+}
 
 abbrev resizedAfter : ℕ → Ticked → Ticked
 resizedAfter n (ticked m code t) = ticked m code (resized n t)
@@ -94,65 +101,69 @@ resizedAfter n (stopped k) = stopped k
 abbrev pub countsZero : Step
 countsZero i s w = pick (ofHandler i (placeAt s 0)) (resizedAfter (s .size) (tick i (resized (suc (s .size)) s) w)) (tick i s w)
 
-pub counts-zero-fails : Agreement translate freshState (runBy countsZero) → ⊥
+pub counts-zero-fails : (g : Rebinder) → Agreement translate freshState (runBy countsZero) g → ⊥
 unfolding running ticksBy tableHandler bottomWords
-counts-zero-fails claim =
+counts-zero-fails g claim =
     let z : _≡_ {A = ℕ} 18 7 =
-    ap (codeAt 7) (made of-handler countsZero 2 bottomWords (at-bottom (runBy countsZero) claim)) in
+    ap (codeAt 7) (made of-handler countsZero 2 bottomWords (at-bottom (runBy countsZero) g claim)) in
     omega arith
 
 -- ---- a handler's scheme that was called taken for the handler at the bottom
 abbrev pub heedsCalled : Step
 heedsCalled i s w = pick (findsFull i s && ofHandler i (topOf s)) (stopped 17) (tick i s w)
 
-pub heeds-called-fails : Agreement translate freshState (runBy heedsCalled) → ⊥
+pub heeds-called-fails : (g : Rebinder) → Agreement translate freshState (runBy heedsCalled) g → ⊥
 unfolding running ticksBy tableHandler ordinaryWords
-heeds-called-fails claim =
+heeds-called-fails g claim =
     let z : _≡_ {A = ℕ} 7 96 =
-    ap (codeAt 6) (made of-handler heedsCalled 2 ordinaryWords (at-ordinary (runBy heedsCalled) claim)) in
+    ap (codeAt 6) (made of-handler heedsCalled 2 ordinaryWords (at-ordinary (runBy heedsCalled) g claim)) in
     omega arith
 
 -- ---- a handler that returns to what stood beneath the caller: it starts in the caller's place
 abbrev pub keepsBeneath : Step
-keepsBeneath = afterDrop (λ i s t. withPlaces (s .depth) (set (s .places) (s .depth - 1) (entryAt i (i .handler))) t)
+keepsBeneath = afterDrop (λ i s t. withBits (withOpened s (s .depth - 1) (entryAt i (i .handler)) (i .handler) (i .handler)) (t .bits))
 
-pub keeps-beneath-fails : Agreement translate freshState (runBy keepsBeneath) → ⊥
+pub keeps-beneath-fails : (g : Rebinder) → Agreement translate freshState (runBy keepsBeneath) g → ⊥
 unfolding running ticksBy tableHandler dropWords
-keeps-beneath-fails claim =
+keeps-beneath-fails g claim =
     let z : _≡_ {A = ℕ} 19 4 =
-    ap (codeAt 6) (made of-handler keepsBeneath 2 dropWords (at-drop (runBy keepsBeneath) claim)) in
+    ap (codeAt 6) (made of-handler keepsBeneath 2 dropWords (at-drop (runBy keepsBeneath) g claim)) in
     omega arith
 
 -- ---- a handler that returns to the dropped caller: a drop keeps the caller's label above the handler, and the return takes its row
 abbrev pub returnsToCaller : Step
 returnsToCaller i s w = pick (eqb (topLabel i s .kind) 3 && leb (s .depth) 1 && not (eqb (placeAt s 1) 0))
-    (moved 0 3 s 0 1 (set (s .places) 1 0) (s .bits) (rowOf i (s .bits) (placeAt s 1) w))
-    (afterDrop (λ i s t. withPlaces 1 (set (t .places) 1 (topOf s)) t) i s w)
+    (moved 0 3 (alone s 0 1 (s .bits)) 0 (rowOf i (s .bits) (placeAt s 1) w))
+    (afterDrop (λ i s t. withPlace t 1 (topOf s)) i s w)
 
-pub returns-to-caller-fails : Agreement translate freshState (runBy returnsToCaller) → ⊥
+pub returns-to-caller-fails : (g : Rebinder) → Agreement translate freshState (runBy returnsToCaller) g → ⊥
 unfolding running ticksBy tableHandler dropWords
-returns-to-caller-fails claim =
+returns-to-caller-fails g claim =
     let z : _≡_ {A = ℕ} 3 4 =
-    ap (codeAt 6) (made of-handler returnsToCaller 2 dropWords (at-drop (runBy returnsToCaller) claim)) in
+    ap (codeAt 6) (made of-handler returnsToCaller 2 dropWords (at-drop (runBy returnsToCaller) g claim)) in
     omega arith
 
 -- ---- the handler's return at depth 1 takes a row, of which label 1 has none
 abbrev pub takesRow : Step
 takesRow i s w = pick (eqb (topLabel i s .kind) 3) (returned s (beneath i s w)) (tick i s w)
 
-pub takes-row-fails : Agreement translate freshState (runBy takesRow) → ⊥
+pub takes-row-fails : (g : Rebinder) → Agreement translate freshState (runBy takesRow) g → ⊥
 unfolding running ticksBy tableHandler dropWords
-takes-row-fails claim = let z : _≡_ {A = ℕ} 7 3 = ap (codeAt 5) (made of-handler takesRow 2 dropWords (at-drop (runBy takesRow) claim)) in omega arith
+takes-row-fails g claim =
+    let z : _≡_ {A = ℕ} 7 3 =
+    ap (codeAt 5) (made of-handler takesRow 2 dropWords (at-drop (runBy takesRow) g claim)) in
+    omega arith
 
 -- ---- the places above the handler left as they were: the next run gets 15
 abbrev pub leavesPlaces : Step
-leavesPlaces = afterDrop (λ i s t. withPlaces 1 (set (s .places) 0 (entryAt i (i .handler))) t)
+leavesPlaces = afterDrop (λ i s t. withPlaces t (set (s .places) 0 (entryAt i (i .handler))) (t .numbers) (t .servers))
 
-pub leaves-places-fails : Agreement translate freshState (runBy leavesPlaces) → ⊥
+pub leaves-places-fails : (g : Rebinder) → Agreement translate freshState (runBy leavesPlaces) g → ⊥
 unfolding running ticksBy tableHandler chain
-leaves-places-fails claim =
-    let told = sym (chain-made of-handler leavesPlaces (fresh 2) (alone (0 ∷ 0 ∷ 1 ∷ 0 ∷ []) ∷ alone (0 ∷ []) ∷ [])) ∙ at-parted (runBy leavesPlaces) claim in
-    let z : _≡_ {A = ℕ} 15 0 = ap (λ (ts : List Told). number (second ts .reply)) told in
+leaves-places-fails g claim =
+    let given : List Given = asks (0 ∷ 0 ∷ 1 ∷ 0 ∷ []) ∷ asks (0 ∷ []) ∷ [] in
+    let handed = sym (chain-made of-handler leavesPlaces g (fresh 2) given) ∙ at-parted (runBy leavesPlaces) g claim in
+    let z : _≡_ {A = ℕ} 15 0 = ap (λ (ds : List Handed). number (second ds .reply)) handed in
     omega arith
 
 -- ---- slips in the result bits
@@ -161,10 +172,10 @@ abbrev pub HandsBack : Runner → Type 0
 HandsBack f = (image : List ℕ) (s : State) (ws ms ks : List ℕ) → f image s ws ms ks .state ≡ run image s ws ms ks .state
 
 -- the two states after these words, from a fresh one with two places, by the chart's table
-states-made : (step : Step) → HandsBack (runBy step) → (ws : List ℕ) → let a = alone ws in
+states-made : (step : Step) → HandsBack (runBy step) → (ws : List ℕ) → let a = asked ws in
     tableRun tableHandler step imageHandler (fresh 2) ws (a .masks) (a .codes) .state ≡ runImage tableHandler (fresh 2) ws (a .masks) (a .codes) .state
 states-made step claim ws =
-    let a = alone ws in
+    let a = asked ws in
     sym (ap (λ (r : Run). r .state) (by-table of-handler step (fresh 2) ws (a .masks) (a .codes)))
     ∙ claim imageHandler (fresh 2) ws (a .masks) (a .codes)
     ∙ ap (λ (r : Run). r .state) (run-image imageHandler tableHandler (of-handler .passes) (of-handler .decodes) (fresh 2) ws (a .masks) (a .codes))
@@ -172,9 +183,9 @@ states-made step claim ws =
 abbrev bitOf : ℕ → State → ℕ
 bitOf h s = pick (resultOf h (s .bits)) 1 0
 
--- ---- a drop clears the bit of the scheme called
+-- ---- a drop clears the bit of the number called
 abbrev pub clearsCalled : Step
-clearsCalled = afterDrop (λ i s t. withBits (cleared (topLabel i s .called) (t .bits)) t)
+clearsCalled = afterDrop (λ i s t. withBits t (cleared (topLabel i s .called) (t .bits)))
 
 pub clears-called-fails : HandsBack (runBy clearsCalled) → ⊥
 unfolding running ticksBy tableHandler dropWords
@@ -182,7 +193,7 @@ clears-called-fails claim = let z : _≡_ {A = ℕ} 0 1 = ap (bitOf 2) (states-m
 
 -- ---- a drop does not clear the bit of the handler
 abbrev pub keepsHandlerBit : Step
-keepsHandlerBit = afterDrop (λ i s t. withBits (written i s) t)
+keepsHandlerBit = afterDrop (λ i s t. withBits t (written i s))
 
 pub keeps-handler-bit-fails : HandsBack (runBy keepsHandlerBit) → ⊥
 unfolding running ticksBy tableHandler dropWords
@@ -190,7 +201,7 @@ keeps-handler-bit-fails claim = let z : _≡_ {A = ℕ} 1 0 = ap (bitOf 3) (stat
 
 -- ---- a drop forgets the caller's result
 abbrev pub forgetsResult : Step
-forgetsResult = afterDrop (λ i s t. withBits (cleared (i .handler) (s .bits)) t)
+forgetsResult = afterDrop (λ i s t. withBits t (cleared (i .handler) (s .bits)))
 
 pub forgets-result-fails : HandsBack (runBy forgetsResult) → ⊥
 unfolding running ticksBy tableHandler dropWords
@@ -198,7 +209,7 @@ forgets-result-fails claim = let z : _≡_ {A = ℕ} 0 1 = ap (bitOf 2) (states-
 
 -- ---- a drop clears the handler's bit before it writes the caller's result, and the caller is of the handler's scheme
 abbrev pub clearsFirst : Step
-clearsFirst = afterDrop (λ i s t. withBits (withResult (topLabel i s .result) (topLabel i s .owner) (cleared (i .handler) (s .bits))) t)
+clearsFirst = afterDrop (λ i s t. withBits t (withResult (topLabel i s .result) (topNumber s) (cleared (i .handler) (s .bits))))
 
 pub clears-first-fails : HandsBack (runBy clearsFirst) → ⊥
 unfolding running ticksBy tableHandler ordinaryWords

@@ -5,7 +5,7 @@ use mathlib.Core.List.{List, [], _∷_}
 use Prim.Native.Nat.{ℕ, _≤_, _<_}
 use native.Mathlib.Omega.{arith}
 use lib.Dec.{leb, eqb}
-use lib.ListN.{length, take, getD, set, replicate}
+use lib.ListN.{length, take, getD, replicate}
 use Rattle.lists.specs.Pick.{pick}
 use Rattle.lists.specs.Sequences.{over}
 use Rattle.frames.specs.Verdict.{fine}
@@ -15,9 +15,11 @@ use Rattle.charts.specs.Entry.{readVerdict}
 use Rattle.translator.specs.Entry.{translateVerdict, translate}
 use Rattle.state.specs.declared.State.{State}
 use Rattle.state.specs.State.{entryAt, placeAt, fresh, freshState}
+use Rattle.state.specs.Changes.{withPlace}
 use Rattle.ticks.specs.Tick.{ticked, tick}
 use Rattle.runs.specs.Run.{Run, runVerdict, run}
-use Rattle.agreement.specs.Agreement.{Runner, Translator, Asked, Told, chain, Agreement, Translates}
+use Rattle.rebinding.specs.Rebind.{rebind}
+use Rattle.agreement.specs.Agreement.{Runner, Rebinder, Translator, Told, Given, Handed, chain, Agreement, Translates}
 use Rattle.agreement.proofs.Demand.{theorem}
 use Rattle.bench.specs.Bench.{chartP, imageP, words, chartHome}
 use Rattle.bench.specs.Handler.{imageHandler, dropWords}
@@ -70,10 +72,11 @@ abbrev pub AlwaysFull : Runner → Type 0
 AlwaysFull f = (image : List ℕ) (s : State) (w : ℕ) (ws masks codes : List ℕ)
     → runVerdict image s (w ∷ ws) masks codes ≡ fine → number (f image s (w ∷ ws) masks codes .reply) ≡ 17
 
-pub always-full-fails : (f : Runner) → AlwaysFull f → Agreement translate freshState f → ⊥
+pub always-full-fails : (f : Runner) (g : Rebinder) → AlwaysFull f → Agreement translate freshState f g → ⊥
 unfolding running imageHome
-always-full-fails f idle claim =
-    let z : _≡_ {A = ℕ} 17 0 = sym (idle imageHome (fresh 1) 0 [] (7 ∷ []) (7 ∷ []) refl) ∙ ap (λ (t : Told). number (t .reply)) (at-home f claim) in
+always-full-fails f g idle claim =
+    let z : _≡_ {A = ℕ} 17 0 =
+    sym (idle imageHome (fresh 1) 0 [] (7 ∷ []) (7 ∷ []) refl) ∙ ap (λ (t : Told). number (t .reply)) (at-home f g claim) in
     omega arith
 
 -- all ticks that it counts are home ticks
@@ -81,10 +84,10 @@ abbrev pub AlwaysHome : Runner → Type 0
 AlwaysHome f = (image : List ℕ) (s : State) (ws masks codes : List ℕ) → let r = f image s ws masks codes in
     r .codes ≡ over (replicate (count (r .reply)) 4) codes
 
-pub always-home-fails : (f : Runner) → AlwaysHome f → Agreement translate freshState f → ⊥
+pub always-home-fails : (f : Runner) (g : Rebinder) → AlwaysHome f → Agreement translate freshState f g → ⊥
 unfolding words
-always-home-fails f idle claim =
-    let told = at-deep f claim in
+always-home-fails f g idle claim =
+    let told = at-deep f g claim in
     let held : List ℕ = replicate 8 7 in
     let homes = idle imageP (fresh 3) words held held ∙ ap (λ (t : Told). over (replicate (count (t .reply)) 4) held) told in
     let z : _≡_ {A = ℕ} 4 18 = sym (ap (λ (ks : List ℕ). getD ks 1 0) homes) ∙ ap (codeAt 1) told in
@@ -95,10 +98,10 @@ abbrev pub PlainAfterCall : Runner → Type 0
 PlainAfterCall f = (image : List ℕ) (s : State) (ws masks codes : List ℕ) → let r = f image s ws masks codes in
     (j k : ℕ) → j < k → k < count (r .reply) → 16 ≤ getD (r .codes) j 0 → getD (r .codes) k 0 ≡ 0
 
-pub plain-after-call-fails : (f : Runner) → PlainAfterCall f → Agreement translate freshState f → ⊥
+pub plain-after-call-fails : (f : Runner) (g : Rebinder) → PlainAfterCall f → Agreement translate freshState f g → ⊥
 unfolding words
-plain-after-call-fails f idle claim =
-    let told = at-deep f claim in
+plain-after-call-fails f g idle claim =
+    let told = at-deep f g claim in
     let held : List ℕ = replicate 8 7 in
     let r : Run = f imageP (fresh 3) words held held in
     let counted : count (r .reply) ≡ 8 = ap (λ (t : Told). count (t .reply)) told in
@@ -110,19 +113,22 @@ plain-after-call-fails f idle claim =
 abbrev pub plainAfterCall : Step
 plainAfterCall i s w = pick (eqb (s .depth) 1) (tick i s w) (ticked 0 0 s)
 
-pub plain-run-fails : Agreement translate freshState (runBy plainAfterCall) → ⊥
+pub plain-run-fails : (g : Rebinder) → Agreement translate freshState (runBy plainAfterCall) g → ⊥
 unfolding running ticksBy tableP words
-plain-run-fails claim = let z : _≡_ {A = ℕ} 0 18 = ap (codeAt 3) (made of-P plainAfterCall 3 words (at-deep (runBy plainAfterCall) claim)) in omega arith
+plain-run-fails g claim =
+    let z : _≡_ {A = ℕ} 0 18 =
+    ap (codeAt 3) (made of-P plainAfterCall 3 words (at-deep (runBy plainAfterCall) g claim)) in
+    omega arith
 
 -- after a drop no tick that it counts is a home tick
 abbrev pub StaysInHandler : Runner → Type 0
 StaysInHandler f = (image : List ℕ) (s : State) (ws masks codes : List ℕ) → let r = f image s ws masks codes in
     (j k : ℕ) → j < k → k < count (r .reply) → getD (r .codes) j 0 ≡ 96 → getD (r .codes) k 0 ≡ 4 → ⊥
 
-pub stays-in-handler-fails : (f : Runner) → StaysInHandler f → Agreement translate freshState f → ⊥
+pub stays-in-handler-fails : (f : Runner) (g : Rebinder) → StaysInHandler f → Agreement translate freshState f g → ⊥
 unfolding dropWords
-stays-in-handler-fails f idle claim =
-    let told = at-drop f claim in
+stays-in-handler-fails f g idle claim =
+    let told = at-drop f g claim in
     let held : List ℕ = replicate 10 7 in
     let r : Run = f imageHandler (fresh 2) dropWords held held in
     let counted : count (r .reply) ≡ 10 = ap (λ (t : Told). count (t .reply)) told in
@@ -131,13 +137,13 @@ stays-in-handler-fails f idle claim =
 -- such a run: the handler's return at the bottom starts the handler again
 abbrev pub staysInHandler : Step
 staysInHandler i s w = pick (leb (s .depth) 1 && eqb (placeAt s 0) 1)
-    (ticked 0 3 (record { size = s .size; depth = 1; places = set (s .places) 0 (entryAt i (i .handler)); bits = s .bits }))
+    (ticked 0 3 (withPlace s 0 (entryAt i (i .handler))))
     (tick i s w)
 
-pub handler-run-fails : Agreement translate freshState (runBy staysInHandler) → ⊥
+pub handler-run-fails : (g : Rebinder) → Agreement translate freshState (runBy staysInHandler) g → ⊥
 unfolding running ticksBy tableHandler dropWords
-handler-run-fails claim =
-    let z : _≡_ {A = ℕ} 0 4 = ap (codeAt 6) (made of-handler staysInHandler 2 dropWords (at-drop (runBy staysInHandler) claim)) in
+handler-run-fails g claim =
+    let z : _≡_ {A = ℕ} 0 4 = ap (codeAt 6) (made of-handler staysInHandler 2 dropWords (at-drop (runBy staysInHandler) g claim)) in
     omega arith
 
 -- after a drop all ticks that it counts are home ticks
@@ -145,10 +151,10 @@ abbrev pub HomeAfterDrop : Runner → Type 0
 HomeAfterDrop f = (image : List ℕ) (s : State) (ws masks codes : List ℕ) → let r = f image s ws masks codes in
     (j k : ℕ) → j < k → k < count (r .reply) → getD (r .codes) j 0 ≡ 96 → getD (r .codes) k 0 ≡ 4
 
-pub home-after-drop-fails : (f : Runner) → HomeAfterDrop f → Agreement translate freshState f → ⊥
+pub home-after-drop-fails : (f : Runner) (g : Rebinder) → HomeAfterDrop f → Agreement translate freshState f g → ⊥
 unfolding dropWords
-home-after-drop-fails f idle claim =
-    let told = at-drop f claim in
+home-after-drop-fails f g idle claim =
+    let told = at-drop f g claim in
     let held : List ℕ = replicate 10 7 in
     let r : Run = f imageHandler (fresh 2) dropWords held held in
     let counted : count (r .reply) ≡ 10 = ap (λ (t : Told). count (t .reply)) told in
@@ -160,20 +166,22 @@ home-after-drop-fails f idle claim =
 abbrev pub WritesNothing : Runner → Type 0
 WritesNothing f = (image : List ℕ) (s : State) (ws masks codes : List ℕ) → f image s ws masks codes .codes ≡ codes
 
-pub writes-nothing-fails : (f : Runner) → WritesNothing f → Agreement translate freshState f → ⊥
-writes-nothing-fails f idle claim =
-    let z : _≡_ {A = ℕ} 7 4 = sym (ap (λ (ks : List ℕ). getD ks 0 0) (idle imageHome (fresh 1) (0 ∷ []) (7 ∷ []) (7 ∷ []))) ∙ ap (codeAt 0) (at-home f claim) in
+pub writes-nothing-fails : (f : Runner) (g : Rebinder) → WritesNothing f → Agreement translate freshState f g → ⊥
+writes-nothing-fails f g idle claim =
+    let z : _≡_ {A = ℕ} 7 4 =
+    sym (ap (λ (ks : List ℕ). getD ks 0 0) (idle imageHome (fresh 1) (0 ∷ []) (7 ∷ []) (7 ∷ []))) ∙ ap (codeAt 0) (at-home f g claim) in
     omega arith
 
 abbrev pub KeepsState : Runner → Type 0
 KeepsState f = (image : List ℕ) (s : State) (ws masks codes : List ℕ) → f image s ws masks codes .state ≡ s
 
-pub keeps-state-fails : (f : Runner) → KeepsState f → Agreement translate freshState f → ⊥
+pub keeps-state-fails : (f : Runner) (g : Rebinder) → KeepsState f → Agreement translate freshState f g → ⊥
 unfolding chain
-keeps-state-fails f idle claim =
-    let told = at-twice f claim in
+keeps-state-fails f g idle claim =
+    let told = at-twice f g claim in
     let same = ap (λ (s : State). getD (f imageP s (0 ∷ []) (7 ∷ []) (7 ∷ []) .codes) 0 0) (idle imageP (fresh 3) (0 ∷ []) (7 ∷ []) (7 ∷ [])) in
-    let z : _≡_ {A = ℕ} 18 4 = sym (ap (λ (ts : List Told). codeAt 0 (second ts)) told) ∙ same ∙ ap (λ (ts : List Told). codeAt 0 (first ts)) told in
+    let z : _≡_ {A = ℕ} 18 4 =
+    sym (ap (λ (ds : List Handed). codeAt 0 (second ds)) told) ∙ same ∙ ap (λ (ds : List Handed). codeAt 0 (first ds)) told in
     omega arith
 
 -- a count that is not the ticks written, in all runs with a word that 1 to 16 let pass
@@ -191,16 +199,17 @@ one-written [] e = let z : _≡_ {A = ℕ} 7 4 = ap (λ (xs : List ℕ). getD xs
 one-written (k ∷ []) e = refl
 one-written (k ∷ j ∷ ks) e = let z = ap length e in absurd (omega arith)
 
-pub miscounts-fails : (f : Runner) → Miscounts f → Agreement translate freshState f → ⊥
+pub miscounts-fails : (f : Runner) (g : Rebinder) → Miscounts f → Agreement translate freshState f g → ⊥
 unfolding running imageHome
-miscounts-fails f idle claim =
-    let told = at-home f claim in
+miscounts-fails f g idle claim =
+    let told = at-home f g claim in
     let m = idle imageHome (fresh 1) 0 [] (7 ∷ []) (7 ∷ []) refl in
     m .differs (ap (λ (t : Told). count (t .reply)) told ∙ sym (one-written (m .written) (sym (m .buffer) ∙ ap (λ (t : Told). t .codes) told)))
 
--- ---- and no other: whatever meets demand 3 hands back what the definition does, in every list of runs
-pub only-run : (f : Runner) → Agreement translate freshState f → (text out : List ℕ) (n : ℕ) → translate text out .reply ≡ success n
-    → (size : ℕ) → 1 ≤ size → size ≤ 32 → (asked : List Asked) → let image = take n (translate text out .buffer) in
-    chain f image (freshState size .state) asked ≡ chain run image (freshState size .state) asked
+-- ---- and no other: whatever meets demand 3 hands back what the definitions do, in every list of runs and rebindings
+pub only-these : (f : Runner) (g : Rebinder) → Agreement translate freshState f g
+    → (text out : List ℕ) (n : ℕ) → translate text out .reply ≡ success n
+    → (size : ℕ) → 1 ≤ size → size ≤ 32 → (given : List Given) → let image = take n (translate text out .buffer) in
+    chain f g image (freshState size .state) given ≡ chain run rebind image (freshState size .state) given
 unfolding Agreement
-only-run f claim text out n done size l h asked = claim text out n done size l h asked ∙ sym (theorem text out n done size l h asked)
+only-these f g claim text out n done size l h given = claim text out n done size l h given ∙ sym (theorem text out n done size l h given)

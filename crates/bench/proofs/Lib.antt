@@ -1,9 +1,11 @@
 pub mod Computing
 pub mod Tables
+pub mod Rebindings
 pub mod Rounds
 pub mod BenchSheet
 pub mod Cases
 pub mod Handler
+pub mod Swap
 pub mod Patched
 pub mod Causes
 pub mod LooseMask
@@ -13,6 +15,7 @@ pub mod Variants
 pub mod Slips
 pub mod HandlerSlips
 pub mod RowSlips
+pub mod SwapSlips
 pub mod Idlers
 pub mod Live
 pub mod Functions

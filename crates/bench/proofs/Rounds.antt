@@ -11,10 +11,11 @@ use Rattle.lists.specs.Numbers.{range}
 use Rattle.lists.specs.Sequences.{over}
 use Rattle.lists.proofs.Ranges.{length-map-range}
 use Rattle.bits.specs.Results.{noResults}
+use Rattle.bits.specs.Binding.{ownBinding}
 use Rattle.frames.specs.Frame.{contents}
 use Rattle.frames.specs.Verdict.{fine, next, when}
 use Rattle.frames.specs.Answer.{success}
-use Rattle.walk.specs.Walk.{spent, after, tick as oneTick, perform, drops, carriedOn, walkFrom, walk}
+use Rattle.walk.specs.Walk.{Signal, spent, after, tick as oneTick, perform, drops, carriedOn, walkFrom, walk}
 use Rattle.image.specs.Image.{Image}
 use Rattle.image.proofs.Sound.{Sound}
 use Rattle.image.proofs.Accepted.{image-sound}
@@ -27,7 +28,7 @@ use Rattle.fitness.proofs.Fitness.{fits}
 use Rattle.ticks.proofs.Keeps.{fresh-fits}
 use Rattle.agreement.proofs.Images.{run-image}
 use Rattle.agreement.proofs.Chain.{fresh-is}
-use Rattle.bench.specs.Bench.{chartHome, freshRun, one, repeated}
+use Rattle.bench.specs.Bench.{chartHome, freshRun, one, beside, repeated}
 use Rattle.bench.proofs.Computing.{walking}
 use Rattle.bench.proofs.Tables.{Holds, held, TranslatesTo, imageHome, tableHome, of-home, imageFunction, tableFunction, of-function}
 
@@ -61,13 +62,13 @@ finished : (r : Ran) (s : State) (ws : List ℕ) → r .verdict ≡ fine → len
 finished r s ws v m k = rw (full (r .masks) ws m, full (r .codes) ws k, v, k)
 
 -- ---- B6
-home-course : (d : ℕ → Bool) (ws : List ℕ)
-    → perform (length ws) (contents chartHome) d 1 1 ws noResults ≡ spent (map (λ w. one 1 0 4 1) ws)
+home-course : (d : ℕ → Bool) (ws : List Signal)
+    → perform (length ws) (contents chartHome) d 1 1 1 ws noResults ≡ spent (map (λ w. one 1 1 0 4 1) ws)
 unfolding walking chartHome
 home-course d [] = refl
-home-course d (w ∷ ws) = ap (after (oneTick 1 0 4 1)) (home-course d ws)
+home-course d (w ∷ ws) = ap (after (oneTick 1 1 0 4 1)) (home-course d ws)
 
-pub home-walk : (n : ℕ) (ws : List ℕ) → walk n (contents chartHome) ws ≡ map (λ w. one 1 0 4 1) ws
+pub home-walk : (n : ℕ) (ws : List Signal) → walk n (contents chartHome) ws ≡ map (λ w. one 1 1 0 4 1) ws
 unfolding walking chartHome
 home-walk n [] = refl
 home-walk n (w ∷ ws) = let c = contents chartHome in ap (carriedOn (walkFrom (length ws) n c) c) (home-course (drops n c false) (w ∷ ws))
@@ -111,10 +112,18 @@ codes5 = 4 ∷ 66 ∷ 0 ∷ 3 ∷ 0 ∷ []
 abbrev masks5 : List ℕ
 masks5 = 0 ∷ 0 ∷ 0 ∷ 0 ∷ 1 ∷ []
 
--- the five states that come again, by depth, the two labels and the result of scheme 2
+-- the five states that come again, by depth, the two labels and the result of number 2
 module _ (size : ℕ) (two : 2 ≤ size) where
   abbrev stateAt : ℕ → ℕ → ℕ → Bool → State
-  stateAt d l above x = record { size = size; depth = d; places = l ∷ above ∷ replicate 30 0; bits = false ∷ x ∷ replicate 14 false }
+  stateAt d l above x = record {
+    size = size;
+    depth = d;
+    places = l ∷ above ∷ replicate 30 0;
+    bits = false ∷ x ∷ replicate 14 false;
+    serving = ownBinding;
+    numbers = beside d (1 ∷ 2 ∷ []);
+    servers = beside d (1 ∷ 2 ∷ []);
+  }
 
   home-tick : (x : Bool) (w : ℕ) → tick tableFunction (stateAt 1 0 0 x) w ≡ ticked 0 4 (stateAt 1 2 0 x)
   unfolding tick tableFunction
@@ -122,7 +131,7 @@ module _ (size : ℕ) (two : 2 ≤ size) where
 
   call-tick : (x : Bool) (w : ℕ) → tick tableFunction (stateAt 1 2 0 x) w ≡ ticked 0 66 (stateAt 2 2 4 false)
   unfolding tick tableFunction
-  call-tick x w = ap (pushed tableFunction (stateAt 1 2 0 x) 0 66 2 (stateAt 1 2 0 x .bits)) (lt-leb size 1 (omega arith))
+  call-tick x w = ap (pushed tableFunction (stateAt 1 2 0 x) 0 66 2 2 (stateAt 1 2 0 x .bits)) (lt-leb size 1 (omega arith))
 
   operation-tick : (w : ℕ) → tick tableFunction (stateAt 2 2 4 false) w ≡ ticked 0 0 (stateAt 2 2 1 true)
   unfolding tick bestRow tableFunction

@@ -15,7 +15,7 @@ use Rattle.image.proofs.Sound.{noRow}
 use Rattle.translator.specs.Entry.{translate}
 use Rattle.rows.specs.Rows.{isOwn, Choice, row, none}
 use Rattle.state.specs.declared.State.{State}
-use Rattle.state.specs.State.{fresh}
+use Rattle.state.specs.State.{fresh, Sized}
 use Rattle.fitness.specs.Fitness.{unfit}
 use Rattle.ticks.specs.Tick.{tick}
 use Rattle.runs.specs.Run.{Run, run}
@@ -149,6 +149,6 @@ first-matches l w b rs = go (firstMatch l w b rs) (first-from l w b 0 rs)
     go (row n r) h = let e : h .0 ≡ n = omega (arith, h .1) in (omega (arith, h .2), ap (λ (j : ℕ). getD rs j noRow) (sym e) ∙ h .3, h .4)
 
 -- the rule before request f makes the machine's ticks on the image that the translator wrote
-pub former-tick : (text out : List ℕ) (n : ℕ) (done : translate text out .reply ≡ success n) (s : State) → length (s .places) ≡ 32
+pub former-tick : (text out : List ℕ) (n : ℕ) (done : translate text out .reply ≡ success n) (s : State) → Sized s
     → unfit (image text out n done) s ≡ false → (w : ℕ) → tickWith firstMatch (image text out n done) s w ≡ tick (image text out n done) s w
 former-tick text out n done = any-tick text out n done firstMatch first-matches

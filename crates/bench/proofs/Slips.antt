@@ -16,12 +16,13 @@ use Rattle.image.specs.Image.{Image, Label, Row, imageText}
 use Rattle.translator.specs.Table.{table}
 use Rattle.translator.specs.Entry.{translateVerdict, translate}
 use Rattle.state.specs.declared.State.{State}
-use Rattle.state.specs.State.{labelAt, placeAt, freshState}
-use Rattle.ticks.specs.Tick.{Ticked, ticked, stopped, rowOf, tick}
+use Rattle.state.specs.State.{labelAt, placeAt, numberAt, freshState}
+use Rattle.state.specs.Changes.{withBits}
+use Rattle.ticks.specs.Tick.{Ticked, ticked, stopped, rowOf, dropping, tick}
 use Rattle.ticks.specs.Parts.{topOf}
 use Rattle.ticks.specs.Functions.{returned}
 use Rattle.rows.specs.Rows.{bestRow, leads}
-use Rattle.agreement.specs.Agreement.{Translator, Agreement, Translates}
+use Rattle.agreement.specs.Agreement.{Translator, Rebinder, Agreement, Translates}
 use Rattle.bench.specs.Bench.{lines, words, boreWords}
 use Rattle.bench.proofs.Computing.{translating, running}
 use Rattle.bench.proofs.Tables.{tableP, of-P, tableHome, of-home, tableFunction, of-function, tableChoice, of-choice, tableBore, of-bore}
@@ -35,20 +36,27 @@ kindOf i s = labelAt i (topOf s) .kind
 abbrev beneath : State → ℕ
 beneath s = placeAt s (s .depth - 2)
 
+-- the number that the scheme at the top was called by
+abbrev topNumber : State → ℕ
+topNumber s = numberAt s (s .depth - 1)
+
 abbrev withoutTop : State → State
-withoutTop s = record { size = s .size; depth = s .depth - 1; places = set (s .places) (s .depth - 1) 0; bits = s .bits }
+withoutTop s = dropping s (s .bits)
 
 -- ---- the call issued again on return: the label beneath stays and calls once more
 abbrev pub callsAgain : Step
 callsAgain i s w = pick (eqb (kindOf i s) 3) (ticked 0 3 (withoutTop s)) (tick i s w)
 
-pub calls-again-fails : Agreement translate freshState (runBy callsAgain) → ⊥
+pub calls-again-fails : (g : Rebinder) → Agreement translate freshState (runBy callsAgain) g → ⊥
 unfolding running ticksBy tableP words
-calls-again-fails claim = let z : _≡_ {A = ℕ} 18 3 = ap (codeAt 6) (made of-P callsAgain 3 words (at-deep (runBy callsAgain) claim)) in omega arith
+calls-again-fails g claim =
+    let z : _≡_ {A = ℕ} 18 3 =
+    ap (codeAt 6) (made of-P callsAgain 3 words (at-deep (runBy callsAgain) g claim)) in
+    omega arith
 
 -- ---- what a call saw is kept in a result bit that the chart has no scheme for, and the return goes by it
 abbrev remember : ℕ → Bool → Ticked → Ticked
-remember k x (ticked m c t) = ticked m c (record { size = t .size; depth = t .depth; places = t .places; bits = set (t .bits) k x })
+remember k x (ticked m c t) = ticked m c (withBits t (set (t .bits) k x))
 remember k x (stopped n) = stopped n
 
 abbrev isCallKind : ℕ → Bool
@@ -61,11 +69,11 @@ readsAtCall i s w = pick (eqb (kindOf i s) 3)
     (returned s (leads (bestRow (beneath s) w (pick (getD (s .bits) 15 false) 1 0) 0 (i .rows))))
     (pick (eqb (kindOf i s) 2) (remember 15 (resultOf (labelAt i (topOf s) .called) (s .bits)) (tick i s w)) (tick i s w))
 
-pub reads-at-call-fails : Agreement translate freshState (runBy readsAtCall) → ⊥
+pub reads-at-call-fails : (g : Rebinder) → Agreement translate freshState (runBy readsAtCall) g → ⊥
 unfolding running ticksBy tableFunction
-reads-at-call-fails claim =
+reads-at-call-fails g claim =
     let z : _≡_ {A = ℕ} 4 0 =
-    ap (codeAt 4) (made of-function readsAtCall 2 (replicate 6 0) (at-function (runBy readsAtCall) claim)) in
+    ap (codeAt 4) (made of-function readsAtCall 2 (replicate 6 0) (at-function (runBy readsAtCall) g claim)) in
     omega arith
 
 -- ---- after a return the choice by the call's word
@@ -74,39 +82,48 @@ choosesByCall i s w = pick (eqb (kindOf i s) 3)
     (returned s (rowOf i (s .bits) (beneath s) (pick (getD (s .bits) 15 false) 1 0)))
     (pick (isCallKind (kindOf i s)) (remember 15 (eqb (bit w 0) 1) (tick i s w)) (tick i s w))
 
-pub chooses-by-call-fails : Agreement translate freshState (runBy choosesByCall) → ⊥
+pub chooses-by-call-fails : (g : Rebinder) → Agreement translate freshState (runBy choosesByCall) g → ⊥
 unfolding running ticksBy tableChoice
-chooses-by-call-fails claim =
+chooses-by-call-fails g claim =
     let z : _≡_ {A = ℕ} 4 0 =
-    ap (codeAt 4) (made of-choice choosesByCall 2 (0 ∷ 0 ∷ 0 ∷ 1 ∷ 0 ∷ []) (at-choice (runBy choosesByCall) claim)) in
+    ap (codeAt 4) (made of-choice choosesByCall 2 (0 ∷ 0 ∷ 0 ∷ 1 ∷ 0 ∷ []) (at-choice (runBy choosesByCall) g claim)) in
     omega arith
 
--- ---- a call keeps the bit of the scheme called as it is after the caller's result
+-- ---- a call keeps the bit of the number called as it is after the caller's result
 abbrev keptBit : State → Label → Bool
-keptBit s x = resultOf (x .called) (withResult (x .result) (x .owner) (s .bits))
+keptBit s x = resultOf (x .called) (withResult (x .result) (topNumber s) (s .bits))
 
 abbrev pub keepsBit : Step
 keepsBit i s w = let x = labelAt i (topOf s) in pick (isCallKind (x .kind)) (remember (x .called - 1) (keptBit s x) (tick i s w)) (tick i s w)
 
-pub keeps-bit-fails : Agreement translate freshState (runBy keepsBit) → ⊥
+pub keeps-bit-fails : (g : Rebinder) → Agreement translate freshState (runBy keepsBit) g → ⊥
 unfolding running ticksBy tableBore boreWords
-keeps-bit-fails claim = let z : _≡_ {A = ℕ} 1 2 = ap (maskAt 10) (made of-bore keepsBit 2 boreWords (at-bore (runBy keepsBit) claim)) in omega arith
+keeps-bit-fails g claim =
+    let z : _≡_ {A = ℕ} 1 2 =
+    ap (maskAt 10) (made of-bore keepsBit 2 boreWords (at-bore (runBy keepsBit) g claim)) in
+    omega arith
 
 -- ---- a return from scheme 1
 abbrev pub returnsHome : Step
 returnsHome i s w = pick (eqb (kindOf i s) 4) (ticked 0 3 (withoutTop s)) (tick i s w)
 
-pub returns-home-fails : Agreement translate freshState (runBy returnsHome) → ⊥
+pub returns-home-fails : (g : Rebinder) → Agreement translate freshState (runBy returnsHome) g → ⊥
 unfolding running ticksBy tableHome
-returns-home-fails claim = let z : _≡_ {A = ℕ} 3 4 = ap (codeAt 0) (made of-home returnsHome 1 (0 ∷ []) (at-home (runBy returnsHome) claim)) in omega arith
+returns-home-fails g claim =
+    let z : _≡_ {A = ℕ} 3 4 =
+    ap (codeAt 0) (made of-home returnsHome 1 (0 ∷ []) (at-home (runBy returnsHome) g claim)) in
+    omega arith
 
 -- ---- a call at depth Σ - 1 refused
 abbrev pub refusesEarly : Step
 refusesEarly i s w = pick (isCallKind (kindOf i s) && leb (s .size - 1) (s .depth)) (stopped 17) (tick i s w)
 
-pub refuses-early-fails : Agreement translate freshState (runBy refusesEarly) → ⊥
+pub refuses-early-fails : (g : Rebinder) → Agreement translate freshState (runBy refusesEarly) g → ⊥
 unfolding running ticksBy tableP words
-refuses-early-fails claim = let z : _≡_ {A = ℕ} 7 18 = ap (codeAt 1) (made of-P refusesEarly 2 words (at-shallow (runBy refusesEarly) claim)) in omega arith
+refuses-early-fails g claim =
+    let z : _≡_ {A = ℕ} 7 18 =
+    ap (codeAt 1) (made of-P refusesEarly 2 words (at-shallow (runBy refusesEarly) g claim)) in
+    omega arith
 
 -- ---- rows with equal targets joined: two neighbours of one label, bit and next label become one that cares for nothing
 abbrev alike : Row → Row → Bool

@@ -12,6 +12,7 @@ use Rattle.translator.specs.Labels.{homeLabel, returnLabel}
 use Rattle.translator.specs.Entry.{translate}
 use Rattle.bench.specs.Bench.{lines, chartP, imageP, chartHome, chartFunction, chartBore, chartAgain}
 use Rattle.bench.specs.Handler.{chartHandler, imageHandler}
+use Rattle.bench.specs.Swap.{chartSwap, imageSwap}
 use Rattle.bench.specs.Patched.{chartPlain, imagePlain, imageSpecial, imageEqual}
 use Rattle.bench.proofs.Computing.{translating, checking}
 
@@ -157,6 +158,46 @@ tableHandler = record {
 pub of-handler : TranslatesTo chartHandler imageHandler tableHandler
 unfolding translating checking chartHandler imageHandler tableHandler
 of-handler = record { translated = λ out. refl; passes = refl; decodes = refl }
+
+-- ---- a chart whose schemes are swapped
+unfoldable pub tableSwap : Image
+tableSwap = record {
+  handler = 4;
+  entries = 2 ∷ 5 ∷ 6 ∷ 7 ∷ [];
+  labels = homeLabel ∷ returnLabel ∷ labelWith 1 2 1 0 1 ∷ labelWith 2 2 1 0 0 ∷ labelWith 0 0 1 0 2 ∷ labelWith 0 0 2 1 4 ∷ labelWith 0 0 3 2 8
+      ∷ labelWith 1 3 4 0 16 ∷ [];
+  rows = row 2 0 0 2 3 ∷ row 3 0 0 0 0 ∷ row 3 0 0 1 4 ∷ row 4 0 0 2 0 ∷ row 5 0 0 2 1 ∷ row 6 0 0 2 1 ∷ row 7 0 0 2 1 ∷ [];
+}
+
+pub of-swap : TranslatesTo chartSwap imageSwap tableSwap
+unfolding translating checking chartSwap imageSwap tableSwap
+of-swap = record { translated = λ out. refl; passes = refl; decodes = refl }
+
+-- ---- function 2, on 0 End, on 1 an operation with mask 1; scheme 2: one with mask 2 that calls number 2; scheme 3: one with mask 4 that writes 1
+unfoldable pub chartInner : List ℕ
+chartInner = lines (
+    "00010001000000000000FE" ∷ "04010203020000000000F4" ∷ "02010003000000000001F9" ∷ "01010000000000000000FE"
+    ∷ "00020005000000000000F9" ∷ "02020206000000000002F2" ∷ "01020000000000000000FD" ∷ "00030008000000000000F5"
+    ∷ "02030009000200000004EC" ∷ "01030000000000000000FC" ∷ [])
+
+unfoldable pub imageInner : List ℕ
+imageInner = lines (
+    "0F030500050000000000E4" ∷ "10010200000000000000ED" ∷ "10020400000000000000EA" ∷ "10030500000000000000E8"
+    ∷ "11000400010000000000EA" ∷ "11010300000000000000EB" ∷ "11020202010000000000E8" ∷ "11030000010000000001EA"
+    ∷ "11040102020000000002E4" ∷ "11050000030200000004E1" ∷ "12020000000000000000EC" ∷ "12020000000001030000E8"
+    ∷ "12030000000002000000E9" ∷ "12040000000002010000E7" ∷ "12050000000002010000E6" ∷ [])
+
+unfoldable pub tableInner : Image
+tableInner = record {
+  handler = 0;
+  entries = 2 ∷ 4 ∷ 5 ∷ [];
+  labels = homeLabel ∷ returnLabel ∷ labelWith 2 2 1 0 0 ∷ labelWith 0 0 1 0 1 ∷ labelWith 1 2 2 0 2 ∷ labelWith 0 0 3 2 4 ∷ [];
+  rows = row 2 0 0 0 0 ∷ row 2 0 0 1 3 ∷ row 3 0 0 2 0 ∷ row 4 0 0 2 1 ∷ row 5 0 0 2 1 ∷ [];
+}
+
+pub of-inner : TranslatesTo chartInner imageInner tableInner
+unfolding translating checking chartInner imageInner tableInner
+of-inner = record { translated = λ out. refl; passes = refl; decodes = refl }
 
 -- ---- a chart, and its image patched once and twice
 abbrev labelsPlain : List Label

@@ -10,11 +10,12 @@ use Rattle.image.specs.Decode.{decoded}
 use Rattle.state.specs.declared.State.{State}
 use Rattle.state.specs.State.{fresh}
 use Rattle.ticks.specs.Tick.{Ticked}
-use Rattle.runs.specs.Run.{Run, Ran, then, runVerdict, runOn}
-use Rattle.agreement.specs.Agreement.{Runner, Asked, Told, told, chain}
+use Rattle.runs.specs.Run.{Ran, then, runVerdict, runOn}
+use Rattle.agreement.specs.Agreement.{Runner, Rebinder, Told, told, Given, chain}
 use Rattle.agreement.proofs.Images.{stateVerdict}
 use Rattle.bench.proofs.Tables.{Holds, held, TranslatesTo}
 use Rattle.bench.proofs.Instances.{alone, handed}
+use Rattle.bench.proofs.Rebindings.{chain-alike}
 
 abbrev pub Step : Type 0
 Step = Image → State → ℕ → Ticked
@@ -45,12 +46,9 @@ module _ {chart image : List ℕ} {i : Image} (known : TranslatesTo chart image 
   pub made : (size : ℕ) (ws : List ℕ) {t : Told} → handed (runBy step) image size ws ≡ t → handed (tableRun i step) image size ws ≡ t
   made size ws e = sym (ap told (by-table (fresh size) ws (alone ws .masks) (alone ws .codes))) ∙ e
 
-  pub chain-made : (s : State) (asked : List Asked) → chain (runBy step) image s asked ≡ chain (tableRun i step) image s asked
-  unfolding chain
-  chain-made s [] = refl
-  chain-made s (a ∷ rest) =
-      ap (λ (r : Run). told r ∷ chain (runBy step) image (r .state) rest) (by-table s (a .words) (a .masks) (a .codes))
-      ∙ ap (λ (l : List Told). told (tableRun i step image s (a .words) (a .masks) (a .codes)) ∷ l) (chain-made _ rest)
+  pub chain-made : (rebind : Rebinder) (s : State) (given : List Given)
+      → chain (runBy step) rebind image s given ≡ chain (tableRun i step) rebind image s given
+  chain-made rebind = chain-alike image (runBy step) (tableRun i step) rebind rebind by-table (λ s h k. refl)
 
 abbrev pub codeAt : ℕ → Told → ℕ
 codeAt k t = getD (t .codes) k 0

@@ -1,19 +1,19 @@
 -- The bench sheet: its charts, words and answers, B1 to B8 and B10, said about the definitions, and calls that clear a result bit. (B9 is run
 -- by a program.)
-use Prim.Native.Nat.{ℕ, _%_, _≤_}
+use Prim.Native.Nat.{ℕ, _-_, _%_, _≤_}
 use Prim.Native.Char.{code}
 use Prim.Native.String.{String, [] as none, _∷_ as more}
 use mathlib.Core.Bool.{true, false}
 use mathlib.Core.Path.{_≡_}
 use mathlib.Core.List.{List, [], _∷_, _++_, map}
-use lib.ListN.{length, getD, replicate}
+use lib.ListN.{length, getD, take, replicate}
 use Rattle.frames.specs.Verdict.{fine}
 use Rattle.frames.specs.Answer.{success, refusal, lent}
 use Rattle.lists.specs.Numbers.{range}
 use Rattle.lists.specs.Sequences.{concatMap}
 use Rattle.frames.specs.Frame.{contents}
 use Rattle.bits.specs.Results.{noResults}
-use Rattle.walk.specs.Walk.{Tick, walk}
+use Rattle.walk.specs.Walk.{Signal, Tick, walk}
 use Rattle.translator.specs.Entry.{translate}
 use Rattle.state.specs.State.{fresh, freshState}
 use Rattle.runs.specs.Run.{Run, run}
@@ -89,9 +89,13 @@ imageOf n text = translate text (replicate n 0) .buffer
 abbrev pub freshRun : List ℕ → ℕ → List ℕ → Run
 freshRun image size words = run image (freshState size .state) words (replicate (length words) 0) (replicate (length words) 0)
 
--- a tick of the walk by its node, mask, code and open schemes
-abbrev pub one : ℕ → ℕ → ℕ → ℕ → Tick
-one v m k o = record { node = v; mask = m; code = k; opened = o }
+-- a tick of the walk by its node, the number of its scheme, mask, code and open schemes
+abbrev pub one : ℕ → ℕ → ℕ → ℕ → ℕ → Tick
+one v g m k o = record { node = v; number = g; mask = m; code = k; opened = o }
+
+-- what stands beside 32 places of which d are in use: the first d of xs, and 0 above them
+abbrev pub beside : ℕ → List ℕ → List ℕ
+beside d xs = take d xs ++ replicate (32 - d) 0
 
 -- the first n of xs repeated without end
 abbrev pub repeated : List ℕ → ℕ → List ℕ
@@ -106,8 +110,8 @@ pub record BenchSheet : Type 0 where
   pub b3 : freshRun imageP 2 words .reply ≡ refusal 17 0 3
   pub b4 : freshRun imageP 1 words .reply ≡ refusal 17 0 1
   pub b5 : (size : ℕ) → 1 ≤ size → size ≤ 32 → freshRun imageP size [] .reply ≡ success 0
-  -- every tick of the walk and of the machine is a home tick, whatever the words and the stack size
-  pub b6-walk : (n : ℕ) (ws : List ℕ) → walk n (contents chartHome) ws ≡ map (λ w. one 1 0 4 1) ws
+  -- every tick of the walk and of the machine is a home tick, whatever the words and the stack size, and whatever serves
+  pub b6-walk : (n : ℕ) (ws : List Signal) → walk n (contents chartHome) ws ≡ map (λ w. one 1 1 0 4 1) ws
   pub b6-run : (size : ℕ) → 1 ≤ size → size ≤ 32 → (ws : List ℕ) → freshRun (imageOf 92 chartHome) size ws ≡ record {
     reply = success (length ws);
     state = fresh size;

@@ -1,4 +1,4 @@
--- One small chart, image or state, made by hand, for each refusal 1 to 20; those of 21 stand in Causes.
+-- One small chart, image or state, made by hand, for each refusal 1 to 20; those of 21 stand in Causes, those of 22 in Swap.
 use Prim.Native.Nat.{ℕ, _+_, _*_}
 use mathlib.Core.Bool.{false}
 use mathlib.Core.Path.{_≡_}
@@ -6,6 +6,7 @@ use mathlib.Core.List.{List, [], _∷_, _++_}
 use lib.ListN.{length, replicate, set, take}
 use Rattle.lists.specs.Numbers.{range}
 use Rattle.lists.specs.Sequences.{concatMap}
+use Rattle.bits.specs.Binding.{ownBinding}
 use Rattle.frames.specs.Verdict.{fine, refused}
 use Rattle.frames.specs.Answer.{success, refusal}
 use Rattle.frames.specs.Frame.{quad, contents, textOf}
@@ -18,7 +19,7 @@ use Rattle.image.specs.Check.{imageVerdict}
 use Rattle.state.specs.declared.State.{State}
 use Rattle.state.specs.State.{freshState, fresh, noState}
 use Rattle.runs.specs.Run.{Run, run}
-use Rattle.bench.specs.Bench.{chartP, imageP, words, chartFunction, freshRun}
+use Rattle.bench.specs.Bench.{chartP, imageP, words, chartFunction, freshRun, beside}
 
 -- ---- node records by kind, with the fields that the kind uses
 abbrev pub begins : ℕ → ℕ → List ℕ
@@ -64,9 +65,24 @@ markedFirst = set (contents chartP) 2 1
 abbrev pub handlerTwo : List ℕ
 handlerTwo = changedImage 0 5 2
 
--- a state of three places with these labels, and the run that is given it
+-- a state of three places with these labels, and beside the lowest d of them these numbers, each of which served itself
+abbrev pub calledBy : List ℕ → ℕ → List ℕ → State
+calledBy numbers d labels = record {
+  size = 3;
+  depth = d;
+  places = labels ++ replicate 29 0;
+  bits = replicate 16 false;
+  serving = ownBinding;
+  numbers = beside d numbers;
+  servers = beside d numbers;
+}
+
+-- scheme 1 at the bottom and above it scheme 2; scheme 2 at the bottom too, as the handler; and the run that is given a state
 abbrev pub stateOf : ℕ → List ℕ → State
-stateOf d labels = record { size = 3; depth = d; places = labels ++ replicate 29 0; bits = replicate 16 false }
+stateOf = calledBy (1 ∷ 2 ∷ 2 ∷ [])
+
+abbrev pub handling : ℕ → List ℕ → State
+handling = calledBy (2 ∷ 2 ∷ 2 ∷ [])
 
 abbrev pub runFrom : State → Run
 runFrom s = run imageP s words (replicate 8 7) (replicate 8 7)
@@ -136,15 +152,15 @@ pub record RefusalCases : Type 0 where
   -- depth 0, a label above M, a bottom of scheme 2, a kept label that is no call, a label of another scheme above a call, a place above the depth
   pub r15-depth : runFrom (stateOf 0 (0 ∷ 0 ∷ 0 ∷ [])) ≡ unfitRun (stateOf 0 (0 ∷ 0 ∷ 0 ∷ []))
   pub r15-label : runFrom (stateOf 1 (5 ∷ 0 ∷ 0 ∷ [])) ≡ unfitRun (stateOf 1 (5 ∷ 0 ∷ 0 ∷ []))
-  pub r15-bottom : runFrom (stateOf 1 (3 ∷ 0 ∷ 0 ∷ [])) ≡ unfitRun (stateOf 1 (3 ∷ 0 ∷ 0 ∷ []))
+  pub r15-bottom : runFrom (handling 1 (3 ∷ 0 ∷ 0 ∷ [])) ≡ unfitRun (handling 1 (3 ∷ 0 ∷ 0 ∷ []))
   pub r15-kept : runFrom (stateOf 2 (0 ∷ 3 ∷ 0 ∷ [])) ≡ unfitRun (stateOf 2 (0 ∷ 3 ∷ 0 ∷ []))
   pub r15-above : runFrom (stateOf 2 (2 ∷ 2 ∷ 0 ∷ [])) ≡ unfitRun (stateOf 2 (2 ∷ 2 ∷ 0 ∷ []))
   pub r15-filled : runFrom (stateOf 1 (0 ∷ 0 ∷ 1 ∷ [])) ≡ unfitRun (stateOf 1 (0 ∷ 0 ∷ 1 ∷ []))
   -- label 1 at the bottom, which fits where there is a handler and nothing stands above; so does a label of the handler
   pub r15-return : runFrom (stateOf 1 (1 ∷ 0 ∷ 0 ∷ [])) ≡ unfitRun (stateOf 1 (1 ∷ 0 ∷ 0 ∷ []))
-  pub r15-return-above : handlerFrom (stateOf 2 (1 ∷ 3 ∷ 0 ∷ [])) ≡ unfitRun (stateOf 2 (1 ∷ 3 ∷ 0 ∷ []))
-  pub r15-return-fits : handlerFrom (stateOf 1 (1 ∷ 0 ∷ 0 ∷ [])) .codes ≡ 3 ∷ 4 ∷ 18 ∷ 0 ∷ 3 ∷ 4 ∷ 18 ∷ 0 ∷ []
-  pub r15-handler-fits : handlerFrom (stateOf 1 (3 ∷ 0 ∷ 0 ∷ [])) .codes ≡ 0 ∷ 3 ∷ 4 ∷ 18 ∷ 0 ∷ 3 ∷ 4 ∷ 18 ∷ []
+  pub r15-return-above : handlerFrom (handling 2 (1 ∷ 3 ∷ 0 ∷ [])) ≡ unfitRun (handling 2 (1 ∷ 3 ∷ 0 ∷ []))
+  pub r15-return-fits : handlerFrom (handling 1 (1 ∷ 0 ∷ 0 ∷ [])) .codes ≡ 3 ∷ 4 ∷ 18 ∷ 0 ∷ 3 ∷ 4 ∷ 18 ∷ 0 ∷ []
+  pub r15-handler-fits : handlerFrom (handling 1 (3 ∷ 0 ∷ 0 ∷ [])) .codes ≡ 0 ∷ 3 ∷ 4 ∷ 18 ∷ 0 ∷ 3 ∷ 4 ∷ 18 ∷ []
   pub r16-read : readChart chartP (replicate 69 7) ≡ record { reply = refusal 16 0 0; buffer = replicate 69 7 }
   pub r16-run : run imageP (fresh 1) words (replicate 8 7) (replicate 7 7) ≡ record {
     reply = refusal 16 0 0;
@@ -155,14 +171,22 @@ pub record RefusalCases : Type 0 where
   -- three ticks are written, and the rest is as it was
   pub r17 : run imageP (fresh 2) words (replicate 8 7) (replicate 8 7) ≡ record {
     reply = refusal 17 0 3;
-    state = record { size = 2; depth = 2; places = 2 ∷ 4 ∷ replicate 30 0; bits = replicate 16 false };
+    state = record {
+      size = 2;
+      depth = 2;
+      places = 2 ∷ 4 ∷ replicate 30 0;
+      bits = replicate 16 false;
+      serving = ownBinding;
+      numbers = 1 ∷ 2 ∷ replicate 30 0;
+      servers = 1 ∷ 2 ∷ replicate 30 0;
+    };
     masks = 0 ∷ 1 ∷ 0 ∷ replicate 5 7;
     codes = 4 ∷ 18 ∷ 0 ∷ replicate 5 7;
   }
   -- the handler at the bottom of a full stack
-  pub r17-handler : handlerFrom (stateOf 3 (4 ∷ 4 ∷ 4 ∷ [])) ≡ record {
+  pub r17-handler : handlerFrom (handling 3 (4 ∷ 4 ∷ 4 ∷ [])) ≡ record {
     reply = refusal 17 0 0;
-    state = stateOf 3 (4 ∷ 4 ∷ 4 ∷ []);
+    state = handling 3 (4 ∷ 4 ∷ 4 ∷ []);
     masks = replicate 8 7;
     codes = replicate 8 7;
   }

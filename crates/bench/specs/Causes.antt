@@ -8,9 +8,10 @@ use lib.ListN.{set, take}
 use Rattle.frames.specs.Frame.{contents, textOf}
 use Rattle.frames.specs.Answer.{success, refusal}
 use Rattle.state.specs.declared.State.{State}
+use Rattle.state.specs.Changes.{withBits}
 use Rattle.cause.specs.Cause.{Told, noCause, explain}
 use Rattle.bench.specs.Bench.{lines, imageP}
-use Rattle.bench.specs.Cases.{handlerTwo, stateOf}
+use Rattle.bench.specs.Cases.{handlerTwo, stateOf, handling}
 use Rattle.bench.specs.Patched.{imageEqual}
 
 -- row, mask and bit
@@ -32,9 +33,9 @@ imageAnswers = lines (
     ∷ "12020008000800000000DC" ∷ "12020004000401030000E0" ∷ "12020001000002030000E6" ∷ "12020003000301000000E5"
     ∷ "12020003000102020000E4" ∷ "12030000000002000000E9" ∷ "12040000000002010000E7" ∷ [])
 
--- the result bit of scheme 2 in a state; label l alone, and label 1 above it
+-- the result bit of number 2 in a state; label l alone, and label 1 above it
 abbrev pub withAnswer : Bool → State → State
-withAnswer b s = record { size = s .size; depth = s .depth; places = s .places; bits = set (s .bits) 1 b }
+withAnswer b s = withBits s (set (s .bits) 1 b)
 
 abbrev pub standing : ℕ → Bool → State
 standing l b = withAnswer b (stateOf 1 (l ∷ 0 ∷ 0 ∷ []))
@@ -51,7 +52,7 @@ pub record CauseCases : Type 0 where
   pub r21-home : explain imageP (stateOf 1 (0 ∷ 0 ∷ 0 ∷ [])) 0 ≡ tellsNone 21
   pub r21-call : explain imageP (stateOf 1 (2 ∷ 0 ∷ 0 ∷ [])) 0 ≡ tellsNone 21
   pub r21-full : explain imageP (stateOf 3 (2 ∷ 4 ∷ 4 ∷ [])) 0 ≡ tellsNone 21
-  pub r21-handler : explain handlerTwo (stateOf 1 (1 ∷ 0 ∷ 0 ∷ [])) 0 ≡ tellsNone 21
+  pub r21-handler : explain handlerTwo (handling 1 (1 ∷ 0 ∷ 0 ∷ [])) 0 ≡ tellsNone 21
   -- a state that does not fit comes before, a row that is missing after
   pub r21-after-15 : explain imageP (stateOf 0 (0 ∷ 0 ∷ 0 ∷ [])) 0 ≡ tellsNone 15
   pub r18-cause : explain (textOf (take 110 (set (contents imageP) 4 3))) (stateOf 3 (2 ∷ 4 ∷ 1 ∷ [])) 0 ≡ tellsNone 18

@@ -1,6 +1,7 @@
 pub mod Bench
 pub mod Cases
 pub mod Handler
+pub mod Swap
 pub mod Patched
 pub mod Causes
 pub mod LooseMask

@@ -12,7 +12,7 @@ use Rattle.state.specs.declared.State.{State}
 use Rattle.runs.specs.Advance.{Advance}
 use Rattle.machine.specs.Live.{liveTick}
 use Rattle.bench.specs.Bench.{imageP}
-use Rattle.bench.specs.Cases.{stateOf, changedImage}
+use Rattle.bench.specs.Cases.{stateOf, handling, changedImage}
 
 -- the table of chart P: header, entries, labels with the frames at which their rows end, rows
 unfoldable pub tableP : List ℕ
@@ -48,8 +48,8 @@ pub record LiveCases : Type 0 where
   pub full : ticking tableP (stateOf 3 (2 ∷ 4 ∷ 4 ∷ [])) 1 .reply ≡ refusal 17 0 0
   -- the same call with scheme 2 as the handler is a drop, but not over a label of the handler
   pub dropped : let r = ticking (damaged 0 5 2) (stateOf 3 (2 ∷ 4 ∷ 4 ∷ [])) 1 in
-      (r .reply ≡ success 1) × (r .mask ≡ 2) × (r .code ≡ 96) × (r .state ≡ stateOf 1 (3 ∷ 0 ∷ 0 ∷ []))
-  pub bottom : ticking (damaged 0 5 2) (stateOf 3 (4 ∷ 4 ∷ 4 ∷ [])) 1 .reply ≡ refusal 17 0 0
+      (r .reply ≡ success 1) × (r .mask ≡ 2) × (r .code ≡ 96) × (r .state ≡ handling 1 (3 ∷ 0 ∷ 0 ∷ []))
+  pub bottom : ticking (damaged 0 5 2) (handling 3 (4 ∷ 4 ∷ 4 ∷ [])) 1 .reply ≡ refusal 17 0 0
   -- a handler that is scheme 1, or above H
   pub first : ticking (damaged 0 5 1) (stateOf 1 (2 ∷ [])) 0 .reply ≡ refusal 11 0 0
   pub high : ticking (damaged 0 5 3) (stateOf 1 (2 ∷ [])) 0 .reply ≡ refusal 11 0 0

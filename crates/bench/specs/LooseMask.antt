@@ -2,14 +2,14 @@
 use Prim.Native.Nat.{ℕ}
 use mathlib.Core.Path.{_≡_}
 use mathlib.Core.List.{List, [], _∷_}
-use lib.ListN.{replicate}
-use Rattle.bits.specs.Results.{noResults}
 use Rattle.frames.specs.Frame.{contents}
 use Rattle.frames.specs.Verdict.{fine}
 use Rattle.image.proofs.Sound.{nthRow}
 use Rattle.translator.specs.Table.{table}
 use Rattle.translator.specs.Entry.{translateVerdict}
 use Rattle.state.specs.declared.State.{State}
+use Rattle.state.specs.State.{fresh}
+use Rattle.state.specs.Changes.{withPlace}
 use Rattle.cause.specs.Cause.{because, causeOf}
 use Rattle.bench.specs.Bench.{lines}
 
@@ -20,7 +20,7 @@ chartLoose = lines (
     ∷ "02010005000000000002F6" ∷ "01010000000000000000FE" ∷ "02010005000000000004F4" ∷ [])
 
 abbrev pub atOperation : State
-atOperation = record { size = 1; depth = 1; places = 2 ∷ replicate 31 0; bits = noResults }
+atOperation = withPlace (fresh 1) 0 2
 
 -- with all conditions 0 the row cares for condition 3 alone; the mask has condition 0 besides, the lowest that contradicts the third row
 pub record LooseMask : Type 0 where

@@ -4,15 +4,15 @@ use mathlib.Core.Bool.{Bool, true, false}
 use mathlib.Core.Path.{_≡_, refl}
 use mathlib.Core.List.{List}
 use native.Mathlib.Omega.{arith}
-use lib.ListN.{length}
 use Rattle.frames.specs.Frame.{contents}
 use Rattle.frames.specs.Verdict.{Verdict, fine, refused, next, when}
 use Rattle.frames.specs.Answer.{success, refusal}
 use Rattle.image.specs.Decode.{decoded}
 use Rattle.image.specs.Check.{imageVerdict}
 use Rattle.state.specs.declared.State.{State}
+use Rattle.state.specs.State.{Sized}
 use Rattle.fitness.specs.Fitness.{unfit}
-use Rattle.cause.specs.Cause.{Cause, Caused, because, unexplained, Told, toldOn, causeOf, explain}
+use Rattle.cause.specs.Cause.{Caused, because, unexplained, Told, toldOn, causeOf, explain}
 use Rattle.cause.specs.Laws.{Explains}
 
 no-success : {A : Type 0} (k i m n : ℕ) → refusal k i m ≡ success n → A
@@ -40,9 +40,9 @@ module _ (t : List ℕ) (s : State) (w n : ℕ) where
   unfolding explain
   succeeds e = succeeded (imageVerdict t) (unfit (decoded (contents t)) s) (causeOf (decoded (contents t)) s w) n e
 
-  pub answered : length (s .places) ≡ 32 → explain t s w .reply ≡ success n → Explains t s w (explain t s w .cause)
+  pub answered : Sized s → explain t s w .reply ≡ success n → Explains t s w (explain t s w .cause)
   unfolding explain
-  answered h e = let x = succeeds e in record { fitting = record { accepted = x .passes; places = h; fits = x .fits }; because = x .told }
+  answered h e = let x = succeeds e in record { fitting = record { accepted = x .passes; sized = h; fits = x .fits }; because = x .told }
 
   pub answered-count : explain t s w .reply ≡ success n → n ≡ 0
   answered-count e = succeeds e .none

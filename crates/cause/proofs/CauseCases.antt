@@ -33,7 +33,7 @@ use Rattle.state.specs.declared.State.{State}
 use Rattle.state.specs.State.{labelAt, placeAt}
 use Rattle.fitness.specs.Fitness.{unfit}
 use Rattle.state.specs.Bytes.{stateOf}
-use Rattle.state.proofs.ResultBytes.{held-places}
+use Rattle.state.proofs.ResultBytes.{held-places, held-sized}
 use Rattle.fitness.proofs.Fitness.{unfits}
 use Rattle.ticks.specs.Tick.{calledBit, choice}
 use Rattle.ticks.specs.Parts.{bitOf}
@@ -197,7 +197,7 @@ module _ (b bytes : List ℕ) (w : ℕ) (x : Ordered b) (t : Bool) (e : t ≡ un
     fit-told = ap (λ (v : Verdict). toldOn v (λ _. causeOf (tableImage b) s w)) (when-fails 15 (unfit (tableImage b) s) (sym e ∙ h))
 
     view : Leaves (tableImage b) s
-    view = leaves (tableImage b) (x .sound) s (unfits (tableImage b) s (held-places bytes) (sym e ∙ h))
+    view = leaves (tableImage b) (x .sound) s (unfits (tableImage b) s (held-sized bytes) (sym e ∙ h))
 
     pub rowless-told : l ≡ 0 → (a : Answer) → a ≡ Refused 21 0 0 → (r : given.Cause) → r ≡ untold a → Tells (tableCause b s w) r
     rowless-told n = tells-none (tableCause b s w) 21 (fit-told ∙ ap (λ (y : Leaving). told (causeAt (tableImage b) (s .bits) w y)) (none-left view))

@@ -16,6 +16,7 @@ use Rattle.image.proofs.Sound.{Sound}
 use Rattle.image.proofs.Accepted.{image-sound}
 use Rattle.tables.proofs.Made.{Made}
 use Rattle.state.specs.declared.State.{State}
+use Rattle.state.specs.State.{Sized}
 use Rattle.fitness.specs.Fitness.{unfit}
 use Rattle.state.specs.Bytes.{stateOf, bytesOf}
 use Rattle.state.proofs.ResultBytes.{state-back}
@@ -48,7 +49,7 @@ module _ (t : List ℕ) (s : State) (w : ℕ) where
       subst (λ (x : Told). Tells x r)
       (ap (λ (i : Image). explained fine i) (made .holds) ∙ sym (explain-by fine (made .accepted))) y
 
-pub value-told : (t : List ℕ) (state : State) (w : ℕ) → length (state .places) ≡ 32 → length (state .bits) ≡ 16 → (bytes : List ℕ) → bytes ≡ bytesOf state
+pub value-told : (t : List ℕ) (state : State) (w : ℕ) → Sized state → length (state .bits) ≡ 16 → (bytes : List ℕ) → bytes ≡ bytesOf state
     → (r : given.Cause) → Tells (explain t (stateOf bytes) w) r → Tells (explain t state w) r
-value-told t state w places bits bytes e r y =
-    subst (λ (s : State). Tells (explain t s w) r) (ap stateOf e ∙ state-back state places bits) y
+value-told t state w sized bits bytes e r y =
+    subst (λ (s : State). Tells (explain t s w) r) (ap stateOf e ∙ state-back state sized bits) y

@@ -189,7 +189,7 @@ module _ {text : List ℕ} {s : State} (y : Fitting text s) where
   image = image-sound text (y .accepted)
 
   pub state : Fits (decoded (contents text)) s
-  state = unfits (decoded (contents text)) s (y .places) (y .fits)
+  state = unfits (decoded (contents text)) s (y .sized) (y .fits)
 
 pub same-row : SameRow
 unfolding SameRow

@@ -10,19 +10,21 @@ use lib.ListN.{length, getD, set, length-set}
 use lib.Seq.{getD-set-same}
 use borrow.Author.Tests.{le-leb, leb-true, leb-false, eqb-true, eq-eqb}
 use Rattle.lists.specs.Pick.{pick}
-use Rattle.lists.proofs.Tests.{and-l, or-cases, or-true-l, or-true-r}
+use Rattle.lists.proofs.Tests.{or-cases, or-true-l, or-true-r}
 use Rattle.bits.specs.Results.{Results, withResult, cleared}
+use Rattle.bits.specs.Binding.{served}
 use Rattle.image.specs.Image.{Image, Label, returnLabel}
 use Rattle.image.proofs.Sound.{nthRow, Sound}
 use Rattle.rows.specs.Rows.{Choice, Found, found, missing, leads}
 use Rattle.rows.proofs.ChoiceLaws.{any-bit}
 use Rattle.state.specs.declared.State.{State}
-use Rattle.state.specs.State.{noPlaces, labelAt, entryAt, placeAt}
+use Rattle.state.specs.State.{labelAt, entryAt, placeAt, numberAt, serverAt}
+use Rattle.state.specs.Changes.{withBits}
 use Rattle.fitness.specs.Fitness.{isCall, ofHandler}
 use Rattle.fitness.proofs.Fitness.{Fits}
-use Rattle.ticks.specs.Tick.{calledBit, choice, Ticked, ticked, stopped, moved, pushed, popped, tickBy, tick}
+use Rattle.ticks.specs.Tick.{calledBit, choice, Ticked, ticked, stopped, moved, dropping, alone, pushed, popped, tickBy, tick}
 use Rattle.ticks.specs.Parts.{topOf}
-use Rattle.ticks.proofs.Leads.{Sort, first, second, other, sort, call-kind}
+use Rattle.ticks.proofs.Leads.{Sort, first, second, other, sort, call-kind, carry-told}
 use Rattle.cause.specs.Cause.{label, nothing, leavingBy, leaving}
 use Rattle.cause.specs.Laws.{Arrives, Rowless, home, call, last}
 
@@ -59,7 +61,7 @@ module _ (i : Image) (sound : Sound i) (s : State) (f : Fits i s) where
   x = labelAt i (topOf s)
 
   abbrev bits : Results
-  bits = withResult (x .result) (x .owner) (s .bits)
+  bits = withResult (x .result) (numberAt s (s .depth - 1)) (s .bits)
 
   tick-by : (w k : ℕ) → x .kind ≡ k → tick i s w ≡ tickBy i s w (topOf s) x bits k
   unfolding tick
@@ -104,10 +106,10 @@ module _ (i : Image) (sound : Sound i) (s : State) (f : Fits i s) where
   plain e = record {
     low = two-up (topOf s) top-low (omega arith);
     high = top-low;
-    go = moved (x .mask) 0 s (s .depth - 1) (s .depth) (s .places) bits;
+    go = moved (x .mask) 0 (withBits s bits) (s .depth - 1);
     ticks = λ w. tick-by w 0 e
-        ∙ ap (λ (c : Choice). moved (x .mask) 0 s (s .depth - 1) (s .depth) (s .places) bits (leads c)) (bit-free bits e w);
-    arrives = λ u. getD-set-same (s .places) (s .depth - 1) u 0 (omega (arith, f .whole, f .some, f .most, f .small));
+        ∙ ap (λ (c : Choice). moved (x .mask) 0 (withBits s bits) (s .depth - 1) (leads c)) (bit-free bits e w);
+    arrives = λ u. getD-set-same (s .places) (s .depth - 1) u 0 (omega (arith, f .whole .places, f .some, f .most, f .small));
     stops = refl;
   }
 
@@ -122,20 +124,21 @@ module _ (i : Image) (sound : Sound i) (s : State) (f : Fits i s) where
 
   returns : x .kind ≡ 3 → (w : ℕ) → tick i s w ≡ popped i s w 0 (s .bits) (leb (s .depth) 1)
   unfolding tick
-  returns e w = ap (λ (y : Label). tickBy i s w (topOf s) y (withResult (y .result) (y .owner) (s .bits)) (y .kind)) (return-is e .1)
+  returns e w = ap (λ (y : Label). tickBy i s w (topOf s) y (withResult (y .result) (numberAt s (s .depth - 1)) (s .bits)) (y .kind)) (return-is e .1)
 
   back : x .kind ≡ 3 → leb (s .depth) 1 ≡ false → Goes i s (placeAt s (s .depth - 2))
   back e t = let two : 1 < s .depth = leb-false (s .depth) 1 t in record {
     low = two-up (placeAt s (s .depth - 2)) (under-low two) (call-kind i sound (placeAt s (s .depth - 2))
-        (and-l (isCall (labelAt i (placeAt s (s .depth - 2)))) _ (f .carries (s .depth - 2) (omega arith))) .1);
+        (carry-told i sound _ (numberAt s (s .depth - 2 + 1)) (serverAt s (s .depth - 2 + 1)) (placeAt s (s .depth - 2 + 1))
+        (f .carries (s .depth - 2) (omega arith)) .0) .1);
     high = under-low two;
-    go = moved 0 3 s (s .depth - 2) (s .depth - 1) (set (s .places) (s .depth - 1) 0) (s .bits);
+    go = moved 0 3 (dropping s (s .bits)) (s .depth - 2);
     ticks = λ w. returns e w ∙ ap (popped i s w 0 (s .bits)) t;
     arrives = λ u.
         ap (λ (n : ℕ). getD (set (set (s .places) (s .depth - 1) 0) (s .depth - 2) u) n 0)
         (let z : s .depth - 1 - 1 ≡ s .depth - 2 = omega arith in z)
         ∙ getD-set-same (set (s .places) (s .depth - 1) 0) (s .depth - 2) u 0
-        (omega (arith, length-set (s .places) (s .depth - 1) 0, f .whole, f .most, f .small));
+        (omega (arith, length-set (s .places) (s .depth - 1) 0, f .whole .places, f .most, f .small));
     stops = refl;
   }
 
@@ -151,19 +154,20 @@ module _ (i : Image) (sound : Sound i) (s : State) (f : Fits i s) where
 
   -- ---- a call, and home
   full-other : (m : ℕ) (t : Bool) → Other (pick t (stopped 17)
-      (ticked m 96 (record { size = s .size; depth = 1; places = set noPlaces 0 (entryAt i (i .handler)); bits = cleared (i .handler) bits })))
+      (ticked m 96 (alone s (entryAt i (i .handler)) (i .handler) (cleared (i .handler) bits))))
   full-other m true = λ e. omega arith
   full-other m false = tt
 
-  pushed-other : (m code h : ℕ) (t : Bool) → Other (pushed i s m code h bits t)
-  pushed-other m code h true = full-other m (eqb (i .handler) 0 || ofHandler i (placeAt s 0))
-  pushed-other m code h false = tt
+  pushed-other : (m code h k : ℕ) (t : Bool) → Other (pushed i s m code h k bits t)
+  pushed-other m code h k true = full-other m (eqb (i .handler) 0 || ofHandler i (placeAt s 0))
+  pushed-other m code h k false = tt
 
-  calls : (code : ℕ) → isCall x ≡ true → ((w : ℕ) → tick i s w ≡ pushed i s (x .mask) code (x .called) bits (leb (s .size) (s .depth))) → Stays i s
+  calls : (code : ℕ) → isCall x ≡ true
+      → ((w : ℕ) → tick i s w ≡ pushed i s (x .mask) code (x .called) (served (s .serving) (x .called)) bits (leb (s .size) (s .depth))) → Stays i s
   calls code e go = record {
     rowless = call e;
     same = λ v w. go v ∙ sym (go w);
-    never = λ w q. other-never _ (pushed-other (x .mask) code (x .called) (leb (s .size) (s .depth))) (sym (go w) ∙ q);
+    never = λ w q. other-never _ (pushed-other (x .mask) code (x .called) (served (s .serving) (x .called)) (leb (s .size) (s .depth))) (sym (go w) ∙ q);
   }
 
   starts : (k : ℕ) → x .kind ≡ suc (suc (suc (suc k))) → Stays i s

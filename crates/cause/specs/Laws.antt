@@ -5,7 +5,6 @@ use mathlib.Core.Path.{_≡_}
 use mathlib.Core.Logic.{_↔_, _⊎_}
 use mathlib.Core.List.{List}
 use lib.Bits.{bitAnd}
-use lib.ListN.{length}
 use Rattle.bits.specs.Word.{bit}
 use Rattle.frames.specs.Frame.{contents}
 use Rattle.frames.specs.Verdict.{fine}
@@ -15,7 +14,7 @@ use Rattle.image.specs.Check.{imageVerdict}
 use Rattle.image.proofs.Sound.{nthRow}
 use Rattle.rows.specs.Rows.{Choice, row, none}
 use Rattle.state.specs.declared.State.{State}
-use Rattle.state.specs.State.{labelAt}
+use Rattle.state.specs.State.{labelAt, Sized}
 use Rattle.fitness.specs.Fitness.{isCall, unfit}
 use Rattle.ticks.specs.Tick.{choice, Ticked, ticked, stopped, tick}
 use Rattle.ticks.specs.Parts.{topOf}
@@ -24,7 +23,7 @@ use Rattle.cause.specs.Cause.{Leaving, label, nothing, leaving, Cause, b
 -- an accepted image, patched or not, and a state that fits it
 pub record Fitting (text : List ℕ) (s : State) : Type 0 where
   pub accepted : imageVerdict text ≡ fine
-  pub places : length (s .places) ≡ 32
+  pub sized : Sized s
   pub fits : unfit (decoded (contents text)) s ≡ false
 
 -- the row that the tick on s takes by a word, with its number

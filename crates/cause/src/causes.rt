@@ -1,4 +1,4 @@
-// What made a tick go on, over an image and the fifty bytes of a state, or a state by value.
+// What made a tick go on, over an image and the bytes of a state, or a state by value.
 use super::Cause;
 use crate::conditions::against_rows;
 use fitness::is_unfit;
@@ -40,7 +40,7 @@ fn untold(answer: Answer) -> Cause
 }
 
 // The label n places below that depth, whatever the state: the lowest place where there are fewer, and 0 past the highest.
-fn place_below(bytes: &[u8; 50], depth: u8, n: u8) -> u8
+fn place_below(bytes: &[u8; 130], depth: u8, n: u8) -> u8
     ensures { λ r. ⌜ r ≡ placeAt (stateOf (now (bytes .entry))) (depth - n) ⌝ }
 {
     if depth < n {
@@ -54,7 +54,7 @@ fn place_below(bytes: &[u8; 50], depth: u8, n: u8) -> u8
 }
 
 // The label whose row a tick takes, whatever the state: the top of a plain tick, the one beneath on a return, and 0 where it takes none.
-fn leaving_label(table: &[u8], bytes: &[u8; 50]) -> u8
+fn leaving_label(table: &[u8], bytes: &[u8; 130]) -> u8
     requires { ⌜ Whole (now table) ⌝ }
     ensures { λ r. ⌜ r ≡ leavingNumber (leaving (tableImage (now (table .entry))) (stateOf (now (bytes .entry)))) ⌝ }
 {
@@ -75,7 +75,7 @@ fn leaving_label(table: &[u8], bytes: &[u8; 50]) -> u8
 }
 
 // The row that label l takes, the conditions that decide it and the bit; 18 where no row matches.
-fn cause_at(table: &[u8], bytes: &[u8; 50], l: u8, word: u16) -> Cause
+fn cause_at(table: &[u8], bytes: &[u8; 130], l: u8, word: u16) -> Cause
     requires { ⌜ Placed (now table) l ⌝ }
     ensures { λ r. ⌜ Tells (told (causeAt (tableImage (now (table .entry))) (stateOf (now (bytes .entry)) .bits) word (label l))) r ⌝ }
 {
@@ -102,7 +102,7 @@ fn cause_at(table: &[u8], bytes: &[u8; 50], l: u8, word: u16) -> Cause
 }
 
 // A cause on a prepared table: 15, then 21, then 18.
-fn cause_table(table: &[u8], bytes: &[u8; 50], word: u16) -> Cause
+fn cause_table(table: &[u8], bytes: &[u8; 130], word: u16) -> Cause
     requires { ⌜ Ordered (now table) ⌝ }
     ensures { λ r. ⌜ Tells (tableCause (now (table .entry)) (stateOf (now (bytes .entry))) word) r ⌝ }
 {
@@ -120,7 +120,7 @@ fn cause_table(table: &[u8], bytes: &[u8; 50], word: u16) -> Cause
 }
 
 // What the image check tries, then 15, 21 and 18.
-pub fn cause_bytes(image: &[u8], bytes: &[u8; 50], word: u16) -> Cause
+pub fn cause_bytes(image: &[u8], bytes: &[u8; 130], word: u16) -> Cause
     ensures { λ r. ⌜ Tells (explain (now (image .entry)) (stateOf (now (bytes .entry))) word) r ⌝ }
 {
     let mut table = [0u8; LARGEST];

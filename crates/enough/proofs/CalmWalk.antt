@@ -1,4 +1,5 @@
--- With as many places as the longest chain has schemes, no call of the walk finds as many schemes open: none gets 17, and none is a drop.
+-- With as many places as the longest chain has schemes, and every number served by its own scheme, no call of the walk finds as many schemes
+-- open: none gets 17, and none is a drop.
 use Prim.Native.Nat.{ℕ, suc, _≤_}
 use mathlib.Core.Bool.{Bool, true, false, _&&_, _||_, not}
 use mathlib.Core.Path.{_≡_, refl, sym, _∙_, ap, subst}
@@ -11,12 +12,15 @@ use borrow.Author.Tests.{ne-eqb}
 use Rattle.lists.proofs.Joins.{All}
 use Rattle.lists.proofs.Tests.{no-both, and-no}
 use Rattle.bits.specs.Results.{Results, noResults}
-use Rattle.charts.specs.Chart.{Chart, kind, scheme, argument, handler}
+use Rattle.bits.specs.Binding.{ownBinding, served}
+use Rattle.charts.specs.Chart.{Chart, kind, argument, handler, schemes}
 use Rattle.walk.specs.Stops.{Stop, stopAt}
-use Rattle.walk.specs.Walk.{Tick, isDrop, drops, walk}
+use Rattle.walk.specs.Walk.{Signal, Tick, isDrop, drops, bottom, walk}
 use Rattle.walk.proofs.Facts.{Facts}
 use Rattle.walk.proofs.Views.{View, a-plain, a-call, a-function, a-home, a-back, a-begin, a-condition}
-use Rattle.walk.proofs.Trace.{Position, at, returned, called, movedBy, tickAt, move, trace, Caller, Under, bottom, Good, view-of, moves, atHome, home-good}
+use Rattle.walk.proofs.Trace.{Open, opens, Position, at, returned, called, movedBy, tickAt, move, trace, atHome}
+use Rattle.walk.proofs.Trace.{Serves, Caller, Under, Good, view-of, moves, home-good}
+use Rattle.walk.proofs.OwnBinding.{served-own, own-serves}
 use Rattle.walk.proofs.Drops.{isCall, drop-exactly}
 use Rattle.walk.proofs.Recursion.{walk-trace}
 use Rattle.chains.specs.Calls.{holdsCall, circular, places}
@@ -28,81 +32,108 @@ use Rattle.agreement.proofs.Bounds.{bound-go}
 use Rattle.agreement.proofs.FullCalls.{full-exactly}
 
 -- ---- the schemes open at a position of the walk are a chain
-caller-calls : (c : Chart) (h k : ℕ) → Caller c h k → Calls c (scheme c k) h
-caller-calls c h k r = record { node = k; inside = r .inside; holds = go (r .calls); owner = refl; called = r .called }
+caller-calls : (c : Chart) (h : ℕ) (k : Open) → Caller c h k → Calls c (k .server) h
+caller-calls c h k r =
+    record { node = k .node; inside = r .stop .inside; holds = go (r .calls); owner = r .stop .same; called = r .called }
   where
-    go : (kind c k ≡ 2) ⊎ (kind c k ≡ 4) → holdsCall c k ≡ true
-    go (inl e) = holds-operation c k e (λ z. omega (arith, r .called, r .deep))
-    go (inr e) = holds-function c k e
+    go : (kind c (k .node) ≡ 2) ⊎ (kind c (k .node) ≡ 4) → holdsCall c (k .node) ≡ true
+    go (inl e) = holds-operation c (k .node) e (λ z. omega (arith, r .called, r .deep))
+    go (inr e) = holds-function c (k .node) e
 
-open-chain : (c : Chart) (h : ℕ) (ks : List ℕ) → Under c 1 h ks → Chain c (suc (length ks)) h
-open-chain c h [] e = subst (Chain c 1) (sym e) first
-open-chain c h (k ∷ ks) u = on (open-chain c (scheme c k) ks (u .1)) (caller-calls c h k (u .0))
+-- an open scheme that goes by its own number
+abbrev Own : Open → Type 0
+Own k = k .number ≡ k .server
+
+open-chain : (c : Chart) (x : Open) (ks : List Open) → Under c 1 x ks → All Own (x ∷ ks) → Chain c (suc (length ks)) (x .server)
+open-chain c x [] u own = subst (Chain c 1) (sym (u .1)) first
+open-chain c x (k ∷ ks) u own = on (open-chain c k ks (u .1) (own .1)) (subst (Calls c (k .server)) (own .0) (caller-calls c (x .number) k (u .0)))
+
+-- scheme 1 is the first open one, and all go by their own numbers
+record Plain (y : Position) : Type 0 where
+  first : y .first ≡ false
+  owned : All Own (y .now ∷ y .callers)
+
+abbrev ToldOwn : Signal → Type 0
+ToldOwn w = w .binding ≡ ownBinding
 
 module _ (c : Chart) (f : Facts c) (calm : circular c ≡ false) (n : ℕ) (enough : places c ≤ n) where
-  -- scheme 1 is the first open one, and node v calls
-  module _ (v : ℕ) (ks : List ℕ) (b : Results) (t : Bool) (e : t ≡ false) (g : Good c (at v ks b t)) where
+  module _ (x : Open) (ks : List Open) (b : Results) (t : Bool) (p : Plain (at x ks b t)) (g : Good c (at x ks b t)) where
+    abbrev v : ℕ
+    v = x .node
+
     not-full : (kind c v ≡ 2) ⊎ (kind c v ≡ 4) → 2 ≤ argument c v → eqb (suc (length ks)) n ≡ false
     not-full k l =
-        let under : Under c 1 (scheme c v) ks = subst (λ (u : Bool). Under c (bottom c u) (scheme c v) ks) e (g .under) in
-        let s : Chain c (suc (suc (length ks))) (argument c v) = open-chain c (argument c v) (v ∷ ks)
-        (record { inside = g .top .inside; calls = k; called = refl; deep = l; stopping = g .top .stopping }, under) in
-        ne-eqb (suc (length ks)) n (λ q. omega (arith, no-longer c f calm (suc (suc (length ks))) (argument c v) s))
+        let h : ℕ = argument c v in
+        let under : Under c 1 x ks = subst (λ (u : Bool). Under c (bottom c u) x ks) (p .first) (g .under) in
+        let s : Chain c (suc (suc (length ks))) h = open-chain c (opens v h h) (x ∷ ks)
+        (record { stop = g .top; calls = k; called = refl; deep = l }, under) (refl, p .owned) in
+        ne-eqb (suc (length ks)) n (λ q. omega (arith, no-longer c f calm (suc (suc (length ks))) h s))
 
-    kept-by : (h : ℕ) (d : Results) (u : Bool) → u ≡ false → called c v ks h d t u .first ≡ false
-    kept-by h d true q = no-both true refl q
-    kept-by h d false q = e
+    stays : (u : ℕ) (d : Results) → Plain (at (opens u (x .number) (x .server)) ks d t)
+    stays u d = record { first = p .first; owned = p .owned }
 
-    kept-call : (h : ℕ) (d : Results) → eqb (suc (length ks)) n ≡ false → called c v ks h d t (drops n c t (suc (length ks))) .first ≡ false
-    kept-call h d q = kept-by h d (drops n c t (suc (length ks))) (and-no (not t && not (eqb (handler c) 0)) (eqb (suc (length ks)) n) q)
+    called-by : (h k : ℕ) (d : Results) (u : Bool) → h ≡ k → u ≡ false → Plain (called c x ks h k d t u)
+    called-by h k d true e q = no-both true refl q
+    called-by h k d false e q = record { first = p .first; owned = (e, p .owned) }
 
-    -- a call finds fewer schemes open than places, and scheme 1 stays the first of them
-    calm-by : (w : ℕ) → {s : Stop} → View c v s
-        → ((isCall s && eqb (suc (length ks)) n) ≡ false) × (movedBy c (drops n c t (suc (length ks))) v ks w b t s .first ≡ false)
-    calm-by w (a-plain k a) = (refl, e)
-    calm-by w (a-call k a) = let q = not-full (inl k) (f .calls v (g .top .inside) k a .0) in (q, kept-call (argument c v) _ q)
-    calm-by w (a-function k) = let q = not-full (inr k) (f .functions v (g .top .inside) k .0) in (q, kept-call (argument c v) b q)
-    calm-by w (a-home k s) = (refl, e)
-    calm-by w (a-back k s) = (refl, go ks)
-      where
-        go : (ks : List ℕ) → returned c ks w b t .first ≡ false
-        go [] = refl
-        go (k ∷ ks) = e
-    calm-by w (a-begin k) = (refl, e)
-    calm-by w (a-condition k) = (refl, e)
+    module _ (w : Signal) (told : ToldOwn w) where
+      called-plain : (h : ℕ) (d : Results) → (2 ≤ h) × (h ≤ schemes c) → eqb (suc (length ks)) n ≡ false
+          → Plain (called c x ks h (served (w .binding) h) d t (drops n c t (suc (length ks))))
+      called-plain h d l q = called-by h (served (w .binding) h) d (drops n c t (suc (length ks)))
+          (sym (ap (λ s. served s h) told ∙ served-own h (omega arith) (omega (arith, f .most))))
+          (and-no (not t && not (eqb (handler c) 0)) (eqb (suc (length ks)) n) q)
 
-  -- a tick that gets no 17 and is no drop, after which scheme 1 is still the first open one
+      returned-plain : (ks : List Open) → All Own ks → Plain (returned c ks (w .word) b t)
+      returned-plain [] own = record { first = refl; owned = (refl, tt) }
+      returned-plain (k ∷ ks) own = record { first = p .first; owned = own }
+
+      -- a call finds fewer schemes open than places, and the position after it is plain too
+      calm-by : {s : Stop} → View c v s
+          → ((isCall s && eqb (suc (length ks)) n) ≡ false) × Plain (movedBy c (drops n c t (suc (length ks))) x ks w b t s)
+      calm-by (a-plain k a) = (refl, stays _ _)
+      calm-by (a-call k a) =
+          let l = f .calls v (g .top .inside) k a in let q = not-full (inl k) (l .0) in (q, called-plain (argument c v) _ l q)
+      calm-by (a-function k) =
+          let l = f .functions v (g .top .inside) k in let q = not-full (inr k) (l .0) in (q, called-plain (argument c v) b l q)
+      calm-by (a-home k s) = (refl, stays _ b)
+      calm-by (a-back k s) = (refl, returned-plain ks (p .owned .1))
+      calm-by (a-begin k) = (refl, stays _ b)
+      calm-by (a-condition k) = (refl, stays _ b)
+
+  -- a tick that gets no 17 and is no drop, and the position after it
   record Calm (t : Tick) (y : Position) : Type 0 where
     made : isFullCall n t ≡ false
     quiet : isDrop t ≡ false
-    kept : y .first ≡ false
+    kept : Plain y
 
   both : (a p q : Bool) → (a && q) ≡ false → (a && (p && q)) ≡ false
   both true true q e = e
   both true false q e = refl
   both false p q e = refl
 
-  calm-at : (x : Position) → x .first ≡ false → Good c x → (w : ℕ) → Calm (tickAt n c x) (move n c w x)
-  calm-at x e g w =
+  calm-at : (x : Position) → Plain x → Good c x → (w : Signal) → ToldOwn w → Calm (tickAt n c x) (move n c w x)
+  calm-at x p g w told =
       let o : Bool = eqb (suc (length (x .callers))) n in
-      let k : Bool = isCall (stopAt c (x .node)) in
-      let r = calm-by (x .node) (x .callers) (x .results) (x .first) e g w (view-of c f x g) in
+      let k : Bool = isCall (stopAt c (x .now .node)) in
+      let r = calm-by (x .now) (x .callers) (x .results) (x .first) p g w told (view-of c f x g) in
       record {
         made = full-exactly c f n x g ∙ both k (x .first || eqb (handler c) 0) o (r .0);
         quiet = drop-exactly c f n x g ∙ both k (not (x .first) && not (eqb (handler c) 0)) o (r .0);
         kept = r .1;
       }
 
-  calm-trace : (ws : List ℕ) (x : Position) → x .first ≡ false → Good c x
+  calm-trace : (ws : List Signal) (x : Position) → All ToldOwn ws → Plain x → Good c x
       → (bound n (trace n c ws x) ≡ length ws) × All (λ (t : Tick). isDrop t ≡ false) (trace n c ws x)
   unfolding trace bound
-  calm-trace [] x e g = (refl, tt)
-  calm-trace (w ∷ ws) x e g =
-      let k : Calm (tickAt n c x) (move n c w x) = calm-at x e g w in
-      let r = calm-trace ws (move n c w x) (k .kept) (moves c f n w x g) in
+  calm-trace [] x told p g = (refl, tt)
+  calm-trace (w ∷ ws) x told p g =
+      let k : Calm (tickAt n c x) (move n c w x) = calm-at x p g w (told .0) in
+      let serves : Serves c (w .binding) = subst (Serves c) (sym (told .0)) (own-serves c f) in
+      let r = calm-trace ws (move n c w x) (told .1) (k .kept) (moves c f n w x serves g) in
       (bound-go n (tickAt n c x) (trace n c ws (move n c w x)) (k .made) ∙ ap suc (r .0), (k .quiet, r .1))
 
-  pub calm-walk : (ws : List ℕ) → (bound n (walk n c ws) ≡ length ws) × All (λ (t : Tick). isDrop t ≡ false) (walk n c ws)
-  calm-walk ws =
+  pub calm-walk : (ws : List Signal) → All (λ (w : Signal). w .binding ≡ ownBinding) ws
+      → (bound n (walk n c ws) ≡ length ws) × All (λ (t : Tick). isDrop t ≡ false) (walk n c ws)
+  calm-walk ws told =
       subst (λ (ts : List Tick). (bound n ts ≡ length ws) × All (λ (t : Tick). isDrop t ≡ false) ts) (sym (walk-trace n c ws))
-      (calm-trace ws (atHome c noResults) refl (home-good c f noResults))
+      (calm-trace ws (atHome c noResults) told (record { first = refl; owned = (refl, tt) }) (home-good c f noResults))

@@ -1,21 +1,24 @@
--- What is expected of runs whose bound lies behind all their words, where no tick of the walk is a drop: each is made in full.
+-- What is expected of runs and rebindings where the bound lies behind all words and no tick of the walk is a drop: each run is made in full.
 use Prim.Native.Nat.{ℕ, zero, suc, _+_, _-_, _≤_, min}
 use mathlib.Core.Bool.{Bool, true, false, _&&_}
 use mathlib.Core.Path.{_≡_, refl, sym, _∙_, ap, ap₂, subst}
 use mathlib.Core.List.{List, [], _∷_, map}
 use lib.Dec.{ltb}
-use lib.ListN.{length, take, drop, length-append, length-take, length-drop}
+use lib.ListN.{length, take, drop, length-append, length-map, length-take, length-drop}
 use native.Mathlib.Omega.{arith}
 use borrow.Author.Tests.{eqb-false, le-ltb}
 use Rattle.lists.specs.Pick.{pick}
 use Rattle.lists.proofs.Joins.{All, all-map, all-of}
+use Rattle.bits.specs.Binding.{Binding}
 use Rattle.frames.specs.Answer.{Reply, success, refusal, count}
 use Rattle.frames.proofs.Lent.{front}
-use Rattle.walk.specs.Walk.{Tick, isDrop}
-use Rattle.agreement.specs.Agreement.{Asked, Told, short, joined, refusedShort, expected, expectedAll}
+use Rattle.charts.specs.Chart.{Chart}
+use Rattle.walk.specs.Walk.{signals, Tick, isDrop}
+use Rattle.agreement.specs.Agreement.{Asked, Given, runs, rebinds, Handed, byRun, byRebinding, short, joined, bindingAfter, replyTo, refusedShort}
+use Rattle.agreement.specs.Agreement.{expected, expectedAll}
 use Rattle.agreement.proofs.Joins.{joined-short, joined-long}
 use Rattle.agreement.proofs.Expected.{all-short, all-long}
-use Rattle.enough.specs.Enough.{allMade, noDrop, AllMade}
+use Rattle.enough.specs.Enough.{allMade, noDrop, replyOf, dropless, AllMade}
 
 module _ {A : Type 0} (P : A → Type 0) where
   all-take : (n : ℕ) (xs : List A) → All P xs → All P (take n xs)
@@ -58,26 +61,32 @@ module _ (b : ℕ) (ts : List Tick) (long : b ≤ length ts) (quiet : All (λ (t
         (all-map (λ (code : ℕ). code ≡ 96 → ⊥) (λ (t : Tick). t .code) mine
         (all-of (λ (t : Tick). isDrop t ≡ false) (λ (t : Tick). t .code ≡ 96 → ⊥) (λ t q. eqb-false (t .code) 96 q) mine calm))
 
-  -- ---- one run more
-  more-made : (a : Asked) (rest : List Asked) (t : Told) (tolds : List Told) → t .reply ≡ allMade a → noDrop (count (t .reply)) (t .codes)
-      → AllMade rest tolds → AllMade (a ∷ rest) (t ∷ tolds)
-  more-made a rest t tolds e q r = record { replies = ap₂ (λ (x : Reply) (xs : List Reply). x ∷ xs) e (r .replies); drops = (q, r .drops) }
+  -- ---- one call more
+  module _ (c : Chart) where
+    more-made : (g : Given) (rest : List Given) (d : Handed) (handed : List Handed) → replyOf d ≡ allMade c g → dropless d
+        → AllMade c rest handed → AllMade c (g ∷ rest) (d ∷ handed)
+    more-made g rest d handed e q r = record { replies = ap₂ (λ (x : Reply) (xs : List Reply). x ∷ xs) e (r .replies); drops = (q, r .drops) }
 
-  pub expected-made : (asked : List Asked) (p : ℕ) → p + length (joined asked) ≤ b → AllMade asked (expectedAll b ts p asked)
-  unfolding expectedAll
-  expected-made [] p l = record { replies = refl; drops = tt }
-  expected-made (a ∷ rest) p l = go (expected-made rest) (short a) refl
-    where
-      go : ((q : ℕ) → q + length (joined rest) ≤ b → AllMade rest (expectedAll b ts q rest)) → (t : Bool) → short a ≡ t
-          → AllMade (a ∷ rest) (expectedAll b ts p (a ∷ rest))
-      go ih true e =
-          let j : length (joined (a ∷ rest)) ≡ length (joined rest) = ap length (joined-short a rest e) in
-          subst (AllMade (a ∷ rest)) (sym (all-short b ts p a rest e))
-          (more-made a rest (refusedShort a) _ (sym (ap (λ (t : Bool). pick t (refusal 16 0 0) (success (length (a .words)))) e)) tt (ih p (omega arith)))
-      go ih false e =
-          let j : length (joined (a ∷ rest)) ≡ length (a .words) + length (joined rest) =
-          ap length (joined-long a rest e) ∙ length-append (a .words) (joined rest) in
-          subst (AllMade (a ∷ rest)) (sym (all-long b ts p a rest e))
-          (more-made a rest (expected b ts p a) _
-          (reply-made p a (omega arith) ∙ sym (ap (λ (t : Bool). pick t (refusal 16 0 0) (success (length (a .words)))) e))
-          (no-drop p a (omega arith)) (ih (p + length (a .words)) (omega arith)))
+    pub expected-made : (given : List Given) (s : Binding) (p : ℕ) → p + length (joined c s given) ≤ b → AllMade c given (expectedAll c b ts p given)
+    unfolding expectedAll joined
+    expected-made [] s p l = record { replies = refl; drops = tt }
+    expected-made (rebinds h k ∷ rest) s p l =
+        more-made (rebinds h k) rest (byRebinding (replyTo c h k)) _ refl tt (expected-made rest (bindingAfter c h k s) p l)
+    expected-made (runs a ∷ rest) s p l = go (expected-made rest s) (short a) refl
+      where
+        made : Bool → Reply
+        made t = pick t (refusal 16 0 0) (success (length (a .words)))
+
+        go : ((q : ℕ) → q + length (joined c s rest) ≤ b → AllMade c rest (expectedAll c b ts q rest)) → (t : Bool) → short a ≡ t
+            → AllMade c (runs a ∷ rest) (expectedAll c b ts p (runs a ∷ rest))
+        go ih true e =
+            let j : length (joined c s (runs a ∷ rest)) ≡ length (joined c s rest) = ap length (joined-short c s a rest e) in
+            subst (AllMade c (runs a ∷ rest)) (sym (all-short c b ts p a rest e))
+            (more-made (runs a) rest (byRun (refusedShort a)) _ (sym (ap made e)) tt (ih p (omega arith)))
+        go ih false e =
+            let n : length (signals s (a .words)) ≡ length (a .words) = length-map (a .words) _ in
+            let j : length (joined c s (runs a ∷ rest)) ≡ length (signals s (a .words)) + length (joined c s rest) =
+            ap length (joined-long c s a rest e) ∙ length-append (signals s (a .words)) (joined c s rest) in
+            subst (AllMade c (runs a ∷ rest)) (sym (all-long c b ts p a rest e))
+            (more-made (runs a) rest (byRun (expected b ts p a)) _ (reply-made p a (omega arith) ∙ sym (ap made e))
+            (no-drop p a (omega arith)) (ih (p + length (a .words)) (omega arith)))

@@ -1,4 +1,5 @@
--- The chart whose call no words lead to: it goes from home to its first condition and back, whatever the words.
+-- The chart whose call no words lead to: it goes from home to its first condition and back, whatever the words and
+-- the bindings.
 use Prim.Native.Nat.{ℕ, suc}
 use mathlib.Core.Bool.{Bool, true, false}
 use mathlib.Core.Path.{_≡_, refl, sym, _∙_, ap, subst}
@@ -12,6 +13,7 @@ use Rattle.lists.specs.Sequences.{some, filter, concatMap}
 use Rattle.lists.proofs.Joins.{All}
 use Rattle.bits.specs.Word.{bit}
 use Rattle.bits.specs.Results.{Results, noResults}
+use Rattle.bits.specs.Binding.{ownBinding}
 use Rattle.graph.specs.Reach.{reach}
 use Rattle.digits.specs.Digit.{digitOf, charOf}
 use Rattle.frames.specs.Frame.{contents, total, frameText, textOf}
@@ -21,8 +23,8 @@ use Rattle.charts.specs.Chart.{handler, nodeOf}
 use Rattle.charts.specs.Check.{badField, chartVerdict}
 use Rattle.charts.specs.Entry.{readVerdict}
 use Rattle.walk.specs.Stops.{stops, start, follow, byWord, stopAt}
-use Rattle.walk.specs.Walk.{Tick, isDrop, walk}
-use Rattle.walk.proofs.Trace.{Position, at, tickAt, move, trace, atHome}
+use Rattle.walk.specs.Walk.{Signal, Tick, isDrop, walk}
+use Rattle.walk.proofs.Trace.{opens, Position, at, tickAt, move, trace, atHome}
 use Rattle.walk.proofs.Recursion.{walk-trace}
 use Rattle.chart_labels.specs.Labels.{label}
 use Rattle.chart_rows.specs.Rows.{paths, rowsOf, rows}
@@ -58,20 +60,20 @@ leads-home w = go (eqb (bit w 0) 0) refl
 
 -- ---- so that it is at one of two positions, and calls at neither
 pub data Quiet : Position → Type 0 where
-  homes : {b : Results} → Quiet (at 4 [] b false)
-  tests : {b : Results} → Quiet (at 1 [] b false)
+  homes : {b : Results} → Quiet (at (opens 4 1 1) [] b false)
+  tests : {b : Results} → Quiet (at (opens 1 1 1) [] b false)
 
 quiet-tick : (x : Position) → Quiet x → (isFullCall 1 (tickAt 1 chartNever x) ≡ false) × (isDrop (tickAt 1 chartNever x) ≡ false)
 unfolding stopAt handler highest
 quiet-tick x homes = (refl, refl)
 quiet-tick x tests = (refl, refl)
 
-quiet-move : (w : ℕ) (x : Position) → Quiet x → Quiet (move 1 chartNever w x)
+quiet-move : (w : Signal) (x : Position) → Quiet x → Quiet (move 1 chartNever w x)
 unfolding stopAt start stops nodeOf lowest
 quiet-move w x homes = tests
-quiet-move w x (tests {b}) = subst (λ (v : ℕ). Quiet (at v [] b false)) (sym (leads-home w)) homes
+quiet-move w x (tests {b}) = subst (λ (v : ℕ). Quiet (at (opens v 1 1) [] b false)) (sym (leads-home (w .word))) homes
 
-quiet-trace : (ws : List ℕ) (x : Position) → Quiet x
+quiet-trace : (ws : List Signal) (x : Position) → Quiet x
     → (bound 1 (trace 1 chartNever ws x) ≡ length ws) × All (λ (t : Tick). isDrop t ≡ false) (trace 1 chartNever ws x)
 unfolding trace bound
 quiet-trace [] x q = (refl, tt)
@@ -87,9 +89,10 @@ first-quiet = homes
 pub smaller : Smaller
 smaller = record {
   number = number-2;
-  one = λ asked.
-      let q = subst (λ (ts : List Tick). (bound 1 ts ≡ length (joined asked)) × All (λ (t : Tick). isDrop t ≡ false) ts)
-      (sym (walk-trace 1 chartNever (joined asked))) (quiet-trace (joined asked) (atHome chartNever noResults) first-quiet) in
-      let ts : List Tick = walk 1 chartNever (joined asked) in
-      expected-made (bound 1 ts) ts (bound-le 1 ts) (q .1) asked 0 (omega (arith, q .0));
+  one = λ given.
+      let ws : List Signal = joined chartNever ownBinding given in
+      let q = subst (λ (ts : List Tick). (bound 1 ts ≡ length ws) × All (λ (t : Tick). isDrop t ≡ false) ts)
+      (sym (walk-trace 1 chartNever ws)) (quiet-trace ws (atHome chartNever noResults) first-quiet) in
+      let ts : List Tick = walk 1 chartNever ws in
+      expected-made (bound 1 ts) ts (bound-le 1 ts) (q .1) chartNever given ownBinding 0 (omega (arith, q .0));
 }

@@ -4,9 +4,8 @@ use mathlib.Core.List.{List, [], _∷_, _++_}
 use Rattle.frames.specs.Frame.{textOf}
 use Rattle.frames.specs.Answer.{success}
 use Rattle.charts.specs.Chart.{Chart}
-use Rattle.walk.specs.Walk.{walk}
 use Rattle.places.specs.Entry.{placesNeeded}
-use Rattle.agreement.specs.Agreement.{Asked, joined, bound, expectedAll}
+use Rattle.agreement.specs.Agreement.{Given, walked}
 use Rattle.enough.specs.Enough.{AllMade}
 
 -- condition 0 is tested twice by one word; the call of scheme 2 stands on the 1 side and then on the 0 side
@@ -17,7 +16,7 @@ chartNever =
     ++ (1 ∷ 1 ∷ 0 ∷ 0 ∷ 0 ∷ 0 ∷ 0 ∷ 0 ∷ 0 ∷ 0 ∷ []) ++ (0 ∷ 2 ∷ 0 ∷ 6 ∷ 0 ∷ 0 ∷ 0 ∷ 0 ∷ 0 ∷ 0 ∷ [])
     ++ (1 ∷ 2 ∷ 0 ∷ 0 ∷ 0 ∷ 0 ∷ 0 ∷ 0 ∷ 0 ∷ 0 ∷ [])
 
--- its number is 2, and with one place every call of any list makes a tick for every word
+-- its number is 2, and with one place every run of any list makes a tick for every word, whatever the rebindings
 pub record Smaller : Type 0 where
   pub number : placesNeeded (textOf chartNever) ≡ success 2
-  pub one : (asked : List Asked) → let ticks = walk 1 chartNever (joined asked) in AllMade asked (expectedAll (bound 1 ticks) ticks 0 asked)
+  pub one : (given : List Given) → AllMade chartNever given (walked 1 chartNever given)

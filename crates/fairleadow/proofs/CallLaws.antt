@@ -9,11 +9,13 @@ use Rattle.lists.specs.Pick.{pick}
 use Rattle.lists.proofs.Tests.{yes-pick, no-pick}
 use Rattle.frames.specs.Answer.{Reply, number, reply}
 use Rattle.frames.specs.declared.Answer.{Answer}
+use Rattle.state.specs.State.{Made}
 use Rattle.runs.specs.declared.TickReport.{TickReport}
 use Rattle.runs.specs.Run.{Run}
 use Rattle.runs.specs.Advance.{Advance}
 use Rattle.runs.specs.InPlace.{RunsOn, AdvancesOn}
-use Rattle.fairleadow.specs.Calls.{Told, RunsC, Ticked, AdvancesC}
+use Rattle.rebinding.specs.Rebind.{RebindsOn}
+use Rattle.fairleadow.specs.Calls.{Told, RunsC, Ticked, AdvancesC, RebindsC}
 
 pub told-as : {a b : Reply} {n i m : ℕ} → a ≡ b → Told a n i m → Told b n i m
 told-as {n = n} {i = i} {m = m} e t = subst (λ (x : Reply). Told x n i m) e t
@@ -21,6 +23,10 @@ told-as {n = n} {i = i} {m = m} e t = subst (λ (x : Reply). Told x n i m) e t
 pub run-told : {x : Run} {before after ms ks : List ℕ} {a : Answer} {n i m : ℕ} → RunsOn x before a after ms ks → Told (reply a) n i m
     → RunsC x before n i m after ms ks
 run-told runs told = record { told = told-as (runs .answered) told; bytes = runs .bytes; masks = runs .masks; codes = runs .codes }
+
+pub rebinding-told : {x : Made} {before after : List ℕ} {a : Answer} {n i m : ℕ} → RebindsOn x before a after → Told (reply a) n i m
+    → RebindsC x before n i m after
+rebinding-told rebinds told = record { told = told-as (rebinds .answered) told; bytes = rebinds .bytes }
 
 -- ---- a tick's report
 module _ (r : TickReport) {n i m : ℕ} (told : Told (reply (r .answer)) n i m) where

@@ -1,5 +1,5 @@
--- What a call from C hands back, and what it leaves in the bytes of a state: for each of Lends, Lists, Makes, Runs, Advances and Tells the record
--- for C.
+-- What a call from C hands back, and what it leaves in the bytes of a state: for each of Lends, Lists, Makes, Runs, Advances, Tells and
+-- RebindsOn the record for C.
 use Prim.Native.Nat.{ℕ}
 use mathlib.Core.Path.{_≡_}
 use mathlib.Core.List.{List}
@@ -13,6 +13,7 @@ use Rattle.runs.specs.declared.TickReport.{TickReport}
 use Rattle.runs.specs.Advance.{Advance, advance}
 use Rattle.machine.specs.Live.{liveRun, liveTick}
 use Rattle.cause.specs.Cause as cause
+use Rattle.rebinding.specs.Rebind.{rebind, liveRebind}
 use Rattle.runs.specs.InPlace.{bytesAfter, ifTicked}
 use Rattle.state.specs.Bytes.{stateOf, bytesOf}
 
@@ -84,3 +85,15 @@ pub record CausesC (x : cause.Told) (returned at made k m b : ℕ) : Type 0 wher
   pub row : k ≡ x .cause .row
   pub mask : m ≡ x .cause .mask
   pub bit : b ≡ x .cause .bit
+
+-- a rebinding in the state that the bytes hold, and the same on a prepared table
+abbrev pub rebindFor : List ℕ → List ℕ → ℕ → ℕ → Made
+rebindFor image state number scheme = rebind image (stateOf state) number scheme
+
+abbrev pub liveRebindFor : List ℕ → List ℕ → ℕ → ℕ → Made
+liveRebindFor table state number scheme = liveRebind table (stateOf state) number scheme
+
+-- a call that rebinds, with the bytes before it and after it
+pub record RebindsC (x : Made) (before : List ℕ) (returned at made : ℕ) (after : List ℕ) : Type 0 where
+  pub told : Told (x .reply) returned at made
+  pub bytes : after ≡ pick (eqb (number (x .reply)) 0) (bytesOf (x .state)) before

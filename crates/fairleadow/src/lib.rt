@@ -1,4 +1,4 @@
-// The entry points for C, as the header has them: a slice is a pointer and a length, a reference is a pointer, and a state is fifty bytes.
+// The entry points for C, as the header has them: a slice is a pointer and a length, a reference is a pointer, and a state is 130 bytes.
 // `at` and `made` are the header's index and count.
 mod answers;
 
@@ -12,6 +12,8 @@ use machine::live_run_bytes;
 use machine::live_tick_bytes;
 use machine::run_bytes;
 use machine::tick_bytes;
+use rebinding::live_rebind_bytes;
+use rebinding::rebind_bytes;
 use state::bytes_of;
 ghost use Rattle.frames.specs.Answer.{judged};
 ghost use Rattle.charts.specs.Entry.{readChart, writeChart};
@@ -21,7 +23,7 @@ ghost use Rattle.places.specs.Entry.{placesNeeded};
 ghost use Rattle.state.specs.State.{freshState};
 ghost use Rattle.tables.specs.Prepare.{prepare};
 ghost use Rattle.listing.specs.Listing.{list};
-ghost use Rattle.fairleadow.specs.Calls.{Told, LendsC, ListsC, MakesC, runFor, liveRunFor, RunsC, tickFor, liveTickFor, AdvancesC, causeFor, CausesC};
+ghost use Rattle.fairleadow.specs.Calls.{Told, LendsC, ListsC, MakesC, runFor, liveRunFor, RunsC, tickFor, liveTickFor, AdvancesC, causeFor, CausesC, rebindFor, liveRebindFor, RebindsC};
 ghost use Rattle.fairleadow.specs.Meant.{Meant};
 
 #[no_mangle]
@@ -96,7 +98,7 @@ pub extern "C" fn fairleadow_list_rows(
 #[no_mangle]
 pub extern "C" fn fairleadow_fresh(
     size: usize,
-    state: &mut [u8; 50],
+    state: &mut [u8; 130],
     at: &mut usize,
     made: &mut usize,
 ) -> u8
@@ -113,7 +115,7 @@ pub extern "C" fn fairleadow_fresh(
 #[no_mangle]
 pub extern "C" fn fairleadow_run(
     image: &[u8],
-    state: &mut [u8; 50],
+    state: &mut [u8; 130],
     words: &[u16],
     masks: &mut [u32],
     codes: &mut [u8],
@@ -130,7 +132,7 @@ pub extern "C" fn fairleadow_run(
 #[no_mangle]
 pub extern "C" fn fairleadow_tick(
     image: &[u8],
-    state: &mut [u8; 50],
+    state: &mut [u8; 130],
     word: u16,
     mask: &mut u32,
     code: &mut u8,
@@ -159,7 +161,7 @@ pub extern "C" fn fairleadow_prepare(
 #[no_mangle]
 pub extern "C" fn fairleadow_live_run(
     table: &[u8],
-    state: &mut [u8; 50],
+    state: &mut [u8; 130],
     words: &[u16],
     masks: &mut [u32],
     codes: &mut [u8],
@@ -176,7 +178,7 @@ pub extern "C" fn fairleadow_live_run(
 #[no_mangle]
 pub extern "C" fn fairleadow_live_tick(
     table: &[u8],
-    state: &mut [u8; 50],
+    state: &mut [u8; 130],
     word: u16,
     mask: &mut u32,
     code: &mut u8,
@@ -189,11 +191,42 @@ pub extern "C" fn fairleadow_live_tick(
     tell_tick(report, mask, code, at, made)
 }
 
+// Number `number` is served by scheme `scheme` from then on; a refusal writes no state.
+#[no_mangle]
+pub extern "C" fn fairleadow_rebind(
+    image: &[u8],
+    state: &mut [u8; 130],
+    number: usize,
+    scheme: usize,
+    at: &mut usize,
+    made: &mut usize,
+) -> u8
+    ensures { λ r. ⌜ RebindsC (rebindFor (now (image .entry)) (now (state .entry)) number scheme) (now (state .entry)) r (now (at .exit)) (now (made .exit)) (now (state .exit)) ⌝ }
+{
+    let answer = rebind_bytes(image, state, number, scheme);
+    tell(answer, at, made)
+}
+
+#[no_mangle]
+pub extern "C" fn fairleadow_live_rebind(
+    table: &[u8],
+    state: &mut [u8; 130],
+    number: usize,
+    scheme: usize,
+    at: &mut usize,
+    made: &mut usize,
+) -> u8
+    ensures { λ r. ⌜ RebindsC (liveRebindFor (now (table .entry)) (now (state .entry)) number scheme) (now (state .entry)) r (now (at .exit)) (now (made .exit)) (now (state .exit)) ⌝ }
+{
+    let answer = live_rebind_bytes(table, state, number, scheme);
+    tell(answer, at, made)
+}
+
 // What made a tick go on: writes the row's number, the conditions that decide it and the result bit, each 0 with a refusal.
 #[no_mangle]
 pub extern "C" fn fairleadow_cause(
     image: &[u8],
-    state: &[u8; 50],
+    state: &[u8; 130],
     word: u16,
     row: &mut u16,
     mask: &mut u16,

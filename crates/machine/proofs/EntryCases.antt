@@ -23,6 +23,7 @@ use Rattle.tables.specs.Table.{tableEnd, badTable, front, Whole, tableImage}
 use Rattle.tables.proofs.Made.{Made}
 use Rattle.tables.proofs.Front.{end-holds, front-image, front-whole}
 use Rattle.state.specs.declared.State.{State}
+use Rattle.state.specs.State.{Sized}
 use Rattle.state.specs.Bytes.{stateOf, bytesOf}
 use Rattle.state.proofs.ResultBytes.{state-back}
 use Rattle.runs.specs.declared.TickReport.{TickReport}
@@ -145,9 +146,9 @@ module _ (t before : List ℕ) where
         subst (λ (y : Run). AdvancesOn (advanced y) before r after) (table-is (w ∷ []) (0 ∷ []) (0 ∷ []) b (made .accepted) (made .holds)) x
 
 -- ---- by value: the bytes are those of the state, and what they then hold is handed back
-module _ (state : State) (places : length (state .places) ≡ 32) (bits : length (state .bits) ≡ 16) where
+module _ (state : State) (sized : Sized state) (bits : length (state .bits) ≡ 16) where
   same : stateOf (bytesOf state) ≡ state
-  same = state-back state places bits
+  same = state-back state sized bits
 
   module _ (bytes : List ℕ) (e : bytes ≡ bytesOf state) where
     holds : stateOf bytes ≡ state

@@ -1,4 +1,4 @@
--- What the fifty bytes hold after a run or a tick in place is the state that it hands back.
+-- What the bytes hold after a run or a tick in place is the state that it hands back.
 use Prim.Native.Nat.{ℕ}
 use mathlib.Core.Path.{_≡_, refl, ap, _∙_}
 use mathlib.Core.Bool.{Bool, true, false}
@@ -12,7 +12,7 @@ use Rattle.frames.specs.Answer.{number, replied}
 use Rattle.image.specs.Image.{Image}
 use Rattle.state.specs.declared.State.{State}
 use Rattle.state.specs.Bytes.{stateOf, bytesOf}
-use Rattle.state.proofs.ResultBytes.{state-back, held-places, held-bits}
+use Rattle.state.proofs.ResultBytes.{state-back, held-sized, held-bits, held-back}
 use Rattle.ticks.specs.Tick.{Ticked, ticked, stopped, tick}
 use Rattle.runs.specs.Run.{Ran, then, ticks, runOn}
 use Rattle.runs.specs.Advance.{Advance, advanced}
@@ -28,11 +28,11 @@ module _ (b : List ℕ) where
   -- the bytes as they were, or those of the state that they hold
   left : (t : Bool) → stateOf (pick t b (bytesOf s)) ≡ s
   left true = refl
-  left false = state-back s (held-places b) (held-bits b)
+  left false = held-back b
 
-  -- a state with as many places and bits
+  -- a state whose lists are as long
   back : (t : State) → Same s t → stateOf (bytesOf t) ≡ t
-  back t same = state-back t (same .places (held-places b)) (same .bits ∙ held-bits b)
+  back t same = state-back t (same .sized (held-sized b)) (same .bits ∙ held-bits b)
 
   module _ (i : Image) (ws ms ks : List ℕ) where
     abbrev ran : Ran
@@ -58,7 +58,7 @@ module _ (b : List ℕ) where
     tick-held (refused k j) = go (eqb k 0)
       where
         go : (t : Bool) → stateOf (pick t (bytesOf s) b) ≡ s
-        go true = state-back s (held-places b) (held-bits b)
+        go true = held-back b
         go false = refl
     tick-held fine = go (tick i s w) (tick-normal i s w)
       where
@@ -70,5 +70,5 @@ module _ (b : List ℕ) where
         go (stopped k) n = stay (eqb k 0)
           where
             stay : (t : Bool) → stateOf (pick t (bytesOf s) b) ≡ s
-            stay true = state-back s (held-places b) (held-bits b)
+            stay true = held-back b
             stay false = refl

@@ -1,4 +1,4 @@
-// Runs and ticks on the fifty bytes of a state that the caller keeps: on an image, and live on a prepared table.
+// Runs and ticks on the bytes of a state that the caller keeps: on an image, and live on a prepared table.
 use super::TickReport;
 use frames::Answer;
 use frames::refused;
@@ -17,7 +17,7 @@ ghost use Rattle.runs.specs.InPlace.{RunsOn, AdvancesOn};
 // What the image check tries, 15 and 16 before the first tick, 17 and 18 tick by tick.
 pub fn run_bytes(
     image: &[u8],
-    bytes: &mut [u8; 50],
+    bytes: &mut [u8; 130],
     words: &[u16],
     masks: &mut [u32],
     codes: &mut [u8],
@@ -34,7 +34,7 @@ pub fn run_bytes(
 }
 
 // One tick: what a run tries but 16.
-pub fn tick_bytes(image: &[u8], bytes: &mut [u8; 50], word: u16) -> TickReport
+pub fn tick_bytes(image: &[u8], bytes: &mut [u8; 130], word: u16) -> TickReport
     ensures { λ r. ⌜ AdvancesOn (advance (now (image .entry)) (stateOf (now (bytes .entry))) word) (now (bytes .entry)) r (now (bytes .exit)) ⌝ }
 {
     let mut table = [0u8; LARGEST];
@@ -53,7 +53,7 @@ pub fn tick_bytes(image: &[u8], bytes: &mut [u8; 50], word: u16) -> TickReport
 // A run on a prepared table: 11, then as any run.
 pub fn live_run_bytes(
     table: &[u8],
-    bytes: &mut [u8; 50],
+    bytes: &mut [u8; 130],
     words: &[u16],
     masks: &mut [u32],
     codes: &mut [u8],
@@ -68,7 +68,7 @@ pub fn live_run_bytes(
 }
 
 // One tick on a prepared table.
-pub fn live_tick_bytes(table: &[u8], bytes: &mut [u8; 50], word: u16) -> TickReport
+pub fn live_tick_bytes(table: &[u8], bytes: &mut [u8; 130], word: u16) -> TickReport
     ensures { λ r. ⌜ AdvancesOn (liveTick (now (table .entry)) (stateOf (now (bytes .entry))) word) (now (bytes .entry)) r (now (bytes .exit)) ⌝ }
 {
     if bad_table(table) {

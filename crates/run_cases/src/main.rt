@@ -163,11 +163,14 @@ fn rows(p: [u8; 120]) {
     check(p, &[119, 1, 13, 1]);
 }
 
-// A run of no words from a state with these places.
-fn state_case(text: [u8; 276], size: u8, depth: u8, edits: &[u8]) {
+// A run of no words from a state with these places; each scheme is called by its own number.
+fn state_case(text: [u8; 276], size: u8, depth: u8, edits: &[u8], schemes: &[u8]) {
     let mut places = [0u8; 32];
     patch(&mut places, edits);
+    let mut numbers = [0u8; 32];
+    patch(&mut numbers, schemes);
     let bits = [true; 16];
+    let serving = [1, 2, 3, 4, 5, 6, 7, 8, 9, 10, 11, 12, 13, 14, 15, 16];
     rest(
         text,
         State {
@@ -175,49 +178,58 @@ fn state_case(text: [u8; 276], size: u8, depth: u8, edits: &[u8]) {
             depth,
             places,
             bits,
+            serving,
+            numbers,
+            servers: numbers,
         },
     );
 }
 
 // 15: sizes and depths.
 fn depths(text: [u8; 276]) {
-    state_case(text, 3, 1, &[]);
-    state_case(text, 0, 1, &[]);
-    state_case(text, 33, 1, &[]);
-    state_case(text, 3, 0, &[]);
-    state_case(text, 3, 4, &[0, 2, 1, 4, 2, 4, 3, 3]);
+    state_case(text, 3, 1, &[], &[0, 1]);
+    state_case(text, 0, 1, &[], &[0, 1]);
+    state_case(text, 33, 1, &[], &[0, 1]);
+    state_case(text, 3, 0, &[], &[0, 1]);
+    state_case(
+        text,
+        3,
+        4,
+        &[0, 2, 1, 4, 2, 4, 3, 3],
+        &[0, 1, 1, 2, 2, 2, 3, 2],
+    );
 }
 
 // 15: the first place.
 fn firsts(text: [u8; 276]) {
-    state_case(text, 3, 1, &[0, 5]);
-    state_case(text, 3, 1, &[0, 3]);
-    state_case(text, 3, 1, &[0, 1]);
-    state_case(text, 3, 2, &[1, 1]);
+    state_case(text, 3, 1, &[0, 5], &[0, 1]);
+    state_case(text, 3, 1, &[0, 3], &[0, 1]);
+    state_case(text, 3, 1, &[0, 1], &[0, 1]);
+    state_case(text, 3, 2, &[1, 1], &[0, 1, 1, 2]);
 }
 
 // 15: the second place.
 fn seconds(text: [u8; 276]) {
-    state_case(text, 3, 2, &[0, 2, 1, 2]);
-    state_case(text, 3, 2, &[0, 2, 1, 3]);
-    state_case(text, 3, 2, &[0, 2, 1, 1]);
-    state_case(text, 3, 2, &[0, 2, 1, 9]);
+    state_case(text, 3, 2, &[0, 2, 1, 2], &[0, 1, 1, 2]);
+    state_case(text, 3, 2, &[0, 2, 1, 3], &[0, 1, 1, 2]);
+    state_case(text, 3, 2, &[0, 2, 1, 1], &[0, 1, 1, 2]);
+    state_case(text, 3, 2, &[0, 2, 1, 9], &[0, 1, 1, 2]);
 }
 
 // 15: places past the depth.
 fn past_depth(text: [u8; 276]) {
-    state_case(text, 3, 1, &[0, 2, 1, 3]);
-    state_case(text, 3, 1, &[0, 2, 31, 1]);
-    state_case(text, 32, 32, &[0, 2]);
+    state_case(text, 3, 1, &[0, 2, 1, 3], &[0, 1]);
+    state_case(text, 3, 1, &[0, 2, 31, 1], &[0, 1]);
+    state_case(text, 32, 32, &[0, 2], &[0, 1, 1, 2, 2, 2, 3, 2]);
 }
 
 // 15: the first place where scheme 2 is the handler.
 fn handler_firsts(text: [u8; 276]) {
-    state_case(text, 3, 1, &[0, 3]);
-    state_case(text, 3, 1, &[0, 1]);
-    state_case(text, 3, 1, &[0, 5]);
-    state_case(text, 3, 2, &[0, 4, 1, 3]);
-    state_case(text, 3, 2, &[0, 1, 1, 3]);
+    state_case(text, 3, 1, &[0, 3], &[0, 2]);
+    state_case(text, 3, 1, &[0, 1], &[0, 2]);
+    state_case(text, 3, 1, &[0, 5], &[0, 2]);
+    state_case(text, 3, 2, &[0, 4, 1, 3], &[0, 2, 1, 2]);
+    state_case(text, 3, 2, &[0, 1, 1, 3], &[0, 2, 1, 2]);
 }
 
 fn states(p: [u8; 120]) {

@@ -3,7 +3,6 @@ use Prim.Native.Nat.{ℕ}
 use mathlib.Core.Bool.{false}
 use mathlib.Core.Path.{_≡_}
 use mathlib.Core.List.{List, [], _∷_}
-use lib.ListN.{length}
 use Rattle.frames.specs.Frame.{contents}
 use Rattle.frames.specs.Verdict.{fine}
 use Rattle.image.specs.Image.{Image}
@@ -12,6 +11,7 @@ use Rattle.image.specs.Check.{imageVerdict}
 use Rattle.image.proofs.Sound.{Sound}
 use Rattle.image.proofs.Accepted.{image-sound}
 use Rattle.state.specs.declared.State.{State}
+use Rattle.state.specs.State.{Sized}
 use Rattle.fitness.specs.Fitness.{unfit}
 use Rattle.fitness.proofs.Fitness.{Fits, fits, unfits}
 use Rattle.ticks.specs.Tick.{Ticked, ticked, stopped, tick}
@@ -30,9 +30,9 @@ module _ (i : Image) (sound : Sound i) where
       go (stopped n) q ih = f
 
 -- every accepted image, whatever its rows
-pub ticks-fit : (text : List ℕ) → imageVerdict text ≡ fine → (s : State) → length (s .places) ≡ 32
+pub ticks-fit : (text : List ℕ) → imageVerdict text ≡ fine → (s : State) → Sized s
     → unfit (decoded (contents text)) s ≡ false → (ws : List ℕ)
     → unfit (decoded (contents text)) (ticks (decoded (contents text)) s ws .state) ≡ false
-ticks-fit text passes s whole fit ws =
+ticks-fit text passes s sized fit ws =
     let image : Image = decoded (contents text) in
-    fits image (ticks image s ws .state) (ticks-keep image (image-sound text passes) ws s (unfits image s whole fit))
+    fits image (ticks image s ws .state) (ticks-keep image (image-sound text passes) ws s (unfits image s sized fit))

@@ -16,13 +16,17 @@ Late (refused n j) = 17 ≤ n
 
 pub ticks-same : (i : Image) (ws : List ℕ) (s : State) → Same s (ticks i s ws .state)
 unfolding ticks
-ticks-same i [] s = record { size = refl; places = λ q. q; bits = refl }
+ticks-same i [] s = record { size = refl; serving = refl; bits = refl; sized = λ q. q }
 ticks-same i (w ∷ ws) s = go (tick i s w) (tick-normal i s w) (ticks-same i ws)
   where
     go : (x : Ticked) → Normal s x → ((t : State) → Same t (ticks i t ws .state)) → Same s (then s (λ t. ticks i t ws) x .state)
-    go (ticked m k t) n ih =
-        record { size = ih t .size ∙ n .size; places = λ q. ih t .places (n .places q); bits = ih t .bits ∙ n .bits }
-    go (stopped k) n ih = record { size = refl; places = λ q. q; bits = refl }
+    go (ticked m k t) n ih = record {
+      size = ih t .size ∙ n .size;
+      serving = ih t .serving ∙ n .serving;
+      bits = ih t .bits ∙ n .bits;
+      sized = λ q. ih t .sized (n .sized q);
+    }
+    go (stopped k) n ih = record { size = refl; serving = refl; bits = refl; sized = λ q. q }
 
 pub ticks-late : (i : Image) (ws : List ℕ) (s : State) → Late (ticks i s ws .verdict)
 unfolding ticks

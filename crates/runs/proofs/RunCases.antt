@@ -72,7 +72,7 @@ kept-runs x bytes ms ks n j s g l h a e =
 -- a state that fits has a depth of 1 to Σ
 pub fits-stands : (b : List ℕ) (s : State) → Whole b → unfit (tableImage b) s ≡ false → Stands b s
 unfolding unfit
-fits-stands b s whole e = record { whole = whole; depth = or-l (badDepth s) _ (or-l _ _ (or-l _ _ e)) }
+fits-stands b s whole e = record { whole = whole; depth = or-l (badDepth s) _ (or-l _ _ (or-l _ _ (or-l _ _ e))) }
 
 -- ---- a run on a table
 module _ (b before ws ms₀ ks₀ : List ℕ) where

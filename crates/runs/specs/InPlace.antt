@@ -1,4 +1,4 @@
--- A run and a tick on the fifty bytes of a state that the caller keeps: what they promise, and what the bytes then hold.
+-- A run and a tick on the bytes of a state that the caller keeps: what they promise, and what the bytes then hold.
 use Prim.Native.Nat.{ℕ}
 use mathlib.Core.Bool.{Bool, _&&_}
 use mathlib.Core.Path.{_≡_}

@@ -1,4 +1,4 @@
-// Ticks over the words of a run, on a prepared table and the fifty bytes of a state.
+// Ticks over the words of a run, on a prepared table and the bytes of a state.
 use frames::Answer;
 
 mod runs;

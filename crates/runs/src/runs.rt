@@ -20,7 +20,7 @@ ghost use Rattle.runs.specs.Parts.{Starts, Ends, tableRun};
 // One tick a word, until one is stopped.
 fn tick_all(
     table: &[u8],
-    bytes: &mut [u8; 50],
+    bytes: &mut [u8; 130],
     words: &[u16],
     masks: &mut [u32],
     codes: &mut [u8],
@@ -60,7 +60,7 @@ fn no_room(words: &[u16], masks: &[u32], codes: &[u8]) -> bool
 // A run: 15 and 16, then the ticks.
 pub fn run_table(
     table: &[u8],
-    bytes: &mut [u8; 50],
+    bytes: &mut [u8; 130],
     words: &[u16],
     masks: &mut [u32],
     codes: &mut [u8],
@@ -89,7 +89,7 @@ pub fn run_table(
 }
 
 // One tick: 15, then a tick for one word; a refused one leaves the bytes as they were.
-pub fn tick_table(table: &[u8], bytes: &mut [u8; 50], word: u16) -> TickReport
+pub fn tick_table(table: &[u8], bytes: &mut [u8; 130], word: u16) -> TickReport
     requires { ⌜ Whole (now table) ⌝ }
     ensures { λ r. ⌜ AdvancesOn (advanced (tableRun (now (table .entry)) (stateOf (now (bytes .entry))) (word ∷ []) (0 ∷ []) (0 ∷ []))) (now (bytes .entry)) r (now (bytes .exit)) ⌝ }
 {

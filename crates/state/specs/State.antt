@@ -4,9 +4,10 @@ use mathlib.Core.Bool.{Bool, _||_}
 use mathlib.Core.Path.{_≡_}
 use mathlib.Core.List.{List}
 use lib.Dec.{ltb, eqb}
-use lib.ListN.{getD, replicate}
+use lib.ListN.{length, getD, set, replicate}
 use Rattle.lists.specs.Pick.{pick}
 use Rattle.bits.specs.Results.{noResults}
+use Rattle.bits.specs.Binding.{ownBinding}
 use Rattle.frames.specs.Answer.{Reply, success, refusal, reply}
 use Rattle.image.specs.Image.{Image, Label, noLabel}
 use Rattle.state.specs.declared.State.{State}
@@ -15,12 +16,17 @@ use Rattle.state.specs.declared.Answered.{Answered}
 abbrev pub noPlaces : List ℕ
 noPlaces = replicate 32 0
 
+-- the bottom alone is filled
+abbrev pub only : ℕ → List ℕ
+only l = set noPlaces 0 l
+
+-- scheme 1 alone is open, by its own number, and each number is served by its own scheme
 abbrev pub fresh : ℕ → State
-fresh n = record { size = n; depth = 1; places = noPlaces; bits = noResults }
+fresh n = record { size = n; depth = 1; places = noPlaces; bits = noResults; serving = ownBinding; numbers = only 1; servers = only 1 }
 
 -- every number 0
 abbrev pub noState : State
-noState = record { size = 0; depth = 0; places = noPlaces; bits = noResults }
+noState = record { size = 0; depth = 0; places = noPlaces; bits = noResults; serving = replicate 16 0; numbers = noPlaces; servers = noPlaces }
 
 -- 14, and in a state 15
 abbrev pub badSize : ℕ → Bool
@@ -47,3 +53,17 @@ entryAt i h = getD (i .entries) (h - 1) 0
 
 abbrev pub placeAt : State → ℕ → ℕ
 placeAt s k = getD (s .places) k 0
+
+-- the number that the scheme of a place was called by, and the scheme that served it
+abbrev pub numberAt : State → ℕ → ℕ
+numberAt s k = getD (s .numbers) k 0
+
+abbrev pub serverAt : State → ℕ → ℕ
+serverAt s k = getD (s .servers) k 0
+
+-- as many of each as the type has
+pub record Sized (s : State) : Type 0 where
+  pub places : length (s .places) ≡ 32
+  pub serving : length (s .serving) ≡ 16
+  pub numbers : length (s .numbers) ≡ 32
+  pub servers : length (s .servers) ≡ 32

@@ -4,6 +4,7 @@ use super::State;
 use frames::Answer;
 use frames::refused;
 ghost use mathlib.Core.Path.{_≡_};
+ghost use Rattle.bits.specs.Binding.{ownBinding};
 ghost use Rattle.state.specs.State.{badSize, freshState, Makes};
 
 // Whether a stack size lies outside 1 to 32.
@@ -16,8 +17,15 @@ pub fn bad_size(size: usize) -> bool
     State::PLACES < size
 }
 
+// Each number served by its own scheme.
+fn own_binding() -> [u8; 16]
+    ensures { λ r. ⌜ r ≡ ownBinding ⌝ }
+{
+    [1, 2, 3, 4, 5, 6, 7, 8, 9, 10, 11, 12, 13, 14, 15, 16]
+}
+
 impl State {
-    // Depth 1 and label 0; a size outside 1 to 32 is refused with a state of nothing but 0.
+    // Depth 1 and label 0 of scheme 1; a size outside 1 to 32 is refused with a state of nothing but 0.
     pub fn fresh(size: usize) -> Answered
         ensures { λ r. ⌜ Makes (freshState size) r ⌝ }
     {
@@ -30,15 +38,24 @@ impl State {
                 depth: 0,
                 places,
                 bits,
+                serving: [0u8; State::SCHEMES],
+                numbers: places,
+                servers: places,
             };
             return Answered { answer, state };
         }
         let answer = Answer::Done(0);
+        let mut own = [0u8; State::PLACES];
+        own[0] = 1;
+        let serving = own_binding();
         let state = State {
             size: size as u8,
             depth: 1,
             places,
             bits,
+            serving,
+            numbers: own,
+            servers: own,
         };
         Answered { answer, state }
     }

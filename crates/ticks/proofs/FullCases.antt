@@ -4,7 +4,6 @@ use mathlib.Core.Path.{_≡_, sym, _∙_, ap, ap₂}
 use mathlib.Core.Bool.{Bool, true, false, _&&_, _||_, not}
 use mathlib.Core.List.{List}
 use lib.Dec.{eqb}
-use lib.ListN.{set}
 use borrow.Author.Tests.{eq-eqb, ne-eqb}
 use Rattle.lists.proofs.Tests.{yes-pick, no-pick}
 use Rattle.bits.specs.Results.{Results, withResult, cleared}
@@ -15,9 +14,10 @@ use Rattle.tables.specs.Labels.{asLabel}
 use Rattle.tables.specs.declared.Label as declared
 use Rattle.tables.proofs.TableReads.{handler-at, handler-inside, label-at, entry-at}
 use Rattle.state.specs.declared.State.{State}
-use Rattle.state.specs.State.{noPlaces, entryAt, placeAt}
-use Rattle.state.specs.Bytes.{stateOf, withDepth, withPlace, withPlaces, afterResult}
-use Rattle.ticks.specs.Tick.{keepsFull, ticked, stopped, full}
+use Rattle.state.specs.State.{entryAt, placeAt, numberAt}
+use Rattle.state.specs.Changes.{withAlone, afterResult}
+use Rattle.state.specs.Bytes.{stateOf}
+use Rattle.ticks.specs.Tick.{keepsFull, ticked, stopped, alone}
 use Rattle.ticks.specs.Parts.{topOf, TopFull, Steps}
 use Rattle.ticks.proofs.TickCases.{steps-stopped, steps-ticked, tick-full}
 
@@ -62,10 +62,10 @@ module _ (b before : List ℕ) (w : ℕ) (y : TopFull b (stateOf before)) (t : B
   caller = labelOf b (topOf s)
 
   abbrev bits : Results
-  bits = withResult (caller .result) (caller .owner) (s .bits)
+  bits = withResult (caller .result) (numberAt s (s .depth - 1)) (s .bits)
 
   abbrev dropped : State
-  dropped = record { size = s .size; depth = 1; places = set noPlaces 0 (entryAt i (i .handler)); bits = cleared (i .handler) bits }
+  dropped = alone s (entryAt i (i .handler)) (i .handler) (cleared (i .handler) bits)
 
   pub full-kept : t ≡ true → Steps b before w (record { number = 17; mask = 0; code = 0 }) before
   full-kept q =
@@ -73,27 +73,24 @@ module _ (b before : List ℕ) (w : ℕ) (y : TopFull b (stateOf before)) (t : B
       (tick-full b s (y .calls .stands) w (y .calls .low) (y .calls .high) (y .full)
       ∙ yes-pick (keepsFull i s) (stopped 17) (ticked (caller .mask) 96 dropped) (sym e ∙ q))
 
-  -- l is the top, z what was read of it, h the handler and n its entry; then the bytes after each write
-  pub full-drops : t ≡ false → (l : ℕ) → l ≡ topOf s → (z : declared.Label) → asLabel z ≡ labelOf b l → (h : ℕ) → h ≡ handlerIn b
-      → (n : ℕ) → n ≡ entryOf b h → (first second third fourth bytes : List ℕ) → stateOf first ≡ afterResult s (z .result) (z .owner)
-      → stateOf second ≡ afterResult (stateOf first) 1 h → stateOf third ≡ withPlaces (stateOf second) noPlaces
-      → stateOf fourth ≡ withPlace (stateOf third) 0 n → stateOf bytes ≡ withDepth (stateOf fourth) 1
+  -- l is the top, z what was read of it, k its number, h the handler and n its entry; then the bytes after each write
+  pub full-drops : t ≡ false → (l : ℕ) → l ≡ topOf s → (z : declared.Label) → asLabel z ≡ labelOf b l
+      → (k : ℕ) → k ≡ numberAt s (s .depth - 1) → (h : ℕ) → h ≡ handlerIn b → (n : ℕ) → n ≡ entryOf b h
+      → (first second bytes : List ℕ) → stateOf first ≡ afterResult s (z .result) k → stateOf second ≡ afterResult (stateOf first) 1 h
+      → stateOf bytes ≡ withAlone (stateOf second) n h
       → Steps b before w (record { number = 0; mask = z .mask; code = 96 }) bytes
-  full-drops q l at z read h is n p first second third fourth bytes e₁ e₂ e₃ e₄ e₅ =
+  full-drops q l at z read k called h is n p first second bytes e₁ e₂ e₃ =
       let same : asLabel z ≡ caller = read ∙ ap (labelOf b) at in
       let r : z .result ≡ caller .result = ap (λ (u : Label). u .result) same in
-      let o : z .owner ≡ caller .owner = ap (λ (u : Label). u .owner) same in
       let m : z .mask ≡ caller .mask = ap (λ (u : Label). u .mask) same in
       let g : h ≡ i .handler = is ∙ sym (handler-at b) in
       let entry : n ≡ entryAt i (i .handler) =
       p ∙ ap (entryOf b) is ∙ sym (entry-at b (y .calls .stands .whole .counts) (handlerIn b) (handler-inside b (y .calls .stands .whole)))
       ∙ ap (entryAt i) (sym (handler-at b)) in
       let left : stateOf bytes ≡ dropped =
-      e₅
-      ∙ ap (λ (u : State). withDepth u 1)
-      (e₄
-      ∙ ap₂ (λ (u : State) (v : ℕ). withPlace u 0 v)
-      (e₃ ∙ ap (λ (u : State). withPlaces u noPlaces) (e₂ ∙ ap₂ (λ (u : State) (k : ℕ). afterResult u 1 k) (e₁ ∙ ap₂ (afterResult s) r o) g)) entry) in
+      e₃ ∙ ap₂ (withAlone (stateOf second)) entry g
+      ∙ ap (λ (u : State). withAlone u (entryAt i (i .handler)) (i .handler))
+      (e₂ ∙ ap₂ (λ (u : State) (j : ℕ). afterResult u 1 j) (e₁ ∙ ap₂ (afterResult s) r called) g) in
       rw m
       (steps-ticked b before w (caller .mask) 96 dropped bytes
       (tick-full b s (y .calls .stands) w (y .calls .low) (y .calls .high) (y .full)

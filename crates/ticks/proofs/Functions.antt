@@ -1,18 +1,18 @@
--- A function's label takes its row for bit 0 if nothing writes 1 to the called scheme's bit meanwhile: from the call on the bit is 0, and the
+-- A function's label takes its row for bit 0 if nothing writes 1 to the bit of the number called meanwhile: from the call on the bit is 0, and the
 -- label stays in its place under the top, until the call's own return.
 use Prim.Native.Nat.{ℕ, zero, suc, _+_, _-_, _≤_, _<_}
 use mathlib.Core.Bool.{Bool, true, false, _&&_}
 use mathlib.Core.Path.{_≡_, refl, ap, _∙_, sym, subst}
 use mathlib.Core.Logic.{_⊎_, inl, inr}
-use mathlib.Core.List.{List}
 use lib.Dec.{leb, eqb}
-use lib.ListN.{length, getD, set, List·getD-eq-default}
+use lib.ListN.{length, List·getD-eq-default}
 use lib.Seq.{getD-set-other}
 use native.Mathlib.Omega.{arith}
 use borrow.Author.Tests.{eqb-true, eqb-false, eq-eqb, lt-leb}
 use Rattle.lists.specs.Pick.{pick}
 use Rattle.lists.proofs.Tests.{no-both, or-l, or-cases, and-l, and-r, and-true, and-false, split}
 use Rattle.bits.specs.Results.{Results, resultOf, withResult, cleared}
+use Rattle.bits.specs.Binding.{served}
 use Rattle.bits.proofs.ResultLaws.{cleared-own, cleared-keeps, result-keeps}
 use Rattle.frames.specs.Frame.{contents}
 use Rattle.image.specs.Image.{Image, Label, noLabel, returnLabel}
@@ -21,11 +21,12 @@ use Rattle.image.proofs.Sound.{Sound}
 use Rattle.image.proofs.Accepted.{image-sound}
 use Rattle.rows.specs.Rows.{bestRow, Found, found, missing, leads}
 use Rattle.state.specs.declared.State.{State}
-use Rattle.state.specs.State.{noPlaces, labelAt, entryAt, placeAt}
+use Rattle.state.specs.State.{labelAt, entryAt, placeAt, numberAt}
+use Rattle.state.specs.Changes.{withBits}
 use Rattle.fitness.specs.Fitness.{isCall, ofHandler}
 use Rattle.fitness.proofs.FitCases.{kind-call}
 use Rattle.fitness.proofs.Fitness.{Fits, unfits}
-use Rattle.ticks.specs.Tick.{rowOf, Ticked, ticked, stopped, moved, keepsFull, pushed, popped, tickBy, tick}
+use Rattle.ticks.specs.Tick.{rowOf, Ticked, ticked, stopped, moved, alone, dropping, keepsFull, pushed, popped, tickBy, tick}
 use Rattle.ticks.specs.Parts.{topOf}
 use Rattle.ticks.specs.Functions.{findsFull, CallClears, Drop, Drops, writesOne, returnsAt, Unwritten, none, more, returned, ZeroRow}
 
@@ -47,14 +48,14 @@ call-clears i s call w m code t e =
     h = x .called
 
     b : Results
-    b = withResult (x .result) (x .owner) (s .bits)
+    b = withResult (x .result) (numberAt s (s .depth - 1)) (s .bits)
 
     drops : (m : ℕ) (r : Bool) → Cleared (i .handler) (pick r (stopped 17)
-        (ticked m 96 (record { size = s .size; depth = 1; places = set noPlaces 0 (entryAt i (i .handler)); bits = cleared (i .handler) b })))
+        (ticked m 96 (alone s (entryAt i (i .handler)) (i .handler) (cleared (i .handler) b))))
     drops m true = tt
     drops m false = cleared-own (i .handler) b
 
-    pushes : (m code : ℕ) (r : Bool) → Cleared (pick r (i .handler) h) (pushed i s m code h b r)
+    pushes : (m code : ℕ) (r : Bool) → Cleared (pick r (i .handler) h) (pushed i s m code h (served (s .serving) h) b r)
     pushes m code true = drops m (keepsFull i s)
     pushes m code false = cleared-own h b
 
@@ -76,22 +77,25 @@ drops i s full w m code t e = subst (Dropped i x s) e (go (or-cases (eqb (x .kin
     x = labelAt i (topOf s)
 
     b : Results
-    b = withResult (x .result) (x .owner) (s .bits)
+    b = withResult (x .result) (numberAt s (s .depth - 1)) (s .bits)
 
     dropped : (r : Bool) → keepsFull i s ≡ r → Dropped i x s (pick r (stopped 17)
-        (ticked (x .mask) 96 (record { size = s .size; depth = 1; places = set noPlaces 0 (entryAt i (i .handler)); bits = cleared (i .handler) b })))
+        (ticked (x .mask) 96 (alone s (entryAt i (i .handler)) (i .handler) (cleared (i .handler) b))))
     dropped true q = tt
     dropped false q = record {
       mask = refl;
       coded = refl;
       alone = refl;
       places = refl;
+      numbers = refl;
+      servers = refl;
+      serving = refl;
       cleared = cleared-own (i .handler) b;
       kept = λ h l other. let z : i .handler ≡ 0 → ⊥ = eqb-false (i .handler) 0 (or-l (eqb (i .handler) 0) (ofHandler i (placeAt s 0)) q) in
           getD-set-other b (i .handler - 1) (h - 1) false false (λ k. other (omega arith));
     }
 
-    pushes : (code : ℕ) (r : Bool) → r ≡ true → Dropped i x s (pushed i s (x .mask) code (x .called) b r)
+    pushes : (code : ℕ) (r : Bool) → r ≡ true → Dropped i x s (pushed i s (x .mask) code (x .called) (served (s .serving) (x .called)) b r)
     pushes code true q = dropped (keepsFull i s) refl
     pushes code false q = no-both false q refl
 
@@ -103,7 +107,7 @@ drops i s full w m code t e = subst (Dropped i x s) e (go (or-cases (eqb (x .kin
 free : (i : Image) (s : State) → findsFull i s ≡ false → isCall (labelAt i (topOf s)) ≡ true → leb (s .size) (s .depth) ≡ false
 free i s e call = and-false (isCall (labelAt i (topOf s))) (leb (s .size) (s .depth)) e call
 
--- ---- label l at place d - 1 under the top, and the bit of scheme h 0
+-- ---- label l at place d - 1 under the top, and the bit of number h 0
 module _ (l d h : ℕ) (some : 1 ≤ d) (deep : 2 ≤ h) where
   record Waits (s : State) : Type 0 where
     above : suc d ≤ s .depth
@@ -115,47 +119,54 @@ module _ (l d h : ℕ) (some : 1 ≤ d) (deep : 2 ≤ h) where
   After (stopped n) = Unit {0}
 
   module _ (i : Image) (s : State) (y : Waits s) where
-    moved-waits : (m code k depth : ℕ) (places : List ℕ) (b : Results) (f : Found) → suc d ≤ depth → (d - 1 ≡ k → ⊥)
-        → getD places (d - 1) 0 ≡ l → resultOf h b ≡ false → After (moved m code s k depth places b f)
-    moved-waits m code k depth places b (found u) o p q e =
-        record { above = o; label = getD-set-other places k (d - 1) u 0 p ∙ q; unset = e }
-    moved-waits m code k depth places b missing o p q e = tt
+    moved-waits : (m code : ℕ) (t : State) (k : ℕ) (f : Found) → (d - 1 ≡ k → ⊥) → Waits t → After (moved m code t k f)
+    moved-waits m code t k (found u) p z =
+        record { above = z .above; label = getD-set-other (t .places) k (d - 1) u 0 p ∙ z .label; unset = z .unset }
+    moved-waits m code t k missing p z = tt
 
-    pushed-waits : (m code g : ℕ) (b : Results) → leb (s .size) (s .depth) ≡ false → resultOf h b ≡ false
-        → After (pushed i s m code g b (leb (s .size) (s .depth)))
-    pushed-waits m code g b room e =
-        subst (λ (t : Bool). After (pushed i s m code g b t)) (sym room)
+    bits-wait : (b : Results) → resultOf h b ≡ false → Waits (withBits s b)
+    bits-wait b e = record { above = y .above; label = y .label; unset = e }
+
+    pushed-waits : (m code g k : ℕ) (b : Results) → leb (s .size) (s .depth) ≡ false → resultOf h b ≡ false
+        → After (pushed i s m code g k b (leb (s .size) (s .depth)))
+    pushed-waits m code g k b room e =
+        subst (λ (t : Bool). After (pushed i s m code g k b t)) (sym room)
         (record {
           above = omega (arith, y .above);
-          label = getD-set-other (s .places) (s .depth) (d - 1) (entryAt i g) 0 (λ p. omega (arith, y .above)) ∙ y .label;
+          label = getD-set-other (s .places) (s .depth) (d - 1) (entryAt i k) 0 (λ p. omega (arith, y .above)) ∙ y .label;
           unset = cleared-keeps g h b e;
         })
 
     popped-waits : (w m : ℕ) (b : Results) → (s .depth ≡ suc d → ⊥) → resultOf h b ≡ false → After (popped i s w m b (leb (s .depth) 1))
     popped-waits w m b low e =
         subst (λ (t : Bool). After (popped i s w m b t)) (sym (lt-leb (s .depth) 1 (omega (arith, y .above))))
-        (moved-waits m 3 (s .depth - 2) (s .depth - 1) (set (s .places) (s .depth - 1) 0) b (rowOf i b (placeAt s (s .depth - 2)) w)
-        (omega (arith, y .above)) (λ p. omega (arith, y .above))
-        (getD-set-other (s .places) (s .depth - 1) (d - 1) 0 0 (λ p. omega (arith, y .above)) ∙ y .label) e)
+        (moved-waits m 3 (dropping s b) (s .depth - 2) (rowOf i b (placeAt s (s .depth - 2)) w) (λ p. omega (arith, y .above))
+        (record {
+          above = omega (arith, y .above);
+          label = getD-set-other (s .places) (s .depth - 1) (d - 1) 0 0 (λ p. omega (arith, y .above)) ∙ y .label;
+          unset = e;
+        }))
 
     -- by the tick kind of the top label; a call has a place free, and a return is not the call's own
     by-waits : (w k : ℕ) (x : Label) (b : Results) → resultOf h b ≡ false → (1 ≤ k → k ≤ 2 → leb (s .size) (s .depth) ≡ false)
         → (k ≡ 3 → s .depth ≡ suc d → ⊥) → After (tickBy i s w (topOf s) x b k)
     by-waits w zero x b e room own =
-        moved-waits (x .mask) 0 (s .depth - 1) (s .depth) (s .places) b (rowOf i b (topOf s) w) (y .above) (λ p. omega (arith, y .above)) (y .label) e
-    by-waits w (suc zero) x b e room own = pushed-waits (x .mask) (16 + x .called) (x .called) b (room (omega arith) (omega arith)) e
-    by-waits w (suc (suc zero)) x b e room own = pushed-waits (x .mask) (64 + x .called) (x .called) b (room (omega arith) (omega arith)) e
+        moved-waits (x .mask) 0 (withBits s b) (s .depth - 1) (rowOf i b (topOf s) w) (λ p. omega (arith, y .above)) (bits-wait b e)
+    by-waits w (suc zero) x b e room own =
+        pushed-waits (x .mask) (16 + x .called) (x .called) (served (s .serving) (x .called)) b (room (omega arith) (omega arith)) e
+    by-waits w (suc (suc zero)) x b e room own =
+        pushed-waits (x .mask) (64 + x .called) (x .called) (served (s .serving) (x .called)) b (room (omega arith) (omega arith)) e
     by-waits w (suc (suc (suc zero))) x b e room own = popped-waits w (x .mask) b (own refl) e
     by-waits w (suc (suc (suc (suc k)))) x b e room own =
-        moved-waits (x .mask) 4 (s .depth - 1) (s .depth) (s .places) b (found (entryAt i 1)) (y .above) (λ p. omega (arith, y .above)) (y .label) e
+        moved-waits (x .mask) 4 (withBits s b) (s .depth - 1) (found (entryAt i 1)) (λ p. omega (arith, y .above)) (bits-wait b e)
 
     tick-waits : (w : ℕ) → findsFull i s ≡ false → returnsAt i (suc d) s ≡ false → writesOne i h s ≡ false → After (tick i s w)
     unfolding tick
     tick-waits w room own unwritten =
         let x : Label = labelAt i (topOf s) in
-        by-waits w (x .kind) x (withResult (x .result) (x .owner) (s .bits))
-        (result-keeps (x .result) (x .owner) h (s .bits) deep
-        (λ p q. no-both _ (and-true _ _ (eq-eqb (x .owner) h p) (eq-eqb (x .result) 2 q)) unwritten) (y .unset))
+        by-waits w (x .kind) x (withResult (x .result) (numberAt s (s .depth - 1)) (s .bits))
+        (result-keeps (x .result) (numberAt s (s .depth - 1)) h (s .bits) deep
+        (λ p q. no-both _ (and-true _ _ (eq-eqb (numberAt s (s .depth - 1)) h p) (eq-eqb (x .result) 2 q)) unwritten) (y .unset))
         (λ low high. free i s room (kind-call (x .kind) low (omega arith)))
         (λ p q. no-both _ (and-true _ _ (eq-eqb (x .kind) 3 p) (eq-eqb (s .depth) (suc d) q)) own)
 
@@ -175,7 +186,7 @@ module _ (i : Image) (sound : Sound i) where
       go (inl m) = omega (arith, sound .others (suc (suc l)) (omega arith) m .kinds)
       go (inr m) = omega (arith, ap (λ (x : Label). x .kind) (List·getD-eq-default (i .labels) noLabel m))
 
-  -- a function's label calls a scheme of 2 up
+  -- a function's label calls a number of 2 up
   function-calls : (l : ℕ) → l < length (i .labels) → labelAt i l .kind ≡ 2 → 2 ≤ labelAt i l .called
   function-calls zero m k = absurd (omega (arith, ap (λ (x : Label). x .kind) (sound .home)))
   function-calls (suc zero) m k = absurd (omega (arith, ap (λ (x : Label). x .kind) (sound .back)))
@@ -197,12 +208,13 @@ module _ (i : Image) (sound : Sound i) where
     unfolding tick
     called-waits w m code t e room =
         subst (After (topOf s) (s .depth) h (f .some) deep)
-        (ap (pushed i s (x .mask) (64 + h) h (withResult (x .result) (x .owner) (s .bits))) (sym (free i s room (rw kinded)))
-        ∙ sym (ap (tickBy i s w (topOf s) x (withResult (x .result) (x .owner) (s .bits))) kinded) ∙ e)
+        (ap (pushed i s (x .mask) (64 + h) h (served (s .serving) h) (withResult (x .result) (numberAt s (s .depth - 1)) (s .bits)))
+        (sym (free i s room (rw kinded)))
+        ∙ sym (ap (tickBy i s w (topOf s) x (withResult (x .result) (numberAt s (s .depth - 1)) (s .bits))) kinded) ∙ e)
         (record {
           above = omega arith;
-          label = getD-set-other (s .places) (s .depth) (s .depth - 1) (entryAt i h) 0 (λ p. omega (arith, f .some));
-          unset = cleared-own h (withResult (x .result) (x .owner) (s .bits));
+          label = getD-set-other (s .places) (s .depth) (s .depth - 1) (entryAt i (served (s .serving) h)) 0 (λ p. omega (arith, f .some));
+          unset = cleared-own h (withResult (x .result) (numberAt s (s .depth - 1)) (s .bits));
         })
 
     -- its own return
@@ -214,17 +226,17 @@ module _ (i : Image) (sound : Sound i) where
         let d : u .depth ≡ suc (s .depth) = eqb-true (u .depth) (suc (s .depth)) (and-r (eqb (z .kind) 3) (eqb (u .depth) (suc (s .depth))) own) in
         let k : z .kind ≡ 3 = eqb-true (z .kind) 3 (and-l (eqb (z .kind) 3) (eqb (u .depth) (suc (s .depth))) own) in
         let p : u .depth - 2 ≡ s .depth - 1 = omega arith in
-        ap (λ (c : Label). tickBy i u v (topOf u) c (withResult (c .result) (c .owner) (u .bits)) (c .kind)) (return-is (topOf u) k)
+        ap (λ (c : Label). tickBy i u v (topOf u) c (withResult (c .result) (numberAt u (u .depth - 1)) (u .bits)) (c .kind)) (return-is (topOf u) k)
         ∙ ap (popped i u v 0 (u .bits)) (lt-leb (u .depth) 1 (omega (arith, f .some)))
         ∙ ap (λ (l : ℕ). returned u (rowOf i (u .bits) l v)) (ap (placeAt u) p ∙ y .label)
         ∙ ap (λ (t : Bool). returned u (leads (bestRow (topOf s) v (pick t 1 0) 0 (i .rows)))) (y .unset)
 
 pub zero-row : ZeroRow
 unfolding ZeroRow
-zero-row text passes s whole fit kinded w m code t u e room ticks own v =
+zero-row text passes s sized fit kinded w m code t u e room ticks own v =
     let i : Image = decoded (contents text) in
     let sound : Sound i = image-sound text passes in
-    let f : Fits i s = unfits i s whole fit in
+    let f : Fits i s = unfits i s sized fit in
     own-return i sound s f kinded u
     (all-wait (topOf s) (s .depth) (labelAt i (topOf s) .called) (f .some) (deep i sound s f kinded) i ticks
     (called-waits i sound s f kinded w m code t e room)) own v

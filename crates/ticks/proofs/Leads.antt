@@ -1,6 +1,6 @@
 -- On a sound image: labels by their kind, and where the rows and the entry of a scheme lead.
-use Prim.Native.Nat.{ℕ, zero, suc, _≤_, _<_}
-use mathlib.Core.Bool.{Bool, true, false, _||_, not}
+use Prim.Native.Nat.{ℕ, zero, suc, _-_, _≤_, _<_}
+use mathlib.Core.Bool.{Bool, true, false, _&&_, _||_, not}
 use mathlib.Core.Path.{_≡_, refl, ap, _∙_, sym, subst}
 use mathlib.Core.Logic.{_⊎_, inl, inr}
 use lib.Dec.{eqb}
@@ -11,8 +11,9 @@ use Rattle.lists.specs.Pick.{pick}
 use Rattle.lists.proofs.Tests.{or-cases, or-true-l, or-true-r, and-l, and-r, and-true, not-true, not-false}
 use Rattle.image.specs.Image.{Image, Label, Row}
 use Rattle.image.proofs.Sound.{nthRow, endOf, Reaches, Sound}
-use Rattle.state.specs.State.{labelAt}
-use Rattle.fitness.specs.Fitness.{isCall, mayCarry, ofHandler, badBottom}
+use Rattle.state.specs.State.{labelAt, entryAt}
+use Rattle.fitness.specs.Fitness.{isCall, callable, mayCarry, ofHandler}
+use Rattle.fitness.proofs.Fitness.{callable-range}
 use Rattle.rows.specs.Rows.{matches, Choice, row, none, bestRow, found, missing, leads}
 use Rattle.rows.specs.Choices.{Best}
 use Rattle.rows.proofs.BestRows.{best-is}
@@ -72,31 +73,56 @@ module _ (i : Image) (sound : Sound i) where
   end-other : (h : ℕ) → 2 ≤ h → endOf h ≡ 1
   end-other h l = ap (λ (t : Bool). pick t 0 1) (ne-eqb h 1 (λ p. omega arith))
 
-  -- what a scheme of 2 and up may lead to may stand above its call
+  -- what a scheme of 2 and up may lead to may stand above a call that it serves
   abbrev pub over : ℕ → ℕ → Bool
-  over h u = eqb u 1 || eqb (labelAt i u .owner) h
+  over k u = eqb u 1 || eqb (labelAt i u .owner) k
 
-  pub reaches-over : (h u : ℕ) → 2 ≤ h → Reaches i h u → over h u ≡ true
-  reaches-over h u l r = go (r .belongs)
+  pub reaches-over : (k u : ℕ) → 2 ≤ k → Reaches i k u → over k u ≡ true
+  reaches-over k u l r = go (r .belongs)
     where
-      go : (labelAt i u .owner ≡ h) ⊎ (u ≡ endOf h) → over h u ≡ true
-      go (inl e) = or-true-r (eqb u 1) (eqb (labelAt i u .owner) h) (eq-eqb (labelAt i u .owner) h e)
-      go (inr e) = or-true-l (eqb u 1) (eqb (labelAt i u .owner) h) (eq-eqb u 1 (e ∙ end-other h l))
+      go : (labelAt i u .owner ≡ k) ⊎ (u ≡ endOf k) → over k u ≡ true
+      go (inl e) = or-true-r (eqb u 1) (eqb (labelAt i u .owner) k) (eq-eqb (labelAt i u .owner) k e)
+      go (inr e) = or-true-l (eqb u 1) (eqb (labelAt i u .owner) k) (eq-eqb u 1 (e ∙ end-other k l))
 
-  over-owned : (h l : ℕ) → (l ≡ 1 → ⊥) → over h l ≡ true → labelAt i l .owner ≡ h
-  over-owned h l n e = go (or-cases (eqb l 1) (eqb (labelAt i l .owner) h) e)
+  over-owned : (k l : ℕ) → (l ≡ 1 → ⊥) → over k l ≡ true → labelAt i l .owner ≡ k
+  over-owned k l n e = go (or-cases (eqb l 1) (eqb (labelAt i l .owner) k) e)
     where
-      go : (eqb l 1 ≡ true) ⊎ (eqb (labelAt i l .owner) h ≡ true) → labelAt i l .owner ≡ h
+      go : (eqb l 1 ≡ true) ⊎ (eqb (labelAt i l .owner) k ≡ true) → labelAt i l .owner ≡ k
       go (inl p) = absurd (n (eqb-true l 1 p))
-      go (inr p) = eqb-true (labelAt i l .owner) h p
+      go (inr p) = eqb-true (labelAt i l .owner) k p
+
+  -- ---- schemes that may be called
+  pub enters : (k : ℕ) → 2 ≤ k → k ≤ length (i .entries) → Reaches i k (entryAt i k)
+  enters k two most = let q : suc (k - 1) ≡ k = omega arith in
+      subst (λ (h : ℕ). Reaches i h (entryAt i k)) q (sound .starts (k - 1) (omega arith))
+
+  -- ---- a label under the one above it: number h is called, scheme k serves, and a is its label
+  module _ (l h k a : ℕ) where
+    abbrev calls : Bool
+    calls = isCall (labelAt i l) && eqb h (labelAt i l .called)
+
+    pub carry-told : mayCarry i l h k a ≡ true
+        → (isCall (labelAt i l) ≡ true) × (h ≡ labelAt i l .called) × (callable i k ≡ true) × (over k a ≡ true)
+    carry-told e =
+        let p : (calls && callable i k) ≡ true = and-l (calls && callable i k) (over k a) e in
+        let q : calls ≡ true = and-l calls (callable i k) p in (
+          and-l (isCall (labelAt i l)) (eqb h (labelAt i l .called)) q,
+          eqb-true h (labelAt i l .called) (and-r (isCall (labelAt i l)) (eqb h (labelAt i l .called)) q),
+          and-r calls (callable i k) p,
+          and-r (calls && callable i k) (over k a) e,
+        )
+
+    pub may-carry : isCall (labelAt i l) ≡ true → h ≡ labelAt i l .called → callable i k ≡ true → over k a ≡ true → mayCarry i l h k a ≡ true
+    may-carry c e m o =
+        and-true (calls && callable i k) (over k a)
+        (and-true calls (callable i k) (and-true (isCall (labelAt i l)) (eqb h (labelAt i l .called)) c (eq-eqb h (labelAt i l .called) e)) m) o
 
   -- what is kept under a label is kept under what that leads to
-  pub carry-leads : (k l u : ℕ) → k < length (i .labels) → (l ≡ 1 → ⊥) → mayCarry i k l ≡ true → Reaches i (labelAt i l .owner) u → mayCarry i k u ≡ true
-  carry-leads k l u m n e r =
-      let h : ℕ = labelAt i k .called in
-      let c : isCall (labelAt i k) ≡ true = and-l (isCall (labelAt i k)) (over h l) e in
-      let o : labelAt i l .owner ≡ h = over-owned h l n (and-r (isCall (labelAt i k)) (over h l) e) in
-      and-true (isCall (labelAt i k)) (over h u) c (reaches-over h u (called-range k m (call-kind k c) .0) (subst (λ (g : ℕ). Reaches i g u) o r))
+  pub carry-leads : (l h k a u : ℕ) → (a ≡ 1 → ⊥) → mayCarry i l h k a ≡ true → Reaches i (labelAt i a .owner) u → mayCarry i l h k u ≡ true
+  carry-leads l h k a u n e r =
+      let told = carry-told l h k a e in
+      may-carry l h k u (told .0) (told .1) (told .2)
+      (reaches-over k u (callable-range i k (told .2) .0) (subst (λ (g : ℕ). Reaches i g u) (over-owned k a n (told .3)) r))
 
   -- and what scheme 1 may lead to is owned by it
   reaches-first : (u : ℕ) → Reaches i 1 u → labelAt i u .owner ≡ 1
@@ -106,25 +132,35 @@ module _ (i : Image) (sound : Sound i) where
       go (inl e) = e
       go (inr e) = ap (λ (l : ℕ). labelAt i l .owner) e ∙ ap (λ (x : Label). x .owner) (sound .home)
 
-  -- ---- the bottom: what scheme 1 leads to, and what the handler leads to
-  first-bottom : (l : ℕ) → labelAt i l .owner ≡ 1 → badBottom i l ≡ false
-  first-bottom l e = ap not (or-true-l (eqb (labelAt i l .owner) 1) (ofHandler i l) (eq-eqb (labelAt i l .owner) 1 e))
+  -- ---- the bottom: what scheme 1 leads to, and what the handler leads to; p and q say whether number and server are those of the one or the other
+  abbrev pub bottomBy : ℕ → Bool → Bool → Bool
+  bottomBy l p q = not ((eqb (labelAt i l .owner) 1 && p) || (ofHandler i l && q))
 
-  pub home-bottom : badBottom i 0 ≡ false
-  home-bottom = first-bottom 0 (ap (λ (x : Label). x .owner) (sound .home))
+  module _ (l : ℕ) (p q : Bool) where
+    first-bottom : labelAt i l .owner ≡ 1 → p ≡ true → bottomBy l p q ≡ false
+    first-bottom o e = ap not (or-true-l (eqb (labelAt i l .owner) 1 && p) (ofHandler i l && q)
+        (and-true (eqb (labelAt i l .owner) 1) p (eq-eqb (labelAt i l .owner) 1 o) e))
 
-  pub handler-bottom : (u : ℕ) → 2 ≤ i .handler → Reaches i (i .handler) u → badBottom i u ≡ false
-  handler-bottom u l r = ap not (or-true-r (eqb (labelAt i u .owner) 1) (ofHandler i u)
-      (and-true (not (eqb (i .handler) 0)) (over (i .handler) u) (ap not (ne-eqb (i .handler) 0 (λ z. omega arith))) (reaches-over (i .handler) u l r)))
+    pub handler-bottom : 2 ≤ i .handler → Reaches i (i .handler) l → q ≡ true → bottomBy l p q ≡ false
+    handler-bottom h r e = ap not (or-true-r (eqb (labelAt i l .owner) 1 && p) (ofHandler i l && q)
+        (and-true (ofHandler i l) q
+        (and-true (not (eqb (i .handler) 0)) (over (i .handler) l) (ap not (ne-eqb (i .handler) 0 (λ z. omega arith)))
+        (reaches-over (i .handler) l h r)) e))
+
+  pub home-bottom : (q : Bool) → bottomBy 0 true q ≡ false
+  home-bottom q = first-bottom 0 true q (ap (λ (x : Label). x .owner) (sound .home)) refl
 
   handler-deep : (l : ℕ) → ofHandler i l ≡ true → (2 ≤ i .handler) × (i .handler ≤ length (i .entries))
   handler-deep l e = sound .handled (eqb-false (i .handler) 0 (not-true (eqb (i .handler) 0) (and-l (not (eqb (i .handler) 0)) (over (i .handler) l) e)))
 
-  pub bottom-leads : (l u : ℕ) → (l ≡ 1 → ⊥) → badBottom i l ≡ false → Reaches i (labelAt i l .owner) u → badBottom i u ≡ false
-  bottom-leads l u n e r = go (or-cases (eqb (labelAt i l .owner) 1) (ofHandler i l) (not-false _ e))
+  pub bottom-leads : (l u : ℕ) (p q : Bool) → (l ≡ 1 → ⊥) → bottomBy l p q ≡ false → Reaches i (labelAt i l .owner) u → bottomBy u p q ≡ false
+  bottom-leads l u p q n e r = go (or-cases (eqb (labelAt i l .owner) 1 && p) (ofHandler i l && q) (not-false _ e))
     where
-      go : (eqb (labelAt i l .owner) 1 ≡ true) ⊎ (ofHandler i l ≡ true) → badBottom i u ≡ false
-      go (inl p) = first-bottom u (reaches-first u (subst (λ (h : ℕ). Reaches i h u) (eqb-true (labelAt i l .owner) 1 p) r))
-      go (inr p) =
-          let o : labelAt i l .owner ≡ i .handler = over-owned (i .handler) l n (and-r (not (eqb (i .handler) 0)) (over (i .handler) l) p) in
-          handler-bottom u (handler-deep l p .0) (subst (λ (h : ℕ). Reaches i h u) o r)
+      go : ((eqb (labelAt i l .owner) 1 && p) ≡ true) ⊎ ((ofHandler i l && q) ≡ true) → bottomBy u p q ≡ false
+      go (inl a) =
+          let o : labelAt i l .owner ≡ 1 = eqb-true (labelAt i l .owner) 1 (and-l (eqb (labelAt i l .owner) 1) p a) in
+          first-bottom u p q (reaches-first u (subst (λ (h : ℕ). Reaches i h u) o r)) (and-r (eqb (labelAt i l .owner) 1) p a)
+      go (inr a) =
+          let m : ofHandler i l ≡ true = and-l (ofHandler i l) q a in
+          let o : labelAt i l .owner ≡ i .handler = over-owned (i .handler) l n (and-r (not (eqb (i .handler) 0)) (over (i .handler) l) m) in
+          handler-bottom u p q (handler-deep l m .0) (subst (λ (h : ℕ). Reaches i h u) o r) (and-r (ofHandler i l) q a)

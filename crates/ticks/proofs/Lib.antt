@@ -1,7 +1,10 @@
 pub mod Normal
 pub mod Leads
+pub mod Changes
 pub mod Keeps
 pub mod Depths
 pub mod TickCases
+pub mod RowCases
+pub mod StepCases
 pub mod FullCases
 pub mod Functions

@@ -1,4 +1,4 @@
--- What the functions of a tick on a prepared table and on the fifty bytes of a state ask and promise.
+-- What the functions of a tick on a prepared table and on the bytes of a state ask and promise.
 use Prim.Native.Nat.{ℕ, _-_, _≤_}
 use mathlib.Core.Bool.{false}
 use mathlib.Core.Path.{_≡_}

@@ -1,10 +1,9 @@
 // A call that finds the stack full: it drops all open schemes for the handler, or is refused.
 use super::Stepped;
-use state::clear_places;
 use state::depth_of;
+use state::number_of;
 use state::place_of;
-use state::put_depth;
-use state::put_place;
+use state::put_alone;
 use state::put_result;
 use tables::entry_of;
 use tables::handler_of;
@@ -18,7 +17,7 @@ ghost use Rattle.ticks.specs.Tick.{keepsFull};
 ghost use Rattle.ticks.specs.Parts.{TopFull, Steps};
 
 // Whether a full stack is kept: there is no handler, or it is at the bottom.
-fn keeps_full(table: &[u8], bytes: &[u8; 50]) -> bool
+fn keeps_full(table: &[u8], bytes: &[u8; 130]) -> bool
     requires { ⌜ Whole (now table) ⌝ }
     ensures { λ r. ⌜ r ≡ keepsFull (tableImage (now (table .entry))) (stateOf (now (bytes .entry))) ⌝ }
 {
@@ -36,7 +35,7 @@ fn keeps_full(table: &[u8], bytes: &[u8; 50]) -> bool
 
 // A call at depth Σ: the caller's result is written, then the handler's bit cleared, and its entry is all that the stack holds; a stack that is
 // kept refuses the call.
-pub fn tick_full(table: &[u8], schemes: u8, bytes: &mut [u8; 50], word: u16) -> Stepped
+pub fn tick_full(table: &[u8], schemes: u8, bytes: &mut [u8; 130], word: u16) -> Stepped
     requires { ⌜ TopFull (now table) (stateOf (now bytes)) ⌝ }
     requires { ⌜ schemes ≡ schemeCount (now table) ⌝ }
     ensures { λ r. ⌜ Steps (now (table .entry)) (now (bytes .entry)) word r (now (bytes .exit)) ⌝ }
@@ -52,11 +51,10 @@ pub fn tick_full(table: &[u8], schemes: u8, bytes: &mut [u8; 50], word: u16) -> 
     let label = label_read(table, schemes, place_of(bytes, top) as usize);
     let handler = handler_of(table);
     let entry = entry_of(table, handler);
-    put_result(bytes, label.result, label.owner);
+    let caller = number_of(bytes, top);
+    put_result(bytes, label.result, caller);
     put_result(bytes, 1, handler);
-    clear_places(bytes);
-    put_place(bytes, 0, entry);
-    put_depth(bytes, 1);
+    put_alone(bytes, entry, handler);
     Stepped {
         number: 0,
         mask: label.mask,

@@ -1,4 +1,4 @@
-// One tick of the stack machine, on a prepared table and the fifty bytes of a state.
+// One tick of the stack machine, on a prepared table and the bytes of a state.
 mod full;
 mod ticks;
 

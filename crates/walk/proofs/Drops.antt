@@ -33,5 +33,5 @@ module _ (c : Chart) (facts : Facts c) where
   drop-by d v l (a-begin e) = refl
   drop-by d v l (a-condition e) = refl
 
-  pub drop-exactly : (n : ℕ) (x : Position) → Good c x → isDrop (tickAt n c x) ≡ (isCall (stopAt c (x .node)) && dropsAt n c x)
-  drop-exactly n x g = drop-by (dropsAt n c x) (x .node) (g .top .inside) (view-of c facts x g)
+  pub drop-exactly : (n : ℕ) (x : Position) → Good c x → isDrop (tickAt n c x) ≡ (isCall (stopAt c (x .now .node)) && dropsAt n c x)
+  drop-exactly n x g = drop-by (dropsAt n c x) (x .now .node) (g .top .inside) (view-of c facts x g)

@@ -5,5 +5,6 @@ pub mod Recursion
 pub mod Follow
 pub mod FactsHold
 pub mod Functions
+pub mod OwnBinding
 pub mod NoHandler
 pub mod Drops

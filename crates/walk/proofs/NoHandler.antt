@@ -1,23 +1,46 @@
--- With no handler the walk of an accepted chart is the unbounded walk, so the number of places does not matter.
+-- With no handler the number of places does not matter, and where every number is served by its own scheme the walk of an accepted chart is the
+-- unbounded walk.
 use Prim.Native.Nat.{ℕ, zero, suc, _+_}
-use mathlib.Core.Bool.{Bool, false}
+use mathlib.Core.Bool.{Bool, true, false}
 use mathlib.Core.Path.{_≡_, refl, ap, _∙_, sym, subst}
 use mathlib.Core.List.{List, [], _∷_, _++_}
 use lib.ListN.{length}
 use native.Mathlib.Omega.{arith}
 use Rattle.bits.specs.Results.{Results, noResults, resultOf, withResult, cleared}
+use Rattle.bits.specs.Binding.{ownBinding}
 use Rattle.frames.specs.Frame.{contents}
 use Rattle.frames.specs.Verdict.{fine}
 use Rattle.charts.specs.Entry.{readVerdict}
 use Rattle.charts.specs.Chart.{Chart, scheme, argument, result, mask, handler, end}
 use Rattle.walk.specs.Stops.{start, Stop, plain, call, function, test, home, back, stopAt}
-use Rattle.walk.specs.Walk.{Tick, tick, Course, spent, ended, after, Performer, resume, calls, act, perform, drops}
-use Rattle.walk.specs.Walk.{carriedOn, walkFrom, walk}
+use Rattle.walk.specs.Walk.{Signal, signals, Tick, tick, drops, walk}
+use Rattle.walk.specs.Unswapped.{Course, spent, ended, after, Performer, resume, calls, act, perform, carriedOn, walkFrom}
+use Rattle.walk.specs.Unswapped.{walk as unswappedWalk}
 use Rattle.walk.specs.Unbounded as unbounded
 use Rattle.walk.proofs.Facts.{StopOf, Facts}
 use Rattle.walk.proofs.FactsHold.{facts}
 use Rattle.walk.proofs.Views.{View, a-plain, a-call, a-function, a-home, a-back, a-begin, a-condition, view}
-use Rattle.walk.proofs.Trace.{home-stop, arc-to, function-to, begin-to}
+use Rattle.walk.proofs.Trace.{Position, tickOf, movedBy, dropsAt, tickAt, move, trace, atHome, home-stop, arc-to, function-to, begin-to}
+use Rattle.walk.proofs.Recursion.{walk-trace}
+use Rattle.walk.proofs.OwnBinding.{own-binding}
+
+-- ---- no call drops, whatever the number of places
+no-drop : (c : Chart) → handler c ≡ 0 → (n : ℕ) (f : Bool) (o : ℕ) → drops n c f o ≡ false
+no-drop c h n true o = refl
+no-drop c h n false o = rw h refl
+
+any-trace : (c : Chart) → handler c ≡ 0 → (n m : ℕ) (ws : List Signal) (x : Position) → trace n c ws x ≡ trace m c ws x
+unfolding trace
+any-trace c h n m [] x = refl
+any-trace c h n m (w ∷ ws) x =
+    let o : ℕ = suc (length (x .callers)) in
+    let s : Stop = stopAt c (x .now .node) in
+    let e : dropsAt n c x ≡ dropsAt m c x = no-drop c h n (x .first) o ∙ sym (no-drop c h m (x .first) o) in
+    ap (λ (d : Bool). tickOf d o (x .now) s ∷ trace n c ws (movedBy c d (x .now) (x .callers) w (x .results) (x .first) s)) e
+    ∙ ap (λ (ts : List Tick). tickAt m c x ∷ ts) (any-trace c h n m ws (move m c w x))
+
+pub any-places : (c : Chart) → handler c ≡ 0 → (n m : ℕ) (ws : List Signal) → walk n c ws ≡ walk m c ws
+any-places c h n m ws = walk-trace n c ws ∙ any-trace c h n m ws (atHome c noResults) ∙ sym (walk-trace m c ws)
 
 -- ---- where no call drops, both perform alike
 abbrev alike : unbounded.Course → Course
@@ -42,11 +65,12 @@ module _ (go : Performer) (free : unbounded.Performer) (ih : Alike go free) wher
 
   module _ (c : Chart) (d : ℕ → Bool) (never : (o : ℕ) → d o ≡ false) where
     alike-call : (o v m k h : ℕ) (f : ℕ → Results → ℕ) (ws : List ℕ) (b : Results)
-        → calls go c o v m k h f ws b (d o) ≡ alike (unbounded.resume free o (tick v m (k + h) o) f (free (suc o) (start c h) ws (cleared h b)))
+        → calls go c o v m k h f ws b (d o)
+        ≡ alike (unbounded.resume free o (tick v (scheme c v) m (k + h) o) f (free (suc o) (start c h) ws (cleared h b)))
     alike-call o v m k h f ws b =
         ap (calls go c o v m k h f ws b) (never o)
-        ∙ ap (resume go o (tick v m (k + h) o) f) (ih (suc o) (start c h) ws (cleared h b))
-        ∙ alike-resume o (tick v m (k + h) o) f (free (suc o) (start c h) ws (cleared h b))
+        ∙ ap (resume go o (tick v (scheme c v) m (k + h) o) f) (ih (suc o) (start c h) ws (cleared h b))
+        ∙ alike-resume o (tick v (scheme c v) m (k + h) o) f (free (suc o) (start c h) ws (cleared h b))
 
     alike-act : (o v w : ℕ) (ws : List ℕ) (b : Results) (s : Stop) → act go c d o v w ws b s ≡ alike (unbounded.act free c o v w ws b s)
     alike-act o v w ws b (plain m r u) = alike-on _ o _ ws _
@@ -87,10 +111,11 @@ module _ (c : Chart) (facts : Facts c) where
       endless-act : {s : Stop} → View c v s → Endless (unbounded.act go c o v w ws b s)
       endless-act (a-plain e a) = endless-on _ o _ ws _ (own _ (arc-to c facts v w (g .inside) (λ p. omega arith)))
       endless-act (a-call e a) =
-          endless-resume o (tick v (mask c v) (16 + argument c v) o) _ (λ x d. own _ (arc-to c facts v x (g .inside) (λ p. omega arith)))
+          endless-resume o (tick v (scheme c v) (mask c v) (16 + argument c v) o) _ (λ x d. own _ (arc-to c facts v x (g .inside) (λ p. omega arith)))
           (go (suc o) (start c (argument c v)) ws (cleared (argument c v) (withResult (result c v) (scheme c v) b)))
       endless-act (a-function e) =
-          endless-resume o (tick v 0 (64 + argument c v) o) _ (λ x d. own _ (function-to c facts v x (resultOf (argument c v) d) (g .inside) e))
+          endless-resume o (tick v (scheme c v) 0 (64 + argument c v) o) _
+          (λ x d. own _ (function-to c facts v x (resultOf (argument c v) d) (g .inside) e))
           (go (suc o) (start c (argument c v)) ws (cleared (argument c v) b))
       endless-act (a-home e s) = endless-on _ o _ ws b (facts .starts 1 (omega arith) (facts .first))
       endless-act (a-back e s) = absurd (s (g .same))
@@ -104,26 +129,19 @@ module _ (c : Chart) (facts : Facts c) where
   endless (suc k) o v (w ∷ ws) b g = endless-act (unbounded.perform k c) (endless k) o v w ws b g (view c v (facts .kinds v (g .inside)))
 
   -- ---- the two walks
-  no-drop : (n : ℕ) → handler c ≡ 0 → (o : ℕ) → drops n c false o ≡ false
-  no-drop n h o = rw h refl
-
   carried-ticks : (go : Bool → ℕ → List ℕ → Results → List Tick) (r : unbounded.Course) → Endless r → carriedOn go c (alike r) ≡ unbounded.ticksOf r
   carried-ticks go r (endless-spent ts) = refl
 
-  alike-walks : handler c ≡ 0 → (n : ℕ) (ws : List ℕ) → walk n c ws ≡ unbounded.walk c ws
-  unfolding walk walkFrom unbounded.walk unbounded.perform
+  alike-walks : handler c ≡ 0 → (n : ℕ) (ws : List ℕ) → unswappedWalk n c ws ≡ unbounded.walk c ws
+  unfolding unswappedWalk walkFrom unbounded.walk unbounded.perform
   alike-walks h n [] = refl
   alike-walks h n (w ∷ ws) =
       let k : ℕ = suc (length ws) in
-      ap (carriedOn (walkFrom (length ws) n c) c) (alike-perform k c (drops n c false) (no-drop n h) 1 (end c 1) (w ∷ ws) noResults)
+      ap (carriedOn (walkFrom (length ws) n c) c) (alike-perform k c (drops n c false) (no-drop c h n false) 1 (end c 1) (w ∷ ws) noResults)
       ∙ carried-ticks (walkFrom (length ws) n c) (unbounded.perform k c 1 (end c 1) (w ∷ ws) noResults)
       (endless k 1 (end c 1) (w ∷ ws) noResults (home-stop c facts))
 
 -- ---- of every text that the reader accepts
 pub no-handler : (text : List ℕ) → readVerdict text ≡ fine → let c = contents text in handler c ≡ 0
-    → (n : ℕ) (ws : List ℕ) → walk n c ws ≡ unbounded.walk c ws
-no-handler text ok h n ws = alike-walks (contents text) (facts text ok) h n ws
-
-pub any-places : (text : List ℕ) → readVerdict text ≡ fine → let c = contents text in handler c ≡ 0
-    → (n m : ℕ) (ws : List ℕ) → walk n c ws ≡ walk m c ws
-any-places text ok h n m ws = no-handler text ok h n ws ∙ sym (no-handler text ok h m ws)
+    → (n : ℕ) (ws : List ℕ) → walk n c (signals ownBinding ws) ≡ unbounded.walk c ws
+no-handler text ok h n ws = own-binding text ok n ws ∙ alike-walks (contents text) (facts text ok) h n ws

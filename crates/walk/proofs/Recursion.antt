@@ -10,9 +10,9 @@ use Rattle.lists.specs.Pick.{pick}
 use Rattle.bits.specs.Results.{Results, noResults, cleared}
 use Rattle.charts.specs.Chart.{Chart, handler, end}
 use Rattle.walk.specs.Stops.{start, Stop, plain, call, function, test, home, back, stopAt}
-use Rattle.walk.specs.Walk.{Tick, tick, Course, spent, ended, dropped, after, Performer, resume, calls, act, perform, drops}
-use Rattle.walk.specs.Walk.{carriedOn, walkFrom, walk}
-use Rattle.walk.proofs.Trace.{at, one, tickOf, resumedBy, resumed, returned, handling, called, movedBy, trace, atHome}
+use Rattle.walk.specs.Walk.{Signal, Tick, tick, Course, spent, ended, dropped, after, Performer, resume, calls, act, perform, drops}
+use Rattle.walk.specs.Walk.{bottom, carriedOn, walkFrom, walk}
+use Rattle.walk.proofs.Trace.{Open, opens, on, at, one, tickOf, resumedBy, resumed, returned, handling, called, movedBy, trace, atHome}
 
 -- ---- a scheme that has ended, or was dropped, leaves fewer than n words
 abbrev Shorter : ℕ → Course → Type 0
@@ -31,119 +31,123 @@ shorter-after n m ts (ended us w ws b) l h = omega arith
 shorter-after n m ts (dropped us ws b) l h = omega arith
 
 abbrev Short : Performer → Type 0
-Short go = (o v : ℕ) (ws : List ℕ) (b : Results) → Shorter (length ws) (go o v ws b)
+Short go = (o g v : ℕ) (ws : List Signal) (b : Results) → Shorter (length ws) (go o g v ws b)
 
 module _ (go : Performer) (ih : Short go) where
-  shorter-resume : (o m : ℕ) (ts : List Tick) (f : ℕ → Results → ℕ) (r : Course) → Shorter m r → Shorter m (resume go o ts f r)
-  shorter-resume o m ts f (spent us) h = tt
-  shorter-resume o m ts f (ended us w ws b) h = shorter-after (length ws) m (ts ++ us) (go o (f w b) ws b) (omega arith) (ih o (f w b) ws b)
-  shorter-resume o m ts f (dropped us ws b) h = h
+  shorter-resume : (o g m : ℕ) (ts : List Tick) (f : ℕ → Results → ℕ) (r : Course) → Shorter m r → Shorter m (resume go o g ts f r)
+  shorter-resume o g m ts f (spent us) h = tt
+  shorter-resume o g m ts f (ended us w ws b) h = shorter-after (length ws) m (ts ++ us) (go o g (f w b) ws b) (omega arith) (ih o g (f w b) ws b)
+  shorter-resume o g m ts f (dropped us ws b) h = h
 
-  step : (ts : List Tick) (o v : ℕ) (ws : List ℕ) (b : Results) → Shorter (suc (length ws)) (after ts (go o v ws b))
-  step ts o v ws b = shorter-after (length ws) _ ts (go o v ws b) (omega arith) (ih o v ws b)
+  step : (ts : List Tick) (o g v : ℕ) (ws : List Signal) (b : Results) → Shorter (suc (length ws)) (after ts (go o g v ws b))
+  step ts o g v ws b = shorter-after (length ws) _ ts (go o g v ws b) (omega arith) (ih o g v ws b)
 
-  step-in : (c : Chart) (o v m k h : ℕ) (f : ℕ → Results → ℕ) (ws : List ℕ) (b : Results) (d : Bool)
-      → Shorter (suc (length ws)) (calls go c o v m k h f ws b d)
-  step-in c o v m k h f ws b false = let r : Course = go (suc o) (start c h) ws (cleared h b) in
-      shorter-resume o _ (tick v m (k + h) o) f r (shorter-le (length ws) _ r (omega arith) (ih (suc o) (start c h) ws (cleared h b)))
-  step-in c o v m k h f ws b true = omega arith
+  step-in : (c : Chart) (o g v m j h k : ℕ) (f : ℕ → Results → ℕ) (ws : List Signal) (b : Results) (d : Bool)
+      → Shorter (suc (length ws)) (calls go c o g v m j h k f ws b d)
+  step-in c o g v m j h k f ws b false = let r : Course = go (suc o) h (start c k) ws (cleared h b) in
+      shorter-resume o g _ (tick v g m (j + h) o) f r (shorter-le (length ws) _ r (omega arith) (ih (suc o) h (start c k) ws (cleared h b)))
+  step-in c o g v m j h k f ws b true = omega arith
 
-  shorter-act : (c : Chart) (d : ℕ → Bool) (o v w : ℕ) (ws : List ℕ) (b : Results) (s : Stop) → Shorter (suc (length ws)) (act go c d o v w ws b s)
-  shorter-act c d o v w ws b (plain m r u) = step _ o _ ws _
-  shorter-act c d o v w ws b (call m r h u) = step-in c o v m 16 h _ ws _ (d o)
-  shorter-act c d o v w ws b (function h u₀ u₁) = step-in c o v 0 64 h _ ws b (d o)
-  shorter-act c d o v w ws b (test u) = step _ o _ ws b
-  shorter-act c d o v w ws b home = step _ o _ ws b
-  shorter-act c d o v w ws b back = omega arith
+  shorter-act : (c : Chart) (d : ℕ → Bool) (o g v : ℕ) (w : Signal) (ws : List Signal) (b : Results) (s : Stop)
+      → Shorter (suc (length ws)) (act go c d o g v w ws b s)
+  shorter-act c d o g v w ws b (plain m r u) = step _ o g _ ws _
+  shorter-act c d o g v w ws b (call m r h u) = step-in c o g v m 16 h _ _ ws _ (d o)
+  shorter-act c d o g v w ws b (function h u₀ u₁) = step-in c o g v 0 64 h _ _ ws b (d o)
+  shorter-act c d o g v w ws b (test u) = step _ o g _ ws b
+  shorter-act c d o g v w ws b home = step _ o g _ ws b
+  shorter-act c d o g v w ws b back = omega arith
 
 shorter : (k : ℕ) (c : Chart) (d : ℕ → Bool) → Short (perform k c d)
 unfolding perform
-shorter zero c d o v ws b = tt
-shorter (suc k) c d o v [] b = tt
-shorter (suc k) c d o v (w ∷ ws) b = shorter-act (perform k c d) (shorter k c d) c d o v w ws b (stopAt c v)
+shorter zero c d o g v ws b = tt
+shorter (suc k) c d o g v [] b = tt
+shorter (suc k) c d o g v (w ∷ ws) b = shorter-act (perform k c d) (shorter k c d) c d o g v w ws b (stopAt c v)
 
 -- ---- a course, and then the callers: what the trace makes of it
 module _ (n : ℕ) (c : Chart) where
-  abbrev onward : List ℕ → Bool → Course → List Tick
+  abbrev onward : List Open → Bool → Course → List Tick
   onward ks f (spent ts) = ts
   onward ks f (ended ts w ws b) = ts ++ trace n c ws (returned c ks w b f)
   onward ks f (dropped ts ws b) = ts ++ trace n c ws (handling c b)
 
-  onward-after : (ks : List ℕ) (f : Bool) (ts : List Tick) (r : Course) → onward ks f (after ts r) ≡ ts ++ onward ks f r
+  onward-after : (ks : List Open) (f : Bool) (ts : List Tick) (r : Course) → onward ks f (after ts r) ≡ ts ++ onward ks f r
   onward-after ks f ts (spent us) = refl
   onward-after ks f ts (ended us w ws b) = append-assoc ts us (trace n c ws (returned c ks w b f))
   onward-after ks f ts (dropped us ws b) = append-assoc ts us (trace n c ws (handling c b))
 
-  abbrev performed : ℕ → ℕ → List ℕ → List ℕ → Results → Bool → Course
-  performed k v ks ws b f = perform k c (drops n c f) (suc (length ks)) v ws b
+  abbrev performed : ℕ → Open → List Open → List Signal → Results → Bool → Course
+  performed k x ks ws b f = perform k c (drops n c f) (suc (length ks)) (x .number) (x .node) ws b
 
   abbrev Same : ℕ → Type 0
-  Same k = (ws : List ℕ) (v : ℕ) (ks : List ℕ) (b : Results) (f : Bool) → length ws ≤ k
-      → trace n c ws (at v ks b f) ≡ onward ks f (performed k v ks ws b f)
+  Same k = (ws : List Signal) (x : Open) (ks : List Open) (b : Results) (f : Bool) → length ws ≤ k
+      → trace n c ws (at x ks b f) ≡ onward ks f (performed k x ks ws b f)
 
   module _ (k : ℕ) (ih : Same k) where
     -- the scheme goes on
-    same-after : (ts : List Tick) (ws : List ℕ) (v : ℕ) (ks : List ℕ) (b : Results) (f : Bool) → length ws ≤ k
-        → ts ++ trace n c ws (at v ks b f) ≡ onward ks f (after ts (performed k v ks ws b f))
-    same-after ts ws v ks b f l = ap (λ (us : List Tick). ts ++ us) (ih ws v ks b f l) ∙ sym (onward-after ks f ts (performed k v ks ws b f))
+    same-after : (ts : List Tick) (ws : List Signal) (x : Open) (ks : List Open) (b : Results) (f : Bool) → length ws ≤ k
+        → ts ++ trace n c ws (at x ks b f) ≡ onward ks f (after ts (performed k x ks ws b f))
+    same-after ts ws x ks b f l = ap (λ (us : List Tick). ts ++ us) (ih ws x ks b f l) ∙ sym (onward-after ks f ts (performed k x ks ws b f))
 
-    -- the caller v goes on, from the node that g gives
-    module _ (v : ℕ) (ks : List ℕ) (f : Bool) (g : ℕ → Results → ℕ) (e : (w : ℕ) (b : Results) → g w b ≡ resumed c v w b) where
+    -- the caller x goes on, from the node that g gives
+    module _ (x : Open) (ks : List Open) (f : Bool) (g : ℕ → Results → ℕ) (e : (w : ℕ) (b : Results) → g w b ≡ resumed c (x .node) w b) where
       same-resume : (ts : List Tick) (r : Course) → Shorter (suc k) r
-          → ts ++ onward (v ∷ ks) f r ≡ onward ks f (resume (perform k c (drops n c f)) (suc (length ks)) ts g r)
+          → ts ++ onward (x ∷ ks) f r ≡ onward ks f (resume (perform k c (drops n c f)) (suc (length ks)) (x .number) ts g r)
       same-resume ts (spent us) l = refl
       same-resume ts (ended us w ws b) l =
-          sym (append-assoc ts us (trace n c ws (at (resumed c v w b) ks b f)))
-          ∙ rw (e w b) (same-after (ts ++ us) ws (resumed c v w b) ks b f (le-of-suc-le-suc l))
+          sym (append-assoc ts us (trace n c ws (at (on x (resumed c (x .node) w b)) ks b f)))
+          ∙ rw (e w b) (same-after (ts ++ us) ws (on x (resumed c (x .node) w b)) ks b f (le-of-suc-le-suc l))
       same-resume ts (dropped us ws b) l = sym (append-assoc ts us (trace n c ws (handling c b)))
 
       -- a call: the scheme called, and then the caller; or a drop
-      same-call : (m j h : ℕ) (ws : List ℕ) (b : Results) → length ws ≤ k → (d : Bool)
-          → one v m (pick d 96 (j + h)) (suc (length ks)) ∷ trace n c ws (called c v ks h b f d)
-          ≡ onward ks f (calls (perform k c (drops n c f)) c (suc (length ks)) v m j h g ws b d)
-      same-call m j h ws b l true = refl
-      same-call m j h ws b l false =
-          let r : Course = performed k (start c h) (v ∷ ks) ws (cleared h b) f in
-          ap (λ (us : List Tick). one v m (j + h) (suc (length ks)) ∷ us) (ih ws (start c h) (v ∷ ks) (cleared h b) f l)
-          ∙ same-resume (tick v m (j + h) (suc (length ks))) r
-          (shorter-le (length ws) (suc k) r (omega arith) (shorter k c (drops n c f) _ (start c h) ws (cleared h b)))
+      same-call : (m j h i : ℕ) (ws : List Signal) (b : Results) → length ws ≤ k → (d : Bool)
+          → one (x .node) (x .number) m (pick d 96 (j + h)) (suc (length ks)) ∷ trace n c ws (called c x ks h i b f d)
+          ≡ onward ks f (calls (perform k c (drops n c f)) c (suc (length ks)) (x .number) (x .node) m j h i g ws b d)
+      same-call m j h i ws b l true = refl
+      same-call m j h i ws b l false =
+          let y : Open = opens (start c i) h i in
+          let r : Course = performed k y (x ∷ ks) ws (cleared h b) f in
+          ap (λ (us : List Tick). one (x .node) (x .number) m (j + h) (suc (length ks)) ∷ us) (ih ws y (x ∷ ks) (cleared h b) f l)
+          ∙ same-resume (tick (x .node) (x .number) m (j + h) (suc (length ks))) r
+          (shorter-le (length ws) (suc k) r (omega arith) (shorter k c (drops n c f) _ h (start c i) ws (cleared h b)))
 
-    same-act : (v : ℕ) (ks : List ℕ) (w : ℕ) (ws : List ℕ) (b : Results) (f : Bool) → length ws ≤ k → (s : Stop) → stopAt c v ≡ s
-        → let d = drops n c f (suc (length ks)) in
-        tickOf d (suc (length ks)) v s ∷ trace n c ws (movedBy c d v ks w b f s)
-        ≡ onward ks f (act (perform k c (drops n c f)) c (drops n c f) (suc (length ks)) v w ws b s)
-    same-act v ks w ws b f l (plain m r u) q = same-after _ ws _ ks _ f l
-    same-act v ks w ws b f l (call m r h u) q =
-        same-call v ks f _ (λ x e. sym (ap (resumedBy c v x e) q)) m 16 h ws _ l (drops n c f (suc (length ks)))
-    same-act v ks w ws b f l (function h u₀ u₁) q =
-        same-call v ks f _ (λ x e. sym (ap (resumedBy c v x e) q)) 0 64 h ws b l (drops n c f (suc (length ks)))
-    same-act v ks w ws b f l (test u) q = same-after _ ws _ ks b f l
-    same-act v ks w ws b f l home q = same-after _ ws _ ks b f l
-    same-act v ks w ws b f l back q = refl
+    same-act : (x : Open) (ks : List Open) (w : Signal) (ws : List Signal) (b : Results) (f : Bool) → length ws ≤ k
+        → (s : Stop) → stopAt c (x .node) ≡ s → let d = drops n c f (suc (length ks)) in
+        tickOf d (suc (length ks)) x s ∷ trace n c ws (movedBy c d x ks w b f s)
+        ≡ onward ks f (act (perform k c (drops n c f)) c (drops n c f) (suc (length ks)) (x .number) (x .node) w ws b s)
+    same-act x ks w ws b f l (plain m r u) q = same-after _ ws _ ks _ f l
+    same-act x ks w ws b f l (call m r h u) q =
+        same-call x ks f _ (λ y e. sym (ap (resumedBy c (x .node) y e) q)) m 16 h _ ws _ l (drops n c f (suc (length ks)))
+    same-act x ks w ws b f l (function h u₀ u₁) q =
+        same-call x ks f _ (λ y e. sym (ap (resumedBy c (x .node) y e) q)) 0 64 h _ ws b l (drops n c f (suc (length ks)))
+    same-act x ks w ws b f l (test u) q = same-after _ ws _ ks b f l
+    same-act x ks w ws b f l home q = same-after _ ws _ ks b f l
+    same-act x ks w ws b f l back q = refl
 
   same : (k : ℕ) → Same k
   unfolding perform trace
-  same zero [] v ks b f l = refl
-  same zero (w ∷ ws) v ks b f l = absurd (not-suc-le-zero l)
-  same (suc k) [] v ks b f l = refl
-  same (suc k) (w ∷ ws) v ks b f l = same-act k (same k) v ks w ws b f (le-of-suc-le-suc l) (stopAt c v) refl
+  same zero [] x ks b f l = refl
+  same zero (w ∷ ws) x ks b f l = absurd (not-suc-le-zero l)
+  same (suc k) [] x ks b f l = refl
+  same (suc k) (w ∷ ws) x ks b f l = same-act k (same k) x ks w ws b f (le-of-suc-le-suc l) (stopAt c (x .node)) refl
 
   -- ---- the first open scheme, and what follows it
-  walk-from : (k : ℕ) (f : Bool) (v : ℕ) (ws : List ℕ) (b : Results) → length ws ≤ k → walkFrom k n c f v ws b ≡ trace n c ws (at v [] b f)
+  walk-from : (k : ℕ) (f : Bool) (v : ℕ) (ws : List Signal) (b : Results) → length ws ≤ k
+      → walkFrom k n c f v ws b ≡ trace n c ws (at (opens v (bottom c f) (bottom c f)) [] b f)
   unfolding walkFrom trace
   walk-from zero f v [] b l = refl
   walk-from zero f v (w ∷ ws) b l = absurd (not-suc-le-zero l)
   walk-from (suc k) f v ws b l =
-      go (perform (length ws) c (drops n c f) 1 v ws b) (shorter (length ws) c (drops n c f) 1 v ws b) (walk-from k)
-      ∙ sym (same (length ws) ws v [] b f (omega arith))
+      go (perform (length ws) c (drops n c f) 1 (bottom c f) v ws b) (shorter (length ws) c (drops n c f) 1 (bottom c f) v ws b) (walk-from k)
+      ∙ sym (same (length ws) ws (opens v (bottom c f) (bottom c f)) [] b f (omega arith))
     where
       go : (r : Course) → Shorter (length ws) r
-          → ((f : Bool) (v : ℕ) (ws : List ℕ) (b : Results) → length ws ≤ k → walkFrom k n c f v ws b ≡ trace n c ws (at v [] b f))
+          → ((f : Bool) (v : ℕ) (ws : List Signal) (b : Results) → length ws ≤ k
+          → walkFrom k n c f v ws b ≡ trace n c ws (at (opens v (bottom c f) (bottom c f)) [] b f))
           → carriedOn (walkFrom k n c) c r ≡ onward [] f r
       go (spent ts) s ih = refl
       go (ended ts w us d) s ih = ap (λ (xs : List Tick). ts ++ xs) (ih false (end c 1) us d (omega arith))
       go (dropped ts us d) s ih = ap (λ (xs : List Tick). ts ++ xs) (ih true (start c (handler c)) us d (omega arith))
 
-  pub walk-trace : (ws : List ℕ) → walk n c ws ≡ trace n c ws (atHome c noResults)
+  pub walk-trace : (ws : List Signal) → walk n c ws ≡ trace n c ws (atHome c noResults)
   unfolding walk
   walk-trace ws = walk-from (length ws) false (end c 1) ws noResults (omega arith)

@@ -1,5 +1,5 @@
--- The walk with no handler: no number of places, no drop, and two ends of a course. Only the law no-handler uses it: the walk of an accepted
--- chart with no handler is this one, whatever the number of places.
+-- The walk with no handler and no rebinding: no number of places, no drop, and two ends of a course. Only the law no-handler uses it: under
+-- ownBinding the walk of an accepted chart with no handler is this one, whatever the number of places.
 use Prim.Native.Nat.{ℕ, zero, suc, _+_}
 use mathlib.Core.List.{List, [], _∷_, _++_}
 use lib.ListN.{length}
@@ -33,14 +33,14 @@ resume go o ts f (ended us w ws b) = after (ts ++ us) (go o (f w b) ws b)
 
 -- one stop v of a scheme with o open, by its word w, and what follows it; a call clears the bit of the scheme called, after v's own result
 abbrev pub act : Performer → Chart → ℕ → ℕ → ℕ → List ℕ → Results → Stop → Course
-act go c o v w ws b (plain m r u) = after (tick v m 0 o) (go o (byArc c w u) ws (withResult r (scheme c v) b))
+act go c o v w ws b (plain m r u) = after (tick v (scheme c v) m 0 o) (go o (byArc c w u) ws (withResult r (scheme c v) b))
 act go c o v w ws b (call m r h u) =
-    resume go o (tick v m (16 + h) o) (λ x d. byArc c x u) (go (suc o) (start c h) ws (cleared h (withResult r (scheme c v) b)))
+    resume go o (tick v (scheme c v) m (16 + h) o) (λ x d. byArc c x u) (go (suc o) (start c h) ws (cleared h (withResult r (scheme c v) b)))
 act go c o v w ws b (function h u₀ u₁) =
-    resume go o (tick v 0 (64 + h) o) (λ x d. byArc c x (pick (resultOf h d) u₁ u₀)) (go (suc o) (start c h) ws (cleared h b))
-act go c o v w ws b (test u) = after (tick v 0 0 o) (go o (byWord c w u) ws b)
-act go c o v w ws b home = after (tick v 0 4 o) (go o (start c 1) ws b)
-act go c o v w ws b back = ended (tick v 0 3 o) w ws b
+    resume go o (tick v (scheme c v) 0 (64 + h) o) (λ x d. byArc c x (pick (resultOf h d) u₁ u₀)) (go (suc o) (start c h) ws (cleared h b))
+act go c o v w ws b (test u) = after (tick v (scheme c v) 0 0 o) (go o (byWord c w u) ws b)
+act go c o v w ws b home = after (tick v (scheme c v) 0 4 o) (go o (start c 1) ws b)
+act go c o v w ws b back = ended (tick v (scheme c v) 0 3 o) w ws b
 
 -- k is at least the number of words
 unfoldable pub perform : ℕ → Chart → Performer

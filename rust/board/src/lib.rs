@@ -155,12 +155,33 @@ impl<'a> Board<'a> {
         Some(told.answer())
     }
 
+    fn rebound(
+        &self,
+        call: Call,
+        input: &[u8],
+        state: &mut State,
+        number: usize,
+        scheme: usize,
+    ) -> Option<Answer> {
+        let mut message = Message::new(call, input);
+        message.state = *state;
+        (message.value, message.scheme) = (as_wide_as_there(number), as_wide_as_there(scheme));
+        let told = self.made(&mut message)?;
+        *state = message.state;
+        Some(told.answer())
+    }
+
     fn ticked(&self, call: Call, input: &[u8], state: &mut State, word: u16) -> Option<Ticked> {
         let (mut masks, mut codes) = ([0], [0]);
         let (answer, after) = self.ran(call, input, state, &[word], &mut masks, &mut codes)?;
         *state = after;
         Some(Ticked { answer, mask: masks[0], code: codes[0] })
     }
+}
+
+/// A number that has no room in a length of the board goes there as the largest that has.
+fn as_wide_as_there(number: usize) -> u32 {
+    u32::try_from(number).unwrap_or(u32::MAX)
 }
 
 impl Library for Board<'_> {
@@ -187,8 +208,16 @@ impl Library for Board<'_> {
     /// The board's numbers have 32 bits: a larger size is handed over as the largest of them, which is refused too.
     fn fresh(&self, size: usize) -> (Answer, State) {
         let mut message = Message::new(Call::Fresh, &[]);
-        message.value = u32::try_from(size).unwrap_or(u32::MAX);
-        message.state = State { size: 0xFF, depth: 0xFF, places: [0xFF; 32], results: [true; 16] };
+        message.value = as_wide_as_there(size);
+        message.state = State {
+            size: 0xFF,
+            depth: 0xFF,
+            places: [0xFF; 32],
+            results: [true; 16],
+            serving: [0xFF; 16],
+            numbers: [0xFF; 32],
+            servers: [0xFF; 32],
+        };
         let told = self.made(&mut message).expect("it has no buffers");
         (told.answer(), message.state)
     }
@@ -207,6 +236,11 @@ impl Library for Board<'_> {
 
     fn tick(&self, image: &[u8], state: &mut State, word: u16) -> Ticked {
         self.ticked(Call::Tick, image, state, word).unwrap_or_else(|| self.instead.tick(image, state, word))
+    }
+
+    fn rebind(&self, image: &[u8], state: &mut State, number: usize, scheme: usize) -> Answer {
+        self.rebound(Call::Rebind, image, state, number, scheme)
+            .unwrap_or_else(|| self.instead.rebind(image, state, number, scheme))
     }
 
     fn cause(&self, image: &[u8], state: &State, word: u16) -> Cause {
@@ -236,6 +270,11 @@ impl Library for Board<'_> {
     fn live_tick(&self, table: &[u8], state: &mut State, word: u16) -> Ticked {
         self.ticked(Call::LiveTick, table, state, word)
             .unwrap_or_else(|| self.instead.live_tick(table, state, word))
+    }
+
+    fn live_rebind(&self, table: &[u8], state: &mut State, number: usize, scheme: usize) -> Answer {
+        self.rebound(Call::LiveRebind, table, state, number, scheme)
+            .unwrap_or_else(|| self.instead.live_rebind(table, state, number, scheme))
     }
 
     fn meaning(&self, code: u8) -> Meaning {

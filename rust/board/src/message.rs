@@ -1,4 +1,4 @@
-//! A call as it goes to the board and comes back: a head of 100 bytes, then the buffers, masks, words, codes, output and
+//! A call as it goes to the board and comes back: a head of 184 bytes, then the buffers, masks, words, codes, output and
 //! input in this order. controller/board/board.c is the other side.
 
 use interface::{Answer, State};
@@ -16,22 +16,25 @@ pub enum Call {
     Tick,
     Cause,
     ListRows,
+    Rebind,
     Prepare,
     LiveRun,
     LiveTick,
+    LiveRebind,
     Meaning,
     /// No call of the library: it takes 4,000 bytes of stack.
     Known,
 }
 
-pub const HEAD: usize = 100;
-const STATE: usize = 48;
+pub const HEAD: usize = 184;
+const STATE: usize = 52;
 
 /// One call's buffers and state, before it and after it.
 #[derive(Clone, Debug, PartialEq, Eq)]
 pub struct Message {
     pub call: Call,
     pub value: u32,
+    pub scheme: u32,
     pub state: State,
     pub masks: Vec<u32>,
     pub words: Vec<u16>,
@@ -66,6 +69,7 @@ impl Message {
         Message {
             call,
             value: 0,
+            scheme: 0,
             state: State::NONE,
             masks: Vec::new(),
             words: Vec::new(),
@@ -88,10 +92,14 @@ impl Message {
             bytes.extend(u32::try_from(length).expect("buffers are short").to_le_bytes());
         }
         bytes.extend(self.value.to_le_bytes());
+        bytes.extend(self.scheme.to_le_bytes());
         bytes.resize(STATE, 0);
         bytes.extend([self.state.size, self.state.depth]);
         bytes.extend(self.state.places);
         bytes.extend(self.state.results.map(u8::from));
+        bytes.extend(self.state.serving);
+        bytes.extend(self.state.numbers);
+        bytes.extend(self.state.servers);
         bytes.resize(HEAD, 0);
         self.masks.iter().for_each(|mask| bytes.extend(mask.to_le_bytes()));
         self.words.iter().for_each(|word| bytes.extend(word.to_le_bytes()));
@@ -110,6 +118,9 @@ impl Message {
         for (result, byte) in self.state.results.iter_mut().zip(&state[34..50]) {
             *result = *byte != 0;
         }
+        self.state.serving.copy_from_slice(&state[50..66]);
+        self.state.numbers.copy_from_slice(&state[66..98]);
+        self.state.servers.copy_from_slice(&state[98..130]);
         let (masks, rest) = buffers.split_at(4 * self.masks.len());
         let (words, rest) = rest.split_at(2 * self.words.len());
         let (codes, rest) = rest.split_at(self.codes.len());
@@ -123,11 +134,11 @@ impl Message {
         assert!(sent.eq(words.iter().copied()), "{:?} changed its words", self.call);
         assert!(self.input == input, "{:?} changed its input", self.call);
         Told {
-            number: u8::try_from(number(7)).expect("a number is a byte and nothing above it"),
-            index: number(8) as usize,
-            count: number(9) as usize,
-            stack: number(10) as usize,
-            code: number(11) as usize,
+            number: u8::try_from(number(8)).expect("a number is a byte and nothing above it"),
+            index: number(9) as usize,
+            count: number(10) as usize,
+            stack: number(11) as usize,
+            code: number(12) as usize,
         }
     }
 }

@@ -12,20 +12,22 @@ use reference::{fresh_state, Reference};
 const CASES: u64 = 20_000;
 
 /// The bytes of stack that each call may take, as controller/README.md states them.
-const STACK: [(Call, usize); 14] = [
+const STACK: [(Call, usize); 16] = [
     (Call::ReadChart, 4_608),
     (Call::WriteChart, 2_048),
     (Call::Translate, 8_192),
     (Call::Places, 8_192),
     (Call::CheckImage, 14_336),
-    (Call::Fresh, 256),
+    (Call::Fresh, 512),
     (Call::Run, 14_336),
     (Call::Tick, 14_336),
     (Call::Cause, 14_336),
     (Call::ListRows, 14_336),
+    (Call::Rebind, 14_336),
     (Call::Prepare, 14_336),
     (Call::LiveRun, 1_024),
     (Call::LiveTick, 768),
+    (Call::LiveRebind, 512),
     (Call::Meaning, 256),
 ];
 

@@ -8,11 +8,50 @@ pub struct State {
     pub depth: u8,
     pub places: [u8; 32],
     pub results: [u8; 16],
+    pub serving: [u8; 16],
+    pub numbers: [u8; 32],
+    pub servers: [u8; 32],
 }
 
 impl State {
     /// Every number 0.
-    pub const NONE: State = State { size: 0, depth: 0, places: [0; 32], results: [0; 16] };
+    pub const NONE: State = State::filled(0);
+
+    /// Every number this one.
+    pub const fn filled(byte: u8) -> State {
+        State {
+            size: byte,
+            depth: byte,
+            places: [byte; 32],
+            results: [byte; 16],
+            serving: [byte; 16],
+            numbers: [byte; 32],
+            servers: [byte; 32],
+        }
+    }
+}
+
+impl From<&interface::State> for State {
+    fn from(state: &interface::State) -> State {
+        let interface::State { size, depth, places, results, serving, numbers, servers } = *state;
+        State { size, depth, places, results: results.map(u8::from), serving, numbers, servers }
+    }
+}
+
+impl From<&State> for interface::State {
+    /// A result byte other than 0 is a 1.
+    fn from(state: &State) -> interface::State {
+        let State { size, depth, places, results, serving, numbers, servers } = *state;
+        interface::State {
+            size,
+            depth,
+            places,
+            results: results.map(|byte| byte != 0),
+            serving,
+            numbers,
+            servers,
+        }
+    }
 }
 
 /// A call that writes into one lent buffer: what is read, the buffer, index and count.
@@ -39,6 +78,10 @@ pub type Run = unsafe extern "C" fn(
 /// A tick: an image or a table, the state, the word, mask, code, index and count.
 pub type Tick =
     unsafe extern "C" fn(*const u8, usize, *mut State, u16, *mut u32, *mut u8, *mut usize, *mut usize) -> u8;
+
+/// A rebinding: an image or a table, the state, the number, the scheme, index and count.
+pub type Rebind =
+    unsafe extern "C" fn(*const u8, usize, *mut State, usize, usize, *mut usize, *mut usize) -> u8;
 
 extern "C" {
     pub fn fairleadow_read_chart(
@@ -96,6 +139,15 @@ extern "C" {
         index: *mut usize,
         count: *mut usize,
     ) -> u8;
+    pub fn fairleadow_rebind(
+        image: *const u8,
+        image_len: usize,
+        state: *mut State,
+        number: usize,
+        scheme: usize,
+        index: *mut usize,
+        count: *mut usize,
+    ) -> u8;
     pub fn fairleadow_cause(
         image: *const u8,
         image_len: usize,
@@ -145,6 +197,15 @@ extern "C" {
         word: u16,
         mask: *mut u32,
         code: *mut u8,
+        index: *mut usize,
+        count: *mut usize,
+    ) -> u8;
+    pub fn fairleadow_live_rebind(
+        table: *const u8,
+        table_len: usize,
+        state: *mut State,
+        number: usize,
+        scheme: usize,
         index: *mut usize,
         count: *mut usize,
     ) -> u8;

@@ -40,6 +40,20 @@ use crate::c;
 /// assert_eq!((ticked.code, state.depth, state.results[0]), (0x04, 1, false));
 /// # Ok::<(), fairleadow::Refusal>(())
 /// ```
+///
+/// Between two ticks a number can be given another scheme to serve it; here there is only scheme 1, which nothing calls:
+///
+/// ```
+/// use fairleadow::{Library, Proved, IMAGE_TEXT, PLACES};
+///
+/// let mut image = [0; IMAGE_TEXT];
+/// let length = Proved.translate(b"00010001000000000000FE\n01010000000000000000FE\n", &mut image).ok()?;
+/// let (_, mut state) = Proved.fresh(PLACES);
+/// let refusal = Proved.rebind(&image[..length], &mut state, 2, 3).ok().unwrap_err();
+/// assert_eq!(refusal.number, 22);
+/// assert_eq!(state, Proved.fresh(PLACES).1);
+/// # Ok::<(), fairleadow::Refusal>(())
+/// ```
 pub struct Proved;
 
 /// Calls with room for index and count, and puts the answer together.
@@ -48,24 +62,6 @@ fn answered(call: impl FnOnce(*mut usize, *mut usize) -> u8) -> Answer {
     match call(&mut index, &mut count) {
         0 => Answer::Done(count),
         number => Answer::Refused { number, index, count },
-    }
-}
-
-fn to_c(state: &State) -> c::State {
-    c::State {
-        size: state.size,
-        depth: state.depth,
-        places: state.places,
-        results: state.results.map(u8::from),
-    }
-}
-
-fn from_c(state: &c::State) -> State {
-    State {
-        size: state.size,
-        depth: state.depth,
-        places: state.places,
-        results: state.results.map(|result| result != 0),
     }
 }
 
@@ -90,7 +86,7 @@ fn ran(
     masks: &mut [u32],
     codes: &mut [u8],
 ) -> (Answer, State) {
-    let mut kept = to_c(state);
+    let mut kept = c::State::from(state);
     let answer = answered(|index, count| unsafe {
         call(
             image.as_ptr(),
@@ -106,18 +102,28 @@ fn ran(
             count,
         )
     });
-    (answer, from_c(&kept))
+    (answer, State::from(&kept))
 }
 
 /// A tick, on an image or on a table.
 fn ticked(call: c::Tick, image: &[u8], state: &mut State, word: u16) -> Ticked {
-    let mut kept = to_c(state);
+    let mut kept = c::State::from(&*state);
     let (mut mask, mut code) = (0, 0);
     let answer = answered(|index, count| unsafe {
         call(image.as_ptr(), image.len(), &mut kept, word, &mut mask, &mut code, index, count)
     });
-    *state = from_c(&kept);
+    *state = State::from(&kept);
     Ticked { answer, mask, code }
+}
+
+/// A rebinding, by an image or by a table.
+fn rebound(call: c::Rebind, image: &[u8], state: &mut State, number: usize, scheme: usize) -> Answer {
+    let mut kept = c::State::from(&*state);
+    let answer = answered(|index, count| unsafe {
+        call(image.as_ptr(), image.len(), &mut kept, number, scheme, index, count)
+    });
+    *state = State::from(&kept);
+    answer
 }
 
 impl Library for Proved {
@@ -142,9 +148,9 @@ impl Library for Proved {
     }
 
     fn fresh(&self, size: usize) -> (Answer, State) {
-        let mut state = c::State { size: 0xFF, depth: 0xFF, places: [0xFF; 32], results: [0xFF; 16] };
+        let mut state = c::State::filled(0xFF);
         let answer = answered(|index, count| unsafe { c::fairleadow_fresh(size, &mut state, index, count) });
-        (answer, from_c(&state))
+        (answer, State::from(&state))
     }
 
     fn run(
@@ -162,8 +168,12 @@ impl Library for Proved {
         ticked(c::fairleadow_tick, image, state, word)
     }
 
+    fn rebind(&self, image: &[u8], state: &mut State, number: usize, scheme: usize) -> Answer {
+        rebound(c::fairleadow_rebind, image, state, number, scheme)
+    }
+
     fn cause(&self, image: &[u8], state: &State, word: u16) -> Cause {
-        let kept = to_c(state);
+        let kept = c::State::from(state);
         let (mut row, mut mask, mut bit) = (u16::MAX, u16::MAX, u8::MAX);
         let answer = answered(|index, count| unsafe {
             c::fairleadow_cause(
@@ -213,6 +223,10 @@ impl Library for Proved {
 
     fn live_tick(&self, table: &[u8], state: &mut State, word: u16) -> Ticked {
         ticked(c::fairleadow_live_tick, table, state, word)
+    }
+
+    fn live_rebind(&self, table: &[u8], state: &mut State, number: usize, scheme: usize) -> Answer {
+        rebound(c::fairleadow_live_rebind, table, state, number, scheme)
     }
 
     fn meaning(&self, code: u8) -> Meaning {

@@ -2,6 +2,7 @@
 //! leave in the buffers.
 
 use fairleadow::{Answer, Library, Proved, State, IMAGE_TEXT, TABLE};
+use reference::entry::image_from_text;
 use reference::frames::{text_of, Frame};
 use reference::samples::with_handler;
 
@@ -21,8 +22,8 @@ fn table() -> Vec<u8> {
 
 /// Two places, with labels 2 and 3 (of schemes 1 and 2) in them and the bits of schemes 3 and 4 at 1.
 fn full() -> State {
-    let mut state = State { size: 2, depth: 2, ..State::NONE };
-    (state.places[0], state.places[1]) = (2, 3);
+    let image = image_from_text(&image()).expect("an image");
+    let mut state = image.shape().state(2, &[2, 3]);
     (state.results[2], state.results[3]) = (true, true);
     state
 }
@@ -49,7 +50,11 @@ fn a_full_stack_is_dropped_and_handled() {
         let ticked = Proved.tick(&image, &mut state, 0xFFFF);
         assert_eq!((ticked.answer, ticked.code, ticked.mask), (Answer::Done(1), code, mask));
         assert_eq!((state.size, state.depth, state.places[0]), (2, 1, bottom));
-        assert!(state.places[1..].iter().all(|place| *place == 0));
+        for above in [&state.places[1..], &state.numbers[1..], &state.servers[1..]] {
+            assert!(above.iter().all(|byte| *byte == 0));
+        }
+        let open = if matches!(code, 0x60 | 0x00) { 3 } else { 1 };
+        assert_eq!((state.numbers[0], state.servers[0]), (open, open));
         assert_eq!([1, 2, 3, 4].map(|scheme| bit(&state, scheme)), bits);
         assert_eq!(Proved.live_tick(&table, &mut live, 0xFFFF), ticked);
         assert_eq!(live, state);

@@ -1,22 +1,26 @@
-//! Live runs and ticks of the proved library: on prepared tables they are runs and ticks, and each byte of chart P's table
+//! Live calls of the proved library: on prepared tables they are runs, ticks and rebindings, and each byte of chart P's table
 //! at each of its values, with a handler and without, is answered for as the reference does.
 
 use fairleadow::{Library, Proved};
 use reference::compare::live_alike;
 use reference::entry::translated;
 use reference::frames::text_of;
+use reference::live::Held;
 use reference::{fresh_state, samples, Reference, State};
 
 /// The words that each table is run with: those of the bench sheet and a few more.
 const WORDS: [u16; 14] = [0, 0, 1, 0, 0, 0, 0, 0, 0xFFFF, 1, 0x8000, 1, 1, 2];
 
 #[test]
-fn live_runs_and_ticks_are_runs_and_ticks() {
+fn live_calls_are_the_calls_on_the_image() {
     let summary = live_alike(&Proved, 2_000, 20);
     println!("answers on prepared tables:\n{summary}");
     for number in [0, 15, 16, 17, 18] {
         assert!(summary.count("live_run", number) > 0, "{summary}");
         assert!(number == 16 || summary.count("live_tick", number) > 0, "{summary}");
+    }
+    for number in [0, 15, 22] {
+        assert!(summary.count("live_rebind", number) > 0, "{summary}");
     }
 }
 
@@ -39,9 +43,11 @@ fn tables_p() -> [Vec<u8>; 2] {
 /// Fresh, deep in calls before a plain tick, before a return, and full; then scheme 2 at the bottom before its return, alone, and
 /// full.
 fn starts() -> Vec<State> {
+    let tables = tables_p().map(|table| Held::of(&table).expect("a table"));
     let deep = |places: &[u8], size: u8| {
-        let mut state = State { size, depth: places.len() as u8, ..State::NONE };
-        state.places[..places.len()].copy_from_slice(places);
+        // the label at the bottom tells whether the handler is there
+        let handled = usize::from(places[0] != 2);
+        let mut state = tables[handled].shape().state(size, places);
         state.results = std::array::from_fn(|k| k % 3 == 1);
         state
     };
@@ -70,6 +76,16 @@ fn hold_run(table: &[u8], state: &State) {
     assert_eq!(made(&Proved), made(&Reference), "{table:?} from {state:?}");
 }
 
+fn hold_rebindings(table: &[u8], state: &State) {
+    for (number, scheme) in [(2, 2), (2, 1), (1, 2), (3, 2), (2, 3)] {
+        let made = |library: &dyn Library| {
+            let mut after = *state;
+            (library.live_rebind(table, &mut after, number, scheme), after)
+        };
+        assert_eq!(made(&Proved), made(&Reference), "{table:?} from {state:?}, {number} to {scheme}");
+    }
+}
+
 fn hold_ticks(table: &[u8], state: &State) {
     for word in [0, 1, 0xFFFF] {
         let made = |library: &dyn Library| {
@@ -91,6 +107,7 @@ fn every_byte_of_the_table_of_chart_p_at_every_value() {
                 for state in &starts {
                     hold_run(&table, state);
                     hold_ticks(&table, state);
+                    hold_rebindings(&table, state);
                 }
             }
         }
@@ -105,6 +122,7 @@ fn every_length_of_the_table_of_chart_p() {
             for state in &starts() {
                 hold_run(&bytes[..length], state);
                 hold_ticks(&bytes[..length], state);
+                hold_rebindings(&bytes[..length], state);
             }
         }
     }

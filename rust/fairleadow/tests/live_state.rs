@@ -1,4 +1,4 @@
-//! The fifty bytes by which C keeps a state, through live runs and live ticks, and the buffer of a table.
+//! The 130 bytes by which C keeps a state, through live runs and live ticks, and the buffer of a table.
 
 use fairleadow::c;
 use fairleadow::{IMAGE_TEXT, TABLE};
@@ -33,7 +33,8 @@ fn table_p() -> Vec<u8> {
 }
 
 fn fresh(size: u8) -> c::State {
-    c::State { size, depth: 1, ..c::State::NONE }
+    let state = reference::fresh_state(size.into()).expect("a good size");
+    c::State::from(&state)
 }
 
 fn live_run(table: &[u8], state: &mut c::State, words: &[u16], room: usize) -> Said {
@@ -121,7 +122,7 @@ fn a_refused_live_tick_leaves_the_state_the_mask_and_the_code() {
     (without[50], without[51], without[52]) = (8, 0, 0);
     assert_eq!(live_tick(&without, &mut state, 0), ((18, 0, 0), 123, 45));
     assert_eq!(state, kept);
-    state.places[1] = 2;
+    state.numbers[1] = 2;
     let unfit = state;
     assert_eq!(live_tick(&table, &mut state, 0), ((15, 0, 0), 123, 45));
     assert_eq!(state, unfit);

@@ -164,6 +164,18 @@ extern "C" fn cause(job: &mut Ticks) {
     };
 }
 
+/// A job that rebinds number 2 to its own scheme.
+macro_rules! rebind_job {
+    ($name:ident, $function:path) => {
+        extern "C" fn $name(job: &mut Ticks) {
+            let (mut index, mut count) = (0, 0);
+            job.number = unsafe {
+                $function(job.ground.as_ptr(), job.ground.len(), &mut job.state, 2, 2, &mut index, &mut count)
+            };
+        }
+    };
+}
+
 struct Listing {
     image: Vec<u8>,
     firsts: [u16; LABELS],
@@ -191,6 +203,8 @@ run_job!(run, c::fairleadow_run);
 run_job!(live_run, c::fairleadow_live_run);
 tick_job!(tick, c::fairleadow_tick);
 tick_job!(live_tick, c::fairleadow_live_tick);
+rebind_job!(rebind, c::fairleadow_rebind);
+rebind_job!(live_rebind, c::fairleadow_live_rebind);
 
 /// Large charts, those with the longest paths, slow ones, most of which are refused, one with a handler, and random ones.
 fn worst_charts() -> Vec<Vec<Frame>> {
@@ -299,6 +313,33 @@ fn a_cause_fits_beside_both_texts() {
     assert!(CHART_TEXT + IMAGE_TEXT + deepest < MEMORY, "cause takes {deepest} bytes of stack");
 }
 
+/// The deepest of a rebinding over these grounds, from a fresh state and from one deep in calls; some are made, some refused.
+fn deepest_rebinding(
+    grounds: &[Vec<u8>],
+    tick: extern "C" fn(&mut Ticks),
+    rebind: extern "C" fn(&mut Ticks),
+) -> usize {
+    let (mut deepest, mut answered) = (0, [false; 2]);
+    for ground in grounds {
+        let mut job = ticks(ground.clone());
+        for _ in 0..4 {
+            deepest = deepest.max(depth(&mut job, rebind));
+            assert!(matches!(job.number, 0 | 22));
+            answered[usize::from(job.number == 22)] = true;
+            tick(&mut job);
+        }
+    }
+    assert_eq!(answered, [true; 2]);
+    deepest
+}
+
+#[test]
+fn a_rebinding_fits_beside_both_texts() {
+    let deepest = deepest_rebinding(&worst_images(), tick, rebind);
+    println!("rebind: {deepest} bytes of stack");
+    assert!(CHART_TEXT + IMAGE_TEXT + deepest < MEMORY, "rebind takes {deepest} bytes of stack");
+}
+
 #[test]
 fn a_list_of_rows_fits_beside_both_texts() {
     let mut deepest = 0;
@@ -327,16 +368,27 @@ fn a_preparation_fits_beside_the_image_and_its_table() {
     assert!(IMAGE_TEXT + TABLE + deepest < MEMORY, "prepare takes {deepest} bytes of stack");
 }
 
-#[test]
-fn a_live_run_and_a_live_tick_fit_beside_a_table() {
+/// The tables of all images that translate.
+fn worst_tables() -> Vec<Vec<u8>> {
     let table = |image: Vec<u8>| {
         let mut job = Preparation { image, table: vec![0; TABLE], number: 0, count: 0 };
         prepare(&mut job);
         job.table.truncate(job.count);
         job.table
     };
-    let tables: Vec<Vec<u8>> = worst_images().into_iter().map(table).collect();
-    let [run, tick] = deepest(&tables, live_run, live_tick);
+    worst_images().into_iter().map(table).collect()
+}
+
+#[test]
+fn a_live_rebinding_fits_beside_a_table() {
+    let deepest = deepest_rebinding(&worst_tables(), live_tick, live_rebind);
+    println!("live rebind: {deepest} bytes of stack");
+    assert!(TABLE + deepest < MEMORY, "live rebind takes {deepest} bytes of stack");
+}
+
+#[test]
+fn a_live_run_and_a_live_tick_fit_beside_a_table() {
+    let [run, tick] = deepest(&worst_tables(), live_run, live_tick);
     println!("live run: {run} bytes of stack, live tick: {tick}");
     assert!(TABLE + run.max(tick) < MEMORY, "a live run takes {run}, a live tick {tick}");
 }

@@ -1,4 +1,6 @@
-//! The fifty bytes by which C keeps a state.
+//! The 130 bytes by which C keeps a state.
+
+use std::mem::offset_of;
 
 use fairleadow::c;
 use reference::entry::translated;
@@ -106,6 +108,7 @@ fn a_cause_reads_every_byte_but_0_as_a_1() {
     let mut state = fresh(2);
     state.depth = 2;
     state.places[..2].copy_from_slice(&[2, 1]);
+    (state.numbers[1], state.servers[1]) = (2, 2);
     for (byte, wanted) in [(0, (0, 0, 0, 0)), (1, (0, 1, 0, 1)), (7, (0, 1, 0, 1)), (255, (0, 1, 0, 1))] {
         state.results[1] = byte;
         let (mut row, mut mask, mut bit, mut index, mut count) = (9, 9, 9, 9, 9);
@@ -130,8 +133,48 @@ fn a_cause_reads_every_byte_but_0_as_a_1() {
 fn a_bad_size_gives_a_state_of_zeros() {
     for size in [0, 33, 256, usize::MAX] {
         let (mut index, mut count) = (9, 9);
-        let mut state = c::State { size: 1, depth: 2, places: [3; 32], results: [4; 16] };
+        let mut state = c::State::filled(3);
         assert_eq!(unsafe { c::fairleadow_fresh(size, &mut state, &mut index, &mut count) }, 14);
         assert_eq!((index, count, state), (0, 0, c::State::NONE));
     }
+}
+
+#[test]
+fn the_struct_has_130_bytes_in_the_order_of_the_header() {
+    assert_eq!(size_of::<c::State>(), 130);
+    let offsets = [
+        offset_of!(c::State, size),
+        offset_of!(c::State, depth),
+        offset_of!(c::State, places),
+        offset_of!(c::State, results),
+        offset_of!(c::State, serving),
+        offset_of!(c::State, numbers),
+        offset_of!(c::State, servers),
+    ];
+    assert_eq!(offsets, [0, 1, 2, 34, 50, 66, 98]);
+}
+
+#[test]
+fn a_fresh_state_is_written_whole() {
+    for size in 1..=32 {
+        let (mut index, mut count) = (9, 9);
+        let mut state = c::State::filled(0xAB);
+        assert_eq!(unsafe { c::fairleadow_fresh(size, &mut state, &mut index, &mut count) }, 0);
+        let mut wanted = c::State { size: size as u8, depth: 1, ..c::State::NONE };
+        wanted.serving = std::array::from_fn(|k| k as u8 + 1);
+        (wanted.numbers[0], wanted.servers[0]) = (1, 1);
+        assert_eq!(state, wanted);
+    }
+}
+
+/// A state of zeros, or one that an old caller grew by zeros, is refused.
+#[test]
+fn zeros_for_the_new_bytes_do_not_fit() {
+    let image = image_p();
+    let mut zeros = c::State::NONE;
+    assert_eq!(run(&image, &mut zeros, &[0], 1), (15, 0, 0));
+    let mut grown = c::State { size: 3, depth: 1, ..c::State::NONE };
+    let kept = grown;
+    assert_eq!(run(&image, &mut grown, &[0], 1), (15, 0, 0));
+    assert_eq!(grown, kept);
 }

@@ -7,19 +7,31 @@ mod sizes;
 pub use answer::{Answer, Refusal};
 pub use sizes::*;
 
-/// The machine's state, with the fields of the C struct. Places hold labels, the bottom first, and 0 above the depth;
-/// scheme h's result bit is `results[h - 1]`.
+/// The machine's state, with the fields of the C struct. Places hold labels, the bottom first; number h's result bit is
+/// `results[h - 1]`, and the scheme that serves it `serving[h - 1]` (that of number 1, which nothing calls, is kept and not tried). For
+/// each place in use there is the number that its scheme was called by, and the scheme that served it. All three are 0 above the depth.
 #[derive(Clone, Copy, Debug, PartialEq, Eq)]
 pub struct State {
     pub size: u8,
     pub depth: u8,
     pub places: [u8; PLACES],
     pub results: [bool; SCHEMES],
+    pub serving: [u8; SCHEMES],
+    pub numbers: [u8; PLACES],
+    pub servers: [u8; PLACES],
 }
 
 impl State {
     /// Every number 0.
-    pub const NONE: State = State { size: 0, depth: 0, places: [0; PLACES], results: [false; SCHEMES] };
+    pub const NONE: State = State {
+        size: 0,
+        depth: 0,
+        places: [0; PLACES],
+        results: [false; SCHEMES],
+        serving: [0; SCHEMES],
+        numbers: [0; PLACES],
+        servers: [0; PLACES],
+    };
 }
 
 /// What the tick of a lent state hands back.
@@ -40,7 +52,7 @@ pub struct Cause {
     pub bit: u8,
 }
 
-/// What a tick's code stands for; a call has the scheme called, a Drop is a call that finds the stack full and starts the
+/// What a tick's code stands for; a call has the number called, a Drop is a call that finds the stack full and starts the
 /// handler instead, and Unknown is a code that no tick has.
 #[derive(Clone, Copy, Debug, PartialEq, Eq)]
 pub enum Meaning {
@@ -54,7 +66,7 @@ pub enum Meaning {
 }
 
 /// The entry points of papers 01 and 02, and those for a controller that keeps an image prepared. Counts are records, characters,
-/// labels, bytes of a table, ticks and places; an accepted image, a fresh state and a cause count 0.
+/// labels, bytes of a table, ticks and places; an accepted image, a fresh state, a cause and a rebinding count 0.
 pub trait Library {
     /// Chart lines to node records of ten bytes each. Tries 1 to 9, with 19 after 5, and 16; counts records.
     fn read_chart(&self, text: &[u8], out: &mut [u8]) -> Answer;
@@ -94,6 +106,10 @@ pub trait Library {
         Ticked { answer, mask: masks[0], code: codes[0] }
     }
 
+    /// From now on a call of this number opens this scheme, under the number called; schemes that are open go on as they are. Tries what
+    /// the image check tries, then 15 and 22; counts 0.
+    fn rebind(&self, image: &[u8], state: &mut State, number: usize, scheme: usize) -> Answer;
+
     /// The cause of the tick that a state would make: every word that agrees with this one on the mask takes the same row. Tries
     /// what the image check tries, then 15, 21 and 18; counts 0.
     fn cause(&self, image: &[u8], state: &State, word: u16) -> Cause;
@@ -124,6 +140,9 @@ pub trait Library {
         *state = after;
         Ticked { answer, mask: masks[0], code: codes[0] }
     }
+
+    /// A rebinding by a table: what a rebinding by its image does. Tries 11, 15 and 22; counts 0.
+    fn live_rebind(&self, table: &[u8], state: &mut State, number: usize, scheme: usize) -> Answer;
 
     fn meaning(&self, code: u8) -> Meaning;
 }

@@ -12,13 +12,6 @@ pub struct Image {
     frames: Vec<Frame>,
 }
 
-/// What a label calls, 0 for nothing, and the scheme that it belongs to.
-#[derive(Clone, Copy, Debug, PartialEq, Eq)]
-pub struct Label {
-    pub called: u8,
-    pub owner: u8,
-}
-
 /// The label that a row leaves, the conditions that it asks for, the result that it asks for (2 for none), and the next
 /// label.
 #[derive(Clone, Copy, Debug, PartialEq, Eq)]
@@ -50,9 +43,9 @@ impl Image {
         Image { header: Header::of(&frames[0]), frames, text }
     }
 
-    pub fn label(&self, label: u8) -> Label {
-        let frame = self.header.label(&self.frames, label).expect("a state's labels are in its image");
-        Label { called: frame[3], owner: frame[4] }
+    /// The number that a label calls, 0 for none.
+    pub fn called(&self, label: u8) -> u8 {
+        self.header.label(&self.frames, label).expect("a state's labels are in its image")[3]
     }
 
     /// A row by its number among the rows, from 0.
@@ -65,16 +58,9 @@ impl Image {
         self.frames[self.header.first_row()..].iter().map(Row::of).filter(move |row| row.from == label)
     }
 
-    /// The open labels of a fitting state, the bottom first. An End at the bottom is scheme 1's by its own label, 0, or else
-    /// the handler's.
+    /// The open labels of a fitting state, the bottom first, each with the scheme that the state remembers for it.
     pub fn open(&self, state: &State) -> Vec<Open> {
-        let mut above = self.header.handler;
-        let mut open = Vec::new();
-        for &label in &state.places[..usize::from(state.depth)] {
-            let Label { called, owner } = self.label(label);
-            open.push(Open { label, scheme: if label == 1 { above } else { owner } });
-            above = called;
-        }
-        open
+        let open = |at: usize| Open { label: state.places[at], scheme: state.servers[at] };
+        (0..usize::from(state.depth)).map(open).collect()
     }
 }

@@ -2,10 +2,11 @@
 
 pub mod arcs;
 pub mod coverage;
+pub mod swaps;
 pub mod table;
 pub mod ticks;
 pub mod words;
 
 pub use arcs::Arc;
 pub use coverage::Coverage;
-pub use ticks::{fresh, trace, Happening, Stopped, Tick, Trace};
+pub use ticks::{fresh, trace, Happening, Opened, Stopped, Tick, Trace};

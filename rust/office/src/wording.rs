@@ -2,7 +2,7 @@
 
 use crate::chart::Node;
 use crate::plan::Plan;
-use crate::trace::{Arc, Happening, Tick};
+use crate::trace::{Arc, Happening, Opened, Tick};
 
 /// What stands where a list is empty.
 pub const NONE: &str = "-";
@@ -68,7 +68,7 @@ impl Plan {
         (0..32).filter(|bit| mask >> bit & 1 == 1).map(|bit| self.names.operation(bit)).collect()
     }
 
-    /// The schemes whose result bit is 1.
+    /// The schemes whose numbers' result bits are 1.
     pub fn results(&self, results: &[bool; 16]) -> Vec<String> {
         let ones = (1..=16).filter(|scheme| results[usize::from(*scheme) - 1]);
         ones.map(|scheme| self.names.scheme(scheme)).collect()
@@ -81,22 +81,31 @@ impl Plan {
             (Happening::Return, 1) => "return to home".to_string(),
             (Happening::Return, _) => "return".to_string(),
             (Happening::Home, _) => "home".to_string(),
-            (Happening::Call(scheme), _) => format!("call of {}", self.names.scheme(scheme)),
+            (Happening::Call(number), _) if tick.server != number => {
+                let (number, server) = (self.names.scheme(number), self.names.scheme(tick.server));
+                format!("call of {number}, served by {server}")
+            }
+            (Happening::Call(number), _) => format!("call of {}", self.names.scheme(number)),
             (Happening::Drop, open) => {
                 format!("drop of {open}, start of {}", self.names.scheme(self.handler()))
             }
         }
     }
 
-    /// How many schemes are open, and which, the bottom first; equal ones in a row are named once, with their number.
-    pub fn open_schemes(&self, stack: &[usize]) -> String {
-        let schemes: Vec<u8> = stack.iter().map(|node| self.nodes[*node].scheme()).collect();
+    /// How many schemes are open, and which, the bottom first; equal ones in a row are named once, with their number. One that
+    /// serves another's number is named with it.
+    pub fn open_schemes(&self, stack: &[Opened]) -> String {
+        let scheme = |opened: &Opened| (self.nodes[opened.node].scheme(), opened.number);
+        let schemes: Vec<(u8, u8)> = stack.iter().map(scheme).collect();
         let groups: Vec<String> = schemes.chunk_by(|a, b| a == b).map(|group| self.repeated(group)).collect();
         format!("{}: {}", stack.len(), groups.join(" > "))
     }
 
-    fn repeated(&self, group: &[u8]) -> String {
-        let name = self.names.scheme(group[0]);
+    fn repeated(&self, group: &[(u8, u8)]) -> String {
+        let name = match group[0] {
+            (scheme, number) if scheme == number => self.names.scheme(scheme),
+            (scheme, number) => format!("{} for {}", self.names.scheme(scheme), self.names.scheme(number)),
+        };
         match group.len() {
             1 => name,
             count => format!("{name} x{count}"),

@@ -57,7 +57,7 @@ impl Case {
         let made = run(&["page", &path, "--places", places, "--words", words, "--ticks", ticks, "-o", &file]);
         let plan = load(&path).and_then(Plan::read).expect("an accepted chart");
         let words = Words::given(words).expect("words").take(Some(ticks.parse().expect("a number")));
-        let trace = trace(&plan, places.parse().expect("a number"), &words).expect("an accepted chart");
+        let trace = trace(&plan, places.parse().expect("a number"), &words, &[]).expect("an accepted chart");
         assert_eq!(made.status, i32::from(trace.stopped.is_some()), "{}", made.said);
         Case { page, plan, trace }
     }
@@ -107,7 +107,7 @@ impl Case {
     /// What is lit and shown at a tick, as the driver notes it.
     fn expected(&self, number: usize) -> String {
         let tick = &self.trace.ticks[number];
-        let stack: Vec<String> = tick.stack.iter().rev().map(|node| node_id(*node)).collect();
+        let stack: Vec<String> = tick.stack.iter().rev().map(|opened| node_id(opened.node)).collect();
         let waiting = stack[1..].iter().filter(|node| **node != stack[0]).cloned().collect();
         let parts = [
             number.to_string(),

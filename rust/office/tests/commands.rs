@@ -132,7 +132,7 @@ fn files_that_cannot_be_read() {
 
 #[test]
 fn compose_and_show_turn_into_each_other() {
-    for name in ["bore", "finishing", "full_stack", "home", "paper", "roughing", "two_blocks"] {
+    for name in ["bore", "finishing", "full_stack", "home", "paper", "roughing", "swapped", "two_blocks"] {
         let (chart, notation) = (format!("{name}.chart"), format!("{name}.txt"));
         assert_eq!(fairleadow(&["compose", &path(&notation)], b""), (0, file(&chart), String::new()));
         let (status, shown, _) = fairleadow(&["show", &path(&chart)], b"");

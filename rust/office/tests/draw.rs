@@ -134,7 +134,7 @@ fn dot_takes_every_drawing() {
         }
         tried += 1;
         let plan = Plan::read(from_bytes(&text_of(&records))).expect("an accepted chart");
-        let traced = trace(&plan, 32, &[0x5555; 40]).ok();
+        let traced = trace(&plan, 32, &[0x5555; 40], &[]).ok();
         let text = drawing(&plan, traced.as_ref().map(|traced| &traced.coverage), "");
         let Ok(svg) = dot::svg(&text) else { return missing() };
         for (at, node) in plan.nodes.iter().enumerate() {

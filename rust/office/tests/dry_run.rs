@@ -53,7 +53,8 @@ fn repository(name: &str) -> PathBuf {
     executable(root.join("tools/rt"), RT);
     executable(root.join("tools/cargo"), CARGO);
     executable(root.join("dry_run"), &fs::read_to_string(SCRIPT).expect("the script"));
-    let lists = "lists:\n# text\nframes: lists\ncharts: frames\nfairleadow: lists charts\nbench: lists fairleadow\n";
+    let lists =
+        "lists:\n# text\nframes: lists\ncharts: frames\nfairleadow: lists charts\nbench: lists fairleadow\n";
     fs::write(root.join("crates.txt"), lists).expect("a folder that can be written");
     fs::write(root.join("a.chart"), "").expect("a folder that can be written");
     root
@@ -82,7 +83,7 @@ fn wrong_arguments_get_a_usage_line() {
     ] {
         let ran = usage(&args);
         assert_eq!((ran.status, ran.printed.as_str()), (2, ""), "{args:?}");
-        let line = "usage: ./dry_run CHART [--places N] [--words WORDS] [--ticks N]";
+        let line = "usage: ./dry_run CHART [--places N] [--words WORDS] [--ticks N] [--swap SWAPS]";
         assert_eq!(ran.said, format!("{told}\n{line}\n"));
     }
     let ran = usage(&["--help"]);

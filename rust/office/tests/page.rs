@@ -18,7 +18,7 @@ fn source(chart: &str) -> Source {
 
 fn traced(source: Source, places: usize, words: &[u16]) -> (Plan, Trace) {
     let plan = Plan::read(source).expect("an accepted chart");
-    let trace = trace(&plan, places, words).expect("an accepted chart");
+    let trace = trace(&plan, places, words, &[]).expect("an accepted chart");
     (plan, trace)
 }
 

@@ -18,13 +18,14 @@ use reference::generate::{chains, Random};
 use shared::{example, file, run};
 
 /// What is said of each example.
-const EXAMPLES: [(&str, &str); 7] = [
+const EXAMPLES: [(&str, &str); 8] = [
     ("bore", "needs 2 places: drilling > bore_test"),
     ("finishing", "needs 2 places: finishing > polishing"),
     ("full_stack", "may need any number of places: roughing calls itself"),
     ("home", "needs 1 place: s1"),
     ("paper", "may need any number of places: s2 calls itself"),
     ("roughing", "may need any number of places: roughing calls itself"),
+    ("swapped", "needs 2 places: blocks > roughing"),
     ("two_blocks", "needs 2 places: boring > bore_test"),
 ];
 

@@ -81,6 +81,38 @@ fn a_handler_starts_where_the_stack_is_full() {
     }
 }
 
+/// A scheme is swapped between two blocks, and in the middle of one, as the examples have it.
+#[test]
+fn a_swap_serves_later_calls() {
+    let words = "0,0,4,0,0,0,0,0,4,4,0,0,0,0,0,0,4,0,0";
+    for (name, swaps) in [("between", "6:2=3"), ("middle", "3:2=3,10:2=2")] {
+        let ran = traced("swapped.txt", &["--words", words, "--swap", swaps]);
+        assert_eq!((ran.status, ran.said.as_str()), (0, ""));
+        let expected = example(&format!("swapped.{name}.trace"));
+        assert_eq!(ran.printed, std::fs::read_to_string(expected).expect("the example's trace"));
+    }
+}
+
+#[test]
+fn swaps_that_cannot_be_made_are_told() {
+    let swapped = |swap: &str| traced("swapped.txt", &["--words", "0,0,4,0", "--swap", swap]);
+    for swap in ["3:2=4", "3:1=2", "0:2=1", "3:17=2"] {
+        let ran = swapped(swap);
+        assert_eq!((ran.status, ran.printed.as_str()), (1, ""), "{swap}");
+        let told = format!("the swap {swap}: this number cannot be given to that scheme");
+        assert!(ran.said.contains(&told) && ran.said.contains("refusal 22"), "{}", ran.said);
+    }
+    let ran = traced("full_stack.txt", &["--words", "0", "--swap", "0:3=2"]);
+    assert!(ran.status == 1 && ran.said.contains("refusal 22"), "{}", ran.said);
+    for (swap, told) in [
+        ("2=3", "'2=3' is no swap: write TICK:NUMBER=SCHEME, such as 4:2=3"),
+        ("4:2=3", "the swap 4:2=3 comes after the last tick, 3"),
+    ] {
+        let ran = swapped(swap);
+        assert!(ran.status == 2 && ran.said.starts_with(told), "{}", ran.said);
+    }
+}
+
 /// What happens, and how many schemes are open.
 fn happens_and_open(row: &str) -> (String, usize) {
     let cells: Vec<&str> = row.split("  ").map(str::trim).filter(|cell| !cell.is_empty()).collect();
@@ -156,7 +188,7 @@ fn without_options_the_words_are_random_and_the_ticks_64() {
 
 #[test]
 fn counted_words_are_those_of_the_run_program() {
-    for name in ["bore", "finishing", "full_stack", "home", "paper", "roughing", "two_blocks"] {
+    for name in ["bore", "finishing", "full_stack", "home", "paper", "roughing", "swapped", "two_blocks"] {
         let ran = traced(&format!("{name}.chart"), &["--words", "count"]);
         let codes = std::fs::read_to_string(example(&format!("{name}.codes"))).expect("the example's codes");
         let happenings = ["plain", "return", "home", "call of s2"];

@@ -268,10 +268,29 @@ fn refusals_of_the_library_are_told() {
     assert_eq!((ran.status, ran.said.as_str()), (1, "no/such.image: there is no such file\n"));
 }
 
+/// The tick is that of the run with its swaps: the scheme that serves is told.
+#[test]
+fn a_tick_after_a_swap_is_that_of_the_scheme_that_serves() {
+    let words = "0,0,4,0,0,0,0,0,4,4,0,0,0,0";
+    let swapped = printed(&example("swapped.txt"), words, &["--swap", "3:2=3", "--tick", "9"]);
+    assert!(
+        swapped.contains("it left node lift of finer (label 6) and went to node touch of finer (label 5)"),
+        "{swapped}"
+    );
+    let before = printed(&example("swapped.txt"), words, &["--swap", "3:2=3", "--tick", "3"]);
+    assert!(before.contains("it left node cut of roughing"), "{before}");
+    let returned = printed(&example("swapped.image"), words, &["--swap", "3:2=3", "--tick", "12"]);
+    assert!(
+        returned.contains("it returned from label 1 (End) of scheme 3 to label 2 of scheme 1"),
+        "{returned}"
+    );
+}
+
 #[test]
 fn wrong_arguments_get_the_usage() {
     let chart = example("bore.txt");
-    let usage = "\nusage: fairleadow why CHART [--places N] [--words WORDS] [--ticks N] [--tick N]\n";
+    let usage =
+        "\nusage: fairleadow why CHART [--places N] [--words WORDS] [--ticks N] [--swap SWAPS] [--tick N]\n";
     for (rest, told) in [
         (
             vec!["--words", BLOCKS, "--tick", "12"],
@@ -357,7 +376,7 @@ fn random_charts_and_images_are_told_as_the_reference_has_them() {
         let Ok(subject) = Subject::read(text) else { continue };
         let words = runs::words(random, 24);
         for tick in 0..words.len() {
-            let said = match asked(&subject, 1 + random.below(4), &words, Some(tick)) {
+            let said = match asked(&subject, 1 + random.below(4), &words, &[], Some(tick)) {
                 Ok(asked) => held(&subject, &asked),
                 Err(problem) => problem.words,
             };

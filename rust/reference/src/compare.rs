@@ -3,6 +3,7 @@
 
 mod alike;
 mod live;
+mod rebindings;
 mod rows;
 mod ticks;
 
@@ -15,6 +16,7 @@ use crate::frames::{frames_of, text_of, Frame, CHARACTERS, IMAGE_TEXT, RECORDS};
 use crate::generate::{chains, charts, damage, images, letters, runs, Random};
 use crate::library::{Library, Reference};
 use crate::show;
+use crate::state::Binding;
 pub use alike::live_alike;
 
 /// The first input on which the library and the reference differ.
@@ -36,12 +38,13 @@ impl fmt::Display for Difference {
     }
 }
 
-/// How often each call gave each answer (0 for success), how often its ticks dropped the stack and returned at the bottom, and how
-/// many of its texts had small letters and were refused by none of 1 to 3.
+/// How often each call gave each answer (0 for success), how often its ticks dropped the stack and returned at the bottom, how often
+/// they called a number that another scheme served, and how many of its texts had small letters and were refused by none of 1 to 3.
 #[derive(Debug, Default)]
 pub struct Summary {
     pub answers: BTreeMap<(&'static str, u8), usize>,
     pub handled: BTreeMap<&'static str, Handled>,
+    pub swapped: BTreeMap<&'static str, usize>,
     pub small: BTreeMap<&'static str, usize>,
 }
 
@@ -61,6 +64,10 @@ impl Summary {
         self.handled.get(call).copied().unwrap_or_default()
     }
 
+    pub fn swapped(&self, call: &'static str) -> usize {
+        self.swapped.get(call).copied().unwrap_or(0)
+    }
+
     pub fn small(&self, call: &'static str) -> usize {
         self.small.get(call).copied().unwrap_or(0)
     }
@@ -72,13 +79,18 @@ impl Summary {
         }
     }
 
-    /// Follows the depth by the codes of finished ticks, and hands back the depth after them.
-    fn note_codes(&mut self, call: &'static str, depth: usize, codes: &[u8]) -> usize {
+    /// Follows the depth by the codes of finished ticks, which go by one binding, and hands back the depth after them.
+    fn note_codes(&mut self, call: &'static str, depth: usize, binding: &Binding, codes: &[u8]) -> usize {
         let handled = self.handled.entry(call).or_default();
+        let swapped = self.swapped.entry(call).or_default();
         let mut depth = depth;
         for code in codes {
             match code {
-                0x10..=0x20 | 0x40..=0x50 => depth += 1,
+                0x10..=0x20 | 0x40..=0x50 => {
+                    let number = (code - 1) & 15;
+                    *swapped += usize::from(binding[usize::from(number)] != number + 1);
+                    depth += 1;
+                }
                 0x03 if depth == 1 => handled.returns += 1,
                 0x03 => depth -= 1,
                 0x60 => {
@@ -100,6 +112,9 @@ impl fmt::Display for Summary {
         for (call, Handled { drops, returns }) in &self.handled {
             writeln!(f, "{call:>12} {drops:>8} drops, {returns:>8} returns at the bottom")?;
         }
+        for (call, count) in &self.swapped {
+            writeln!(f, "{call:>12} {count:>8} calls of a number that another scheme serves")?;
+        }
         for (call, count) in &self.small {
             writeln!(f, "{call:>12} {count:>8} texts with small letters")?;
         }
@@ -109,6 +124,20 @@ impl fmt::Display for Summary {
 
 /// Compares on so many cases and stops at the first difference.
 pub fn compare(library: &dyn Library, seed: u64, cases: u64) -> Result<Summary, Box<Difference>> {
+    compare_by(library, seed, cases, |case| case.one())
+}
+
+/// The same by lists of runs, ticks and rebindings of both kinds alone, which the walk judges and not the reference's machine.
+pub fn compare_lists(library: &dyn Library, seed: u64, cases: u64) -> Result<Summary, Box<Difference>> {
+    compare_by(library, seed, cases, |case| case.calls("live_runs", true))
+}
+
+fn compare_by(
+    library: &dyn Library,
+    seed: u64,
+    cases: u64,
+    one: impl Fn(&mut Case) -> Compared,
+) -> Result<Summary, Box<Difference>> {
     let mut summary = Summary::default();
     for case in 0..cases {
         let mut compared = Case {
@@ -117,7 +146,7 @@ pub fn compare(library: &dyn Library, seed: u64, cases: u64) -> Result<Summary, 
             random: Random::new(seed.wrapping_add(case)),
             summary: &mut summary,
         };
-        compared.one()?;
+        one(&mut compared)?;
     }
     Ok(summary)
 }
@@ -139,7 +168,7 @@ type Call<'a> = fn(&(dyn Library + 'a), &[u8], &mut [u8]) -> Answer;
 
 impl<'a> Case<'a> {
     fn one(&mut self) -> Compared {
-        match self.random.below(17) {
+        match self.random.below(19) {
             0 => self.read_chart(),
             1 => self.write_chart(),
             2 => self.translate().and_then(|()| self.places()),
@@ -147,13 +176,15 @@ impl<'a> Case<'a> {
             4 => self.fresh(),
             5 => self.run(),
             6 => self.tick(),
-            7 => self.runs("runs", false),
+            7 => self.calls("runs", false),
             8 => self.prepare(),
             9 | 10 => self.live_run(),
             11 | 12 => self.live_tick(),
-            13 => self.runs("live_runs", true),
+            13 => self.calls("live_runs", true),
             14 => self.cause(),
             15 => self.list_rows(),
+            16 => self.rebind(),
+            17 => self.live_rebind(),
             _ => self.mixture(),
         }
     }

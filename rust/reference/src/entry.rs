@@ -11,7 +11,7 @@ use crate::machine::{self, Advanced};
 use crate::places::longest_chain;
 use crate::prepare::table_of;
 use crate::row_list::row_list;
-use crate::state::{fresh_state, State};
+use crate::state::{can_rebind, fresh_state, Shape, State};
 use crate::translator;
 use interface::Cause;
 
@@ -151,6 +151,18 @@ pub fn run_ticks(
     (Answer::Done(words.len()), state)
 }
 
+/// Refusal 22, or the number is served by the scheme from then on.
+fn bind(shape: Shape, state: &mut State, number: usize, scheme: usize) -> Result<usize, Refusal> {
+    refuse_if(22, !can_rebind(shape.schemes, shape.handler, number, scheme))?;
+    state.serving[number - 1] = scheme as u8;
+    Ok(0)
+}
+
+/// What the image check tries, then 15 and 22; counts 0.
+pub fn rebind(image: &[u8], state: &mut State, number: usize, scheme: usize) -> Answer {
+    answered(image_for(image, state).and_then(|image| bind(image.shape(), state, number, scheme)))
+}
+
 /// What the image check tries, then 15, 21 and 18; counts 0.
 pub fn cause(image: &[u8], state: &State, word: u16) -> Cause {
     match image_for(image, state).and_then(|image| cause_of(&image, state, word)) {
@@ -179,6 +191,18 @@ pub fn prepare(image: &[u8], out: &mut [u8]) -> Answer {
     }))
 }
 
+/// The image that a table holds, if the state fits: refusals 11 and 15.
+fn held_for(table: &[u8], state: &State) -> Result<Held, Refusal> {
+    let held = Held::of(table)?;
+    refuse_if(15, !held.fits(state))?;
+    Ok(held)
+}
+
+/// Refusals 11, 15 and 22; counts 0.
+pub fn live_rebind(table: &[u8], state: &mut State, number: usize, scheme: usize) -> Answer {
+    answered(held_for(table, state).and_then(|held| bind(held.shape(), state, number, scheme)))
+}
+
 /// Refusal 11, then 15 to 18; counts ticks.
 pub fn live_run(
     table: &[u8],
@@ -187,8 +211,7 @@ pub fn live_run(
     masks: &mut [u32],
     codes: &mut [u8],
 ) -> (Answer, State) {
-    let ready = Held::of(table).and_then(|held| {
-        refuse_if(15, !held.fits(state))?;
+    let ready = held_for(table, state).and_then(|held| {
         roomy(words, masks, codes)?;
         Ok(held)
     });

@@ -19,8 +19,10 @@ pub enum EntryPoint {
     Run,
     Cause,
     ListRows,
+    Rebind,
     LiveTick,
     LiveRun,
+    LiveRebind,
     Fresh,
     Meaning,
 }
@@ -34,12 +36,14 @@ pub struct Input {
     pub words: Vec<u16>,
     /// A stack's size, or a code.
     pub value: usize,
+    /// A number, and the scheme that is to serve it.
+    pub rebinding: (usize, usize),
 }
 
 impl Input {
-    /// A chart's records or an image's frames, and nothing besides.
+    /// A chart's records or an image's frames, and nothing besides but a rebinding that any image with calls allows.
     pub fn of(frames: Vec<Frame>) -> Input {
-        Input { frames, state: State::NONE, words: vec![0], value: 0 }
+        Input { frames, state: State::NONE, words: vec![0], value: 0, rebinding: (2, 2) }
     }
 }
 
@@ -57,7 +61,7 @@ pub struct Made {
 }
 
 impl EntryPoint {
-    pub const ALL: [EntryPoint; 14] = [
+    pub const ALL: [EntryPoint; 16] = [
         EntryPoint::ReadChart,
         EntryPoint::WriteChart,
         EntryPoint::Translate,
@@ -68,8 +72,10 @@ impl EntryPoint {
         EntryPoint::Run,
         EntryPoint::Cause,
         EntryPoint::ListRows,
+        EntryPoint::Rebind,
         EntryPoint::LiveTick,
         EntryPoint::LiveRun,
+        EntryPoint::LiveRebind,
         EntryPoint::Fresh,
         EntryPoint::Meaning,
     ];
@@ -86,8 +92,10 @@ impl EntryPoint {
             EntryPoint::Run => "run",
             EntryPoint::Cause => "cause",
             EntryPoint::ListRows => "list_rows",
+            EntryPoint::Rebind => "rebind",
             EntryPoint::LiveTick => "live_tick",
             EntryPoint::LiveRun => "live_run",
+            EntryPoint::LiveRebind => "live_rebind",
             EntryPoint::Fresh => "fresh",
             EntryPoint::Meaning => "meaning",
         }
@@ -95,7 +103,7 @@ impl EntryPoint {
 
     /// Makes the call, with buffers that are never too short.
     pub fn make(self, library: &dyn Library, input: &Input) -> Made {
-        let Input { frames, state, words, value } = input;
+        let Input { frames, state, words, value, rebinding: (number, scheme) } = input;
         let (text, bytes) = (|| text_of(frames), || frames.concat());
         match self {
             EntryPoint::ReadChart => written(RECORDS, |out| library.read_chart(&text(), out)),
@@ -117,6 +125,10 @@ impl EntryPoint {
                 let (mut firsts, mut counts) = (vec![0xAAAA; LABELS], vec![0xAAAA; LABELS]);
                 let answer = library.list_rows(&text(), &mut firsts, &mut counts);
                 Made { numbers: [firsts, counts].concat(), ..answered(answer) }
+            }
+            EntryPoint::Rebind => rebound(state, |after| library.rebind(&text(), after, *number, *scheme)),
+            EntryPoint::LiveRebind => {
+                rebound(state, |after| library.live_rebind(&bytes(), after, *number, *scheme))
             }
             EntryPoint::LiveRun => {
                 ran(words.len(), |masks, codes| library.live_run(&bytes(), state, words, masks, codes))
@@ -148,6 +160,12 @@ fn ticked(state: &State, call: impl FnOnce(&mut State) -> Ticked) -> Made {
     let mut state = *state;
     let Ticked { answer, mask, code } = call(&mut state);
     Made { masks: vec![mask], codes: vec![code], state, ..answered(answer) }
+}
+
+fn rebound(state: &State, call: impl FnOnce(&mut State) -> Answer) -> Made {
+    let mut state = *state;
+    let answer = call(&mut state);
+    Made { state, ..answered(answer) }
 }
 
 fn ran(room: usize, call: impl FnOnce(&mut [u32], &mut [u8]) -> (Answer, State)) -> Made {

@@ -1,8 +1,9 @@
-//! What demand 3 says of a list of runs, computed from the walk over the joined words and nothing else.
+//! What demand 3 says of a list of runs and rebindings, computed from the walk over the joined words and nothing else.
 
 use crate::answer::Answer;
 use crate::chart::Chart;
-use crate::walk::{walk, Tick};
+use crate::state::{can_rebind, OWN};
+use crate::walk::{walk_told, Signal, Tick};
 
 /// One run of a list: its words, and its output buffers as they stand before it.
 #[derive(Clone, Debug)]
@@ -14,12 +15,20 @@ pub struct Run {
 
 impl Run {
     /// Whether both buffers have room for all words; only then do the words join.
-    fn joins(&self) -> bool {
+    pub fn joins(&self) -> bool {
         self.masks.len() >= self.words.len() && self.codes.len() >= self.words.len()
     }
 }
 
-/// What a run answers and what its buffers hold afterwards.
+/// One call of a list.
+#[derive(Clone, Debug)]
+pub enum Step {
+    Run(Run),
+    /// A number, and the scheme that is to serve it.
+    Rebind(usize, usize),
+}
+
+/// What a call answers and what its buffers hold afterwards; a rebinding has none.
 #[derive(Clone, Debug, PartialEq, Eq)]
 pub struct Outcome {
     pub answer: Answer,
@@ -27,15 +36,50 @@ pub struct Outcome {
     pub codes: Vec<u8>,
 }
 
-/// The outcome of each run of a list that starts with a fresh state of this size.
-pub fn expected(chart: &Chart, size: usize, runs: &[Run]) -> Vec<Outcome> {
-    let joined: Vec<u16> = runs.iter().filter(|r| r.joins()).flat_map(|r| r.words.clone()).collect();
-    let ticks = walk(chart, size, &joined);
+impl Outcome {
+    pub fn of_rebinding(answer: Answer) -> Outcome {
+        Outcome { answer, masks: Vec::new(), codes: Vec::new() }
+    }
+}
+
+fn allowed(chart: &Chart, number: usize, scheme: usize) -> bool {
+    can_rebind(chart.schemes().into(), chart.handler().unwrap_or(0), number, scheme)
+}
+
+/// The words of all runs that join, each with the binding that the rebindings before it have made, less those that 22 refuses.
+fn joined(chart: &Chart, steps: &[Step]) -> Vec<Signal> {
+    let (mut binding, mut signals) = (OWN, Vec::new());
+    for step in steps {
+        match step {
+            Step::Run(run) if run.joins() => {
+                signals.extend(run.words.iter().map(|word| Signal { word: *word, binding }));
+            }
+            Step::Rebind(number, scheme) if allowed(chart, *number, *scheme) => {
+                binding[number - 1] = *scheme as u8;
+            }
+            _ => {}
+        }
+    }
+    signals
+}
+
+/// The outcome of each call of a list that starts with a fresh state of this size.
+pub fn expected(chart: &Chart, size: usize, steps: &[Step]) -> Vec<Outcome> {
+    let ticks = walk_told(chart, size, &joined(chart, steps));
     let full = |tick: &Tick| tick.calls() && tick.open == size;
     let bound = ticks.iter().position(full).unwrap_or(ticks.len());
     let mut first = 0;
     let mut outcomes = Vec::new();
-    for run in runs {
+    for step in steps {
+        let run = match step {
+            Step::Run(run) => run,
+            Step::Rebind(number, scheme) => {
+                let refused = Answer::Refused { number: 22, index: 0, count: 0 };
+                let answer = if allowed(chart, *number, *scheme) { Answer::Done(0) } else { refused };
+                outcomes.push(Outcome::of_rebinding(answer));
+                continue;
+            }
+        };
         let end = if run.joins() { first + run.words.len() } else { first };
         outcomes.push(outcome(run, &ticks[first.min(bound)..end.min(bound)], bound < end));
         first = end;

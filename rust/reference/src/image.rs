@@ -2,6 +2,7 @@
 
 use crate::answer::{refuse_if, refuse_lowest, Refusal};
 use crate::frames::Frame;
+use crate::state::Shape;
 pub use interface::ROWS;
 
 pub const PLAIN: u8 = 0;
@@ -22,6 +23,8 @@ pub struct Label {
 impl Label {
     pub const ZERO: Label = Label { kind: HOME, called: 0, owner: 1, result: 0, mask: 0 };
     pub const ONE: Label = Label { kind: RETURN, called: 0, owner: 0, result: 0, mask: 0 };
+    /// What is found of a label that there is not.
+    pub const NONE: Label = Label { kind: PLAIN, called: 0, owner: 0, result: 0, mask: 0 };
 
     pub fn calls(&self) -> bool {
         self.kind == OPERATION_CALL || self.kind == FUNCTION_CALL
@@ -47,6 +50,10 @@ pub struct Image {
 }
 
 impl Image {
+    pub fn shape(&self) -> Shape<'_> {
+        Shape { labels: &self.labels, schemes: self.entries.len(), handler: self.handler }
+    }
+
     /// The image's frames in order.
     pub fn frames(&self) -> Vec<Frame> {
         let mut frames = vec![self.header()];

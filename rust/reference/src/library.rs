@@ -42,6 +42,10 @@ impl Library for Reference {
         entry::run(image, state, words, masks, codes)
     }
 
+    fn rebind(&self, image: &[u8], state: &mut State, number: usize, scheme: usize) -> Answer {
+        entry::rebind(image, state, number, scheme)
+    }
+
     fn cause(&self, image: &[u8], state: &State, word: u16) -> Cause {
         entry::cause(image, state, word)
     }
@@ -63,6 +67,10 @@ impl Library for Reference {
         codes: &mut [u8],
     ) -> (Answer, State) {
         entry::live_run(table, state, words, masks, codes)
+    }
+
+    fn live_rebind(&self, table: &[u8], state: &mut State, number: usize, scheme: usize) -> Answer {
+        entry::live_rebind(table, state, number, scheme)
     }
 
     fn meaning(&self, code: u8) -> Meaning {

@@ -5,7 +5,7 @@ use crate::answer::{refuse_if, Refusal};
 use crate::frames::Frame;
 use crate::image::{handler_stands, Label, Row, FUNCTION_CALL, HOME, OPERATION_CALL, PLAIN, RETURN, ROWS};
 use crate::machine::Advanced;
-use crate::state::State;
+use crate::state::{leave_alone, Shape, State};
 
 /// The image that a table holds; `handler` is 0 for none, `rows[l]` are the rows of label l.
 #[derive(Clone, Debug)]
@@ -15,9 +15,6 @@ pub struct Held {
     pub labels: Vec<Label>,
     pub rows: Vec<Vec<Row>>,
 }
-
-/// What is found of a label that there is not.
-const NOTHING: Label = Label { kind: PLAIN, called: 0, owner: 0, result: 0, mask: 0 };
 
 /// How many schemes and rows a table's header tells, its highest label, and the handler.
 struct Header {
@@ -66,12 +63,16 @@ impl Held {
     }
 
     fn label(&self, number: u8) -> Label {
-        self.labels.get(usize::from(number)).copied().unwrap_or(NOTHING)
+        self.labels.get(usize::from(number)).copied().unwrap_or(Label::NONE)
     }
 
-    /// Scheme 0 counts as scheme 1.
-    fn entry(&self, scheme: u8) -> u8 {
-        self.entries[usize::from(scheme).max(1) - 1]
+    pub fn shape(&self) -> Shape<'_> {
+        Shape { labels: &self.labels, schemes: self.entries.len(), handler: self.handler }
+    }
+
+    /// Scheme 0 counts as scheme 1, and one above the last is entered at label 0.
+    pub fn entry(&self, scheme: u8) -> u8 {
+        self.entries.get(usize::from(scheme).max(1) - 1).copied().unwrap_or(0)
     }
 
     /// Whether a state fits the image (15).
@@ -79,10 +80,35 @@ impl Held {
         let (size, depth) = (usize::from(state.size), usize::from(state.depth));
         (1..=32).contains(&size)
             && (1..=size).contains(&depth)
-            && state.places[depth..].iter().all(|place| *place == 0)
+            && (depth..32).all(|at| (state.places[at], state.numbers[at], state.servers[at]) == (0, 0, 0))
             && (0..depth).all(|at| usize::from(state.places[at]) < self.labels.len())
-            && (self.label(state.places[0]).owner == 1 || self.handles(state.places[0]))
-            && (1..depth).all(|at| self.stands_on(state.places[at], state.places[at - 1]))
+            && self.bottom_stands(state)
+            && (1..depth).all(|at| self.stands_on(state, at))
+            && (2..=16).all(|number| self.may_serve(state.serving[number - 1], number))
+    }
+
+    /// Whether the bottom is scheme 1's or the handler's, and remembers that number as called and as served by.
+    fn bottom_stands(&self, state: &State) -> bool {
+        let scheme = match state.places[0] {
+            bottom if self.handles(bottom) => self.handler,
+            bottom if self.label(bottom).owner == 1 => 1,
+            _ => return false,
+        };
+        (state.numbers[0], state.servers[0]) == (scheme, scheme)
+    }
+
+    fn callable(&self, scheme: u8) -> bool {
+        (2..=self.entries.len()).contains(&usize::from(scheme))
+    }
+
+    /// Numbers of schemes that can be called may be served by each other's; any other number, and the handler's, is its own.
+    fn may_serve(&self, scheme: u8, number: usize) -> bool {
+        let own = number > self.entries.len() || number == usize::from(self.handler);
+        if own {
+            usize::from(scheme) == number
+        } else {
+            self.callable(scheme)
+        }
     }
 
     /// Whether there is a handler and this label at the bottom means that it is there: its own label, or label 1.
@@ -90,11 +116,15 @@ impl Held {
         self.handler != 0 && (bottom == 1 || self.label(bottom).owner == self.handler)
     }
 
-    /// Whether a label may stand above another: the other calls, and this one is 1 or of the scheme called.
-    fn stands_on(&self, above: u8, kept: u8) -> bool {
-        let kept = self.label(kept);
+    /// Whether a place may stand above the one below: that one calls the number remembered here, and the label is 1 or of the scheme
+    /// remembered, which can be called.
+    fn stands_on(&self, state: &State, at: usize) -> bool {
+        let (kept, above) = (self.label(state.places[at - 1]), state.places[at]);
+        let (number, server) = (state.numbers[at], state.servers[at]);
         matches!(kept.kind, OPERATION_CALL | FUNCTION_CALL)
-            && (above == 1 || self.label(above).owner == kept.called)
+            && kept.called == number
+            && self.callable(server)
+            && (above == 1 || self.label(above).owner == server)
     }
 
     /// The rows of a label that match. Function bits decide only over rows of a function call's label.
@@ -133,33 +163,37 @@ impl Held {
         self.taken(label, results, word).map(|row| row.next).ok_or(18)
     }
 
-    /// One tick of a state with a depth of 1 to its size, or 17 or 18. A call clears the bit of the scheme called; 0 counts as 1.
+    /// One tick of a state with a depth of 1 to its size, or 17 or 18. A result goes to the bit of the number at the top, and a call
+    /// clears the bit of the number called and opens the scheme that serves it; number 0 counts as 1.
     /// Where there is a handler, a call that finds the stack full drops all for it. A return at the bottom leads to label 0, also in
     /// a table without a handler, where only damage leads to one.
     pub fn tick(&self, state: &State, word: u16) -> Result<Advanced, u8> {
         let top = usize::from(state.depth) - 1;
         let here = self.label(state.places[top]);
-        let mut after = State { results: results_after(&here, &state.results), ..*state };
+        let results = results_after(&here, state.numbers[top], &state.results);
+        let mut after = State { results, ..*state };
         match here.kind {
             HOME => after.places[top] = self.entry(1),
             OPERATION_CALL | FUNCTION_CALL if state.depth == state.size => {
                 if self.handler == 0 || self.handles(state.places[0]) {
                     return Err(17);
                 }
-                (after.depth, after.places) = (1, [0; 32]);
-                after.places[0] = self.entry(self.handler);
+                leave_alone(&mut after, self.entry(self.handler), self.handler);
                 after.results[usize::from(self.handler) - 1] = false;
                 return Ok(Advanced { mask: here.mask, code: 0x60, state: after });
             }
             OPERATION_CALL | FUNCTION_CALL => {
-                after.places[top + 1] = self.entry(here.called);
+                let bit = usize::from(here.called).max(1) - 1;
+                let server = state.serving[bit];
+                after.places[top + 1] = self.entry(server);
+                (after.numbers[top + 1], after.servers[top + 1]) = (here.called, server);
                 after.depth += 1;
-                after.results[usize::from(here.called).max(1) - 1] = false;
+                after.results[bit] = false;
             }
-            RETURN if top == 0 => after.places[0] = 0,
+            RETURN if top == 0 => leave_alone(&mut after, 0, 1),
             RETURN => {
                 after.places[top - 1] = self.next(state.places[top - 1], &after.results, word)?;
-                after.places[top] = 0;
+                (after.places[top], after.numbers[top], after.servers[top]) = (0, 0, 0);
                 after.depth -= 1;
             }
             _ => after.places[top] = self.next(state.places[top], &after.results, word)?,
@@ -204,12 +238,11 @@ fn row_of(from: u8, frame: &Frame) -> Row {
     }
 }
 
-/// The result bits after a tick on a label: owner 0 counts as scheme 1, one above 16 has no bit.
-fn results_after(label: &Label, results: &[bool; 16]) -> [bool; 16] {
+/// The result bits after a tick on a label of a scheme that was called by this number; 0 counts as 1.
+fn results_after(label: &Label, number: u8, results: &[bool; 16]) -> [bool; 16] {
     let mut after = *results;
-    let owner = usize::from(label.owner).max(1);
-    if label.result != 0 && owner <= 16 {
-        after[owner - 1] = label.result == 2;
+    if label.result != 0 {
+        after[usize::from(number).max(1) - 1] = label.result == 2;
     }
     after
 }

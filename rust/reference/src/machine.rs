@@ -1,7 +1,7 @@
 //! The stack machine over a decoded image: fitness (15), one tick, and the refusals 17 and 18 of a tick.
 
 use crate::image::{Image, Label, Row, FUNCTION_CALL, HOME, OPERATION_CALL, PLAIN, RETURN};
-use crate::state::State;
+use crate::state::{leave_alone, State};
 
 /// What one finished tick emits and the state after it.
 pub struct Advanced {
@@ -17,11 +17,43 @@ pub fn fits(image: &Image, state: &State) -> bool {
     if !(1..=32).contains(&size) || !(1..=size).contains(&depth) {
         return false;
     }
-    let (filled, above) = state.places.split_at(depth);
+    let filled = &state.places[..depth];
     filled.iter().all(|l| usize::from(*l) < image.labels.len())
-        && above.iter().all(|l| *l == 0)
-        && (label(image, filled[0]).owner == 1 || handles(image, filled[0]))
-        && filled.windows(2).all(|pair| stands_above(image, pair[0], pair[1]))
+        && lists(state).iter().all(|list| list[depth..].iter().all(|byte| *byte == 0))
+        && bottom_fits(image, state)
+        && (1..depth).all(|at| stands_above(image, state, at))
+        && (2..=16).all(|number| serves(image, number, state.serving[usize::from(number) - 1]))
+}
+
+/// What a state holds for each place.
+fn lists(state: &State) -> [&[u8; 32]; 3] {
+    [&state.places, &state.numbers, &state.servers]
+}
+
+/// Scheme 1 or the handler stands at the bottom and remembers its own number twice.
+fn bottom_fits(image: &Image, state: &State) -> bool {
+    let bottom = state.places[0];
+    let remembered = |scheme: u8| state.numbers[0] == scheme && state.servers[0] == scheme;
+    if handles(image, bottom) {
+        remembered(image.handler)
+    } else {
+        label(image, bottom).owner == 1 && remembered(1)
+    }
+}
+
+/// Whether a scheme can be called, and so serve.
+fn callable(image: &Image, scheme: u8) -> bool {
+    2 <= scheme && usize::from(scheme) <= image.entries.len()
+}
+
+/// Whether this scheme may serve this number: any that can be called, but a number above the last scheme and the handler's only their
+/// own.
+fn serves(image: &Image, number: u8, scheme: u8) -> bool {
+    if callable(image, number) && number != image.handler {
+        callable(image, scheme)
+    } else {
+        scheme == number
+    }
 }
 
 /// Whether this label at the bottom means that the handler is there: it is the handler's, or its End's.
@@ -29,10 +61,14 @@ pub fn handles(image: &Image, bottom: u8) -> bool {
     image.handler != 0 && (bottom == 1 || label(image, bottom).owner == image.handler)
 }
 
-/// Whether the kept label is a call and the one above it belongs to the scheme called.
-fn stands_above(image: &Image, kept: u8, above: u8) -> bool {
-    let kept = label(image, kept);
-    kept.calls() && (above == 1 || label(image, above).owner == kept.called)
+/// Whether the label below this place is a call, whose number is remembered here, and the label here belongs to the scheme that
+/// served it.
+fn stands_above(image: &Image, state: &State, at: usize) -> bool {
+    let (kept, above) = (label(image, state.places[at - 1]), state.places[at]);
+    kept.calls()
+        && state.numbers[at] == kept.called
+        && callable(image, state.servers[at])
+        && (above == 1 || label(image, above).owner == state.servers[at])
 }
 
 fn label(image: &Image, number: u8) -> &Label {
@@ -72,13 +108,16 @@ pub fn row_label(image: &Image, state: &State) -> Option<u8> {
     }
 }
 
-/// One tick of a fitting state, or 17 or 18. A call's own result is written before it clears a bit.
+/// One tick of a fitting state, or 17 or 18. Results go by the number that the scheme at the top was called by, and a call opens the
+/// scheme that serves its number then. A call's own result is written before it clears a bit.
 pub fn tick(image: &Image, state: &State, word: u16) -> Result<Advanced, u8> {
     let top = usize::from(state.depth) - 1;
     let at = state.places[top];
     let here = *label(image, at);
     let mut after = *state;
-    write_result(&mut after, &here);
+    if here.result != 0 {
+        after.results[usize::from(state.numbers[top]) - 1] = here.result == 2;
+    }
     let code = match here.kind {
         HOME => {
             after.places[top] = entry(image, 1);
@@ -86,20 +125,22 @@ pub fn tick(image: &Image, state: &State, word: u16) -> Result<Advanced, u8> {
         }
         // the handler's own End: the word goes unread, and a home tick follows
         RETURN if top == 0 => {
-            after.places[0] = 0;
+            leave_alone(&mut after, 0, 1);
             0x03
         }
         RETURN => {
             let beneath = state.places[top - 1];
             let next = next_label(image, &state.results, beneath, word).ok_or(18)?;
-            after.places[top] = 0;
+            (after.places[top], after.numbers[top], after.servers[top]) = (0, 0, 0);
             after.places[top - 1] = next;
             after.depth -= 1;
             0x03
         }
         OPERATION_CALL | FUNCTION_CALL if state.depth == state.size => drop_all(image, &mut after)?,
         OPERATION_CALL | FUNCTION_CALL => {
-            after.places[top + 1] = entry(image, here.called);
+            let server = state.serving[usize::from(here.called) - 1];
+            after.places[top + 1] = entry(image, server);
+            (after.numbers[top + 1], after.servers[top + 1]) = (here.called, server);
             after.depth += 1;
             after.results[usize::from(here.called) - 1] = false;
             let base = if here.kind == OPERATION_CALL { 0x10 } else { 0x40 };
@@ -118,15 +159,7 @@ fn drop_all(image: &Image, state: &mut State) -> Result<u8, u8> {
     if image.handler == 0 || handles(image, state.places[0]) {
         return Err(17);
     }
-    state.places = [0; 32];
-    state.places[0] = entry(image, image.handler);
-    state.depth = 1;
+    leave_alone(state, entry(image, image.handler), image.handler);
     state.results[usize::from(image.handler) - 1] = false;
     Ok(0x60)
-}
-
-fn write_result(state: &mut State, here: &Label) {
-    if here.result != 0 {
-        state.results[usize::from(here.owner) - 1] = here.result == 2;
-    }
 }

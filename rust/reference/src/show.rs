@@ -36,7 +36,7 @@ pub fn words(words: &[u16]) -> String {
 pub fn state(state: &State) -> String {
     let results: String = state.results.iter().map(|b| if *b { '1' } else { '0' }).collect();
     format!(
-        "size {}, depth {}, places {:?}, results of schemes 1 to 16 {results}",
-        state.size, state.depth, state.places
+        "size {}, depth {}, places {:?}, results of numbers 1 to 16 {results}, served by {:?}, called by {:?}, served then by {:?}",
+        state.size, state.depth, state.places, state.serving, state.numbers, state.servers
     )
 }

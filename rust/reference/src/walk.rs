@@ -1,6 +1,8 @@
-//! The walk: a chart performed by recursion, one word a tick. It knows no label, no row and no stack, only the number of places.
+//! The walk: a chart performed by recursion, one word a tick. It knows no label, no row and no stack, only the number of places, and
+//! before each word it is told which scheme serves each number.
 
 use crate::chart::{Chart, Kind};
+use crate::state::{Binding, OWN};
 
 /// One tick: the node that it is made at (for a home tick the End of scheme 1), and how many schemes are open then.
 #[derive(Clone, Copy, Debug, PartialEq, Eq)]
@@ -25,30 +27,50 @@ enum Ended {
     Dropped(u8),
 }
 
+/// A word, and the binding that is told before it.
+#[derive(Clone, Copy, Debug)]
+pub struct Signal {
+    pub word: u16,
+    pub binding: Binding,
+}
+
+/// A scheme that is open: the number that it was called by, and how many schemes are open with it.
+#[derive(Clone, Copy)]
+struct Opened {
+    number: u8,
+    open: usize,
+}
+
 struct Walk<'a> {
     chart: &'a Chart,
     places: usize,
-    words: std::slice::Iter<'a, u16>,
+    signals: std::slice::Iter<'a, Signal>,
     /// The first of the open schemes.
     first: u8,
     results: [bool; 17],
     ticks: Vec<Tick>,
 }
 
-/// The ticks of the walk over these words, as many as there are words.
+/// The ticks of the walk over these words, as many as there are words, with each number served by its own scheme.
 pub fn walk(chart: &Chart, places: usize, words: &[u16]) -> Vec<Tick> {
+    let signals: Vec<Signal> = words.iter().map(|word| Signal { word: *word, binding: OWN }).collect();
+    walk_told(chart, places, &signals)
+}
+
+/// The ticks of the walk over these words, as many as there are words.
+pub fn walk_told(chart: &Chart, places: usize, signals: &[Signal]) -> Vec<Tick> {
     let mut walk =
-        Walk { chart, places, words: words.iter(), first: 1, results: [false; 17], ticks: Vec::new() };
+        Walk { chart, places, signals: signals.iter(), first: 1, results: [false; 17], ticks: Vec::new() };
     while walk.round().is_ok() {}
     walk.ticks
 }
 
 impl Walk<'_> {
     /// One tick: takes a word and notes what is emitted.
-    fn tick(&mut self, node: usize, mask: u32, code: u8, open: usize) -> Result<u16, Ended> {
-        let word = *self.words.next().ok_or(Ended::OutOfWords)?;
+    fn tick(&mut self, node: usize, mask: u32, code: u8, open: usize) -> Result<Signal, Ended> {
+        let signal = *self.signals.next().ok_or(Ended::OutOfWords)?;
         self.ticks.push(Tick { node, mask, code, open });
-        Ok(word)
+        Ok(signal)
     }
 
     /// A home tick, then scheme 1 up to its End, or up to a drop and the handler up to its own.
@@ -64,17 +86,17 @@ impl Walk<'_> {
         }
     }
 
-    /// Performs a scheme as the first of the open ones.
+    /// Performs a scheme, by its own number, as the first of the open ones.
     fn begin(&mut self, scheme: u8) -> Result<(), Ended> {
         self.first = scheme;
-        self.perform(scheme, 1)
+        self.perform(scheme, Opened { number: scheme, open: 1 })
     }
 
     /// Performs a scheme up to its End, whose tick is left to the caller.
-    fn perform(&mut self, scheme: u8, open: usize) -> Result<(), Ended> {
+    fn perform(&mut self, scheme: u8, opened: Opened) -> Result<(), Ended> {
         let mut at = self.chart.start(scheme);
         while self.chart.nodes[at].kind != Kind::End {
-            at = self.stop(at, open)?;
+            at = self.stop(at, opened)?;
         }
         Ok(())
     }
@@ -85,9 +107,9 @@ impl Walk<'_> {
         self.chart.handler().filter(|handler| open == self.places && *handler != self.first)
     }
 
-    /// An operation or function that calls. The call clears the result of the scheme called, performs it and makes the
-    /// return tick of its End, whose word it hands back; or it drops all, and then clears the handler's result alone.
-    fn call(&mut self, at: usize, open: usize) -> Result<u16, Ended> {
+    /// An operation or function that calls. The call clears the result of the number called, performs the scheme that serves it now and
+    /// makes the return tick of that one's End, whose word it hands back; or it drops all, and then clears the handler's result alone.
+    fn call(&mut self, at: usize, Opened { number, open }: Opened) -> Result<u16, Ended> {
         let node = self.chart.nodes[at];
         let called = node.argument;
         let handler = self.handler(open);
@@ -96,49 +118,50 @@ impl Walk<'_> {
             (None, Kind::Operation) => 0x10 + called,
             (None, _) => 0x40 + called,
         };
-        self.tick(at, node.mask, code, open)?;
-        self.write(node.scheme, node.result);
+        let server = self.tick(at, node.mask, code, open)?.binding[usize::from(called) - 1];
+        self.write(number, node.result);
         self.results[usize::from(handler.unwrap_or(called))] = false;
         if let Some(handler) = handler {
             return Err(Ended::Dropped(handler));
         }
-        self.perform(called, open + 1)?;
-        self.tick(self.chart.end(called), 0, 0x03, open + 1)
+        self.perform(server, Opened { number: called, open: open + 1 })?;
+        Ok(self.tick(self.chart.end(server), 0, 0x03, open + 1)?.word)
     }
 
     /// One stop that is no End, with all that it calls; hands back the next stop.
-    fn stop(&mut self, at: usize, open: usize) -> Result<usize, Ended> {
+    fn stop(&mut self, at: usize, opened: Opened) -> Result<usize, Ended> {
         let node = self.chart.nodes[at];
+        let Opened { number, open } = opened;
         match node.kind {
             Kind::Operation if node.argument != 0 => {
-                let word = self.call(at, open)?;
+                let word = self.call(at, opened)?;
                 Ok(self.follow(node.on0, word))
             }
             Kind::Operation => {
-                let word = self.tick(at, node.mask, 0x00, open)?;
-                self.write(node.scheme, node.result);
+                let word = self.tick(at, node.mask, 0x00, open)?.word;
+                self.write(number, node.result);
                 Ok(self.follow(node.on0, word))
             }
             Kind::Function => {
-                let word = self.call(at, open)?;
+                let word = self.call(at, opened)?;
                 let result = self.results[usize::from(node.argument)];
                 Ok(self.follow(node.arc(result), word))
             }
             Kind::Begin => {
-                let word = self.tick(at, 0, 0x00, open)?;
+                let word = self.tick(at, 0, 0x00, open)?.word;
                 Ok(self.follow(node.on0, word))
             }
             Kind::Condition => {
-                let word = self.tick(at, 0, 0x00, open)?;
+                let word = self.tick(at, 0, 0x00, open)?.word;
                 Ok(self.follow(node.arc(node.tested(word)), word))
             }
             Kind::End => unreachable!("perform ends there"),
         }
     }
 
-    fn write(&mut self, scheme: u8, result: u8) {
+    fn write(&mut self, number: u8, result: u8) {
         if result != 0 {
-            self.results[usize::from(scheme)] = result == 2;
+            self.results[usize::from(number)] = result == 2;
         }
     }
 

@@ -8,7 +8,7 @@ use reference::frames::{text_of, Frame};
 use reference::generate::{images, runs, states, Random};
 use reference::image::{image_of, Image, Label, Row, FUNCTION_CALL, OPERATION_CALL, PLAIN};
 use reference::machine;
-use reference::{fresh_state, samples, Answer, Cause, State};
+use reference::{samples, Answer, Cause, State};
 
 /// All words that agree with one on a mask.
 fn agreeing(word: u16, mask: u16) -> impl Iterator<Item = u16> {
@@ -20,7 +20,7 @@ fn each_cause(seeds: u64, mut look: impl FnMut(&Image, &State, u16, Found)) {
     for seed in 0..seeds {
         let random = &mut Random::new(seed);
         let image = if random.once_in(2) { images::small(random) } else { images::accepted(random) };
-        let state = states::fitting(random, &image.labels, image.handler);
+        let state = states::fitting(random, image.shape());
         if image_of(&image.frames()).is_err() {
             continue;
         }
@@ -97,11 +97,8 @@ fn causes_are_of_every_sort() {
 }
 
 /// A state of three places.
-fn state(places: &[u8]) -> State {
-    let mut state = fresh_state(3).expect("a good size");
-    state.depth = places.len() as u8;
-    state.places[..places.len()].copy_from_slice(places);
-    state
+fn state(image: &Image, places: &[u8]) -> State {
+    image.shape().state(3, places)
 }
 
 fn told(row: u16, mask: u16, bit: u8) -> Cause {
@@ -124,7 +121,7 @@ fn image_of_chart(records: &[Frame]) -> Image {
 #[test]
 fn causes_on_chart_p() {
     let image = image_of_chart(&samples::chart_p());
-    let cause = |places: &[u8], word| entry::cause(&text(&image), &state(places), word);
+    let cause = |places: &[u8], word| entry::cause(&text(&image), &state(&image, places), word);
     assert_eq!(cause(&[2, 3], 0), told(1, 1, 2));
     assert_eq!(cause(&[2, 3], 0xFFFF), told(2, 1, 2));
     // a return: the row of the label beneath
@@ -135,21 +132,21 @@ fn causes_on_chart_p() {
         assert_eq!(cause(places, 0), refused(21));
     }
     assert_eq!(cause(&[3], 0), refused(15));
-    assert_eq!(entry::cause(b"", &state(&[0]), 0), refused(1));
+    assert_eq!(entry::cause(b"", &state(&image, &[0]), 0), refused(1));
 }
 
 #[test]
 fn a_handlers_return_at_depth_1_takes_no_row() {
     let image = image_of_chart(&samples::with_handler());
-    assert_eq!(entry::cause(&text(&image), &state(&[1]), 0), refused(21));
+    assert_eq!(entry::cause(&text(&image), &state(&image, &[1]), 0), refused(21));
 }
 
 #[test]
 fn a_word_without_a_row_is_refused_after_a_tick_without_one() {
     let mut image = image_of_chart(&samples::chart_p());
     image.rows.clear();
-    assert_eq!(entry::cause(&text(&image), &state(&[2, 3]), 0), refused(18));
-    assert_eq!(entry::cause(&text(&image), &state(&[2]), 0), refused(21));
+    assert_eq!(entry::cause(&text(&image), &state(&image, &[2, 3]), 0), refused(18));
+    assert_eq!(entry::cause(&text(&image), &state(&image, &[2]), 0), refused(21));
 }
 
 /// Label 2 is a function call's of scheme 1 to scheme 2, label 3 is plain and of scheme 1.
@@ -180,8 +177,9 @@ fn conditions_come_from_the_rows_that_do_not_match() {
         (0x0F00, 0x0100, 1), // shut out by the bit, though the word is against it too
         (0xF000, 0x8000, 0), // against it in 15
     ];
-    let image = text(&with_rows(&rows));
-    let mut returning = state(&[2, 1]);
+    let image = with_rows(&rows);
+    let mut returning = state(&image, &[2, 1]);
+    let image = text(&image);
     assert_eq!(entry::cause(&image, &returning, 0), told(0, 0x804F, 0));
     returning.results[1] = true;
     assert_eq!(entry::cause(&image, &returning, 0), told(0, 0x014F, 1));

@@ -1,11 +1,11 @@
 //! The reference against itself on random inputs: round trips, and the machine against the walk.
 
 use reference::check::chart_of;
-use reference::expectation::{expected, Outcome};
+use reference::expectation::{expected, Outcome, Step};
 use reference::frames::{frames_of, text_of, CHART_TEXT, IMAGE_TEXT};
 use reference::generate::{charts, damage, images, ladders, letters, runs, states, Random};
-use reference::image::FUNCTION_CALL;
-use reference::{entry, fresh_state, image, machine, translator, Answer};
+use reference::image::{Image, FUNCTION_CALL};
+use reference::{entry, fresh_state, image, machine, translator, Answer, State};
 
 const CASES: u64 = 3_000;
 
@@ -82,28 +82,34 @@ fn invented_states_fit() {
     for seed in 0..CASES {
         let mut random = Random::new(seed);
         let image = images::accepted(&mut random);
-        let state = states::fitting(&mut random, &image.labels, image.handler);
+        let state = states::fitting(&mut random, image.shape());
         assert!(machine::fits(&image, &state), "seed {seed}");
+    }
+}
+
+/// Looks at accepted images, each with a state that fits it.
+fn each_fitting(mut look: impl FnMut(u64, &mut Random, &Image, State)) {
+    for seed in 0..CASES {
+        let random = &mut Random::new(seed);
+        let image = images::accepted(random);
+        if image::image_of(&image.frames()).is_ok() {
+            let state = states::fitting(random, image.shape());
+            look(seed, random, &image, state);
+        }
     }
 }
 
 #[test]
 fn a_tick_keeps_a_fitting_state_fitting() {
-    for seed in 0..CASES {
-        let mut random = Random::new(seed);
-        let image = images::accepted(&mut random);
-        if image::image_of(&image.frames()).is_err() {
-            continue;
-        }
-        let mut state = states::fitting(&mut random, &image.labels, image.handler);
-        for word in runs::words(&mut random, 100) {
-            let Ok(advanced) = machine::tick(&image, &state, word) else {
+    each_fitting(|seed, random, image, mut state| {
+        for word in runs::words(random, 100) {
+            let Ok(advanced) = machine::tick(image, &state, word) else {
                 break;
             };
             state = advanced.state;
-            assert!(machine::fits(&image, &state), "seed {seed}");
+            assert!(machine::fits(image, &state), "seed {seed}");
         }
-    }
+    });
 }
 
 #[test]
@@ -127,26 +133,54 @@ fn exactly_one_row_of_a_translated_image_matches() {
 }
 
 #[test]
-fn lists_of_runs_tick_as_the_walk_does() {
-    let (mut full, mut drops) = ([0; 2], 0);
+fn a_rebinding_keeps_a_fitting_state_fitting() {
+    let mut rebound = 0;
+    each_fitting(|seed, random, image, mut state| {
+        let before = state;
+        let (number, scheme) = runs::rebinding(random, image.entries.len());
+        let answer = entry::rebind(&text_of(&image.frames()), &mut state, number, scheme);
+        assert!(machine::fits(image, &state), "seed {seed}");
+        if answer == Answer::Done(0) {
+            rebound += 1;
+            assert_eq!(usize::from(state.serving[number - 1]), scheme, "seed {seed}");
+            state.serving[number - 1] = before.serving[number - 1];
+        }
+        assert_eq!(state, before, "seed {seed}: no more than the one binding is changed");
+    });
+    assert!(rebound > 500, "too few rebindings succeeded: {rebound}");
+}
+
+#[test]
+fn lists_of_runs_and_rebindings_tick_as_the_walk_does() {
+    let (mut full, mut drops, mut swapped) = ([0; 2], 0, 0);
     for seed in 0..CASES {
         let mut random = Random::new(seed);
         let (records, image) = images::translated(&mut random);
         let text = text_of(&image.frames());
         let size = random.pick(&[1, 2, 3, 5, 32]);
-        let list = runs::list(&mut random);
+        let list = runs::list(&mut random, image.entries.len());
         let wanted = expected(&chart_of(&records).unwrap(), size, &list);
         let mut state = fresh_state(size).unwrap();
-        for (run, wanted) in list.iter().zip(&wanted) {
+        for (step, wanted) in list.iter().zip(&wanted) {
+            let run = match step {
+                Step::Run(run) => run,
+                Step::Rebind(number, scheme) => {
+                    let answer = entry::rebind(&text, &mut state, *number, *scheme);
+                    assert_eq!(&Outcome::of_rebinding(answer), wanted, "seed {seed}");
+                    continue;
+                }
+            };
             let (mut masks, mut codes) = (run.masks.clone(), run.codes.clone());
             let (answer, after) = entry::run(&text, &state, &run.words, &mut masks, &mut codes);
             state = after;
             assert_eq!(&Outcome { answer, masks, codes }, wanted, "seed {seed}");
             full[usize::from(image.handler != 0)] += usize::from(answer.number() == 17);
             drops += wanted.codes[..answer.count()].iter().filter(|code| **code == 0x60).count();
+            swapped += usize::from((0..32).any(|at| state.numbers[at] != state.servers[at]));
         }
     }
     assert!(full[0] > 100, "too few runs met a full stack without a handler: {full:?}");
     assert!(full[1] > 100, "too few runs met a full stack with the handler at the bottom: {full:?}");
     assert!(drops > 500, "too few ticks dropped the stack: {drops}");
+    assert!(swapped > 200, "too few runs ended in a scheme that serves another's number: {swapped}");
 }

@@ -12,7 +12,7 @@ use reference::translator;
 use reference::{Reference, State};
 
 /// Which refusals each call may give; 0 is success.
-const TRIED: [(&str, &[u8]); 16] = [
+const TRIED: [(&str, &[u8]); 18] = [
     ("read_chart", &[0, 1, 2, 3, 4, 5, 6, 7, 8, 9, 16, 19]),
     ("write_chart", &[0, 1, 4, 5, 6, 7, 8, 9, 16, 19]),
     ("translate", &[0, 1, 2, 3, 4, 5, 6, 7, 8, 9, 10, 16, 19]),
@@ -21,21 +21,23 @@ const TRIED: [(&str, &[u8]); 16] = [
     ("fresh", &[0, 14]),
     ("run", &[0, 1, 2, 3, 11, 12, 13, 15, 16, 17, 18]),
     ("tick", &[0, 1, 2, 3, 11, 12, 13, 15, 17, 18]),
-    ("runs", &[0, 16, 17]),
+    ("runs", &[0, 16, 17, 22]),
     ("prepare", &[0, 1, 2, 3, 11, 12, 13, 16]),
     ("cause", &[0, 1, 2, 3, 11, 12, 13, 15, 18, 21]),
     ("list_rows", &[0, 1, 2, 3, 11, 12, 13, 16]),
     ("live_run", &[0, 11, 15, 16, 17, 18]),
     ("live_tick", &[0, 11, 15, 17, 18]),
-    ("live_runs", &[0, 16, 17]),
-    ("mixture", &[0, 11, 15, 16, 17, 18]),
+    ("live_runs", &[0, 16, 17, 22]),
+    ("mixture", &[0, 11, 15, 16, 17, 18, 22]),
+    ("rebind", &[0, 1, 2, 3, 11, 12, 13, 15, 22]),
+    ("live_rebind", &[0, 11, 15, 22]),
 ];
 
 #[test]
 fn every_answer_is_met_and_no_other() {
     let summary = compare(&Reference, 77, 8_000).unwrap_or_else(|difference| panic!("{difference}"));
     for (call, numbers) in TRIED {
-        for number in 0..=21 {
+        for number in 0..=22 {
             let met = summary.count(call, number) > 0;
             assert_eq!(met, numbers.contains(&number), "{call} {number}\n{summary}");
         }
@@ -49,6 +51,15 @@ fn every_call_that_ticks_meets_the_handler() {
     for call in ["run", "tick", "runs", "live_run", "live_tick", "live_runs", "mixture"] {
         let Handled { drops, returns } = summary.handled(call);
         assert!(drops > 20 && returns > 20, "{call}\n{summary}");
+    }
+}
+
+/// Each kind of run and tick calls numbers that other schemes serve often enough to tell.
+#[test]
+fn every_call_that_ticks_meets_swapped_schemes() {
+    let summary = compare(&Reference, 80, 16_000).unwrap_or_else(|difference| panic!("{difference}"));
+    for call in ["run", "tick", "runs", "live_run", "live_tick", "live_runs", "mixture"] {
+        assert!(summary.swapped(call) > 40, "{call}\n{summary}");
     }
 }
 
@@ -69,6 +80,7 @@ fn every_call_that_reads_meets_small_letters() {
         "runs",
         "live_runs",
         "mixture",
+        "rebind",
     ];
     for call in calls {
         assert!(summary.small(call) > 100, "{call}\n{summary}");
@@ -94,15 +106,19 @@ fn overlaps(image: &Image, state: &State, word: u16) -> [(&'static str, bool, us
     ]
 }
 
-/// What the handler brings into a tick of a fitting state, and whether this tick has it.
-fn events(image: &Image, state: &State, word: u16) -> [(&'static str, bool); 14] {
+/// What the handler and swapped schemes bring into a tick of a fitting state, and whether this tick has it.
+fn events(image: &Image, state: &State, word: u16) -> [(&'static str, bool); 20] {
     let top = usize::from(state.depth) - 1;
     let here = image.labels[usize::from(state.places[top])];
     let handler = image.handler;
     let bit = |scheme: u8| state.results[usize::from(scheme) - 1];
     let at_bottom = handles(image, state.places[0]);
-    let kept = &state.places[..top];
-    let open = kept.iter().any(|label| image.labels[usize::from(*label)].called == handler);
+    let open = state.servers[1..=top].contains(&handler);
+    let swapped = state.numbers[top] != state.servers[top];
+    let beneath = image.labels[usize::from(state.places[top.saturating_sub(1)])];
+    let calls = here.calls() && state.depth < state.size;
+    let server = if here.calls() { state.serving[usize::from(here.called) - 1] } else { 0 };
+    let bits_differ = swapped && bit(state.numbers[top]) != bit(state.servers[top]);
     let ticked = machine::tick(image, state, word);
     let drops = ticked.as_ref().is_ok_and(|advanced| advanced.code == 0x60);
     let full = ticked.is_err_and(|number| number == 17);
@@ -111,8 +127,8 @@ fn events(image: &Image, state: &State, word: u16) -> [(&'static str, bool); 14]
         ("a drop of more than three places", drops && top > 2),
         ("a drop by a function", drops && here.kind == FUNCTION_CALL),
         (
-            "a drop by the handler's scheme, which writes 1",
-            drops && here.owner == handler && here.result == 2,
+            "a drop by the handler's number, which writes 1",
+            drops && state.numbers[top] == handler && here.result == 2,
         ),
         ("a drop by a call of the handler's scheme", drops && here.called == handler),
         ("a drop with the handler's bit at 1", drops && bit(handler)),
@@ -124,6 +140,15 @@ fn events(image: &Image, state: &State, word: u16) -> [(&'static str, bool); 14]
         ("17 without a handler", full && handler == 0),
         ("a call of the handler's scheme", !full && !drops && here.calls() && here.called == handler),
         ("a return at the bottom", here.kind == RETURN && top == 0),
+        ("a call that another scheme serves", calls && server != here.called),
+        ("a call that the handler's scheme serves", calls && server == handler && here.called != handler),
+        ("a call out of a swapped scheme", calls && swapped),
+        ("a result under another number than the scheme's", !full && swapped && here.result != 0),
+        (
+            "a return from a swapped scheme to a function, with other bits of number and scheme",
+            here.kind == RETURN && top > 0 && beneath.kind == FUNCTION_CALL && bits_differ,
+        ),
+        ("a drop by a swapped scheme", drops && swapped),
     ]
 }
 
@@ -132,7 +157,7 @@ fn each_tick(mut look: impl FnMut(&Image, &State, u16)) {
     for seed in 0..10_000 {
         let random = &mut Random::new(seed);
         let image = images::accepted(random);
-        let mut state = states::state(random, &image.labels, image.handler);
+        let mut state = states::state(random, image.shape());
         if image_of(&image.frames()).is_err() || !machine::fits(&image, &state) {
             continue;
         }

@@ -17,7 +17,7 @@ fn a_scan_of_all_rows_agrees_with_the_reference() {
     for seed in 0..5_000 {
         let random = &mut Random::new(seed);
         let image = images::accepted(random);
-        let state = states::state(random, &image.labels, image.handler);
+        let state = states::state(random, image.shape());
         let (text, run) = (text_of(&image.frames()), runs::run(random, 30));
         let (mut masks, mut codes) = (run.masks.clone(), run.codes.clone());
         let (mut scanned_masks, mut scanned_codes) = (run.masks.clone(), run.codes.clone());

@@ -87,12 +87,13 @@ impl Faulty {
 
     /// What the faults make of the result bits after a finished call.
     fn clear(&self, label: &Label, before: &State, after: &mut State) {
-        let (owner, called) = (usize::from(label.owner) - 1, usize::from(label.called) - 1);
-        let own = label.result != 0 && owner == called;
+        let top = usize::from(before.depth) - 1;
+        let (number, called) = (usize::from(before.numbers[top]) - 1, usize::from(label.called) - 1);
+        let own = label.result != 0 && number == called;
         let kept = if own { label.result == 2 } else { before.results[called] };
         match self.fault {
             KeepsTheCalledBit => after.results[called] = kept,
-            ClearsTheCallersBit => (after.results[called], after.results[owner]) = (kept, false),
+            ClearsTheCallersBit => (after.results[called], after.results[number]) = (kept, false),
             ClearsBeforeTheResult if own => after.results[called] = label.result == 2,
             _ => {}
         }
@@ -189,7 +190,7 @@ fn joined(image: &mut Image) {
 }
 
 impl Library for Faulty {
-    as_the_reference!(places, cause, list_rows, prepare, live_run, meaning);
+    as_the_reference!(places, cause, list_rows, prepare, live_run, rebindings, meaning);
 
     fn read_chart(&self, text: &[u8], out: &mut [u8]) -> Answer {
         let answer = entry::read_chart(text, out);
@@ -244,7 +245,7 @@ impl Library for Faulty {
 
     fn fresh(&self, size: usize) -> (Answer, State) {
         if self.fault == FreshWith33Places && size == 33 {
-            return (Answer::Done(0), State { size: 33, depth: 1, ..State::NONE });
+            return (Answer::Done(0), State { size: 33, ..entry::fresh(32).1 });
         }
         let made = entry::fresh(size);
         *self.last.borrow_mut() = made.1;

@@ -17,10 +17,9 @@ fn image(called: u8, handles: u8) -> Vec<u8> {
     entry::translated(&text_of(&records(called, handles))).unwrap()
 }
 
-/// A state with these places taken, and only the bits of these schemes at 1.
-fn state(size: u8, places: &[u8], ones: &[usize]) -> State {
-    let mut state = State { size, depth: places.len() as u8, ..State::NONE };
-    state.places[..places.len()].copy_from_slice(places);
+/// A state with these places taken, each number served by its own scheme, and only the bits of these numbers at 1.
+fn state(image: &[u8], size: u8, places: &[u8], ones: &[usize]) -> State {
+    let mut state = entry::image_from_text(image).expect("an image").shape().state(size, places);
     ones.iter().for_each(|scheme| state.results[scheme - 1] = true);
     state
 }
@@ -39,50 +38,56 @@ fn ran(image: &[u8], state: &State, words: &[u16]) -> (Answer, Vec<u8>, Vec<u32>
 /// The caller's result is written, the handler's bit is cleared, that of the scheme called stays, and nothing is left above.
 #[test]
 fn a_drop_leaves_the_handler_alone() {
-    let full = state(2, &[2, 3], &[3, 4]);
-    let wanted = (Answer::Done(1), vec![0x60], vec![2], state(2, &[4], &[2, 4]));
-    assert_eq!(ran(&image(2, 0), &full, &[0]), wanted);
+    let image = image(2, 0);
+    let full = state(&image, 2, &[2, 3], &[3, 4]);
+    let wanted = (Answer::Done(1), vec![0x60], vec![2], state(&image, 2, &[4], &[2, 4]));
+    assert_eq!(ran(&image, &full, &[0]), wanted);
 }
 
 /// A handler's scheme that was called is dropped with the rest; the 1 that it writes then is cleared.
 #[test]
 fn a_called_handler_is_dropped_too() {
-    let full = state(3, &[2, 3, 4], &[]);
-    let wanted = (Answer::Done(1), vec![0x60], vec![4], state(3, &[4], &[]));
-    assert_eq!(ran(&image(3, 2), &full, &[0]), wanted);
-    assert_eq!(ran(&image(3, 3), &full, &[0]), wanted);
+    for image in [image(3, 2), image(3, 3)] {
+        let full = state(&image, 3, &[2, 3, 4], &[]);
+        let wanted = (Answer::Done(1), vec![0x60], vec![4], state(&image, 3, &[4], &[]));
+        assert_eq!(ran(&image, &full, &[0]), wanted);
+    }
 }
 
 /// With one place to spare a call is a call.
 #[test]
 fn a_call_with_a_place_left_drops_nothing() {
-    let wanted = (Answer::Done(1), vec![0x12], vec![2], state(3, &[2, 3, 3], &[]));
-    assert_eq!(ran(&image(2, 0), &state(3, &[2, 3], &[]), &[0]), wanted);
+    let image = image(2, 0);
+    let wanted = (Answer::Done(1), vec![0x12], vec![2], state(&image, 3, &[2, 3, 3], &[]));
+    assert_eq!(ran(&image, &state(&image, 3, &[2, 3], &[]), &[0]), wanted);
 }
 
 #[test]
 fn with_the_handler_at_the_bottom_a_full_stack_is_17() {
-    let alone = state(1, &[4], &[3]);
-    assert_eq!(ran(&image(2, 2), &alone, &[0]), (refused(17, 0), vec![0], vec![0], alone));
-    let deep = state(2, &[4, 3], &[3]);
-    assert_eq!(ran(&image(2, 2), &deep, &[0]), (refused(17, 0), vec![0], vec![0], deep));
+    let image = image(2, 2);
+    let alone = state(&image, 1, &[4], &[3]);
+    assert_eq!(ran(&image, &alone, &[0]), (refused(17, 0), vec![0], vec![0], alone));
+    let deep = state(&image, 2, &[4, 3], &[3]);
+    assert_eq!(ran(&image, &deep, &[0]), (refused(17, 0), vec![0], vec![0], deep));
     // one place: the first call drops, and the handler's own call finds the stack full
-    let (answer, codes, ..) = ran(&image(2, 2), &fresh_state(1).unwrap(), &[0; 4]);
+    let (answer, codes, ..) = ran(&image, &fresh_state(1).unwrap(), &[0; 4]);
     assert_eq!((answer, &codes[..2]), (refused(17, 2), &[0x04, 0x60][..]));
 }
 
 /// Mask 0 and code 03, any word, and the bits stay.
 #[test]
 fn the_handler_returns_to_label_0() {
+    let image = image(2, 0);
     for word in [0, 1, 0xFFFF] {
-        let wanted = (Answer::Done(1), vec![0x03], vec![0], state(1, &[0], &[2, 3]));
-        assert_eq!(ran(&image(2, 0), &state(1, &[1], &[2, 3]), &[word]), wanted);
+        let wanted = (Answer::Done(1), vec![0x03], vec![0], state(&image, 1, &[0], &[2, 3]));
+        assert_eq!(ran(&image, &state(&image, 1, &[1], &[2, 3]), &[word]), wanted);
     }
 }
 
 #[test]
 fn the_handler_may_stand_at_the_bottom_and_no_other() {
-    let fits = |image: &[u8], places: &[u8]| ran(image, &state(3, places, &[]), &[]).0 == Answer::Done(0);
+    let fits =
+        |image: &[u8], places: &[u8]| ran(image, &state(image, 3, places, &[]), &[]).0 == Answer::Done(0);
     let handled = image(2, 2);
     for places in [&[1][..], &[4], &[4, 3], &[4, 1]] {
         assert!(fits(&handled, places), "{places:?}");

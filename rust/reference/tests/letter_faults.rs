@@ -29,7 +29,7 @@ impl Misreading {
 }
 
 impl Library for Misreading {
-    as_the_reference!(write_chart, live_run, value_calls);
+    as_the_reference!(write_chart, live_run, live_rebind, value_calls);
 
     fn read_chart(&self, text: &[u8], out: &mut [u8]) -> Answer {
         Reference.read_chart(&self.read(text), out)
@@ -60,6 +60,10 @@ impl Library for Misreading {
 
     fn cause(&self, image: &[u8], state: &State, word: u16) -> Cause {
         Reference.cause(&self.read(image), state, word)
+    }
+
+    fn rebind(&self, image: &[u8], state: &mut State, number: usize, scheme: usize) -> Answer {
+        Reference.rebind(&self.read(image), state, number, scheme)
     }
 
     fn list_rows(&self, image: &[u8], firsts: &mut [u16], counts: &mut [u16]) -> Answer {

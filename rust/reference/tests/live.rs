@@ -70,7 +70,7 @@ fn a_kept_machine_ticks_as_the_reference_does() {
         let text = text_of(&image.frames());
         let Ok(kept) = Kept::new(&text) else { continue };
         for _ in 0..STATES {
-            let state = states::state(random, &image.labels, image.handler);
+            let state = states::state(random, image.shape());
             let word = random.number() as u16;
             let (mut wanted, mut given) = (state, state);
             let ticked = Reference.tick(&text, &mut wanted, word);
@@ -80,15 +80,17 @@ fn a_kept_machine_ticks_as_the_reference_does() {
 }
 
 /// What only a table at fault can show at a tick, and whether this one does.
-fn oddities(held: &Held, state: &State, word: u16) -> [(&'static str, bool); 20] {
+fn oddities(held: &Held, state: &State, word: u16) -> [(&'static str, bool); 23] {
     let top = usize::from(state.depth) - 1;
     let number = state.places[top];
     let here = held.labels.get(usize::from(number));
     let is = |test: &dyn Fn(&Label) -> bool| here.is_some_and(test);
+    let called_by = state.numbers[top];
+    let served = |label: &Label| state.serving[usize::from(label.called).max(1) - 1];
     let ticked = held.tick(state, word);
     let made = ticked.is_ok();
     let drops = ticked.is_ok_and(|advanced| advanced.code == 0x60);
-    let entry = |scheme: u8| held.entries[usize::from(scheme).max(1) - 1];
+    let entry = |scheme: u8| held.entry(scheme);
     let taken = || held.taken(number, &state.results, word);
     let bit_ignored = |label: &Label| label.kind == PLAIN && taken().is_some_and(|row| row.function_bit != 2);
     let rows = held.row_label(state).map_or(vec![], |label| held.matching(label, &state.results, word));
@@ -106,15 +108,24 @@ fn oddities(held: &Held, state: &State, word: u16) -> [(&'static str, bool); 20]
             top == 0 && held.handler != 0 && is(&|l| l.kind == RETURN),
         ),
         ("a drop at a call of scheme 0", drops && is(&|l| l.called == 0)),
-        ("a drop by owner 0, which writes", drops && is(&|l| l.owner == 0 && l.result != 0)),
+        ("a drop by number 0, which writes", drops && called_by == 0 && is(&|l| l.result != 0)),
         ("a drop to an entry that is not the handler's", drops && !held.handles(entry(held.handler))),
         ("a drop to an entry above the last", drops && usize::from(entry(held.handler)) >= held.labels.len()),
         ("home above the bottom", top > 0 && is(&|l| l.kind == HOME)),
         ("a call of scheme 0", is(&|l| l.calls() && l.called == 0)),
         ("a call of scheme 1", is(&|l| l.calls() && l.called == 1)),
         ("a full stack at a call of scheme 0", !made && is(&|l| l.calls() && l.called == 0)),
-        ("owner 0 writes", made && number > 1 && is(&|l| l.owner == 0 && l.result != 0)),
-        ("an owner above 16 writes", made && is(&|l| l.owner > 16 && l.result != 0)),
+        ("number 0 writes", made && called_by == 0 && is(&|l| l.result != 0)),
+        (
+            "another scheme than the owner's number writes",
+            made && is(&|l| l.result != 0 && l.owner != called_by),
+        ),
+        ("a call served by scheme 0", made && is(&|l| l.calls() && served(l) == 0)),
+        ("a call served by scheme 1", made && is(&|l| l.calls() && served(l) == 1)),
+        (
+            "a call served by a scheme above the last",
+            made && is(&|l| l.calls() && usize::from(served(l)) > held.entries.len()),
+        ),
         ("a result above 2", made && is(&|l| l.result > 2)),
         ("a function bit in the row of a plain tick", is(&bit_ignored)),
         (

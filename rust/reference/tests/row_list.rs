@@ -43,7 +43,7 @@ fn a_tick_needs_only_the_rows_listed_for_its_label() {
     let mut made = 0;
     each_image(|image, random| {
         let (firsts, counts) = row_list(image);
-        let state = states::fitting(random, &image.labels, image.handler);
+        let state = states::fitting(random, image.shape());
         for word in runs::words(random, 4) {
             let label = usize::from(row_label(image, &state).unwrap_or(0));
             let rows = image.rows[usize::from(firsts[label])..][..usize::from(counts[label])].to_vec();

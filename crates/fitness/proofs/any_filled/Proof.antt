@@ -3,7 +3,7 @@ use mathlib.Core.Path.{sym}
 use Prim.Native.Nat.{_-_}
 use Rattle.lists.proofs.Searches.{any-over}
 use Rattle.state.specs.Bytes.{stateOf}
-use Rattle.fitness.proofs.FitCases.{filledAt}
+use Rattle.fitness.specs.Fitness.{filledPlace}
 use Rattle.fitness.proofs.AboveCases.{Seen, seen-first, seen-next, seen-all}
 use borrow.Author.Needs.{needs}
 use Rattle.fitness.proofs.any_filled.Statement.{statement}
@@ -28,7 +28,7 @@ cast-depth c = search needs
 returns : tie.Need-returns Inv-loop μ-loop
 returns c =
     let s = stateOf (c .before .before .args .bytes .now) in
-    sym (any-over (filledAt s) 32 (s .depth) (search needs))
+    sym (any-over (filledPlace s) 32 (s .depth) (search needs))
 
 loop-holds : tie.Need-loop-holds Inv-loop μ-loop
 loop-holds c = seen-first (stateOf (c .before .before .args .bytes .now))

@@ -5,27 +5,28 @@ use native.Mathlib.Omega.{arith}
 use Rattle.tables.specs.Table.{tableImage}
 use Rattle.state.specs.declared.State.{State}
 use Rattle.state.specs.Bytes.{stateOf}
-use Rattle.fitness.proofs.UpwardCases.{Belongs, Passed, passed-all, pass-high, bottom-stray, bottom-belongs, pass-stray, pass-belongs, pass-top, pass-next}
+use Rattle.fitness.proofs.UpwardCases.{Belongs, Passed, passed-all, bottom-stray, bottom-belongs}
+use Rattle.fitness.proofs.UpwardCases.{pass-high, pass-miscalled, pass-stray, pass-belongs, pass-top, pass-next}
 use borrow.Author.Needs.{needs}
 use Rattle.fitness.proofs.any_unfit.Statement.{statement}
 use Rattle.fitness.proofs.any_unfit.Tie as tie
 
 abbrev Inv-loop : tie.InvT-loop
-Inv-loop table bytes last depth bottom scheme₀ k₀ scheme k = Passed (tableImage table) (stateOf bytes) scheme k
+Inv-loop table bytes schemes last depth bottom called₀ k₀ called k = Passed (tableImage table) (stateOf bytes) called k
 
 abbrev μ-loop : tie.MeasureT-loop
-μ-loop table bytes last depth bottom scheme₀ k₀ scheme k = depth - k
+μ-loop table bytes schemes last depth bottom called₀ k₀ called k = depth - k
 
 abbrev At : (tie.InvT-loop → tie.MeasureT-loop → Type 0) → Type 0
 At stage = stage Inv-loop μ-loop
 
--- ---- the stages: M, the depth and the bottom are read, then its label, and that is tested; a turn begins, its place and its label are read,
--- and the label is tested
+-- ---- the stages: H, M, the depth and the bottom are read, then its label, and that is tested; a turn begins, its place, server and number are
+-- read and tested, then its label
 abbrev deep : At tie.After-place-of → At tie.After-depth-of
 deep c = c .before
 
 abbrev start : At tie.After-place-of → At tie.Start
-start c = deep c .before .before .before
+start c = deep c .before .before .before .before
 
 abbrev state : At tie.After-place-of → State
 state c = stateOf (start c .args .bytes .now)
@@ -39,8 +40,11 @@ first c = bottom (c .before .before .before .before)
 abbrev turn : At tie.After-place-of2 → At tie.At-loop
 turn c = c .before .before
 
-abbrev place : At tie.After-is-astray → At tie.After-place-of2
-place c = c .before .before .before
+abbrev place : At tie.After-is-miscalled → At tie.After-place-of2
+place c = c .before .before .before .before
+
+abbrev called : At tie.After-is-astray → At tie.After-is-miscalled
+called c = c .before .before .before
 
 -- the place of a turn lies below the depth
 inside : (c : At tie.In-loop) → c .before .loop .k < state (first (c .before)) .depth
@@ -54,15 +58,22 @@ bottom-held c =
     bottom-belongs _ (state p) 0 _ _ (p .place-of .ensures) (deep p .before .last-label .ensures) (t .before .before .if1 .left) _
     (t .before .label-of .ensures) refl _ (t .is-astray-at-bottom .ensures) (c .if2 .left)
 
-turn-held : (c : At tie.Else5) → let t = turn (place (c .before)) in Belongs (tableImage (start (first t) .args .table .now)) (state (first t)) (t .loop .k)
+turn-held : (c : At tie.Else6) → let t = turn (place (called (c .before))) in
+    Belongs (tableImage (start (first t) .args .table .now)) (state (first t)) (t .loop .k)
 turn-held c =
     let a = c .before in
-    let p = place a in
+    let m = called a in
+    let p = place m in
     let t = turn p in
-    pass-belongs _ (state (first t)) _ _ _ (p .place-of2 .ensures) (deep (first t) .before .last-label .ensures) (a .before .before .if4 .left) _
-    (a .before .label-of2 .ensures) _ (t .loop .inv) (inside (p .before)) _ (a .is-astray .ensures) (c .if5 .left)
+    pass-belongs _ (state (first t)) _ _ _ (p .place-of2 .ensures) (deep (first t) .before .last-label .ensures)
+    _ (t .loop .inv) (inside (p .before)) _ _ _ (deep (first t) .before .before .scheme-count .ensures) (m .before .number-of .ensures)
+    (m .before .before .server-of .ensures) _ (m .is-miscalled .ensures) (a .before .before .if5 .left) (m .before .before .before .if4 .left)
+    _ (a .before .label-of2 .ensures) _ (a .is-astray .ensures) (c .if6 .left)
 
 -- ---- the needs
+scheme-count-requires : At tie.Need-scheme-count-requires
+scheme-count-requires c κs = search needs
+
 last-label-requires : At tie.Need-last-label-requires
 last-label-requires c κs = search needs
 
@@ -121,19 +132,40 @@ returns-4 c =
     let t = turn p in
     pass-high _ (state (first t)) _ _ _ (p .place-of2 .ensures) (deep (first t) .before .last-label .ensures) (inside (p .before)) (c .if4 .taken)
 
+server-of-requires : At tie.Need-server-of-requires
+server-of-requires c κs = search needs
+
+number-of-requires : At tie.Need-number-of-requires
+number-of-requires c κs = search needs
+
+is-miscalled-requires : At tie.Need-is-miscalled-requires
+is-miscalled-requires c κs = search needs
+
+returns-5 : At tie.Need-returns-5
+returns-5 c =
+    let m = c .before in
+    let p = place m in
+    let t = turn p in
+    pass-miscalled _ (state (first t)) _ _ _ (p .place-of2 .ensures) (deep (first t) .before .last-label .ensures)
+    _ (t .loop .inv) (inside (p .before)) _ _ _ (deep (first t) .before .before .scheme-count .ensures) (m .before .number-of .ensures)
+    (m .before .before .server-of .ensures) _ (m .is-miscalled .ensures) (c .if5 .taken)
+
 label-of-requires-2 : At tie.Need-label-of-requires-2
 label-of-requires-2 c κs = search needs
 
 is-astray-requires : At tie.Need-is-astray-requires
 is-astray-requires c κs = search needs
 
-returns-5 : At tie.Need-returns-5
-returns-5 c =
+returns-6 : At tie.Need-returns-6
+returns-6 c =
     let a = c .before in
-    let p = place a in
+    let m = called a in
+    let p = place m in
     let t = turn p in
-    pass-stray _ (state (first t)) _ _ _ (p .place-of2 .ensures) (deep (first t) .before .last-label .ensures) (a .before .before .if4 .left) _
-    (a .before .label-of2 .ensures) _ (t .loop .inv) (inside (p .before)) _ (a .is-astray .ensures) (c .if5 .taken)
+    pass-stray _ (state (first t)) _ _ _ (p .place-of2 .ensures) (deep (first t) .before .last-label .ensures)
+    _ (t .loop .inv) (inside (p .before)) _ _ _ (deep (first t) .before .before .scheme-count .ensures) (m .before .number-of .ensures)
+    (m .before .before .server-of .ensures) _ (m .is-miscalled .ensures) (a .before .before .if5 .left) (m .before .before .before .if4 .left)
+    _ (a .before .label-of2 .ensures) _ (a .is-astray .ensures) (c .if6 .taken)
 
 add-k : At tie.Need-add-k
 add-k c = search needs
@@ -141,14 +173,15 @@ add-k c = search needs
 calls-none-requires-2 : At tie.Need-calls-none-requires-2
 calls-none-requires-2 c κs = search needs
 
-returns-6 : At tie.Need-returns-6
-returns-6 c =
+returns-7 : At tie.Need-returns-7
+returns-7 c =
     let n = c .before in
     let a = n .before .before in
-    let p = place a in
+    let m = called a in
+    let p = place m in
     let t = turn p in
-    pass-top _ (state (first t)) _ _ _ (p .place-of2 .ensures) (deep (first t) .before .last-label .ensures) (a .before .before .if4 .left) _
-    (a .before .label-of2 .ensures) (turn-held (n .before)) _ (n .calls-none2 .ensures) _ (deep (first t) .depth-of .ensures) (c .if6 .taken)
+    pass-top _ (state (first t)) _ _ _ (p .place-of2 .ensures) (deep (first t) .before .last-label .ensures) (m .before .before .before .if4 .left) _
+    (a .before .label-of2 .ensures) (turn-held (n .before)) _ (n .calls-none2 .ensures) _ (deep (first t) .depth-of .ensures) (c .if7 .taken)
 
 loop-less : At tie.Need-loop-less
 loop-less c = search needs
@@ -157,13 +190,14 @@ loop-again : At tie.Need-loop-again
 loop-again c =
     let n = c .before in
     let a = n .before .before in
-    let p = place a in
+    let m = called a in
+    let p = place m in
     let t = turn p in
-    pass-next _ (state (first t)) _ _ _ (p .place-of2 .ensures) (deep (first t) .before .last-label .ensures) (a .before .before .if4 .left) _
-    (a .before .label-of2 .ensures) (turn-held (n .before)) _ (n .calls-none2 .ensures) (c .if6 .left)
+    pass-next _ (state (first t)) _ _ _ (p .place-of2 .ensures) (deep (first t) .before .last-label .ensures) (m .before .before .before .if4 .left) _
+    (a .before .label-of2 .ensures) (turn-held (n .before)) _ (n .calls-none2 .ensures) (c .if7 .left)
 
-returns-7 : At tie.Need-returns-7
-returns-7 c =
+returns-8 : At tie.Need-returns-8
+returns-8 c =
     let t = c .before in
     sym (passed-all _ _ _ _ (t .loop .inv) (omega (arith, deep (first t) .depth-of .ensures, c .loop-test .left)))
 
@@ -173,6 +207,7 @@ any-unfit-spec =
     (tie.spec
     Inv-loop
     μ-loop
+    scheme-count-requires
     last-label-requires
     depth-of-requires
     cast-depth
@@ -186,12 +221,16 @@ any-unfit-spec =
     loop-holds
     place-of-requires-2
     returns-4
+    server-of-requires
+    number-of-requires
+    is-miscalled-requires
+    returns-5
     label-of-requires-2
     is-astray-requires
-    returns-5
+    returns-6
     add-k
     calls-none-requires-2
-    returns-6
+    returns-7
     loop-less
     loop-again
-    returns-7)
+    returns-8)

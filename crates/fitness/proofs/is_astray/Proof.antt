@@ -1,5 +1,4 @@
 -- `fitness::is_astray` meets its contract: the owner decides, or the label.
-use borrow.Author.Tests.{eq-eqb, ne-eqb}
 use Rattle.fitness.proofs.FitCases.{astray-owned, astray-other}
 use Rattle.fitness.proofs.is_astray.Statement.{statement}
 use Rattle.fitness.proofs.is_astray.Tie as tie

@@ -4,7 +4,7 @@ use mathlib.Core.Path.{_≡_, sym, _∙_}
 use Rattle.state.specs.declared.State.{State}
 use Rattle.state.specs.Bytes.{stateOf}
 use Rattle.fitness.specs.Fitness.{badDepth}
-use Rattle.fitness.proofs.FitCases.{depth-some, depth-most, unfit-depth, unfit-places, unfit-above}
+use Rattle.fitness.proofs.FitCases.{depth-some, depth-most, unfit-depth, unfit-places, unfit-above, unfit-served}
 use borrow.Author.Needs.{needs}
 use Rattle.fitness.proofs.is_unfit.Statement.{statement}
 use Rattle.fitness.proofs.is_unfit.Tie as tie
@@ -41,12 +41,33 @@ any-filled-requires c κs = let tested = c .before .before in depth-most (held (
 
 returns-3 : tie.Need-returns-3
 returns-3 c =
-    let places = c .before .before in
+    let above = c .before in
+    let places = above .before .before in
     let tested = places .before in
-    c .any-filled .ensures
-    ∙ unfit-above _ (held (tested .before)) _ (depth-good tested) (places .any-unfit .ensures) (c .before .if2 .left)
+    unfit-above _ (held (tested .before)) _ (depth-good tested) (places .any-unfit .ensures) _ (above .before .if2 .left) (above .any-filled .ensures)
+    (c .if3 .taken)
+
+any-misserved-requires : tie.Need-any-misserved-requires
+any-misserved-requires c κs = search needs
+
+returns-4 : tie.Need-returns-4
+returns-4 c =
+    let above = c .before .before in
+    let places = above .before .before in
+    let tested = places .before in
+    c .any-misserved .ensures
+    ∙ unfit-served _ (held (tested .before)) _ (depth-good tested) (places .any-unfit .ensures) _ (above .before .if2 .left)
+    (above .any-filled .ensures) (c .before .if3 .left)
 
 pub is-unfit-spec : {M : Type 1} → statement M
 is-unfit-spec =
     tie.close
-    (tie.spec bad-depth-requires returns any-unfit-requires returns-2 any-filled-requires returns-3)
+    (tie.spec
+    bad-depth-requires
+    returns
+    any-unfit-requires
+    returns-2
+    any-filled-requires
+    returns-3
+    any-misserved-requires
+    returns-4)

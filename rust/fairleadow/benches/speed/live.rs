@@ -1,4 +1,4 @@
-//! Preparing tables, live runs and live ticks: the C functions, plain Rust that keeps its machine taken apart, and plain
+//! Preparing tables, live runs, live ticks and live rebindings: the C functions, plain Rust that keeps its machine taken apart, and plain
 //! Rust on the same table.
 
 use std::cell::RefCell;
@@ -9,6 +9,7 @@ use fairleadow::{c, IMAGE_TEXT, TABLE};
 use reference::entry::{self, translated};
 use reference::fast::{Fast, Kept};
 use reference::frames::text_of;
+use reference::live::Held;
 use reference::{fresh_state, samples, Library, State};
 
 use crate::measure::{Call, Line};
@@ -24,18 +25,16 @@ struct Input {
     ticks: Vec<(&'static str, State, u16)>,
 }
 
-/// A state of 32 places with these labels.
-fn state(places: &[u8]) -> State {
-    let mut state = State { size: 32, depth: places.len() as u8, ..State::NONE };
-    state.places[..places.len()].copy_from_slice(places);
-    state
+/// A state of 32 places with these labels of a table.
+fn state(table: &[u8], places: &[u8]) -> State {
+    Held::of(table).expect("a table").shape().state(32, places)
 }
 
 /// The largest image's label 2, calls of label 3 above it, and a label on the top of all 32 places.
-fn full(top: u8) -> State {
+fn full(table: &[u8], top: u8) -> State {
     let mut places = [3; 32];
     (places[0], places[31]) = (2, top);
-    state(&places)
+    state(table, &places)
 }
 
 /// The deepest state that some words lead to, and the word there.
@@ -53,6 +52,7 @@ fn deepest(table: &[u8]) -> (State, u16) {
 
 /// The ticks to measure on the table of a chart.
 fn ticks(name: &str, table: &[u8]) -> Vec<(&'static str, State, u16)> {
+    let state = |places: &[u8]| state(table, places);
     match name {
         "chart P" => vec![
             ("live tick, home", state(&[0]), 0),
@@ -92,21 +92,11 @@ impl Input {
     fn largest() -> Input {
         let image = text_of(&samples::largest_image());
         assert_eq!(image.len(), IMAGE_TEXT);
-        let ticks = vec![("live tick, plain", full(255), 3), ("live tick, return", full(1), 3)];
-        Input {
-            name: "largest image, depth 32",
-            table: prepared(&image),
-            image,
-            start: full(4),
-            runs: &[64],
-            ticks,
-        }
+        let table = prepared(&image);
+        let ticks =
+            vec![("live tick, plain", full(&table, 255), 3), ("live tick, return", full(&table, 1), 3)];
+        Input { name: "largest image, depth 32", start: full(&table, 4), table, image, runs: &[64], ticks }
     }
-}
-
-fn to_c(state: &State) -> c::State {
-    let results = state.results.map(u8::from);
-    c::State { size: state.size, depth: state.depth, places: state.places, results }
 }
 
 /// Buffers of a run.
@@ -147,7 +137,7 @@ fn run_line(input: &Rc<Input>, count: usize, room: &Rc<RefCell<Room>>) -> Line {
     let sides: Vec<Call> = vec![
         Box::new(move || {
             let ((input, room), mut index, mut ticks) = (&for_library, 0, 0);
-            let (mut state, mut room) = (to_c(&input.start), room.borrow_mut());
+            let (mut state, mut room) = (c::State::from(&input.start), room.borrow_mut());
             black_box(unsafe {
                 c::fairleadow_live_run(
                     input.table.as_ptr(),
@@ -182,7 +172,7 @@ fn run_line(input: &Rc<Input>, count: usize, room: &Rc<RefCell<Room>>) -> Line {
 fn tick_line(input: &Rc<Input>, name: &str, start: State, word: u16) -> Line {
     let [for_library, for_table] = [0; 2].map(|_| Rc::clone(input));
     let kept = Kept::new(&input.image).expect("an accepted image");
-    let c_start = to_c(&start);
+    let c_start = c::State::from(&start);
     let sides: Vec<Call> = vec![
         Box::new(move || {
             let (table, mut state) = (&for_library.table, c_start);
@@ -212,6 +202,38 @@ fn tick_line(input: &Rc<Input>, name: &str, start: State, word: u16) -> Line {
     Line { name: format!("{} | {name}", input.name), sides }
 }
 
+/// Number 2 to its own scheme, in the state that the runs begin with.
+fn rebind_line(input: &Rc<Input>) -> Line {
+    let [for_library, for_kept, for_table] = [0; 3].map(|_| Rc::clone(input));
+    let kept = Kept::new(&input.image).expect("an accepted image");
+    let c_start = c::State::from(&input.start);
+    let sides: Vec<Call> = vec![
+        Box::new(move || {
+            let (table, mut state, mut index, mut count) = (&for_library.table, c_start, 0, 0);
+            black_box(unsafe {
+                c::fairleadow_live_rebind(
+                    table.as_ptr(),
+                    table.len(),
+                    &mut state,
+                    2,
+                    2,
+                    &mut index,
+                    &mut count,
+                )
+            });
+        }),
+        Box::new(move || {
+            let mut state = for_kept.start;
+            black_box(kept.rebind(&mut state, 2, 2));
+        }),
+        Box::new(move || {
+            let mut state = for_table.start;
+            black_box(Fast.live_rebind(&for_table.table, &mut state, 2, 2));
+        }),
+    ];
+    Line { name: format!("{} | live rebind", input.name), sides }
+}
+
 pub fn lines() -> Vec<Line> {
     let image = |records: &[_]| translated(&text_of(records)).expect("a valid chart");
     let charts = charts();
@@ -223,6 +245,10 @@ pub fn lines() -> Vec<Line> {
         lines.push(prepare_line(&input));
         lines.extend(input.ticks.iter().map(|(name, start, word)| tick_line(&input, name, *start, *word)));
         lines.extend(input.runs.iter().map(|count| run_line(&input, *count, &room)));
+        // only these have a number that can be rebound
+        if matches!(input.name, "chart P" | "16 schemes, 256 nodes" | "largest image, depth 32") {
+            lines.push(rebind_line(&input));
+        }
     }
     lines
 }

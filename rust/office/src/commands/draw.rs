@@ -12,7 +12,7 @@ use crate::trace::Trace;
 
 pub const COMMAND: Command = Command {
     name: "draw",
-    arguments: "CHART [--svg] [--trace [--places N] [--words WORDS] [--ticks N]]",
+    arguments: "CHART [--svg] [--trace [--places N] [--words WORDS] [--ticks N] [--swap SWAPS]]",
     help: "draws a chart as graphviz text: a cluster a scheme, calls dashed, labels shown",
     details: &[
         "

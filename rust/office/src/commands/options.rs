@@ -9,6 +9,7 @@ use fairleadow::PLACES;
 use crate::command::Failure;
 use crate::plan::Plan;
 use crate::source;
+use crate::trace::swaps::{self, Swap};
 use crate::trace::words::Words;
 use crate::trace::{self, Trace};
 
@@ -18,7 +19,7 @@ const MOST_TICKS: usize = 100_000;
 const WORDS: &str = "random:1";
 
 /// The options of a trace.
-pub const TRACING: [&str; 3] = ["--places", "--words", "--ticks"];
+pub const TRACING: [&str; 4] = ["--places", "--words", "--ticks", "--swap"];
 
 /// Their help.
 pub const TRACING_HELP: &str = "
@@ -31,7 +32,10 @@ pub const TRACING_HELP: &str = "
                                   ./FILE one whose name begins with a digit
                  random:1 if not given, so that every condition is 0 and 1 in turn
   --ticks N      how many ticks, 1 to 100000. If not given, as many as the words of a list
-                 or a file, else 64. A list or a file that is shorter begins again.";
+                 or a file, else 64. A list or a file that is shorter begins again.
+  --swap SWAPS   TICK:NUMBER=SCHEME, with commas between them: right before that tick, counted
+                 from 0, the number is given to that scheme to serve. Later calls of the number
+                 open it; what is open goes on.";
 
 /// The arguments taken apart.
 pub struct Arguments {
@@ -125,7 +129,13 @@ impl Arguments {
     /// Traces the chart over the words that are asked for.
     pub fn trace(&self, plan: &Plan) -> Result<Trace, Failure> {
         let (places, words) = self.places_and_words()?;
-        trace::trace(plan, places, &words).map_err(|problem| self.failure(problem))
+        let swaps = self.swaps(words.len())?;
+        trace::trace(plan, places, &words, &swaps).map_err(|problem| self.failure(problem))
+    }
+
+    /// The swaps that are asked for, none of them past the last of so many ticks.
+    pub fn swaps(&self, ticks: usize) -> Result<Vec<Swap>, Failure> {
+        self.value("--swap").map_or(Ok(Vec::new()), |text| swaps::given(text, ticks))
     }
 
     /// The places of the stack and the words that are asked for, one at least.

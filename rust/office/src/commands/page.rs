@@ -14,7 +14,7 @@ const MOST_TICKS: usize = 10_000;
 
 pub const COMMAND: Command = Command {
     name: "page",
-    arguments: "CHART [--places N] [--words WORDS] [--ticks N] -o FILE.html",
+    arguments: "CHART [--places N] [--words WORDS] [--ticks N] [--swap SWAPS] -o FILE.html",
     help: "runs a chart and writes a page that steps through the ticks in a browser",
     details: &[
         "

@@ -8,7 +8,7 @@ use crate::why::{asked, told, Subject};
 
 pub const COMMAND: Command = Command {
     name: "why",
-    arguments: "CHART [--places N] [--words WORDS] [--ticks N] [--tick N]",
+    arguments: "CHART [--places N] [--words WORDS] [--ticks N] [--swap SWAPS] [--tick N]",
     help: "runs a chart or an image, and tells what made a tick go where it went",
     details: &[
         "
@@ -35,7 +35,8 @@ fn run(args: &[String], out: &mut dyn Write) -> Result<(), Failure> {
         let made = format!("the words make ticks 0 to {last}");
         return Err(Failure::Usage(format!("there is no tick {tick}: {made} (--ticks asks for more)")));
     }
-    let asked = asked(&subject, places, &words, tick).map_err(failure)?;
+    let swaps = arguments.swaps(words.len())?;
+    let asked = asked(&subject, places, &words, &swaps, tick).map_err(failure)?;
     let words = told(&subject, &asked).map_err(failure)?;
     Ok(writeln!(out, "{}: {words}", arguments.title())?)
 }

@@ -90,7 +90,7 @@ fn of_records(records: &[[u8; RECORD]], refusal: &Refusal, voice: Voice) -> Opti
     }
 }
 
-/// Refusals 14 to 18 and 21, which name no line.
+/// Refusals 14 to 18, 21 and 22, which name no line.
 fn of_run(refusal: &Refusal) -> Option<Problem> {
     let ticks = counted(refusal.count, "tick");
     let (words, advice) = match refusal.number {
@@ -109,6 +109,10 @@ fn of_run(refusal: &Refusal) -> Option<Problem> {
         21 => (
             "the tick takes no row".to_string(),
             "a tick before it or after it that is plain or a return",
+        ),
+        22 => (
+            "this number cannot be given to that scheme".to_string(),
+            "a number and a scheme from 2 to the highest one, and a number that is not the handler's",
         ),
         _ => return None,
     };

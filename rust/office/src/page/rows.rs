@@ -30,7 +30,7 @@ fn row(plan: &Plan, number: usize, tick: &Tick) -> String {
         chips(&plan.results(&tick.results)),
     ];
     let cells: String = cells.iter().map(|cell| format!("<td>{cell}</td>")).collect();
-    let stack: Vec<String> = tick.stack.iter().map(|node| node_id(*node)).collect();
+    let stack: Vec<String> = tick.stack.iter().map(|opened| node_id(opened.node)).collect();
     let lines = lines(tick).join(" ");
     let stack = stack.join(" ");
     format!("<tr id=\"tick-{number}\" data-stack=\"{stack}\" data-lines=\"{lines}\">{cells}</tr>\n")

@@ -30,12 +30,19 @@ impl Path {
     }
 }
 
-/// The arcs that a tick takes from the open nodes, the bottom first, with the result bits before it.
-pub fn path(plan: &Plan, happening: Happening, stack: &[usize], results: &[bool; 16], word: u16) -> Path {
+/// The arcs that a tick takes from the open nodes, the bottom first, with the scheme that serves a call and the result bits before it.
+pub fn path(
+    plan: &Plan,
+    happening: Happening,
+    server: u8,
+    stack: &[usize],
+    results: &[bool; 16],
+    word: u16,
+) -> Path {
     let top = stack[stack.len() - 1];
     match happening {
         Happening::Home => entered(plan, 1),
-        Happening::Call(scheme) => entered(plan, scheme),
+        Happening::Call(_) => entered(plan, server),
         Happening::Drop => entered(plan, plan.handler()),
         // the handler at the bottom: it leads home by no arc
         Happening::Return if stack.len() == 1 => Path::start(plan.marking.end(1)),

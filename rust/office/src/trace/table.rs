@@ -70,7 +70,7 @@ fn aligned(rows: &[[String; 9]]) -> String {
 
 /// Why a trace ended before its words did: the refusal in its own words, and the call that met it.
 pub fn problem(plan: &Plan, trace: &Trace, stopped: &Stopped) -> Problem {
-    let node = stopped.stack[stopped.stack.len() - 1];
+    let node = stopped.stack[stopped.stack.len() - 1].node;
     let count = trace.ticks.len();
     let told = plan.source.problem(Answer::Refused { number: stopped.number, index: 0, count });
     let place = format!(

@@ -3,11 +3,11 @@
 use fairleadow::{Answer, Library, Proved, State};
 
 use super::arcs::{path, Arc};
+use super::swaps::{self, Swap};
 use super::Coverage;
 use crate::check::translated;
 use crate::explain;
 use crate::kind::Kind;
-use crate::marking::called;
 use crate::plan::Plan;
 use crate::problem::{counted, Problem};
 
@@ -35,12 +35,20 @@ impl Happening {
     }
 }
 
-/// One tick. The stack holds the node of each open scheme before the tick, the bottom first; the result bits are those
-/// after it.
+/// A scheme that is open: its node, and the number that it was called by, which another scheme may serve.
+#[derive(Clone, Copy, Debug, PartialEq, Eq)]
+pub struct Opened {
+    pub node: usize,
+    pub number: u8,
+}
+
+/// One tick. The stack holds the open schemes before the tick, the bottom first, and `server` is the scheme that a call opens, 0
+/// where none is made; the result bits are those after it.
 #[derive(Clone, Debug)]
 pub struct Tick {
     pub word: u16,
-    pub stack: Vec<usize>,
+    pub stack: Vec<Opened>,
+    pub server: u8,
     pub code: u8,
     pub mask: u32,
     pub results: [bool; 16],
@@ -50,7 +58,7 @@ pub struct Tick {
 impl Tick {
     /// The node that the tick stands for.
     pub fn node(&self) -> usize {
-        self.stack[self.stack.len() - 1]
+        self.stack[self.stack.len() - 1].node
     }
 
     pub fn happening(&self) -> Happening {
@@ -63,7 +71,7 @@ impl Tick {
 pub struct Stopped {
     pub number: u8,
     pub word: u16,
-    pub stack: Vec<usize>,
+    pub stack: Vec<Opened>,
 }
 
 /// The ticks made, the refusal that ended them, if any, and what was taken.
@@ -75,12 +83,14 @@ pub struct Trace {
     pub coverage: Coverage,
 }
 
-/// Translates the chart once and ticks it over the words, or tells why chart or stack size are refused.
-pub fn trace(plan: &Plan, places: usize, words: &[u16]) -> Result<Trace, Problem> {
+/// Translates the chart once and ticks it over the words, with swaps before some of them, or tells why chart, stack size or a swap
+/// are refused.
+pub fn trace(plan: &Plan, places: usize, words: &[u16], swaps: &[Swap]) -> Result<Trace, Problem> {
     let image = translated(&plan.source)?;
     let mut state = fresh(places)?;
     let mut trace = Trace { places, ticks: Vec::new(), stopped: None, coverage: Coverage::none(plan) };
-    for word in words {
+    for (number, word) in words.iter().enumerate() {
+        swaps::make(swaps, number, &image, &mut state)?;
         match tick(plan, &image, &mut state, *word) {
             Ok(tick) => {
                 trace.coverage.note(&tick);
@@ -112,27 +122,29 @@ fn tick(plan: &Plan, image: &[u8], state: &mut State, word: u16) -> Result<Tick,
     if let Answer::Refused { number, .. } = ticked.answer {
         return Err(Stopped { number, word, stack });
     }
-    let path = path(plan, Happening::of(ticked.code), &stack, &before, word);
-    let reached = self::stack(plan, state).pop();
+    let happening = Happening::of(ticked.code);
+    let server = match happening {
+        Happening::Call(_) => state.servers[usize::from(state.depth) - 1],
+        _ => 0,
+    };
+    let nodes: Vec<usize> = stack.iter().map(|opened| opened.node).collect();
+    let path = path(plan, happening, server, &nodes, &before, word);
+    let reached = self::stack(plan, state).pop().map(|opened| opened.node);
     assert_eq!(Some(path.end), reached, "the arcs followed end where the library's state stands");
     let results = results(state);
-    Ok(Tick { word, stack, code: ticked.code, mask: ticked.mask, results, arcs: path.arcs })
+    Ok(Tick { word, stack, server, code: ticked.code, mask: ticked.mask, results, arcs: path.arcs })
 }
 
-/// The nodes of the labels that a state holds, the bottom first. An End at the bottom is scheme 1's by its own label, 0,
-/// or else the handler's.
-fn stack(plan: &Plan, state: &State) -> Vec<usize> {
-    let mut scheme = plan.handler();
-    let mut stack = Vec::new();
-    for label in &state.places[..usize::from(state.depth)] {
-        let node = plan.marking.node(*label, scheme);
-        scheme = called(&plan.nodes[node]);
-        stack.push(node);
-    }
-    stack
+/// What is open in a state, the bottom first: each label with the scheme that the state remembers for it.
+fn stack(plan: &Plan, state: &State) -> Vec<Opened> {
+    let opened = |at: usize| Opened {
+        node: plan.marking.node(state.places[at], state.servers[at]),
+        number: state.numbers[at],
+    };
+    (0..usize::from(state.depth)).map(opened).collect()
 }
 
-/// The result bits of a state, that of scheme 1 first.
+/// The result bits of a state, that of number 1 first.
 fn results(state: &State) -> [bool; 16] {
     state.results
 }

@@ -101,7 +101,7 @@ fn result(subject: &Subject, asked: &Asked, row: &Row) -> Option<(String, Sort)>
         2 => Sort::Idle,
         _ => Sort::Own,
     };
-    Some((subject.result(subject.image.label(row.from).called, bit), sort))
+    Some((subject.result(subject.image.called(row.from), bit), sort))
 }
 
 /// Refusal 18: the label whose rows the tick looked at.
@@ -117,7 +117,7 @@ fn without_match(subject: &Subject, asked: &Asked) -> String {
 fn without_row(subject: &Subject, asked: &Asked) -> String {
     let (top, _) = before(subject, asked);
     let (from, to) = (subject.place(top), subject.place(after(subject, asked)));
-    let called = subject.scheme(subject.image.label(top.label).called);
+    let called = subject.scheme(subject.image.called(top.label));
     if let Answer::Refused { number, .. } = asked.ticked.answer {
         let full = format!("finds the stack full and goes nowhere (refusal {number})");
         return format!("a call takes no row; {from} calls {called}, {full}");

@@ -1,4 +1,4 @@
-//! On a table that was prepared from an image a live run is a run, and a live tick a tick.
+//! On a table that was prepared from an image a live run is a run, a live tick a tick, and a live rebinding a rebinding.
 
 use super::Summary;
 use crate::expectation::{Outcome, Run};
@@ -15,7 +15,7 @@ struct Prepared {
     table: Vec<u8>,
 }
 
-/// Holds the two against each other on so many images and, for each, so many states, fitting or not. Tells how often each
+/// Holds each against the other on so many images and, for each, so many states, fitting or not. Tells how often each
 /// answer came; a difference panics.
 pub fn live_alike(library: &dyn Library, images: u64, states: usize) -> Summary {
     let mut summary = Summary::default();
@@ -23,12 +23,14 @@ pub fn live_alike(library: &dyn Library, images: u64, states: usize) -> Summary 
         let random = &mut Random::new(seed);
         let prepared = prepared(library, random);
         for _ in 0..states {
-            let state = states::state(random, &prepared.image.labels, prepared.image.handler);
+            let state = states::state(random, prepared.image.shape());
             let words = random.pick(&[1, 5, 30]);
             let run = runs::run(random, words);
+            let rebinding = runs::rebinding(random, prepared.image.entries.len());
             let numbers = [
                 ("live_run", same_run(library, &prepared, &state, &run, seed)),
                 ("live_tick", same_tick(library, &prepared, &state, run.words[0], seed)),
+                ("live_rebind", same_rebinding(library, &prepared, &state, rebinding, seed)),
             ];
             for answered in numbers {
                 *summary.answers.entry(answered).or_insert(0) += 1;
@@ -72,4 +74,19 @@ fn same_tick(library: &dyn Library, prepared: &Prepared, state: &State, word: u1
     let live = library.live_tick(&prepared.table, &mut after_live, word);
     assert_eq!((ticked, after), (live, after_live), "seed {seed}, {state:?}");
     live.answer.number()
+}
+
+/// Makes both rebindings and hands back the number answered.
+fn same_rebinding(
+    library: &dyn Library,
+    prepared: &Prepared,
+    state: &State,
+    (number, scheme): (usize, usize),
+    seed: u64,
+) -> u8 {
+    let (mut after, mut after_live) = (*state, *state);
+    let rebound = library.rebind(&prepared.text, &mut after, number, scheme);
+    let live = library.live_rebind(&prepared.table, &mut after_live, number, scheme);
+    assert_eq!((rebound, after), (live, after_live), "seed {seed}, {number} to {scheme}, {state:?}");
+    live.number()
 }

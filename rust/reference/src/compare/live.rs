@@ -35,10 +35,10 @@ impl<'a> Case<'a> {
         self.some_ticks("live_tick", <dyn Library>::live_tick, ground, &state)
     }
 
-    /// One state through runs and ticks on the text and on the table, in any order, refused ones too.
+    /// One state through runs, ticks and rebindings on the text and on the table, in any order, refused ones too.
     pub(super) fn mixture(&mut self) -> Compared {
         let image = images::accepted(&mut self.random);
-        let mut state = states::state(&mut self.random, &image.labels, image.handler);
+        let mut state = states::state(&mut self.random, image.shape());
         let text = letters::sizes(&mut self.random, text_of(&image.frames()));
         self.summary.note_letters("mixture", &text);
         let table = table_of(&image).concat();
@@ -48,10 +48,13 @@ impl<'a> Case<'a> {
             let words = self.random.within(0, 6);
             let run = runs::run(&mut self.random, words);
             let word = self.random.number() as u16;
-            state = match self.random.below(4) {
+            let rebinding = runs::rebinding(&mut self.random, image.entries.len());
+            state = match self.random.below(6) {
                 0 => self.ran("mixture", <dyn Library>::run, on_text, &state, &run)?,
                 1 => self.ran("mixture", <dyn Library>::live_run, on_table, &state, &run)?,
                 2 => self.ticked("mixture", <dyn Library>::tick, on_text, &state, word)?.1,
+                3 => self.rebound("mixture", <dyn Library>::rebind, on_text, &state, rebinding)?,
+                4 => self.rebound("mixture", <dyn Library>::live_rebind, on_table, &state, rebinding)?,
                 _ => self.ticked("mixture", <dyn Library>::live_tick, on_table, &state, word)?.1,
             };
         }

@@ -1,10 +1,9 @@
 //! Cases of runs and ticks on an image's text, and what every kind of run and tick is compared by.
 
-use super::{Call, Case, Compared, Difference, MARGIN};
+use super::{Case, Compared, Difference, MARGIN};
 use crate::answer::Answer;
-use crate::check::chart_of;
-use crate::expectation::{expected, Outcome, Run};
-use crate::frames::{text_of, CHARACTERS};
+use crate::expectation::Run;
+use crate::frames::text_of;
 use crate::generate::{damage, images, letters, runs, states};
 use crate::library::{Library, Reference, Ticked};
 use crate::show;
@@ -25,9 +24,9 @@ pub(super) struct Ground<'b> {
 
 impl<'a> Case<'a> {
     /// An image text, mostly accepted, and a state for it.
-    fn image_and_state(&mut self) -> (Vec<u8>, State) {
+    pub(super) fn image_and_state(&mut self) -> (Vec<u8>, State) {
         let image = images::accepted(&mut self.random);
-        let state = states::state(&mut self.random, &image.labels, image.handler);
+        let state = states::state(&mut self.random, image.shape());
         let frames = image.frames();
         let text = match self.random.below(10) {
             0 => text_of(&damage::image(&mut self.random, &frames)),
@@ -55,7 +54,7 @@ impl<'a> Case<'a> {
         };
         let (answer, after) = made(&Reference, &mut masks, &mut codes);
         let finished = &codes[MARGIN..][..answer.count()];
-        self.summary.note_codes(name, state.depth.into(), finished);
+        self.summary.note_codes(name, state.depth.into(), &state.serving, finished);
         let (got, got_after) = made(self.library, &mut got_masks, &mut got_codes);
         let wanted = (answer, after, masks, codes);
         let given = (got, got_after, got_masks, got_codes);
@@ -78,7 +77,8 @@ impl<'a> Case<'a> {
         let (mut state, mut given) = (*start, *start);
         let wanted = call(&Reference, ground.bytes, &mut state, word);
         let finished = [wanted.code];
-        self.summary.note_codes(name, start.depth.into(), &finished[..wanted.answer.count()]);
+        let finished = &finished[..wanted.answer.count()];
+        self.summary.note_codes(name, start.depth.into(), &start.serving, finished);
         let got = call(self.library, ground.bytes, &mut given, word);
         self.hold(name, wanted.answer, &(wanted, state), &(got, given), || {
             let on = (ground.shown)(ground.bytes);
@@ -141,54 +141,6 @@ impl<'a> Case<'a> {
         }
         Ok(())
     }
-
-    /// Demand 3: a list of runs against the walk over the joined words. Where `live`, some of them are made on the table.
-    pub(super) fn runs(&mut self, name: &'static str, live: bool) -> Compared {
-        let (records, image) = images::translated(&mut self.random);
-        let chart = chart_of(&records).expect("generated charts are valid");
-        let text = letters::sizes(&mut self.random, text_of(&records));
-        let size = if self.random.once_in(2) { self.random.within(1, 4) } else { self.random.within(1, 32) };
-        let list = runs::list(&mut self.random);
-        let image_text =
-            self.made("translate", <dyn Library>::translate, &text, image.frames().len() * CHARACTERS)?;
-        let image_text = letters::sizes(&mut self.random, image_text);
-        let table = self.made("prepare", <dyn Library>::prepare, &image_text, image.frames().len() * 10)?;
-        self.summary.note_letters(name, &text);
-        self.summary.note_letters(name, &image_text);
-        let outcomes = expected(&chart, size, &list);
-        let (_, mut state) = self.library.fresh(size);
-        let mut depth = 1;
-        for (k, run) in list.iter().enumerate() {
-            let (mut masks, mut codes) = (run.masks.clone(), run.codes.clone());
-            let (answer, after) = if live && !self.random.once_in(3) {
-                self.library.live_run(&table, &state, &run.words, &mut masks, &mut codes)
-            } else {
-                self.library.run(&image_text, &state, &run.words, &mut masks, &mut codes)
-            };
-            state = after;
-            depth = self.summary.note_codes(name, depth, &outcomes[k].codes[..outcomes[k].answer.count()]);
-            let outcome = Outcome { answer, masks, codes };
-            self.hold(name, outcomes[k].answer, &outcomes[k], &outcome, || {
-                let shown: Vec<String> = list.iter().map(show_run).collect();
-                format!("chart of {}size {size}, run {k} of\n{}", show::text(&text), shown.join("\n"))
-            })?;
-        }
-        Ok(())
-    }
-
-    /// What the library writes into a buffer that is just long enough.
-    fn made(
-        &mut self,
-        name: &'static str,
-        call: Call<'a>,
-        input: &[u8],
-        length: usize,
-    ) -> Result<Vec<u8>, Box<Difference>> {
-        let mut made = vec![0; length];
-        let (wanted, got) = (Answer::Done(length), call(self.library, input, &mut made));
-        self.hold(name, wanted, &wanted, &got, || show::text(input))?;
-        Ok(made)
-    }
 }
 
 /// A buffer with margins on both sides.
@@ -196,7 +148,7 @@ fn widened<T: Copy>(buffer: &[T], filler: T) -> Vec<T> {
     [&[filler; MARGIN], buffer, &[filler; MARGIN]].concat()
 }
 
-fn show_run(run: &Run) -> String {
+pub(super) fn show_run(run: &Run) -> String {
     let (masks, codes) = (run.masks.len(), run.codes.len());
     format!("{}; room for {masks} masks, {codes} codes", show::words(&run.words))
 }

@@ -2,7 +2,7 @@
 //! doubt, only the state.
 
 use super::machine::Machine;
-use super::{accepted, ticked_of, IMAGE_FRAMES};
+use super::{accepted, rebound, ticked_of, IMAGE_FRAMES};
 use crate::answer::{Answer, Refusal};
 use crate::library::Ticked;
 use crate::state::State;
@@ -22,6 +22,11 @@ impl Kept {
     /// Refusals 15 to 18; counts ticks.
     pub fn run(&self, state: &State, words: &[u16], masks: &mut [u32], codes: &mut [u8]) -> (Answer, State) {
         self.machine.run(state, words, masks, codes)
+    }
+
+    /// Refusals 15 and 22; counts 0.
+    pub fn rebind(&self, state: &mut State, number: usize, scheme: usize) -> Answer {
+        rebound(self.machine.rebind(state, number, scheme))
     }
 
     /// Refusals 15, 17 and 18; counts 1.

@@ -4,7 +4,7 @@ use super::image::Parts;
 use crate::answer::Answer;
 use crate::frames::Frame;
 use crate::image::{FUNCTION_CALL, HOME, OPERATION_CALL, PLAIN, RETURN, ROWS};
-use crate::state::State;
+use crate::state::{leave_alone, State};
 
 /// Writes the table of an accepted image; there is room for it.
 pub fn prepare(frames: &[Frame], parts: &Parts, table: &mut [Frame]) {
@@ -32,10 +32,15 @@ fn noted(frame: &Frame) -> usize {
     usize::from(u16::from_le_bytes([frame[0], frame[1]]))
 }
 
-fn write_result(results: &mut [bool; 16], label: &Label) {
-    let owner = usize::from(label.owner).max(1) - 1;
-    if label.result != 0 && owner < 16 {
-        results[owner] = label.result == 2;
+/// The place of a number in a list that begins with number 1; 0 counts as 1.
+fn place(number: u8) -> usize {
+    usize::from(number).max(1) - 1
+}
+
+/// The bit is that of the number which the scheme at the top was called by.
+fn write_result(state: &mut State, top: usize, label: &Label) {
+    if label.result != 0 {
+        state.results[place(state.numbers[top])] = label.result == 2;
     }
 }
 
@@ -91,8 +96,12 @@ impl<'a> Table<'a> {
         label
     }
 
+    /// One above the last scheme is entered at label 0.
     fn entry(&self, scheme: u8) -> u8 {
-        self.frames[usize::from(scheme).max(1)][2]
+        if scheme > self.schemes {
+            return 0;
+        }
+        self.frames[1 + place(scheme)][2]
     }
 
     /// Whether the handler is at the bottom.
@@ -107,16 +116,32 @@ impl<'a> Table<'a> {
         }
         let (filled, above) = state.places.split_at(depth);
         let handled = self.handles(filled[0]);
-        let (mut scheme, mut kept) = (if handled { self.handler } else { 1 }, true);
+        let bottom = if handled { self.handler } else { 1 };
+        if state.servers[0] != bottom {
+            return false;
+        }
+        let (mut number, mut least, mut kept) = (bottom, 1, true);
         for (k, place) in filled.iter().enumerate() {
-            let label = self.label(*place);
-            let belongs = label.owner == scheme || (*place == 1 && (k > 0 || handled));
-            if *place > self.last || !belongs || !kept {
+            let (label, server) = (self.label(*place), state.servers[k]);
+            let belongs = label.owner == server || (*place == 1 && (k > 0 || handled));
+            let serves = least <= server && server <= self.schemes && state.numbers[k] == number;
+            if *place > self.last || !belongs || !serves || !kept {
                 return false;
             }
-            (scheme, kept) = (label.called, matches!(label.kind, OPERATION_CALL | FUNCTION_CALL));
+            (number, least) = (label.called, 2);
+            kept = matches!(label.kind, OPERATION_CALL | FUNCTION_CALL);
         }
-        above == &[0; 32][depth..]
+        let zeros = &[0; 32][depth..];
+        above == zeros
+            && &state.numbers[depth..] == zeros
+            && &state.servers[depth..] == zeros
+            && super::all_serve(&state.serving, self.schemes, self.handler)
+    }
+
+    /// Refusals 15 and 22.
+    pub fn rebind(&self, state: &mut State, number: usize, scheme: usize) -> Result<(), u8> {
+        let fits = self.fits(state);
+        super::bind(fits, self.schemes, self.handler, state, number, scheme)
     }
 
     /// The rows of a label.
@@ -145,7 +170,7 @@ impl<'a> Table<'a> {
 
     /// The bit that decides rows of a function call's label.
     fn bit(results: &[bool; 16], label: &Label) -> Option<bool> {
-        (label.kind == FUNCTION_CALL).then(|| results[usize::from(label.called).max(1) - 1])
+        (label.kind == FUNCTION_CALL).then(|| results[place(label.called)])
     }
 
     /// One tick of a lent state: the mask and the code, or 17 or 18 and the state as it was.
@@ -161,10 +186,12 @@ impl<'a> Table<'a> {
                 if state.depth == state.size {
                     return self.drop_all(state, &label);
                 }
-                state.places[top + 1] = self.entry(label.called);
+                let server = state.serving[place(label.called)];
+                state.places[top + 1] = self.entry(server);
+                (state.numbers[top + 1], state.servers[top + 1]) = (label.called, server);
                 state.depth += 1;
-                write_result(&mut state.results, &label);
-                state.results[usize::from(label.called).max(1) - 1] = false;
+                write_result(state, top, &label);
+                state.results[place(label.called)] = false;
                 let base = if label.kind == OPERATION_CALL { 0x10 } else { 0x40 };
                 return Ok((label.mask, base + label.called));
             }
@@ -173,19 +200,19 @@ impl<'a> Table<'a> {
                 0x04
             }
             _ if top == 0 => {
-                state.places[0] = 0;
+                leave_alone(state, 0, 1);
                 0x03
             }
             _ => {
                 let below = top - 1;
                 let bit = Self::bit(&state.results, &self.label(state.places[below]));
                 state.places[below] = self.next(state.places[below], bit, word)?;
-                state.places[top] = 0;
+                (state.places[top], state.numbers[top], state.servers[top]) = (0, 0, 0);
                 state.depth -= 1;
                 0x03
             }
         };
-        write_result(&mut state.results, &label);
+        write_result(state, top, &label);
         Ok((label.mask, code))
     }
 
@@ -195,10 +222,9 @@ impl<'a> Table<'a> {
         if self.handler == 0 || self.handles(state.places[0]) {
             return Err(17);
         }
-        write_result(&mut state.results, label);
+        write_result(state, usize::from(state.depth) - 1, label);
         state.results[usize::from(self.handler) - 1] = false;
-        (state.depth, state.places) = (1, [0; 32]);
-        state.places[0] = self.entry(self.handler);
+        leave_alone(state, self.entry(self.handler), self.handler);
         Ok((label.mask, 0x60))
     }
 

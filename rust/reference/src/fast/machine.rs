@@ -30,34 +30,37 @@ struct Row {
 
 /// Result bits: packed for a run, which reads and writes many, or as a state has them for one tick.
 trait Bits {
-    /// A scheme's bit; only for scheme 0, which nothing calls, it may be any.
-    fn bit(&self, scheme: u8) -> u8;
-    fn write(&mut self, scheme: u8, bit: bool);
+    /// A number's bit; only for number 0, which nothing calls, it may be any.
+    fn bit(&self, number: u8) -> u8;
+    fn write(&mut self, number: u8, bit: bool);
 }
 
 impl Bits for u32 {
-    fn bit(&self, scheme: u8) -> u8 {
-        (self >> scheme & 1) as u8
+    fn bit(&self, number: u8) -> u8 {
+        (self >> number & 1) as u8
     }
 
-    fn write(&mut self, scheme: u8, bit: bool) {
-        *self = *self & !(1 << scheme) | u32::from(bit) << scheme;
+    fn write(&mut self, number: u8, bit: bool) {
+        *self = *self & !(1 << number) | u32::from(bit) << number;
     }
 }
 
 impl Bits for [bool; 16] {
-    fn bit(&self, scheme: u8) -> u8 {
-        u8::from(self[usize::from(scheme.wrapping_sub(1) & 15)])
+    fn bit(&self, number: u8) -> u8 {
+        u8::from(self[usize::from(number.wrapping_sub(1) & 15)])
     }
 
-    fn write(&mut self, scheme: u8, bit: bool) {
-        self[usize::from(scheme.wrapping_sub(1) & 15)] = bit;
+    fn write(&mut self, number: u8, bit: bool) {
+        self[usize::from(number.wrapping_sub(1) & 15)] = bit;
     }
 }
 
 /// A fitting state taken apart.
 struct Stack<B> {
     places: [u8; 32],
+    numbers: [u8; 32],
+    servers: [u8; 32],
+    serving: [u8; 16],
     depth: usize,
     size: usize,
     bits: B,
@@ -66,16 +69,31 @@ struct Stack<B> {
 impl<B: Bits> Stack<B> {
     fn of(state: &State, bits: B) -> Stack<B> {
         let (depth, size) = (usize::from(state.depth), usize::from(state.size));
-        Stack { places: state.places, depth, size, bits }
+        let State { places, numbers, servers, serving, .. } = *state;
+        Stack { places, numbers, servers, serving, depth, size, bits }
     }
 
     fn state(&self, results: [bool; 16]) -> State {
-        State { size: self.size as u8, depth: self.depth as u8, places: self.places, results }
+        let Stack { places, numbers, servers, serving, .. } = *self;
+        let (size, depth) = (self.size as u8, self.depth as u8);
+        State { size, depth, places, results, serving, numbers, servers }
     }
 
-    fn write_result(&mut self, label: &Label) {
+    /// Opens a scheme at a place; or clears that place.
+    fn open(&mut self, at: usize, label: u8, number: u8, server: u8) {
+        (self.places[at], self.numbers[at], self.servers[at]) = (label, number, server);
+    }
+
+    fn leave_alone(&mut self, label: u8, scheme: u8) {
+        (self.places, self.numbers, self.servers) = ([0; 32], [0; 32], [0; 32]);
+        self.open(0, label, scheme, scheme);
+        self.depth = 1;
+    }
+
+    /// The bit is that of the number which the scheme at the top was called by.
+    fn write_result(&mut self, top: usize, label: &Label) {
         if label.result != 0 {
-            self.bits.write(label.owner, label.result == 2);
+            self.bits.write(self.numbers[top], label.result == 2);
         }
     }
 }
@@ -87,6 +105,7 @@ pub struct Machine<const SCANS: bool = false> {
     rows: [Row; ROWS],
     count: usize,
     row_count: usize,
+    schemes: u8,
     handler: u8,
 }
 
@@ -98,6 +117,7 @@ impl<const SCANS: bool> Machine<SCANS> {
             rows: [Row::default(); ROWS],
             count: parts.labels,
             row_count: frames.len() - 1 - parts.schemes - parts.labels,
+            schemes: parts.schemes as u8,
             handler: parts.handler,
         };
         let (entries, rest) = frames[1..].split_at(parts.schemes);
@@ -135,20 +155,35 @@ impl<const SCANS: bool> Machine<SCANS> {
             return false;
         }
         let (filled, above) = state.places.split_at(depth);
-        let mut scheme = if self.handles(filled[0]) { self.handler } else { 1 };
+        let bottom = if self.handles(filled[0]) { self.handler } else { 1 };
+        if state.servers[0] != bottom {
+            return false;
+        }
+        let (mut number, mut least) = (bottom, 1);
         for (k, place) in filled.iter().enumerate() {
-            if usize::from(*place) >= self.count {
+            let server = state.servers[k];
+            if usize::from(*place) >= self.count || state.numbers[k] != number {
                 return false;
             }
             let label = &self.labels[usize::from(*place)];
-            let belongs = label.owner == scheme || (*place == 1 && scheme != 1);
+            let belongs = label.owner == server || (*place == 1 && server != 1);
             let calls = label.kind == OPERATION_CALL || label.kind == FUNCTION_CALL;
-            if !belongs || (k + 1 < depth && !calls) {
+            if !belongs || server < least || server > self.schemes || (k + 1 < depth && !calls) {
                 return false;
             }
-            scheme = label.called;
+            (number, least) = (label.called, 2);
         }
-        above == &[0; 32][depth..]
+        let zeros = &[0; 32][depth..];
+        above == zeros
+            && &state.numbers[depth..] == zeros
+            && &state.servers[depth..] == zeros
+            && super::all_serve(&state.serving, self.schemes, self.handler)
+    }
+
+    /// Refusals 15 and 22.
+    pub fn rebind(&self, state: &mut State, number: usize, scheme: usize) -> Result<(), u8> {
+        let fits = self.fits(state);
+        super::bind(fits, self.schemes, self.handler, state, number, scheme)
     }
 
     /// Refusals 15 to 18.
@@ -245,11 +280,9 @@ impl<const SCANS: bool> Machine<SCANS> {
         if self.handler == 0 || self.handles(stack.places[0]) {
             return Err(17);
         }
-        stack.write_result(label);
+        stack.write_result(stack.depth - 1, label);
         stack.bits.write(self.handler, false);
-        stack.places = [0; 32];
-        stack.places[0] = self.entries[usize::from(self.handler)];
-        stack.depth = 1;
+        stack.leave_alone(self.entries[usize::from(self.handler)], self.handler);
         Ok((label.mask, 0x60))
     }
 
@@ -267,9 +300,10 @@ impl<const SCANS: bool> Machine<SCANS> {
                 if stack.depth == stack.size {
                     return self.drop_all(stack, &label);
                 }
-                stack.places[top + 1] = self.entries[usize::from(label.called)];
+                let server = stack.serving[usize::from(label.called.wrapping_sub(1) & 15)];
+                stack.open(top + 1, self.entries[usize::from(server)], label.called, server);
                 stack.depth += 1;
-                stack.write_result(&label);
+                stack.write_result(top, &label);
                 stack.bits.write(label.called, false);
                 let base = if label.kind == OPERATION_CALL { 0x10 } else { 0x40 };
                 return Ok((label.mask, base + label.called));
@@ -279,17 +313,17 @@ impl<const SCANS: bool> Machine<SCANS> {
                 0x04
             }
             _ if top == 0 => {
-                stack.places[0] = 0;
+                stack.leave_alone(0, 1);
                 0x03
             }
             _ => {
                 stack.places[top - 1] = self.next(stack.places[top - 1], &stack.bits, word)?;
-                stack.places[top] = 0;
+                stack.open(top, 0, 0, 0);
                 stack.depth = top;
                 0x03
             }
         };
-        stack.write_result(&label);
+        stack.write_result(top, &label);
         Ok((label.mask, code))
     }
 }

@@ -13,7 +13,7 @@ mod table;
 use crate::answer::{answered, Answer, Refusal};
 use crate::frames::{Frame, CHARACTERS, CHART_TEXT, IMAGE_TEXT};
 use crate::library::{Cause, Library, Meaning, Ticked};
-use crate::state::State;
+use crate::state::{can_rebind, State};
 pub use kept::Kept;
 use machine::Machine;
 
@@ -131,6 +131,42 @@ pub fn run_on<const SCANS: bool>(
     }
 }
 
+/// Whether each number of 2 to 16 may be served by the scheme that serves it: one that can be called, but above the last scheme, and
+/// for the handler, only its own.
+fn all_serve(serving: &[u8; 16], schemes: u8, handler: u8) -> bool {
+    (2..=16).zip(&serving[1..]).all(|(number, server)| {
+        if number > schemes || number == handler {
+            *server == number
+        } else {
+            (2..=schemes).contains(server)
+        }
+    })
+}
+
+/// Refusals 15 and 22, or the number is served by the scheme from then on.
+fn bind(
+    fits: bool,
+    schemes: u8,
+    handler: u8,
+    state: &mut State,
+    number: usize,
+    scheme: usize,
+) -> Result<(), u8> {
+    if !fits {
+        return Err(15);
+    }
+    if !can_rebind(schemes.into(), handler, number, scheme) {
+        return Err(22);
+    }
+    state.serving[number - 1] = scheme as u8;
+    Ok(())
+}
+
+/// What a rebinding answers.
+fn rebound(done: Result<(), u8>) -> Answer {
+    answered(done.map(|()| 0).map_err(|number| Refusal { number, index: 0 }))
+}
+
 /// What a tick hands back for its mask and code, or for its refusal.
 fn ticked_of(ticked: Result<(u32, u8), u8>) -> Ticked {
     match ticked {
@@ -179,6 +215,16 @@ impl Library for Fast {
         run_on::<false>(image, state, words, masks, codes)
     }
 
+    fn rebind(&self, image: &[u8], state: &mut State, number: usize, scheme: usize) -> Answer {
+        let mut frames = [[0; 10]; IMAGE_FRAMES];
+        match accepted(image, &mut frames) {
+            Ok((frames, parts)) => {
+                rebound(Machine::<false>::new(frames, &parts).rebind(state, number, scheme))
+            }
+            Err(refusal) => refusal.into(),
+        }
+    }
+
     fn cause(&self, image: &[u8], state: &State, word: u16) -> Cause {
         let found = cause_of(image, state, word);
         let (row, mask, bit) = found.unwrap_or((0, 0, 0));
@@ -224,6 +270,10 @@ impl Library for Fast {
             Some(table) => table.tick(state, word),
         };
         ticked_of(ticked)
+    }
+
+    fn live_rebind(&self, table: &[u8], state: &mut State, number: usize, scheme: usize) -> Answer {
+        rebound(live::Table::of(table).ok_or(11).and_then(|table| table.rebind(state, number, scheme)))
     }
 
     fn meaning(&self, code: u8) -> Meaning {

@@ -1,7 +1,7 @@
-//! Words, buffers and lists of runs.
+//! Words, buffers, rebindings, and lists of runs and rebindings.
 
 use super::Random;
-use crate::expectation::Run;
+use crate::expectation::{Run, Step};
 
 /// So many words: any, of few conditions, or the same again and again.
 pub fn words(random: &mut Random, count: usize) -> Vec<u16> {
@@ -47,14 +47,32 @@ pub fn run(random: &mut Random, count: usize) -> Run {
     }
 }
 
-/// A list of runs, some with no words, some with too little room.
-pub fn list(random: &mut Random) -> Vec<Run> {
-    let most = random.pick(&[3, 20, 80]);
-    let count = random.within(0, 8);
+/// A number and the scheme that is to serve it, where there are so many schemes: mostly such as can be called, or any up to 20, or
+/// large ones, some of which are small again where they are cut.
+pub fn rebinding(random: &mut Random, schemes: usize) -> (usize, usize) {
+    let mut number = || match random.below(12) {
+        0 => random.below(21),
+        1 => random.pick(&[0, 1, 16, 17, schemes + 1]),
+        2 => random.within(2, 16) + random.pick(&[256, 65_536, 1 << 32, usize::MAX - 20]),
+        _ => random.within(2, schemes.max(2)),
+    };
+    (number(), number())
+}
+
+/// A list of runs, some with no words, some with too little room, some of one word; in most lists there are rebindings among them, more
+/// of them in front.
+pub fn list(random: &mut Random, schemes: usize) -> Vec<Step> {
+    let most = random.pick(&[1, 3, 20, 80]);
+    let count = random.within(0, 12);
+    let swaps = !random.once_in(3);
     (0..count)
-        .map(|_| {
+        .map(|k| {
+            if swaps && random.below(4) < if k < 3 { 3 } else { 1 } {
+                let (number, scheme) = rebinding(random, schemes);
+                return Step::Rebind(number, scheme);
+            }
             let words = if random.once_in(8) { 0 } else { random.within(0, most) };
-            run(random, words)
+            Step::Run(run(random, words))
         })
         .collect()
 }

@@ -15,9 +15,8 @@ pub fn table_and_state(random: &mut Random) -> (Vec<u8>, State) {
     if random.once_in(3) {
         follow(random, &mut bytes);
     }
-    let (labels, handler) =
-        Held::of(&bytes).map_or((image.labels, image.handler), |held| (held.labels, held.handler));
-    let state = states::state(random, &labels, handler);
+    let held = Held::of(&bytes);
+    let state = states::state(random, held.as_ref().map_or(image.shape(), Held::shape));
     (bytes, state)
 }
 

@@ -4,7 +4,9 @@
 use super::{charts, images, runs, states, tables, Random};
 use crate::entry_point::{EntryPoint, Input};
 use crate::frames::Frame;
+use crate::image::Label;
 use crate::samples::worst::WORDS;
+use crate::state::Shape;
 
 /// The most nodes of a chart, and the most rows of an image.
 const NODES: usize = 256;
@@ -17,14 +19,14 @@ pub fn drawn(random: &mut Random, entry: EntryPoint) -> Input {
         EntryPoint::ReadChart | EntryPoint::WriteChart | EntryPoint::Translate | EntryPoint::Places => {
             Input::of(charts::chart(random))
         }
-        EntryPoint::LiveTick | EntryPoint::LiveRun => {
+        EntryPoint::LiveTick | EntryPoint::LiveRun | EntryPoint::LiveRebind => {
             let (bytes, state) = tables::table_and_state(random);
-            Input { frames: bytes.as_chunks::<10>().0.to_vec(), state, words, value: 0 }
+            Input { state, words, ..Input::of(bytes.as_chunks::<10>().0.to_vec()) }
         }
         _ => {
             let image = images::accepted(random);
-            let state = states::fitting(random, &image.labels, image.handler);
-            Input { frames: image.frames(), state, words, value: 0 }
+            let state = states::fitting(random, image.shape());
+            Input { state, words, ..Input::of(image.frames()) }
         }
     }
 }
@@ -47,12 +49,17 @@ fn change(random: &mut Random, entry: EntryPoint, input: &mut Input) {
         EntryPoint::Tick
         | EntryPoint::Run
         | EntryPoint::Cause
+        | EntryPoint::Rebind
         | EntryPoint::LiveTick
-        | EntryPoint::LiveRun => match random.below(6) {
-            0 => state(random, input),
-            1 => word(random, &mut input.words),
-            _ => image(random, &mut input.frames),
-        },
+        | EntryPoint::LiveRun
+        | EntryPoint::LiveRebind => {
+            match random.below(6) {
+                0 => state(random, input),
+                1 => word(random, &mut input.words),
+                _ => image(random, &mut input.frames),
+            }
+            remember(input);
+        }
         EntryPoint::Fresh | EntryPoint::Meaning => input.value = random.below(256),
     }
 }
@@ -219,6 +226,15 @@ fn state(random: &mut Random, input: &mut Input) {
         }
         _ => state.results[random.below(16)] ^= true,
     }
+}
+
+/// Makes the state remember what is called now, so that it is not for this that it does not fit.
+fn remember(input: &mut Input) {
+    let Some(header) = input.frames.first() else { return };
+    let (schemes, handler) = (usize::from(header[1]), header[5]);
+    let label = |frame: &Frame| Label { kind: frame[2], called: frame[3], owner: frame[4], ..Label::NONE };
+    let labels: Vec<Label> = input.frames.iter().skip(1 + schemes).map(label).collect();
+    Shape { labels: &labels, schemes, handler }.remember(&mut input.state);
 }
 
 /// One word, or all from one on.

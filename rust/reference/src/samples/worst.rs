@@ -57,8 +57,8 @@ pub fn known(entry: EntryPoint) -> Vec<Candidate> {
             charts()
         }
         EntryPoint::CheckImage | EntryPoint::Prepare | EntryPoint::ListRows => images(),
-        EntryPoint::Tick | EntryPoint::Run | EntryPoint::Cause => ticks(entry),
-        EntryPoint::LiveTick | EntryPoint::LiveRun => live(entry),
+        EntryPoint::Tick | EntryPoint::Run | EntryPoint::Cause | EntryPoint::Rebind => ticks(entry),
+        EntryPoint::LiveTick | EntryPoint::LiveRun | EntryPoint::LiveRebind => live(entry),
         EntryPoint::Fresh => values("stack of", 0..=33),
         EntryPoint::Meaning => values("code", 0..=255),
     }
@@ -138,10 +138,10 @@ fn sample_ticks(entry: EntryPoint) -> Vec<(String, Origin, Image, State, Vec<u16
 fn ticks_on(entry: EntryPoint, frames: fn(&Image) -> Vec<Frame>) -> Vec<Candidate> {
     let mut all = Vec::new();
     for (name, origin, image, state, words) in sample_ticks(entry) {
-        all.push(Candidate::new(&name, origin, Input { frames: frames(&image), state, words, value: 0 }));
+        all.push(Candidate::new(&name, origin, Input { state, words, ..Input::of(frames(&image)) }));
     }
     for (name, image, state, words) in worst_ticks() {
-        let input = Input { frames: frames(&image), state, words, value: 0 };
+        let input = Input { state, words, ..Input::of(frames(&image)) };
         all.push(Candidate::new(name, Origin::Construction, input));
     }
     all
@@ -155,7 +155,7 @@ fn ticks(entry: EntryPoint) -> Vec<Candidate> {
 fn live(entry: EntryPoint) -> Vec<Candidate> {
     let mut all = ticks_on(entry, table_of);
     for (name, frames, state, words) in worst_tables() {
-        let input = Input { frames, state, words, value: 0 };
+        let input = Input { state, words, ..Input::of(frames) };
         all.push(Candidate::new(name, Origin::Construction, input));
     }
     all

@@ -2,7 +2,7 @@
 
 use super::worst::WORDS;
 use crate::image::{Image, Label, Row, FUNCTION_CALL, OPERATION_CALL, PLAIN, ROWS};
-use crate::state::State;
+use crate::state::{Shape, State};
 
 /// Label 2 has all rows; label 3 is of scheme 1 and calls scheme 2.
 const BUSY: u8 = 2;
@@ -94,10 +94,10 @@ pub fn worst_images() -> Vec<(&'static str, Image)> {
 }
 
 /// A full stack of 32: the bottom, labels that each call, and the return on top.
-pub fn full_stack(bottom: u8, kept: u8) -> State {
+pub fn full_stack(shape: Shape, bottom: u8, kept: u8) -> State {
     let mut places = [kept; 32];
     (places[0], places[31]) = (bottom, RETURN_LABEL);
-    State { size: 32, depth: 32, places, results: [false; 16] }
+    shape.state(32, &places)
 }
 
 /// Thirty returns, each over all rows, the last of which comes back to the label; then calls and returns by turns.
@@ -108,14 +108,11 @@ fn returns_first() -> Vec<u16> {
 type Ticks = (&'static str, Image, State, Vec<u16>);
 
 pub fn worst_ticks() -> Vec<Ticks> {
-    let at_top = |label| {
-        let mut places = [0; 32];
-        places[0] = label;
-        State { size: 32, depth: 1, places, results: [true; 16] }
-    };
-    let deep = full_stack(BOTTOM, BUSY);
-    let mut calling = State { depth: 31, ..deep };
-    calling.places[31] = 0;
+    let plain = plain_rows();
+    let at_top = |label| State { results: [true; 16], ..plain.shape().state(32, &[label]) };
+    let functions = function_rows();
+    let deep = full_stack(functions.shape(), BOTTOM, BUSY);
+    let calling = functions.shape().state(32, &deep.places[..31]);
     let mut full = deep;
     full.places[31] = BUSY;
     let handled = Image { handler: 16, ..function_rows() };

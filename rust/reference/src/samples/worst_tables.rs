@@ -5,10 +5,13 @@ use super::worst::WORDS;
 use super::worst_images::full_stack;
 use crate::frames::Frame;
 use crate::image::{FUNCTION_CALL, PLAIN};
+use crate::live::Held;
 use crate::state::State;
 
+/// A call of scheme 2, of that scheme; a plain label of scheme 1; and a call of scheme 2 by scheme 1.
 const CALLS: u8 = 2;
 const GOES_ON: u8 = 4;
+const BOTTOM: u8 = 6;
 /// The bit of a word that decides between the last two rows.
 const DECIDES: u8 = 4;
 
@@ -21,8 +24,9 @@ fn whole_table_rows() -> Vec<Frame> {
     frames.extend((0..=255u8).map(|label| {
         let note = if label % 2 == 0 { 0xFF } else { 0 };
         match label {
-            CALLS => [note, note, FUNCTION_CALL, 1, 1, 0, 2, 0, 0, 0],
+            CALLS => [note, note, FUNCTION_CALL, 2, 2, 0, 2, 0, 0, 0],
             GOES_ON => [note, note, PLAIN, 0, 1, 0, 2, 0, 0, 0],
+            BOTTOM => [note, note, FUNCTION_CALL, 2, 1, 0, 2, 0, 0, 0],
             _ => [note, note, PLAIN, 0, 0, 0, 2, 0, 0, 0],
         }
     }));
@@ -35,13 +39,12 @@ fn whole_table_rows() -> Vec<Frame> {
 type Ticks = (&'static str, Vec<Frame>, State, Vec<u16>);
 
 pub fn worst_tables() -> Vec<Ticks> {
-    let deep = full_stack(CALLS, CALLS);
+    let held = Held::of(&whole_table_rows().concat()).expect("a table");
+    let deep = full_stack(held.shape(), BOTTOM, CALLS);
     let decided = u16::from(DECIDES);
     // thirty-one returns, the last of which goes on at the plain label
     let words = (0..WORDS).map(|k| if k < 30 { 0 } else { decided }).collect();
-    let mut places = [0; 32];
-    places[0] = GOES_ON;
-    let plain = State { size: 32, depth: 1, places, results: [true; 16] };
+    let plain = State { results: [true; 16], ..held.shape().state(32, &[GOES_ON]) };
     vec![
         ("deep return over a whole table", whole_table_rows(), deep, words),
         ("plain tick over a whole table", whole_table_rows(), plain, vec![decided; WORDS]),

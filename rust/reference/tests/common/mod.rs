@@ -27,6 +27,7 @@ macro_rules! as_the_reference {
     (@chart_calls) => { as_the_reference!(read_chart, write_chart, translate, places); };
     (@image_calls) => { as_the_reference!(check_image, cause, list_rows, prepare); };
     (@run_calls) => { as_the_reference!(run, live_run); };
+    (@rebindings) => { as_the_reference!(rebind, live_rebind); };
     (@value_calls) => { as_the_reference!(fresh, meaning); };
     (@read_chart) => { as_the_reference!(@fn read_chart(text: &[u8], out: &mut [u8]) -> reference::Answer); };
     (@write_chart) => { as_the_reference!(@fn write_chart(records: &[u8], out: &mut [u8]) -> reference::Answer); };
@@ -41,6 +42,16 @@ macro_rules! as_the_reference {
     };
     (@prepare) => { as_the_reference!(@fn prepare(image: &[u8], table: &mut [u8]) -> reference::Answer); };
     (@live_run) => { as_the_reference!(@run live_run); };
+    (@rebind) => { as_the_reference!(@rebind rebind); };
+    (@live_rebind) => { as_the_reference!(@rebind live_rebind); };
+    (@rebind $call:ident) => {
+        as_the_reference!(@fn $call(
+            image: &[u8],
+            state: &mut reference::State,
+            number: usize,
+            scheme: usize
+        ) -> reference::Answer);
+    };
     (@meaning) => { as_the_reference!(@fn meaning(code: u8) -> reference::Meaning); };
     (@run $call:ident) => {
         as_the_reference!(@fn $call(

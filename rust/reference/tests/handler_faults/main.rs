@@ -67,15 +67,17 @@ fn refused(number: u8) -> Answer {
 
 /// A full stack with the same top, but a label of scheme 1 at the bottom.
 fn above_label_0(state: &State) -> State {
-    let mut places = [0; 32];
-    places[1] = state.places[usize::from(state.depth) - 1];
-    State { size: 2, depth: 2, places, ..*state }
+    let top = usize::from(state.depth) - 1;
+    let mut above = State { size: 2, depth: 2, places: [0; 32], ..*state };
+    (above.places[1], above.numbers[1]) = (state.places[top], state.numbers[top]);
+    above
 }
 
-/// Writes a label's result to its owner's bit.
-fn write(results: &mut [bool; 16], label: &Label) {
+/// Writes a label's result to the bit of the number that its scheme was called by before.
+fn write(results: &mut [bool; 16], before: &State, label: &Label) {
+    let number = before.numbers[usize::from(before.depth) - 1];
     if label.result != 0 {
-        results[usize::from(label.owner) - 1] = label.result == 2;
+        results[usize::from(number) - 1] = label.result == 2;
     }
 }
 
@@ -90,7 +92,15 @@ impl Faulty {
             AllowsAnySchemeAtTheBottom if image.handler != 0 && owner != 0 => owner,
             _ => image.handler,
         };
-        machine::fits(&Image { handler, ..image.clone() }, state)
+        let mut state = *state;
+        if handler != image.handler && handler != 0 {
+            let scheme = usize::from(handler) - 1;
+            if !(1..=16).contains(&state.numbers[0]) {
+                return false;
+            }
+            (state.numbers[0], state.servers[0], state.serving[scheme]) = (handler, handler, handler);
+        }
+        machine::fits(&Image { handler, ..image.clone() }, &state)
     }
 
     fn tick_of(&self, image: &Image, state: &State, word: u16) -> Result<Advanced, u8> {
@@ -134,17 +144,23 @@ impl Faulty {
             }
             KeepsTheHandlersBit => {
                 after.results[handler] = before.results[handler];
-                write(&mut after.results, here);
+                write(&mut after.results, before, here);
             }
             ClearsTheCalledBit => after.results[usize::from(here.called) - 1] = false,
             ForgetsTheCallersResult => {
                 after.results = before.results;
                 after.results[handler] = false;
             }
-            WritesTheResultLast => write(&mut after.results, here),
+            WritesTheResultLast => write(&mut after.results, before, here),
             LeavesThePlacesAbove => after.places[1..].copy_from_slice(&before.places[1..]),
             KeepsTheBottom if before.size > 1 => {
-                (after.places[0], after.places[1]) = (before.places[0], after.places[0]);
+                for (after, before) in [
+                    (&mut after.places, &before.places),
+                    (&mut after.numbers, &before.numbers),
+                    (&mut after.servers, &before.servers),
+                ] {
+                    (after[0], after[1]) = (before[0], after[0]);
+                }
                 after.depth = 2;
             }
             _ => {}
@@ -179,7 +195,7 @@ impl Faulty {
 }
 
 impl Library for Faulty {
-    as_the_reference!(write_chart, places, cause, list_rows, prepare, live_run, value_calls);
+    as_the_reference!(write_chart, places, cause, list_rows, prepare, live_run, rebindings, value_calls);
 
     fn read_chart(&self, text: &[u8], out: &mut [u8]) -> Answer {
         self.judged(text).map_or_else(Answer::from, |text| entry::read_chart(&text, out))
@@ -232,6 +248,6 @@ impl Library for Faulty {
 fn every_fault_is_found() {
     for &fault in FAULTS {
         let library = Faulty { fault, dropped: Cell::new(None) };
-        is_found(format_args!("{fault:?}"), &library, 10_000);
+        is_found(format_args!("{fault:?}"), &library, 20_000);
     }
 }

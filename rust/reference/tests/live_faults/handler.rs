@@ -9,13 +9,18 @@ use super::{write, Fault::*, Faulty};
 
 impl Faulty {
     /// The handler or the bottom's label as fitness wrongly goes by it.
-    pub fn misplace(&self, held: &mut Held, bottom: u8) {
+    pub fn misplace(&self, held: &mut Held, state: &mut State) {
+        let bottom = state.places[0];
         let label = &mut held.labels[usize::from(bottom)];
         match self.0 {
             TakesOwnerZeroForNoHandler if held.handler == 0 && label.owner == 0 && bottom > 1 => {
-                label.owner = 1
+                label.owner = 1;
+                (state.numbers[0], state.servers[0]) = (1, 1);
             }
-            TakesLabelOneForNoHandler if held.handler == 0 && bottom == 1 => label.owner = 1,
+            TakesLabelOneForNoHandler if held.handler == 0 && bottom == 1 => {
+                label.owner = 1;
+                (state.numbers[0], state.servers[0]) = (1, 1);
+            }
             RefusesTheHandlerAtTheBottom => held.handler = 0,
             _ => {}
         }
@@ -29,7 +34,8 @@ impl Faulty {
             NeverDrops if full => Some(Err(17)),
             DropsTheHandlerToo if full && held.handles(state.places[0]) => {
                 let mut before = State { size: 2, depth: 2, places: [0; 32], ..*state };
-                before.places[1] = state.places[usize::from(state.depth) - 1];
+                let top = usize::from(state.depth) - 1;
+                (before.places[1], before.numbers[1]) = (state.places[top], state.numbers[top]);
                 Some(held.tick(&before, 0).map(|advanced| Advanced {
                     state: State { size: state.size, ..advanced.state },
                     ..advanced
@@ -47,7 +53,7 @@ impl Faulty {
         match self.0 {
             KeepsTheHandlersBit => {
                 after.results[handler] = before.results[handler];
-                write(after, here);
+                write(after, before, here);
             }
             ClearsTheCalledBit => after.results[usize::from(here.called).max(1) - 1] = false,
             ForgetsTheCallersResult => {

@@ -48,8 +48,7 @@ faults! {
     ChecksTheStateAtEachTick,
     // what a tick does
     HeedsEveryFunctionBit,
-    WritesNothingForOwnerZero,
-    WritesTheLastBitForOwnersAbove,
+    WritesNothingForNumberZero,
     KeepsTheBitForResultsAbove,
     WritesOneForResultsAbove,
     MatchesFunctionBitsAbove,
@@ -57,6 +56,8 @@ faults! {
     GoesHomeFromLabelsAbove,
     EmptiesTheStackAtHome,
     CallsLabelZeroForSchemeZero,
+    EntersTheLastSchemeForOneAbove,
+    TakesNumberZeroForServedByItself,
     NamesSchemeOneForSchemeZero,
     KeepsTheCalledBit,
     ClearsNothingForSchemeZero,
@@ -86,9 +87,13 @@ struct Faulty(Fault);
 fn keep_bit(here: &Label, before: &State, after: &mut State) {
     let bit = usize::from(here.called).max(1) - 1;
     after.results[bit] = before.results[bit];
-    if usize::from(here.owner).max(1) - 1 == bit {
-        write(after, here);
+    if usize::from(number_at_top(before)).max(1) - 1 == bit {
+        write(after, before, here);
     }
+}
+
+fn number_at_top(state: &State) -> u8 {
+    state.numbers[usize::from(state.depth) - 1]
 }
 
 fn refused(number: u8) -> Answer {
@@ -108,19 +113,25 @@ impl Faulty {
         let filled = state.places;
         match self.0 {
             AcceptsAnyState => return true,
-            AcceptsAnyBottom => held.labels[usize::from(filled[0])].owner = 1,
+            AcceptsAnyBottom => {
+                held.labels[usize::from(filled[0])].owner = 1;
+                (state.numbers[0], state.servers[0]) = (1, 1);
+            }
             AcceptsAnyPlaceAbove => state.places[depth..].fill(0),
             AcceptsAnyOwnerAbove => {
-                return filled[..depth - 1].iter().all(|kept| held.labels[usize::from(*kept)].calls())
-                    && (held.labels[usize::from(filled[0])].owner == 1 || held.handles(filled[0]))
-                    && filled[depth..].iter().all(|place| *place == 0);
+                for (label, server) in filled[..depth].iter().zip(&mut state.servers).skip(1) {
+                    let owner = held.labels[usize::from(*label)].owner;
+                    if (2..=held.entries.len()).contains(&usize::from(owner)) {
+                        *server = owner;
+                    }
+                }
             }
             AcceptsAnyKept => {
                 for kept in &filled[..depth - 1] {
                     held.labels[usize::from(*kept)].kind = 1;
                 }
             }
-            _ => self.misplace(&mut held, filled[0]),
+            _ => self.misplace(&mut held, &mut state),
         }
         held.fits(&state)
     }
@@ -130,8 +141,6 @@ impl Faulty {
         let mut held = held.clone();
         for label in &mut held.labels {
             match self.0 {
-                WritesNothingForOwnerZero if label.owner == 0 => label.result = 0,
-                WritesTheLastBitForOwnersAbove if label.owner > 16 => label.owner = 16,
                 KeepsTheBitForResultsAbove if label.result > 2 => label.result = 0,
                 WritesOneForResultsAbove if label.result > 2 => label.result = 2,
                 _ => {}
@@ -168,6 +177,11 @@ impl Faulty {
         if self.0 == RefusesAReturnAtTheBottomAsUnfit && here.kind == RETURN && top == 0 {
             return Err(15);
         }
+        let mut held = held.clone();
+        if self.0 == WritesNothingForNumberZero && number_at_top(state) == 0 {
+            held.labels[number].result = 0;
+        }
+        let (held, here) = (&held, &held.labels[number]);
         let mut advanced = match self.handled(held, here, state) {
             Some(ticked) => ticked?,
             None => self.spoilt(held).tick(state, word)?,
@@ -184,6 +198,15 @@ impl Faulty {
             }
             CallsLabelZeroForSchemeZero if here.calls() && here.called == 0 => {
                 advanced.state.places[top + 1] = 0;
+            }
+            EntersTheLastSchemeForOneAbove if here.calls() => {
+                let server = usize::from(advanced.state.servers[top + 1]);
+                if server > held.entries.len() {
+                    advanced.state.places[top + 1] = held.entries[held.entries.len() - 1];
+                }
+            }
+            TakesNumberZeroForServedByItself if here.calls() && here.called == 0 => {
+                (advanced.state.places[top + 1], advanced.state.servers[top + 1]) = (held.entries[0], 0);
             }
             NamesSchemeOneForSchemeZero if here.calls() && here.called == 0 => advanced.code += 1,
             KeepsTheCalledBit if here.calls() && here.called > 0 => {
@@ -215,7 +238,8 @@ impl Faulty {
                 Err(number) => {
                     if self.0 == WritesTheResultOfAFullCall && number == 17 {
                         let label = state.places[usize::from(state.depth) - 1];
-                        write(&mut state, &held.labels[usize::from(label)]);
+                        let before = state;
+                        write(&mut state, &before, &held.labels[usize::from(label)]);
                     }
                     return (Answer::Refused { number, index: 0, count }, state);
                 }
@@ -243,16 +267,15 @@ impl Faulty {
     }
 }
 
-/// Writes a label's result to its owner's bit.
-fn write(state: &mut State, label: &Label) {
-    let owner = usize::from(label.owner).max(1);
-    if label.result != 0 && owner <= 16 {
-        state.results[owner - 1] = label.result == 2;
+/// Writes a label's result to the bit of the number that its scheme was called by before.
+fn write(state: &mut State, before: &State, label: &Label) {
+    if label.result != 0 {
+        state.results[usize::from(number_at_top(before)).max(1) - 1] = label.result == 2;
     }
 }
 
 impl Library for Faulty {
-    as_the_reference!(chart_calls, check_image, cause, list_rows, run, value_calls);
+    as_the_reference!(chart_calls, check_image, cause, list_rows, run, rebindings, value_calls);
 
     fn prepare(&self, image: &[u8], table: &mut [u8]) -> Answer {
         let answer = entry::prepare(image, table);
@@ -313,6 +336,6 @@ impl Library for Faulty {
 #[test]
 fn every_fault_is_found() {
     for &fault in FAULTS {
-        is_found(format_args!("{fault:?}"), &Faulty(fault), 30_000);
+        is_found(format_args!("{fault:?}"), &Faulty(fault), 60_000);
     }
 }

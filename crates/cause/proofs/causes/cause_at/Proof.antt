@@ -5,7 +5,7 @@ use Rattle.bits.specs.Results.{Results}
 use Rattle.rows.specs.Search.{Deciding}
 use Rattle.rows.proofs.SearchCases.{end-within}
 use Rattle.state.specs.Bytes.{stateOf}
-use Rattle.ticks.proofs.TickCases.{bit-decides}
+use Rattle.ticks.proofs.RowCases.{bit-decides}
 use Rattle.cause.proofs.TableConditions.{rows-kept}
 use Rattle.cause.proofs.CauseCases.{Numbers, none-told, numbers, row-told}
 use borrow.Author.Needs.{needs}

@@ -18,12 +18,29 @@ returns c =
     let e = sym (c .before .before .bad-size .ensures) ∙ c .before .if1 .taken in
     record { answered = simp (c .refused .ensures, e); state = simp e }
 
-cast-t9 : tie.Need-cast-t9
-cast-t9 c = search (needs, size-most (c .before .before .args .size) (sym (c .before .bad-size .ensures) ∙ c .if1 .left))
+array-write-own : tie.Need-array-write-own
+array-write-own c = search needs
+
+own-binding-requires : tie.Need-own-binding-requires
+own-binding-requires c κs = search needs
+
+cast-t14 : tie.Need-cast-t14
+cast-t14 c = search (needs, size-most (c .before .before .before .args .size) (sym (c .before .before .bad-size .ensures) ∙ c .before .if1 .left))
 
 returns-2 : tie.Need-returns-2
 unfolding freshState
-returns-2 c = let e = sym (c .before .bad-size .ensures) ∙ c .if1 .left in record { answered = simp e; state = simp e }
+returns-2 c =
+    let e = sym (c .before .before .bad-size .ensures) ∙ c .before .if1 .left in
+    record { answered = simp e; state = simp (e, c .own-binding .ensures) }
 
 pub fresh-spec : {M : Type 1} → statement M
-fresh-spec = tie.close (tie.spec bad-size-requires refused-requires returns cast-t9 returns-2)
+fresh-spec =
+    tie.close
+    (tie.spec
+    bad-size-requires
+    refused-requires
+    returns
+    array-write-own
+    own-binding-requires
+    cast-t14
+    returns-2)

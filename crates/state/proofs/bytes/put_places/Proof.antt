@@ -1,23 +1,23 @@
 -- `state::bytes::put_places` meets its contract: the elements passed stand in place.
-use Prim.Native.Nat.{_-_}
+use Prim.Native.Nat.{ℕ, _-_}
 use borrow.Author.Needs.{needs}
 use mathlib.Core.Path.{refl}
 use Rattle.lists.proofs.Fills.{Values, values-none, values-turn, values-all}
-use Rattle.state.specs.State.{placeAt}
+use lib.ListN.{getD}
 use Rattle.state.proofs.bytes.put_places.Statement.{statement}
 use Rattle.state.proofs.bytes.put_places.Tie as tie
 
 abbrev Inv-loop : tie.InvT-loop
-Inv-loop out₀ s k₀ out k = Values (placeAt s) out₀ out 2 32 k
+Inv-loop out₀ from values k₀ out k = Values (λ (j : ℕ). getD values j 0) out₀ out from 32 k
 
 abbrev μ-loop : tie.MeasureT-loop
-μ-loop out₀ s k₀ out k = 32 - k
+μ-loop out₀ from values k₀ out k = 32 - k
 
 loop-holds : tie.Need-loop-holds Inv-loop μ-loop
 loop-holds c = values-none _ _ _ _
 
-element-copy-out-out : tie.Need-element-copy-out-out Inv-loop μ-loop
-element-copy-out-out c = search needs
+array-read-out : tie.Need-array-read-out Inv-loop μ-loop
+array-read-out c = search needs
 
 add-out : tie.Need-add-out Inv-loop μ-loop
 add-out c = search needs
@@ -32,7 +32,7 @@ loop-less : tie.Need-loop-less Inv-loop μ-loop
 loop-less c = search needs
 
 loop-again : tie.Need-loop-again Inv-loop μ-loop
-loop-again c = values-turn _ _ _ _ _ _ _ (search needs) (c .before .before .loop .inv) (search needs) (refl)
+loop-again c = values-turn _ _ _ _ _ _ _ (search needs) (c .before .loop .inv) (search needs) (refl)
 
 same-length : tie.Need-same-length Inv-loop μ-loop
 same-length c = search needs
@@ -47,7 +47,7 @@ put-places-spec =
     Inv-loop
     μ-loop
     loop-holds
-    element-copy-out-out
+    array-read-out
     add-out
     slice-write-out
     add-k

@@ -15,8 +15,8 @@ abbrev μ-loop : tie.MeasureT-loop
 loop-holds : tie.Need-loop-holds Inv-loop μ-loop
 loop-holds c = cleared-none _
 
-put-place-requires : tie.Need-put-place-requires Inv-loop μ-loop
-put-place-requires c κs = search needs
+open-place-requires : tie.Need-open-place-requires Inv-loop μ-loop
+open-place-requires c κs = search needs
 
 add-k : tie.Need-add-k Inv-loop μ-loop
 add-k c = search needs
@@ -25,10 +25,10 @@ loop-less : tie.Need-loop-less Inv-loop μ-loop
 loop-less c = search needs
 
 loop-again : tie.Need-loop-again Inv-loop μ-loop
-loop-again c = cleared-turn _ _ _ (c .before .before .before .loop .inv) _ (c .put-place .ensures) (search needs)
+loop-again c = cleared-turn _ _ _ (c .before .before .before .loop .inv) _ (c .open-place .ensures) (search needs)
 
 returns : tie.Need-returns Inv-loop μ-loop
 returns c = cleared-all _ _ _ (c .before .loop .inv) (search needs)
 
 pub clear-places-spec : {M : Type 1} → statement M
-clear-places-spec = tie.close (tie.spec Inv-loop μ-loop loop-holds put-place-requires add-k loop-less loop-again returns)
+clear-places-spec = tie.close (tie.spec Inv-loop μ-loop loop-holds open-place-requires add-k loop-less loop-again returns)

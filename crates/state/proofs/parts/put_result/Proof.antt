@@ -1,4 +1,4 @@
--- `state::parts::put_result` meets its contract: a result of 0 and a scheme above 16 leave the bytes, any other writes its byte.
+-- `state::parts::put_result` meets its contract: a result of 0 and a number above 16 leave the bytes, any other writes its byte.
 use mathlib.Core.Path.{ap, _∙_}
 use Rattle.state.specs.Bytes.{stateOf}
 use Rattle.state.proofs.ByteParts.{result-kept, result-beyond, result-set}

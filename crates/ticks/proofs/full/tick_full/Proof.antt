@@ -5,7 +5,7 @@ use Prim.Native.Nat.{ℕ, _-_, _≤_}
 use native.Mathlib.Omega.{arith}
 use Rattle.tables.proofs.TableReads.{handler-inside}
 use Rattle.state.specs.declared.State.{State}
-use Rattle.state.specs.State.{placeAt}
+use Rattle.state.specs.State.{placeAt, numberAt}
 use Rattle.state.specs.Bytes.{stateOf}
 use Rattle.ticks.specs.Parts.{topOf}
 use Rattle.ticks.proofs.TickCases.{depth-some, depth-most, size-most, numbered-as}
@@ -13,7 +13,7 @@ use Rattle.ticks.proofs.FullCases.{full-kept, full-drops}
 use Rattle.ticks.proofs.full.tick_full.Statement.{statement}
 use Rattle.ticks.proofs.full.tick_full.Tie as tie
 
--- ---- the stages: whether the stack is kept, the depth, the caller's label, the handler and its entry, and the five writes
+-- ---- the stages: whether the stack is kept, the depth, the caller's label, the handler and its entry, and the three writes
 abbrev start : tie.After-keeps-full → tie.Start
 start c = c .before .before .before
 
@@ -74,36 +74,32 @@ entry-of-requires c κs =
     let whole = start (tested (deep (c .before .before))) .pre .0 .calls .stands .whole in
     (whole, omega (arith, handler-inside _ whole, c .handler-of .ensures))
 
+number-of-requires : tie.Need-number-of-requires
+number-of-requires c κs = let d = deep (top (c .before)) in omega (arith, some d, most d)
+
 put-result-requires : tie.Need-put-result-requires
 put-result-requires c κs = search needs
 
 put-result-requires-2 : tie.Need-put-result-requires-2
 put-result-requires-2 c κs = search needs
 
-clear-places-requires : tie.Need-clear-places-requires
-clear-places-requires c κs = search needs
-
-put-place-requires : tie.Need-put-place-requires
-put-place-requires c κs = search needs
-
-put-depth-requires : tie.Need-put-depth-requires
-put-depth-requires c κs = search needs
+put-alone-requires : tie.Need-put-alone-requires
+put-alone-requires c κs = search needs
 
 returns-2 : tie.Need-returns-2
 returns-2 c =
-    let fourth = c .before .before in
-    let third = fourth .before .before in
-    let second = third .before .before in
+    let second = c .before .before in
     let first = second .before .before in
-    let entry = first .before .before in
+    let number = first .before .before in
+    let entry = number .before .before in
     let handler = entry .before in
     let label = handler .before in
     let p = top entry in
     let d = deep p in
     let t = tested d in
-    full-drops _ _ _ (start t .pre .0) _ (t .keeps-full .ensures) (d .before .before .if1 .left) _ (top-read p) _ (label .label-read .ensures) _
-    (handler .handler-of .ensures) _ (entry .entry-of .ensures) _ _ _ _ _ (first .put-result .ensures) (second .put-result2 .ensures)
-    (third .clear-places .ensures) (fourth .put-place .ensures) (c .put-depth .ensures)
+    full-drops _ _ _ (start t .pre .0) _ (t .keeps-full .ensures) (d .before .before .if1 .left) _ (top-read p) _ (label .label-read .ensures)
+    _ (number .number-of .ensures ∙ ap (λ (k : ℕ). numberAt (state d) (k - 1)) (d .depth-of .ensures)) _ (handler .handler-of .ensures)
+    _ (entry .entry-of .ensures) _ _ _ (first .put-result .ensures) (second .put-result2 .ensures) (c .put-alone .ensures)
 
 pub tick-full-spec : {M : Type 1} → statement M
 tick-full-spec =
@@ -119,9 +115,8 @@ tick-full-spec =
     label-read-requires
     handler-of-requires
     entry-of-requires
+    number-of-requires
     put-result-requires
     put-result-requires-2
-    clear-places-requires
-    put-place-requires
-    put-depth-requires
+    put-alone-requires
     returns-2)

@@ -7,7 +7,8 @@ use Rattle.tables.specs.Labels.{Numbered}
 use Rattle.state.specs.declared.State.{State}
 use Rattle.state.specs.State.{placeAt}
 use Rattle.state.specs.Bytes.{stateOf}
-use Rattle.ticks.proofs.TickCases.{depth-most, size-most, beneath-low, beneath-high, bit-decides, beneath-row}
+use Rattle.ticks.proofs.TickCases.{depth-most, size-most}
+use Rattle.ticks.proofs.RowCases.{beneath-low, beneath-high, bit-decides, beneath-row}
 use Rattle.ticks.proofs.ticks.next_beneath.Statement.{statement}
 use Rattle.ticks.proofs.ticks.next_beneath.Tie as tie
 

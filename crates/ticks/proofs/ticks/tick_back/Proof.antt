@@ -5,7 +5,8 @@ use Prim.Native.Nat.{ℕ, _-_, _≤_}
 use native.Mathlib.Omega.{arith}
 use Rattle.state.specs.Bytes.{stateOf}
 use Rattle.ticks.specs.Parts.{TopBack}
-use Rattle.ticks.proofs.TickCases.{depth-most, size-most, last-steps, back-stop, back-steps}
+use Rattle.ticks.proofs.TickCases.{depth-most, size-most}
+use Rattle.ticks.proofs.StepCases.{last-steps, back-stop, back-steps}
 use Rattle.ticks.proofs.ticks.tick_back.Statement.{statement}
 use Rattle.ticks.proofs.ticks.tick_back.Tie as tie
 
@@ -20,14 +21,14 @@ depth c = c .before .before .before
 depth-of-requires : tie.Need-depth-of-requires
 depth-of-requires c κs = search needs
 
-put-place-requires : tie.Need-put-place-requires
-put-place-requires c κs = search needs
+put-alone-requires : tie.Need-put-alone-requires
+put-alone-requires c κs = search needs
 
 returns : tie.Need-returns
 returns c =
     let last = c .before .before in
     let d = last .before in
-    last-steps _ _ _ (start d .pre .0) _ (d .depth-of .ensures) (omega (arith, last .if1 .taken)) _ (c .put-place .ensures)
+    last-steps _ _ _ (start d .pre .0) _ (d .depth-of .ensures) (omega (arith, last .if1 .taken)) _ (c .put-alone .ensures)
 
 -- a label lies beneath the top
 back : (c : tie.Else1) → TopBack (start (c .before) .args .table .now) (stateOf (start (c .before) .args .bytes .now))
@@ -51,26 +52,26 @@ most c =
     let asked = start (depth c) .pre .0 .stands in
     omega (arith, depth-most asked, size-most asked, depth c .depth-of .ensures)
 
+cast-open-place : tie.Need-cast-open-place
+cast-open-place c = search needs
+
+sub-open-place : tie.Need-sub-open-place
+sub-open-place c = search needs
+
+open-place-requires : tie.Need-open-place-requires
+open-place-requires c κs = let n = c .before .before in omega (arith, most n, n .before .before .if1 .left)
+
 cast-put-place : tie.Need-cast-put-place
 cast-put-place c = search needs
 
 sub-put-place : tie.Need-sub-put-place
 sub-put-place c = search needs
 
-put-place-requires-2 : tie.Need-put-place-requires-2
-put-place-requires-2 c κs = let n = c .before .before in omega (arith, most n, n .before .before .if1 .left)
-
 cast-put-place-2 : tie.Need-cast-put-place-2
 cast-put-place-2 c = search needs
 
-sub-put-place-2 : tie.Need-sub-put-place-2
-sub-put-place-2 c = search needs
-
-cast-put-place-3 : tie.Need-cast-put-place-3
-cast-put-place-3 c = search needs
-
-put-place-requires-3 : tie.Need-put-place-requires-3
-put-place-requires-3 c κs = let n = c .before .before .before .before in omega (arith, most n, n .before .before .if1 .left)
+put-place-requires : tie.Need-put-place-requires
+put-place-requires c κs = let n = c .before .before .before .before in omega (arith, most n, n .before .before .if1 .left)
 
 sub-put-depth : tie.Need-sub-put-depth
 sub-put-depth c = search needs
@@ -86,25 +87,25 @@ returns-3 c =
     let n = some .before in
     let is = depth n .depth-of .ensures in
     back-steps _ _ _ (back (n .before .before)) _ (n .next-beneath .ensures) (some .if2 .left) _ _ (ap (λ (k : ℕ). k - 1) is)
-    (ap (λ (k : ℕ). k - 2) is) _ _ _ (first .put-place2 .ensures) (second .put-place3 .ensures) (c .put-depth .ensures)
+    (ap (λ (k : ℕ). k - 2) is) _ _ _ (first .open-place .ensures) (second .put-place .ensures) (c .put-depth .ensures)
 
 pub tick-back-spec : {M : Type 1} → statement M
 tick-back-spec =
     tie.close
     (tie.spec
     depth-of-requires
-    put-place-requires
+    put-alone-requires
     returns
     next-beneath-requires
     no-row-requires
     returns-2
+    cast-open-place
+    sub-open-place
+    open-place-requires
     cast-put-place
     sub-put-place
-    put-place-requires-2
     cast-put-place-2
-    sub-put-place-2
-    cast-put-place-3
-    put-place-requires-3
+    put-place-requires
     sub-put-depth
     put-depth-requires
     returns-3)

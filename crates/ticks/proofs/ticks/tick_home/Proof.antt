@@ -3,7 +3,8 @@ use borrow.Author.Needs.{needs}
 use mathlib.Core.Path.{ap}
 use Prim.Native.Nat.{ℕ, _-_}
 use native.Mathlib.Omega.{arith}
-use Rattle.ticks.proofs.TickCases.{depth-some, depth-most, size-most, schemes-some, home-steps}
+use Rattle.ticks.proofs.TickCases.{depth-some, depth-most, size-most, schemes-some}
+use Rattle.ticks.proofs.StepCases.{home-steps}
 use Rattle.ticks.proofs.ticks.tick_home.Statement.{statement}
 use Rattle.ticks.proofs.ticks.tick_home.Tie as tie
 

@@ -9,7 +9,8 @@ use Rattle.tables.specs.Labels.{Numbered}
 use Rattle.state.specs.State.{placeAt}
 use Rattle.state.specs.Bytes.{stateOf}
 use Rattle.ticks.specs.Parts.{topOf, topKind}
-use Rattle.ticks.proofs.TickCases.{depth-some, depth-most, size-most, kind-low, high-stop}
+use Rattle.ticks.proofs.TickCases.{depth-some, depth-most, size-most, kind-low}
+use Rattle.ticks.proofs.StepCases.{high-stop}
 use Rattle.ticks.proofs.ticks.tick_numbered.Statement.{statement}
 use Rattle.ticks.proofs.ticks.tick_numbered.Tie as tie
 

@@ -1,12 +1,13 @@
 -- `ticks::ticks::tick_plain` meets its contract: the row is found whatever the bit, or there is none.
 use borrow.Author.Needs.{needs}
 use mathlib.Core.Path.{_≡_, _∙_, ap}
-use Prim.Native.Nat.{ℕ, _-_}
+use Prim.Native.Nat.{ℕ, _-_, _<_}
 use native.Mathlib.Omega.{arith}
-use Rattle.state.specs.State.{placeAt}
+use Rattle.state.specs.State.{placeAt, numberAt}
 use Rattle.state.specs.Bytes.{stateOf}
 use Rattle.ticks.specs.Parts.{topOf}
-use Rattle.ticks.proofs.TickCases.{depth-some, depth-most, size-most, numbered-as, plain-decides, plain-stop, plain-steps}
+use Rattle.ticks.proofs.TickCases.{depth-some, depth-most, size-most, numbered-as, plain-decides}
+use Rattle.ticks.proofs.StepCases.{plain-stop, plain-steps}
 use Rattle.ticks.proofs.ticks.tick_plain.Statement.{statement}
 use Rattle.ticks.proofs.ticks.tick_plain.Tie as tie
 
@@ -26,6 +27,10 @@ top-read c =
     let s = stateOf (start (depth c) .args .bytes .now) in
     c .place-of .ensures ∙ ap (λ (n : ℕ). placeAt s (n - 1)) (depth c .depth-of .ensures)
 
+-- the place of the top is one of 32
+deep : (c : tie.After-depth-of) → c .depth-of .result - 1 < 32
+deep c = let asked = start c .pre .0 .stands in omega (arith, depth-some asked, depth-most asked, size-most asked, c .depth-of .ensures)
+
 -- ---- the needs
 depth-of-requires : tie.Need-depth-of-requires
 depth-of-requires c κs = search needs
@@ -37,10 +42,7 @@ cast-top : tie.Need-cast-top
 cast-top c = search needs
 
 place-of-requires : tie.Need-place-of-requires
-place-of-requires c κs =
-    let d = c .before in
-    let asked = start d .pre .0 .stands in
-    omega (arith, depth-some asked, depth-most asked, size-most asked, d .depth-of .ensures)
+place-of-requires c κs = deep (c .before)
 
 cast-l : tie.Need-cast-l
 cast-l c = search needs
@@ -68,28 +70,31 @@ label-read-requires c κs =
     let asked = start (depth t) .pre in
     record { label = numbered-as (top-read t) (asked .0 .label); schemes = asked .1 }
 
+number-of-requires : tie.Need-number-of-requires
+number-of-requires c κs = deep (depth (top (c .before .before .before)))
+
 put-result-requires : tie.Need-put-result-requires
 put-result-requires c κs = search needs
 
 cast-put-place : tie.Need-cast-put-place
-cast-put-place c = omega (arith, c .before .before .before .before .if1 .left)
+cast-put-place c = omega (arith, c .before .before .before .before .before .before .if1 .left)
 
 put-place-requires : tie.Need-put-place-requires
-put-place-requires c κs =
-    let d = depth (top (c .before .before .before .before .before)) in
-    let asked = start d .pre .0 .stands in
-    omega (arith, depth-some asked, depth-most asked, size-most asked, d .depth-of .ensures)
+put-place-requires c κs = deep (depth (top (c .before .before .before .before .before .before .before)))
 
 returns-2 : tie.Need-returns-2
 returns-2 c =
     let written = c .before .before in
-    let read = written .before .before in
+    let number = written .before .before in
+    let read = number .before .before in
     let next = read .before .before in
     let t = top next in
     let d = depth t in
+    let s = stateOf (start d .args .bytes .now) in
+    let is = d .depth-of .ensures in
     plain-steps _ _ _ (start d .pre .0) _ (top-read t) _ (next .next-row .ensures)
-    (read .before .if1 .left) _ (ap (λ (n : ℕ). n - 1) (d .depth-of .ensures)) _ (read .label-read .ensures)
-    _ _ (written .put-result .ensures) (c .put-place .ensures)
+    (read .before .if1 .left) _ (ap (λ (n : ℕ). n - 1) is) _ (read .label-read .ensures)
+    _ (number .number-of .ensures ∙ ap (λ (n : ℕ). numberAt s (n - 1)) is) _ _ (written .put-result .ensures) (c .put-place .ensures)
 
 pub tick-plain-spec : {M : Type 1} → statement M
 tick-plain-spec =
@@ -104,6 +109,7 @@ tick-plain-spec =
     no-row-requires
     returns
     label-read-requires
+    number-of-requires
     put-result-requires
     cast-put-place
     put-place-requires

@@ -1,17 +1,17 @@
--- `state::bytes::places_of` meets its contract: the elements passed stand in place.
-use Prim.Native.Nat.{_-_}
+-- `state::bytes::places_from` meets its contract: the elements passed stand in place.
+use Prim.Native.Nat.{ℕ, _+_, _-_}
 use borrow.Author.Needs.{needs}
 use mathlib.Core.Path.{refl}
 use Rattle.lists.proofs.Arrays.{Filled, filled-none, filled-turn, filled-all}
-use Rattle.state.specs.Bytes.{placeIn}
-use Rattle.state.proofs.bytes.places_of.Statement.{statement}
-use Rattle.state.proofs.bytes.places_of.Tie as tie
+use lib.ListN.{getD}
+use Rattle.state.proofs.bytes.places_from.Statement.{statement}
+use Rattle.state.proofs.bytes.places_from.Tie as tie
 
 abbrev Inv-loop : tie.InvT-loop
-Inv-loop bytes places₀ k₀ places k = Filled (placeIn bytes) 0 places 32 k
+Inv-loop from bytes places₀ k₀ places k = Filled (λ (j : ℕ). getD bytes (from + j) 0) 0 places 32 k
 
 abbrev μ-loop : tie.MeasureT-loop
-μ-loop bytes places₀ k₀ places k = 32 - k
+μ-loop from bytes places₀ k₀ places k = 32 - k
 
 loop-holds : tie.Need-loop-holds Inv-loop μ-loop
 loop-holds c = filled-none _ _ _ _ refl
@@ -37,8 +37,8 @@ loop-again c = filled-turn _ _ _ _ _ _ (c .before .loop .inv) (search needs) ref
 returns : tie.Need-returns Inv-loop μ-loop
 returns c = filled-all _ _ _ _ _ (c .before .loop .inv) (search needs)
 
-pub places-of-spec : {M : Type 1} → statement M
-places-of-spec =
+pub places-from-spec : {M : Type 1} → statement M
+places-from-spec =
     tie.close
     (tie.spec
     Inv-loop
