@@ -85,7 +85,7 @@ uint8_t fairleadow_translate(const uint8_t *chart, size_t chart_len, uint8_t *im
                              size_t *index, size_t *count);
 
 /* How many places a chart's calls need at most, 1 to 16: from a fresh state with so many or more no call gets 17 or
- * drops. Tries 1 to 10, 19 and 20; counts places. */
+ * drops, as long as every number is served by its own scheme (fairleadow_rebind). Tries 1 to 10, 19 and 20; counts places. */
 uint8_t fairleadow_places(const uint8_t *chart, size_t chart_len, size_t *index, size_t *count);
 
 /* Whether an image is in order. Tries 1 to 3 and 11 to 13; counts 0. */
@@ -131,7 +131,7 @@ uint8_t fairleadow_cause(const uint8_t *image, size_t image_len, const fairleado
 uint8_t fairleadow_list_rows(const uint8_t *image, size_t image_len, uint16_t *firsts, size_t firsts_len,
                              uint16_t *counts, size_t counts_len, size_t *index, size_t *count);
 
-/* An image's lines to a table, ten bytes a line, for live runs and live ticks: the image is checked here and not again, and its
+/* An image's lines to a table, ten bytes a line, for live runs, ticks and rebindings: the image is checked here and not again, and its
  * lines are not needed afterwards. Tries what the image check tries, then 16; counts bytes. */
 uint8_t fairleadow_prepare(const uint8_t *image, size_t image_len, uint8_t *table, size_t table_len, size_t *index, size_t *count);
 

@@ -38,7 +38,8 @@ static int digit(char c) {
     return -1;
 }
 
-/* A word is a line of one to four digits; after a = the first of two digits is a number and the second a scheme. */
+/* A word is a line of one to four digits; after a = the first of two digits is a number and the second a scheme, so that this
+ * port names 0 to 15 and not 16. */
 int port_next(uint16_t *word, uint8_t *number, uint8_t *scheme) {
     uint32_t value = 0;
     int digits = 0;

@@ -104,6 +104,17 @@ pub runs-alone : unswapped.Agreement translate freshState run
 runs-alone = agreement-alone translate freshState run rebind (λ text out. refl) theorem
 
 -- ---- over the functions
+-- any mixture of calls that run and tick, on the image's text or on a table of it
+pub delivered-alone :
+    (text before after : List ℕ) (answer : Answer) → Lends (translate text before) answer after → (n : ℕ) → reply answer ≡ success n
+    → (size : ℕ) → 1 ≤ size → size ≤ 32 → (made : Answered) → Makes (freshState size) made
+    → (asked : List Asked) (handed : List Handed) → calls.Calls (take n after) (made .state) (map runs asked) handed
+    → handed ≡ map byRun (unswapped.walked size (contents text) asked)
+unfolding calls.Delivered
+delivered-alone text before after answer l n e size low high made m asked handed cs =
+    delivered text before after answer l n e size low high made m (map runs asked) handed cs
+    ∙ walked-alone text (translated-read text (translated-fine text before n (sym (l .answered) ∙ e))) size asked
+
 -- calls of run in a row, each given the state that the one before returned
 pub data RunCalls (image : List ℕ) : State → List Asked → List Told → Type 0 where
   none : {s : State} → RunCalls image s [] []
@@ -122,13 +133,27 @@ pub runs-delivered :
     → (size : ℕ) → 1 ≤ size → size ≤ 32 → (made : Answered) → Makes (freshState size) made
     → (asked : List Asked) (tolds : List Told) → RunCalls (take n after) (made .state) asked tolds
     → tolds ≡ unswapped.walked size (contents text) asked
-unfolding calls.Delivered
 runs-delivered text before after answer l n e size low high made m asked tolds rs =
     same-told tolds (unswapped.walked size (contents text) asked)
-    (delivered text before after answer l n e size low high made m (map runs asked) (map byRun tolds) (runs-are-calls rs)
-    ∙ walked-alone text (translated-read text (translated-fine text before n (sym (l .answered) ∙ e))) size asked)
+    (delivered-alone text before after answer l n e size low high made m asked (map byRun tolds) (runs-are-calls rs))
 
 -- ---- the same for C
+handed-told : (ts : List Told) → map c.handedC (map byRun ts) ≡ map c.byRun (map c.toldC ts)
+handed-told [] = refl
+handed-told (t ∷ ts) = ap (λ (l : List c.HandedC). c.byRun (c.toldC t) ∷ l) (handed-told ts)
+
+pub delivered-alone-c :
+    (text before after : List ℕ) (at n : ℕ) → LendsC (translate text before) 0 at n after
+    → (size : ℕ) → 1 ≤ size → size ≤ 32 → (returned at made : ℕ) (bytes : List ℕ) → MakesC (freshState size) returned at made bytes
+    → (asked : List Asked) (handed : List c.HandedC) → c.CallsC (take n after) bytes (map runs asked) handed
+    → handed ≡ map c.byRun (map c.toldC (unswapped.walked size (contents text) asked))
+unfolding c.DeliveredC
+delivered-alone-c text before after at n l size low high returned at′ made bytes m asked handed cs =
+    delivered-c text before after at n l size low high returned at′ made bytes m (map runs asked) handed cs
+    ∙ ap (map c.handedC)
+    (walked-alone text (translated-read text (translated-fine text before n (returned-0 text before after at n l))) size asked)
+    ∙ handed-told (unswapped.walked size (contents text) asked)
+
 pub data RunCallsC (image : List ℕ) : List ℕ → List Asked → List c.ToldC → Type 0 where
   none : {bytes : List ℕ} → RunCallsC image bytes [] []
   more : {bytes : List ℕ} {a : Asked} {rest : List Asked} {t : c.ToldC} {tolds : List c.ToldC} (after : List ℕ)
@@ -150,21 +175,13 @@ unfolding concatMap
 told-back-c [] = refl
 told-back-c (t ∷ ts) = ap (λ (l : List c.ToldC). t ∷ l) (told-back-c ts)
 
-handed-told : (ts : List Told) → map c.handedC (map byRun ts) ≡ map c.byRun (map c.toldC ts)
-handed-told [] = refl
-handed-told (t ∷ ts) = ap (λ (l : List c.HandedC). c.byRun (c.toldC t) ∷ l) (handed-told ts)
-
 pub runs-delivered-c :
     (text before after : List ℕ) (at n : ℕ) → LendsC (translate text before) 0 at n after
     → (size : ℕ) → 1 ≤ size → size ≤ 32 → (returned at made : ℕ) (bytes : List ℕ) → MakesC (freshState size) returned at made bytes
     → (asked : List Asked) (tolds : List c.ToldC) → RunCallsC (take n after) bytes asked tolds
     → tolds ≡ map c.toldC (unswapped.walked size (contents text) asked)
-unfolding c.DeliveredC
 runs-delivered-c text before after at n l size low high returned at′ made bytes m asked tolds rs =
-    let read : readVerdict text ≡ fine = translated-read text (translated-fine text before n (returned-0 text before after at n l)) in
-    let free : List Told = unswapped.walked size (contents text) asked in
     sym (told-back-c tolds)
-    ∙ ap (concatMap ofRunC)
-    (delivered-c text before after at n l size low high returned at′ made bytes m (map runs asked) (map c.byRun tolds) (runs-are-calls-c rs)
-    ∙ ap (map c.handedC) (walked-alone text read size asked) ∙ handed-told free)
-    ∙ told-back-c (map c.toldC free)
+    ∙ ap (concatMap ofRunC) (delivered-alone-c text before after at n l size low high returned at′ made bytes m asked (map c.byRun tolds)
+    (runs-are-calls-c rs))
+    ∙ told-back-c (map c.toldC (unswapped.walked size (contents text) asked))

@@ -58,7 +58,7 @@ pub record LiveCases : Type 0 where
   pub counts : ticking (damaged 0 1 0) (stateOf 1 (2 ∷ [])) 0 .reply ≡ refusal 11 0 0
   -- rows of label 2 that are noted to end behind the table, where those of label 3 then begin
   pub behind : ticking (damaged 5 1 255) (stateOf 2 (2 ∷ 3 ∷ [])) 0 .reply ≡ refusal 18 0 0
-  -- a scheme called that the table does not have: entry 1 is taken, and the code names none
+  -- a number called that the table does not have counts as 0: what stands for number 1 is taken, and the code names none
   pub called : ticking (damaged 5 3 200) (stateOf 1 (2 ∷ [])) 0 .code ≡ 16
   -- a function bit in a plain label's row does not count
   pub bit : ticking (damaged 10 6 1) (stateOf 2 (2 ∷ 3 ∷ [])) 1 .state ≡ stateOf 2 (2 ∷ 4 ∷ [])

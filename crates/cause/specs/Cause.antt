@@ -64,7 +64,7 @@ pub data Caused : Type 0 where
   because : Cause → Caused
   unexplained : ℕ → Caused
 
--- of the row chosen among those of label l, whose tick kind is given, with the bit of the scheme that it calls
+-- of the row chosen among those of label l, whose tick kind is given, with the bit of the number that it calls
 abbrev pub causeBy : List Row → ℕ → ℕ → ℕ → ℕ → Choice → Caused
 causeBy rs kind l w b (row k r) = because (record {
   row = k;

@@ -7,7 +7,7 @@ use Rattle.lists.specs.Pick.{pick}
 use Rattle.codes.specs.declared.Meaning.{Meaning}
 use Rattle.codes.specs.declared.Meaning.the-variants.{Plain, OperationCall, FunctionCall, Return, Home, Drop, Unknown}
 
--- ---- a tick by its kind and the scheme called: its code, and what it is
+-- ---- a tick by its kind and the number called: its code, and what it is
 abbrev pub codeOf : ℕ → ℕ → ℕ
 codeOf zero h = 0
 codeOf (suc zero) h = 16 + h
@@ -33,7 +33,7 @@ meaningOf code =
     (pick (callAbove 16 code) (OperationCall (code - 16))
     (pick (callAbove 64 code) (FunctionCall (code - 64)) (pick (eqb code 96) Drop Unknown)))))
 
--- its tick kind, 5 for a call that dropped all open schemes, 255 for a code that no tick has, and the scheme called, 0 for none
+-- its tick kind, 5 for a call that dropped all open schemes, 255 for a code that no tick has, and the number called, 0 for none
 abbrev pub kindOf : Meaning → ℕ
 kindOf Plain = 0
 kindOf (OperationCall h) = 1

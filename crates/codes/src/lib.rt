@@ -3,7 +3,7 @@ ghost use mathlib.Core.Path.{_≡_};
 ghost use Prim.Native.Nat.{_≤_};
 ghost use Rattle.codes.specs.Codes.{codeOf, meaningOf};
 
-// What a code stands for, a call with the scheme called; Drop is a call that dropped all open schemes, Unknown a code that no tick has.
+// What a code stands for, a call with the number called; Drop is a call that dropped all open schemes, Unknown a code that no tick has.
 pub enum Meaning {
     Plain,
     OperationCall(u8),

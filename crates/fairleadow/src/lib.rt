@@ -244,7 +244,7 @@ pub extern "C" fn fairleadow_cause(
     tell(answer, at, made)
 }
 
-// What a code stands for: returns the tick kind, 5 for a drop, 255 for a code that no tick has, and writes the scheme called, 0 for none.
+// What a code stands for: returns the tick kind, 5 for a drop, 255 for a code that no tick has, and writes the number called, 0 for none.
 #[no_mangle]
 pub extern "C" fn fairleadow_meaning(code: u8, called: &mut u8) -> u8
     ensures { λ r. ⌜ Meant code r (now (called .exit)) ⌝ }

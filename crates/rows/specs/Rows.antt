@@ -8,7 +8,7 @@ use Rattle.lists.specs.Pick.{pick}
 use Rattle.bits.specs.Word.{agrees}
 use Rattle.image.specs.Image.{Row}
 
--- a row matches a word and the bit of the scheme that its label calls
+-- a row matches a word and the bit of the number that its label calls
 abbrev pub matches : ℕ → ℕ → Row → Bool
 matches w b r = agrees w (r .care) (r .values) && (eqb (r .bit) 2 || eqb (r .bit) b)
 

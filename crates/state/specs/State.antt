@@ -61,7 +61,7 @@ numberAt s k = getD (s .numbers) k 0
 abbrev pub serverAt : State → ℕ → ℕ
 serverAt s k = getD (s .servers) k 0
 
--- as many of each as the type has
+-- as many of each part that a place or a number is looked up in as the type has
 pub record Sized (s : State) : Type 0 where
   pub places : length (s .places) ≡ 32
   pub serving : length (s .serving) ≡ 16

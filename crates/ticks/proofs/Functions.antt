@@ -28,7 +28,7 @@ use Rattle.fitness.proofs.FitCases.{kind-call}
 use Rattle.fitness.proofs.Fitness.{Fits, unfits}
 use Rattle.ticks.specs.Tick.{rowOf, Ticked, ticked, stopped, moved, alone, dropping, keepsFull, pushed, popped, tickBy, tick}
 use Rattle.ticks.specs.Parts.{topOf}
-use Rattle.ticks.specs.Functions.{findsFull, CallClears, Drop, Drops, writesOne, returnsAt, Unwritten, none, more, returned, ZeroRow}
+use Rattle.ticks.specs.Functions.{findsFull, CallClears, Drop, Drops, writesOne, returnsAt, Unwritten, none, more, bound, returned, ZeroRow}
 
 -- ---- a finished call
 abbrev Cleared : ℕ → Ticked → Type 0
@@ -173,6 +173,7 @@ module _ (l d h : ℕ) (some : 1 ≤ d) (deep : 2 ≤ h) where
   all-wait : (i : Image) {s t : State} → Unwritten i h (suc d) s t → Waits s → Waits t
   all-wait i none y = y
   all-wait i {s = s} (more w e room own unwritten rest) y = all-wait i rest (subst After e (tick-waits i s y w room own unwritten))
+  all-wait i (bound g rest) y = all-wait i rest (record { above = y .above; label = y .label; unset = y .unset })
 
 -- ---- the labels of a sound image
 module _ (i : Image) (sound : Sound i) where

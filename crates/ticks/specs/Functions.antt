@@ -7,6 +7,7 @@ use mathlib.Core.List.{List}
 use lib.Dec.{leb, eqb}
 use Rattle.lists.specs.Pick.{pick}
 use Rattle.bits.specs.Results.{resultOf, withResult}
+use Rattle.bits.specs.Binding.{Binding}
 use Rattle.frames.specs.Frame.{contents}
 use Rattle.frames.specs.Verdict.{fine}
 use Rattle.image.specs.Image.{Image, Label}
@@ -15,6 +16,7 @@ use Rattle.image.specs.Check.{imageVerdict}
 use Rattle.rows.specs.Rows.{bestRow, Found, leads}
 use Rattle.state.specs.declared.State.{State}
 use Rattle.state.specs.State.{only, labelAt, entryAt, numberAt, Sized}
+use Rattle.state.specs.Changes.{withServing}
 use Rattle.fitness.specs.Fitness.{isCall, unfit}
 use Rattle.ticks.specs.Tick.{Ticked, ticked, moved, dropping, tick}
 use Rattle.ticks.specs.Parts.{topOf}
@@ -55,18 +57,21 @@ writesOne i h s = eqb (numberAt s (s .depth - 1)) h && eqb (labelAt i (topOf s) 
 abbrev pub returnsAt : Image → ℕ → State → Bool
 returnsAt i d s = eqb (labelAt i (topOf s) .kind) 3 && eqb (s .depth) d
 
--- finished ticks lead from one state to another; none is a drop or a return at depth d, and none writes 1 to the bit of number h
+-- finished ticks, and rebindings between them, lead from one state to another; none is a drop or a return at depth d, and none writes 1 to the
+-- bit of number h
 pub data Unwritten (i : Image) (h d : ℕ) : State → State → Type 0 where
   none : {s : State} → Unwritten i h d s s
   more : (w : ℕ) {s t u : State} {m code : ℕ} → tick i s w ≡ ticked m code t → findsFull i s ≡ false → returnsAt i d s ≡ false
       → writesOne i h s ≡ false → Unwritten i h d t u → Unwritten i h d s u
+  bound : (g : Binding) {s u : State} → Unwritten i h d (withServing s g) u → Unwritten i h d s u
 
 -- a return: the top is taken off, and the label beneath goes where its row leads, or there is none
 abbrev pub returned : State → Found → Ticked
 returned s row = moved 0 3 (dropping s (s .bits)) (s .depth - 2) row
 
 -- For every accepted image and every state that fits it with a function call's label at the top: after the call that is made, and
--- ticks that drop nothing and write no 1 to the bit of the number called, the call's own return goes by the row that the label takes for bit 0.
+-- ticks that drop nothing and write no 1 to the bit of the number called, with any rebindings between them, the call's own return goes by the
+-- row that the label takes for bit 0.
 unfoldable pub ZeroRow : Type 0
 ZeroRow =
     (text : List ℕ) → imageVerdict text ≡ fine → (s : State) → Sized s

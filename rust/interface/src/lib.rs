@@ -43,7 +43,7 @@ pub struct Ticked {
 }
 
 /// What made a tick go where it went: the row taken, by its number among the image's rows, from 0; a mask of conditions that decide
-/// on it; and the result bit of the scheme called where the label is a function call's, else 2. With a refusal all three are 0.
+/// on it; and the result bit of the number called where the label is a function call's, else 2. With a refusal all three are 0.
 #[derive(Clone, Copy, Debug, PartialEq, Eq)]
 pub struct Cause {
     pub answer: Answer,
@@ -78,7 +78,8 @@ pub trait Library {
     fn translate(&self, text: &[u8], out: &mut [u8]) -> Answer;
 
     /// How many places a chart's calls need at most, 1 to 16: the longest chain of calls from scheme 1, which counts. With so
-    /// many or more, from a fresh state, no call gets 17 or drops. Tries 1 to 10, with 19 after 5, and 20; counts places.
+    /// many or more, from a fresh state, no call gets 17 or drops, as long as every number is served by its own scheme. Tries 1 to
+    /// 10, with 19 after 5, and 20; counts places.
     fn places(&self, text: &[u8]) -> Answer;
 
     /// Whether an image is in order. Tries 1 to 3 and 11 to 13.
