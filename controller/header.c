@@ -14,7 +14,7 @@ typedef uint8_t (*lists)(const uint8_t *, size_t, uint16_t *, size_t, uint16_t *
 typedef uint8_t (*means)(uint8_t, uint8_t *);
 
 struct every_function {
-    writes read_chart, write_chart, translate, prepare;
+    writes read_chart, write_chart, translate, prepare, minimise;
     checks places, check_image;
     makes fresh;
     runs run, live_run;
@@ -29,10 +29,10 @@ struct every_function every_function(void);
 
 struct every_function every_function(void) {
     struct every_function all = {
-        fairleadow_read_chart, fairleadow_write_chart, fairleadow_translate, fairleadow_prepare,
-        fairleadow_places,     fairleadow_check_image, fairleadow_fresh,     fairleadow_run,
-        fairleadow_live_run,   fairleadow_tick,        fairleadow_live_tick, fairleadow_rebind,
-        fairleadow_live_rebind, fairleadow_cause,      fairleadow_list_rows, fairleadow_meaning,
+        fairleadow_read_chart, fairleadow_write_chart, fairleadow_translate, fairleadow_prepare,   fairleadow_minimise,
+        fairleadow_places,     fairleadow_check_image, fairleadow_fresh,     fairleadow_run,       fairleadow_live_run,
+        fairleadow_tick,       fairleadow_live_tick,   fairleadow_rebind,    fairleadow_live_rebind,
+        fairleadow_cause,      fairleadow_list_rows,   fairleadow_meaning,
     };
     return all;
 }

@@ -2,19 +2,20 @@
  *
  * Every function answers for everything that it is handed. All but fairleadow_meaning return 0, or the number of a refusal, and write
  *   *index   the frame (a line or a record) that the refusal names, from 0; only 2, 3, 4, 6 to 9, 12 and 13 name one, else it is 0
- *   *count   records, characters, labels, bytes of a table or ticks written, or places needed; with refusals 1 to 16 and 19 to 22
+ *   *count   records, characters, labels, bytes of a table or ticks written, or places needed; with refusals 1 to 16 and 19 to 23
  *            it is 0, with 17 and 18 the ticks finished before
- * With refusals 1 to 16 and 19 to 22 no buffer and no state is changed; only 14 writes a state, of zeros. With success, and with
+ * With refusals 1 to 16 and 19 to 23 no buffer and no state is changed; only 14 writes a state, of zeros. With success, and with
  * 17 and 18, nothing past the count is changed.
  * A buffer is a pointer and how many elements it has. No pointer is null, and nothing that a call writes may overlap anything
  * else that the call is given. Nothing is allocated and nothing is kept between calls. The archive of `rt staticlib` is code for
  * x86-64 and calls memcpy and memset and nothing else; there a translation takes 7,290 bytes of stack, a count of places 7,090, a run, a
- * tick, a preparation, a cause, a list of rows or a rebinding 13,560, a live run 520, a live tick 440, a live rebinding 240.
+ * tick, a preparation, a cause, a list of rows or a rebinding 13,560, the joining of labels 14,120, a live run 520, a live tick 440,
+ * a live rebinding 240.
  * controller/README.md tells of archives for ARM. This file is for both, and for C and C++: lengths are of type size_t, and
  * fairleadow_calls.h, which lies beside it, makes of them what the archive takes.
  *
- * The refusals, tried in this order, but 19 directly after 5, 21 before 18 and 22 after 15 (docs/REFUSALS.md tells what to look for;
- * H is how many schemes there are):
+ * The refusals, tried in this order, but 19 directly after 5, 21 before 18, 22 after 15 and 23 after 13 (docs/REFUSALS.md tells what to
+ * look for; H is how many schemes there are):
  *    1  the length of the text or of the records           10  more than 1,024 rows
  *    2  a character other than 0-9, A-F, a-f, line feed    11  the image's header
  *    3  the sum of a frame                                 12  an image frame that stands in a wrong place
@@ -29,6 +30,8 @@
  *                                                          21  a state whose tick takes no row
  *                                                          22  a rebinding of or to a number that is not 2 to H, or of
  *                                                              the handler's
+ *                                                          23  a word and bit that match no row, or two rows, of a label
+ *                                                              from 2 up
  */
 #ifndef FAIRLEADOW_H
 #define FAIRLEADOW_H
@@ -130,6 +133,14 @@ uint8_t fairleadow_cause(const uint8_t *image, size_t image_len, const fairleado
  * image check tries, then 16, for either buffer; counts labels. */
 uint8_t fairleadow_list_rows(const uint8_t *image, size_t image_len, uint16_t *firsts, size_t firsts_len,
                              uint16_t *counts, size_t counts_len, size_t *index, size_t *count);
+
+/* An image's lines to those of an image with fewer labels, or as many, that ticks as it does: labels that act alike become one. Two
+ * labels do where tick kind, scheme called, owner, result and mask are equal and, for every word and bit, the labels that they lead to
+ * act alike again; no grouping by this rule has fewer groups. The labels kept are the lowest of each group, in their order, with their
+ * own rows; the handler stays. The text is never longer than the one given. In 64 kilobytes of memory both texts fit beside the stack up
+ * to 1,090 lines each; a longer image is handed over from flash. Tries what the image check tries, then 23 and 16; counts characters. */
+uint8_t fairleadow_minimise(const uint8_t *image, size_t image_len, uint8_t *smaller, size_t smaller_len,
+                            size_t *index, size_t *count);
 
 /* An image's lines to a table, ten bytes a line, for live runs, ticks and rebindings: the image is checked here and not again, and its
  * lines are not needed afterwards. Tries what the image check tries, then 16; counts bytes. */

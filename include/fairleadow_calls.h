@@ -24,6 +24,8 @@ uint32_t fairleadow_cause(const uint8_t *image, uint64_t image_len, const fairle
                           uint16_t *row, uint16_t *mask, uint8_t *bit, uint64_t *index, uint64_t *count);
 uint32_t fairleadow_list_rows(const uint8_t *image, uint64_t image_len, uint16_t *firsts, uint64_t firsts_len,
                               uint16_t *counts, uint64_t counts_len, uint64_t *index, uint64_t *count);
+uint32_t fairleadow_minimise(const uint8_t *image, uint64_t image_len, uint8_t *smaller, uint64_t smaller_len,
+                             uint64_t *index, uint64_t *count);
 uint32_t fairleadow_prepare(const uint8_t *image, uint64_t image_len, uint8_t *table, uint64_t table_len,
                             uint64_t *index, uint64_t *count);
 uint32_t fairleadow_live_run(const uint8_t *table, uint64_t table_len, fairleadow_state *state, const uint16_t *words,
@@ -122,6 +124,13 @@ static inline uint8_t fairleadow_c_list_rows(const uint8_t *image, size_t image_
     return fairleadow_tell(number, &told, index, count);
 }
 
+static inline uint8_t fairleadow_c_minimise(const uint8_t *image, size_t image_len, uint8_t *smaller, size_t smaller_len,
+                                            size_t *index, size_t *count) {
+    fairleadow_told told;
+    uint32_t number = fairleadow_minimise(image, image_len, smaller, smaller_len, &told.index, &told.count);
+    return fairleadow_tell(number, &told, index, count);
+}
+
 static inline uint8_t fairleadow_c_prepare(const uint8_t *image, size_t image_len, uint8_t *table, size_t table_len,
                                            size_t *index, size_t *count) {
     fairleadow_told told;
@@ -167,6 +176,7 @@ static inline uint8_t fairleadow_c_meaning(uint8_t code, uint8_t *called) {
 #define fairleadow_rebind fairleadow_c_rebind
 #define fairleadow_cause fairleadow_c_cause
 #define fairleadow_list_rows fairleadow_c_list_rows
+#define fairleadow_minimise fairleadow_c_minimise
 #define fairleadow_prepare fairleadow_c_prepare
 #define fairleadow_live_run fairleadow_c_live_run
 #define fairleadow_live_tick fairleadow_c_live_tick

@@ -18,6 +18,7 @@ enum {
     TICK,
     CAUSE,
     LIST_ROWS,
+    MINIMISE,
     REBIND,
     PREPARE,
     LIVE_RUN,
@@ -111,6 +112,9 @@ __attribute__((noinline)) static void make_call(void) {
         break;
     case LIST_ROWS:
         number = list_rows(input, output, &index, &count);
+        break;
+    case MINIMISE:
+        number = fairleadow_minimise(input, head.input, output, head.output, &index, &count);
         break;
     case REBIND:
         number = fairleadow_rebind(input, head.input, &head.state, head.value, head.scheme, &index, &count);

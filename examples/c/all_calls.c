@@ -1,7 +1,7 @@
 /* Makes every call of the header on the chart on standard input: reads it and writes it back, counts its places, translates it,
  * checks the image, runs eight words from a fresh state of three places, makes the same ticks one by one, both on the image and on
  * the table prepared from it, rebinds each number up to 3 to its own scheme, and tells what each code stands for, which signals made
- * each tick go on and which rows each label has. Prints what came of each. */
+ * each tick go on and which rows each label has, and joins the labels that act alike. Prints what came of each. */
 #include <stdio.h>
 #include <string.h>
 
@@ -89,6 +89,17 @@ static int tell_rows(size_t length) {
     return 0;
 }
 
+/* The image with its alike labels joined. */
+static int tell_smaller(size_t length) {
+    static uint8_t smaller[FAIRLEADOW_IMAGE_TEXT];
+    size_t index, count;
+    uint8_t number = fairleadow_minimise(image, length, smaller, sizeof smaller, &index, &count);
+    if (number)
+        return refused(number, index);
+    printf("characters with alike labels joined: %zu\n", count);
+    return 0;
+}
+
 /* What the ticks of all words write, and the state after them. */
 typedef struct {
     fairleadow_state state;
@@ -172,5 +183,5 @@ int main(void) {
     if (run_and_tick(count, &all) || live_run_and_tick(prepared, &all) || rebind(count, prepared))
         return 1;
     tell_codes(all.codes, WORDS);
-    return tell_causes(count) || tell_rows(count);
+    return tell_causes(count) || tell_rows(count) || tell_smaller(count);
 }

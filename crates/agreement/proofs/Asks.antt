@@ -12,10 +12,12 @@ use Rattle.places.proofs.places_needed as places-needed
 use Rattle.places.proofs.places_needed.Reads as places-needed-reads
 use Rattle.image_check.proofs.check_image as check-image
 use Rattle.image_check.proofs.check_image.Reads as check-image-reads
-use Rattle.tables.proofs.prepare as prepare
-use Rattle.tables.proofs.prepare.Reads as prepare-reads
+use Rattle.preparing.proofs.prepare as prepare
+use Rattle.preparing.proofs.prepare.Reads as prepare-reads
 use Rattle.listing.proofs.list_rows as list-rows
 use Rattle.listing.proofs.list_rows.Reads as list-rows-reads
+use Rattle.minimising.proofs.minimise as minimise
+use Rattle.minimising.proofs.minimise.Reads as minimise-reads
 use Rattle.cause.proofs.cause_of as cause-of
 use Rattle.cause.proofs.cause_of.Reads as cause-of-reads
 use Rattle.state.proofs.State.fresh as fresh
@@ -52,6 +54,8 @@ use Rattle.fairleadow.proofs.fairleadow_cause as c-cause
 use Rattle.fairleadow.proofs.fairleadow_cause.Reads as c-cause-reads
 use Rattle.fairleadow.proofs.fairleadow_list_rows as c-list-rows
 use Rattle.fairleadow.proofs.fairleadow_list_rows.Reads as c-list-rows-reads
+use Rattle.fairleadow.proofs.fairleadow_minimise as c-minimise
+use Rattle.fairleadow.proofs.fairleadow_minimise.Reads as c-minimise-reads
 use Rattle.fairleadow.proofs.fairleadow_meaning as c-meaning
 use Rattle.fairleadow.proofs.fairleadow_meaning.Reads as c-meaning-reads
 use Rattle.fairleadow.proofs.fairleadow_prepare as c-prepare
@@ -107,6 +111,9 @@ live-rebind-asks-nothing κs a = tt
 pub list-rows-asks-nothing : (κs : Lfts 3) (a : ArgsD list-rows.signature κs) → list-rows-reads.Asked κs a
 list-rows-asks-nothing κs a = tt
 
+pub minimise-asks-nothing : (κs : Lfts 2) (a : ArgsD minimise.signature κs) → minimise-reads.Asked κs a
+minimise-asks-nothing κs a = tt
+
 pub cause-of-asks-nothing : (κs : Lfts 1) (a : ArgsD cause-of.signature κs) → cause-of-reads.Asked κs a
 cause-of-asks-nothing κs a = tt
 
@@ -155,6 +162,9 @@ c-live-rebind-asks-nothing κs a = tt
 
 pub c-list-rows-asks-nothing : (κs : Lfts 5) (a : ArgsD c-list-rows.signature κs) → c-list-rows-reads.Asked κs a
 c-list-rows-asks-nothing κs a = tt
+
+pub c-minimise-asks-nothing : (κs : Lfts 4) (a : ArgsD c-minimise.signature κs) → c-minimise-reads.Asked κs a
+c-minimise-asks-nothing κs a = tt
 
 pub c-cause-asks-nothing : (κs : Lfts 7) (a : ArgsD c-cause.signature κs) → c-cause-reads.Asked κs a
 c-cause-asks-nothing κs a = tt

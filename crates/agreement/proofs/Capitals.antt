@@ -7,6 +7,7 @@ use Rattle.charts.proofs.Alike as chart
 use Rattle.image.proofs.Alike as image
 use Rattle.tables.proofs.Alike as table
 use Rattle.listing.proofs.Alike as listing
+use Rattle.minimising.proofs.Alike as minimising
 use Rattle.translator.proofs.Alike as translation
 use Rattle.places.proofs.Alike as needed
 use Rattle.cause.proofs.Alike as cause
@@ -22,6 +23,7 @@ as-in-capitals t = record {
   checks = image.image-verdict (map capital t) t (capitals-alike t);
   lists = listing.lists (map capital t) t (capitals-alike t);
   prepares = table.prepares (map capital t) t (capitals-alike t);
+  minimises = minimising.minimises (map capital t) t (capitals-alike t);
   runs = running.runs (map capital t) t (capitals-alike t);
   ticks = running.advances (map capital t) t (capitals-alike t);
   explains = cause.explains (map capital t) t (capitals-alike t);

@@ -47,7 +47,7 @@ use Rattle.agreement.proofs.Expected.{all-short}
 
 -- ---- one run on an image that is accepted and decodes to i, from a state that fits
 module _ (text : List ℕ) (i : Image) (passes : imageVerdict text ≡ fine) (decodes : decoded (contents text) ≡ i) where
-  run-is : (s : State) (ws ms ks : List ℕ) → Fits i s → run text s ws ms ks ≡ runOn (when 16 (noRoom ws ms ks)) (λ _. ticks i s ws) s ms ks
+  pub run-is : (s : State) (ws ms ks : List ℕ) → Fits i s → run text s ws ms ks ≡ runOn (when 16 (noRoom ws ms ks)) (λ _. ticks i s ws) s ms ks
   run-is s ws ms ks f =
       run-image text i passes decodes s ws ms ks
       ∙ ap (λ (t : Bool). runOn (next (when 15 t) λ _. when 16 (noRoom ws ms ks)) (λ _. ticks i s ws) s ms ks) (fits i s f)
@@ -67,12 +67,16 @@ module _ (text : List ℕ) (i : Image) (passes : imageVerdict text ≡ fine) (de
       ∙ ap (λ (r : Ran). byRun (told (runOn fine (λ _. r) s (a .masks) (a .codes))) ∷ chain run rebind text (r .state) rest) q
 
   -- ---- one rebinding, which 22 refuses where t is true
+  pub rebind-is : (s : State) (h k : ℕ) → Fits i s → {t : Bool} → badRebinding (length (i .entries)) (i .handler) h k ≡ t
+      → rebind text s h k ≡ rebindOn (when 22 t) s h k
+  rebind-is s h k f e =
+      rebind-image text i passes decodes s h k ∙ ap₂ (λ (t u : Bool). rebindOn (next (when 15 t) λ _. when 22 u) s h k) (fits i s f) e
+
   chain-rebinds : (s : State) (h k : ℕ) (rest : List Given) → Fits i s → {t : Bool} → badRebinding (length (i .entries)) (i .handler) h k ≡ t
       → chain run rebind text s (rebinds h k ∷ rest)
       ≡ (let r = rebindOn (when 22 t) s h k in byRebinding (r .reply) ∷ chain run rebind text (r .state) rest)
   unfolding chain
-  chain-rebinds s h k rest f e = ap (λ (r : Made). byRebinding (r .reply) ∷ chain run rebind text (r .state) rest)
-      (rebind-image text i passes decodes s h k ∙ ap₂ (λ (t u : Bool). rebindOn (next (when 15 t) λ _. when 22 u) s h k) (fits i s f) e)
+  chain-rebinds s h k rest f e = ap (λ (r : Made). byRebinding (r .reply) ∷ chain run rebind text (r .state) rest) (rebind-is s h k f e)
 
 replied-by : (t : Bool) (k : ℕ) → replied (pick t (refused 17 0) fine) k ≡ pick t (refusal 17 0 k) (success k)
 replied-by true k = refl

@@ -10,8 +10,11 @@ use Rattle.places.specs.Entry.{placesNeeded}
 use Rattle.translator.proofs.translate as translator-translate
 use Rattle.translator.proofs.translate.Reads as translator-translate-reads
 use Rattle.tables.specs.Prepare.{prepare}
-use Rattle.tables.proofs.prepare as tables-prepare
-use Rattle.tables.proofs.prepare.Reads as tables-prepare-reads
+use Rattle.preparing.proofs.prepare as tables-prepare
+use Rattle.preparing.proofs.prepare.Reads as tables-prepare-reads
+use Rattle.minimising.specs.Entry.{minimise}
+use Rattle.minimising.proofs.minimise as minimising-minimise
+use Rattle.minimising.proofs.minimise.Reads as minimising-minimise-reads
 use Rattle.state.specs.State.{freshState, Makes}
 use Rattle.runs.specs.Run.{run, Runs}
 use Rattle.runs.specs.Advance.{advance, Advances}
@@ -32,7 +35,8 @@ use Rattle.rebinding.proofs.rebind.Reads as rebinding-rebind-reads
 use Rattle.rebinding.proofs.live_rebind as rebinding-live-rebind
 use Rattle.rebinding.proofs.live_rebind.Reads as rebinding-live-rebind-reads
 use Rattle.state.specs.Bytes.{stateOf}
-use Rattle.fairleadow.specs.Calls.{Told, LendsC, MakesC, runFor, RunsC, tickFor, AdvancesC, rebindFor, RebindsC}
+use Rattle.telling.specs.Told.{Told}
+use Rattle.fairleadow.specs.Calls.{LendsC, MakesC, runFor, RunsC, tickFor, AdvancesC, rebindFor, RebindsC}
 use Rattle.fairleadow.proofs.fairleadow_translate as c-translate
 use Rattle.fairleadow.proofs.fairleadow_translate.Reads as c-translate-reads
 use Rattle.places.proofs.places_needed as places-needed
@@ -47,6 +51,8 @@ use Rattle.fairleadow.proofs.fairleadow_tick as c-tick
 use Rattle.fairleadow.proofs.fairleadow_tick.Reads as c-tick-reads
 use Rattle.fairleadow.proofs.fairleadow_prepare as c-prepare
 use Rattle.fairleadow.proofs.fairleadow_prepare.Reads as c-prepare-reads
+use Rattle.fairleadow.proofs.fairleadow_minimise as c-minimise
+use Rattle.fairleadow.proofs.fairleadow_minimise.Reads as c-minimise-reads
 use Rattle.fairleadow.proofs.fairleadow_live_run as c-live-run
 use Rattle.fairleadow.proofs.fairleadow_live_run.Reads as c-live-run-reads
 use Rattle.fairleadow.proofs.fairleadow_live_tick as c-live-tick
@@ -56,7 +62,7 @@ use Rattle.fairleadow.proofs.fairleadow_rebind.Reads as c-rebind-reads
 use Rattle.fairleadow.proofs.fairleadow_live_rebind as c-live-rebind
 use Rattle.fairleadow.proofs.fairleadow_live_rebind.Reads as c-live-rebind-reads
 
--- ---- translator::translate, tables::prepare, state::State::fresh, of machine run, tick_image, live_run and live_tick, and of rebinding rebind
+-- ---- translator::translate, preparing::prepare, minimising::minimise, state::State::fresh, of machine run, tick_image, live_run and live_tick, and of rebinding rebind
 -- and live_rebind
 pub translate-lends : (κs : Lfts 2) (a : ArgsD translator-translate.signature κs) (r : ResD translator-translate.signature κs)
     (s : AtExit translator-translate.ended κs)
@@ -71,6 +77,11 @@ pub prepare-lends : (κs : Lfts 2) (a : ArgsD tables-prepare.signature κs) (r :
     (s : AtExit tables-prepare.ended κs)
     → tables-prepare-reads.Learnt κs a r s → Lends (prepare (a .0 .now) (a .1 .0 .now)) r (s .1 .0 .now)
 prepare-lends κs a r s e = e
+
+pub minimise-lends : (κs : Lfts 2) (a : ArgsD minimising-minimise.signature κs) (r : ResD minimising-minimise.signature κs)
+    (s : AtExit minimising-minimise.ended κs)
+    → minimising-minimise-reads.Learnt κs a r s → Lends (minimise (a .0 .now) (a .1 .0 .now)) r (s .1 .0 .now)
+minimise-lends κs a r s e = e
 
 pub fresh-makes : (κs : Lfts 0) (a : ArgsD state-fresh.signature κs) (r : ResD state-fresh.signature κs) (s : AtExit state-fresh.ended κs)
     → state-fresh-reads.Learnt κs a r s → Makes (freshState (a .0)) r
@@ -106,7 +117,7 @@ pub live-rebind-makes : (κs : Lfts 1) (a : ArgsD rebinding-live-rebind.signatur
     → rebinding-live-rebind-reads.Learnt κs a r s → Makes (liveRebind (a .0 .now) (a .1 .0) (a .1 .1 .0) (a .1 .1 .1 .0)) r
 live-rebind-makes κs a r s e = e
 
--- ---- for C: translate, fresh, run and tick, then prepare, live_run and live_tick, and the two rebindings
+-- ---- for C: translate, fresh, run and tick, then prepare, minimise, live_run and live_tick, and the two rebindings
 pub translate-lends-c : (κs : Lfts 4) (a : ArgsD c-translate.signature κs) (r : ResD c-translate.signature κs) (s : AtExit c-translate.ended κs)
     → c-translate-reads.Learnt κs a r s
     → LendsC (translate (a .0 .now) (a .1 .0 .now)) r (s .1 .1 .0 .now) (s .1 .1 .1 .0 .now) (s .1 .0 .now)
@@ -136,6 +147,11 @@ pub prepare-lends-c : (κs : Lfts 4) (a : ArgsD c-prepare.signature κs) (r : Re
     → c-prepare-reads.Learnt κs a r s
     → LendsC (prepare (a .0 .now) (a .1 .0 .now)) r (s .1 .1 .0 .now) (s .1 .1 .1 .0 .now) (s .1 .0 .now)
 prepare-lends-c κs a r s e = e
+
+pub minimise-lends-c : (κs : Lfts 4) (a : ArgsD c-minimise.signature κs) (r : ResD c-minimise.signature κs) (s : AtExit c-minimise.ended κs)
+    → c-minimise-reads.Learnt κs a r s
+    → LendsC (minimise (a .0 .now) (a .1 .0 .now)) r (s .1 .1 .0 .now) (s .1 .1 .1 .0 .now) (s .1 .0 .now)
+minimise-lends-c κs a r s e = e
 
 pub live-run-runs-c : (κs : Lfts 7) (a : ArgsD c-live-run.signature κs) (r : ResD c-live-run.signature κs) (s : AtExit c-live-run.ended κs)
     → c-live-run-reads.Learnt κs a r s

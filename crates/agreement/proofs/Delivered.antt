@@ -12,7 +12,7 @@ use Rattle.agreement.specs.Calls.{Calls, none, more, Delivered}
 use Rattle.agreement.proofs.Demand.{theorem}
 use Rattle.agreement.proofs.OneCall.{Like, call-like, chain-more}
 
-calls-chain : (image : List ℕ) (s : State) (given : List Given) (handed : List Handed) → Calls image s given handed
+pub calls-chain : (image : List ℕ) (s : State) (given : List Given) (handed : List Handed) → Calls image s given handed
     → handed ≡ chain run rebind image s given
 unfolding chain
 calls-chain image s [] [] none = refl

@@ -25,7 +25,7 @@ returned-0 text before after at n c =
     translate-success text before (sym (c .told .number-is)) ∙ ap success (sym (c .told .count-is))
 
 -- after each call the bytes hold the state that the same call on states hands back
-calls-chain : (image bytes : List ℕ) (given : List Given) (handed : List HandedC) → CallsC image bytes given handed
+pub calls-chain : (image bytes : List ℕ) (given : List Given) (handed : List HandedC) → CallsC image bytes given handed
     → handed ≡ map handedC (chain run rebind image (stateOf bytes) given)
 unfolding chain
 calls-chain image bytes [] [] none = refl

@@ -1,4 +1,4 @@
--- No refusal of the translator, of prepare, of a listing or of a cause has the number 0, so that a caller from C can tell success by it.
+-- No refusal of the translator, of prepare, of minimise, of a listing or of a cause has the number 0, so that a caller from C can tell success by it.
 use Prim.Native.Nat.{ℕ, _+_, _/_, _≤_}
 use mathlib.Core.Path.{_≡_, refl}
 use mathlib.Core.Bool.{Bool, true, false}
@@ -17,6 +17,9 @@ use Rattle.image.specs.Decode.{lastLabel, decoded}
 use Rattle.image.specs.Check.{imageVerdict}
 use Rattle.image.proofs.Refuses.{Early, early-image}
 use Rattle.tables.specs.Prepare.{noted, prepare}
+use Rattle.covering.specs.Matched.{uneven}
+use Rattle.group_numbers.specs.Smaller.{smaller}
+use Rattle.minimising.specs.Entry.{minimiseVerdict, minimise}
 use Rattle.translator.specs.Table.{table}
 use Rattle.translator.specs.Entry.{translateVerdict, translate}
 use Rattle.translator.proofs.Refuses.{OfChart, translate-refuses}
@@ -63,6 +66,13 @@ translate-success t old = lent-success (translateVerdict t) 1 (λ _. imageText (
 pub prepare-success : (t old : List ℕ) → let x = prepare t old in number (x .reply) ≡ 0 → x .reply ≡ success (count (x .reply))
 unfolding prepare
 prepare-success t old = lent-success (imageVerdict t) 1 (λ _. noted (contents t)) old (image-positive t)
+
+pub minimise-success : (t old : List ℕ) → let x = minimise t old in number (x .reply) ≡ 0 → x .reply ≡ success (count (x .reply))
+unfolding minimise minimiseVerdict
+minimise-success t old =
+    let uncovered : Bool = uneven (decoded (contents t)) in
+    lent-success (minimiseVerdict t) 1 (λ _. imageText (smaller (decoded (contents t)))) old
+    (next-refuses Positive (imageVerdict t) _ (image-positive t) (when-refuses Positive 23 uncovered (omega arith)))
 
 -- ---- a listing
 listed-success : (v : Verdict) (go : Unit {0} → Image) (xs ys : List ℕ) → Refuses Positive v

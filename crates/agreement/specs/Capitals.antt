@@ -8,6 +8,7 @@ use Rattle.charts.specs.Entry.{readChart}
 use Rattle.image.specs.Check.{imageVerdict}
 use Rattle.tables.specs.Prepare.{prepare}
 use Rattle.listing.specs.Listing.{list}
+use Rattle.minimising.specs.Entry.{minimise}
 use Rattle.translator.specs.Entry.{translate}
 use Rattle.places.specs.Entry.{placesNeeded}
 use Rattle.state.specs.declared.State.{State}
@@ -23,6 +24,7 @@ pub record AsInCapitals (t : List ℕ) : Type 0 where
   pub checks : imageVerdict (map capital t) ≡ imageVerdict t
   pub lists : (firsts counts : List ℕ) → list (map capital t) firsts counts ≡ list t firsts counts
   pub prepares : (table : List ℕ) → prepare (map capital t) table ≡ prepare t table
+  pub minimises : (smaller : List ℕ) → minimise (map capital t) smaller ≡ minimise t smaller
   pub runs : (s : State) (words masks codes : List ℕ) → run (map capital t) s words masks codes ≡ run t s words masks codes
   pub ticks : (s : State) (word : ℕ) → advance (map capital t) s word ≡ advance t s word
   pub explains : (s : State) (word : ℕ) → explain (map capital t) s word ≡ explain t s word

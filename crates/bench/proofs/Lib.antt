@@ -20,3 +20,4 @@ pub mod Idlers
 pub mod Live
 pub mod Functions
 pub mod Listing
+pub mod Minimise

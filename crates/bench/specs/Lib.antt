@@ -8,3 +8,4 @@ pub mod LooseMask
 pub mod Outputs
 pub mod Live
 pub mod Listing
+pub mod Minimise

@@ -1,22 +1,22 @@
 // What made a tick go on, over an image and the bytes of a state, or a state by value.
 use super::Cause;
 use crate::conditions::against_rows;
-use fitness::is_unfit;
+use fitting::is_unfit;
 use frames::Answer;
 use frames::refused;
 use image::pair;
 use image::rows_from;
+use preparing::prepare_table;
 use rows::end_of;
 use rows::find_row;
 use rows::first_of;
 use state::State;
-use state::bytes_of;
-use state::depth_of;
-use state::place_of;
+use state_bytes::bytes_of;
+use state_places::depth_of;
+use state_places::place_of;
 use tables::LARGEST;
 use tables::label_of;
 use tables::label_read;
-use tables::prepare_table;
 use tables::scheme_count;
 use ticks::bit_of;
 ghost use mathlib.Core.Path.{_≡_};

@@ -3,5 +3,3 @@ pub mod PathSteps
 pub mod Settled
 pub mod PathCases
 pub mod RowSteps
-pub mod BoundLaws
-pub mod BoundSteps

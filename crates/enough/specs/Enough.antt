@@ -16,7 +16,8 @@ use Rattle.translator.specs.Entry.{translate}
 use Rattle.places.specs.Entry.{placesNeeded}
 use Rattle.state.specs.declared.Answered.{Answered}
 use Rattle.state.specs.State.{freshState, Makes}
-use Rattle.fairleadow.specs.Calls.{Told as AnswersC, LendsC, MakesC}
+use Rattle.telling.specs.Told.{Told as AnswersC}
+use Rattle.fairleadow.specs.Calls.{LendsC, MakesC}
 use Rattle.agreement.specs.Agreement.{Given, runs, rebinds, Handed, byRun, byRebinding, short, joined, replyTo}
 use Rattle.agreement.specs.Calls.{Calls}
 use Rattle.agreement.specs.ForC as for-c

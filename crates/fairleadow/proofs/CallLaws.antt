@@ -1,12 +1,10 @@
 -- What a call from C hands back, put together from what the function that it calls ensures.
 use Prim.Native.Nat.{ℕ}
-use mathlib.Core.Path.{_≡_, sym, ap, subst, _∙_}
+use mathlib.Core.Path.{_≡_, ap, subst, _∙_}
 use mathlib.Core.Bool.{Bool}
 use mathlib.Core.List.{List}
 use lib.Dec.{eqb}
-use borrow.Author.Tests.{eq-eqb, ne-eqb}
 use Rattle.lists.specs.Pick.{pick}
-use Rattle.lists.proofs.Tests.{yes-pick, no-pick}
 use Rattle.frames.specs.Answer.{Reply, number, reply}
 use Rattle.frames.specs.declared.Answer.{Answer}
 use Rattle.state.specs.State.{Made}
@@ -15,7 +13,8 @@ use Rattle.runs.specs.Run.{Run}
 use Rattle.runs.specs.Advance.{Advance}
 use Rattle.runs.specs.InPlace.{RunsOn, AdvancesOn}
 use Rattle.rebinding.specs.Rebind.{RebindsOn}
-use Rattle.fairleadow.specs.Calls.{Told, RunsC, Ticked, AdvancesC, RebindsC}
+use Rattle.telling.specs.Told.{Told, Ticked}
+use Rattle.fairleadow.specs.Calls.{RunsC, AdvancesC, RebindsC}
 
 pub told-as : {a b : Reply} {n i m : ℕ} → a ≡ b → Told a n i m → Told b n i m
 told-as {n = n} {i = i} {m = m} e t = subst (λ (x : Reply). Told x n i m) e t
@@ -27,22 +26,6 @@ run-told runs told = record { told = told-as (runs .answered) told; bytes = runs
 pub rebinding-told : {x : Made} {before after : List ℕ} {a : Answer} {n i m : ℕ} → RebindsOn x before a after → Told (reply a) n i m
     → RebindsC x before n i m after
 rebinding-told rebinds told = record { told = told-as (rebinds .answered) told; bytes = rebinds .bytes }
-
--- ---- a tick's report
-module _ (r : TickReport) {n i m : ℕ} (told : Told (reply (r .answer)) n i m) where
-  pub report-refused : (m₀ k₀ : ℕ) → (n ≡ 0 → ⊥) → Ticked r m₀ k₀ n i m m₀ k₀
-  report-refused m₀ k₀ h = record {
-    told = told;
-    mask = sym (no-pick (eqb n 0) (r .mask) m₀ (ne-eqb n 0 h));
-    code = sym (no-pick (eqb n 0) (r .code) k₀ (ne-eqb n 0 h));
-  }
-
-  pub report-done : (m₀ k₀ : ℕ) → n ≡ 0 → Ticked r m₀ k₀ n i m (r .mask) (r .code)
-  report-done m₀ k₀ h = record {
-    told = told;
-    mask = sym (yes-pick (eqb n 0) (r .mask) m₀ (eq-eqb n 0 h));
-    code = sym (yes-pick (eqb n 0) (r .code) k₀ (eq-eqb n 0 h));
-  }
 
 pub tick-told : {x : Advance} {before after : List ℕ} {r : TickReport} {m₀ k₀ n i m mask code : ℕ} → AdvancesOn x before r after
     → Ticked r m₀ k₀ n i m mask code → AdvancesC x before m₀ k₀ n i m after mask code

@@ -5,23 +5,17 @@ use mathlib.Core.Path.{_≡_}
 use mathlib.Core.List.{List}
 use lib.Dec.{eqb}
 use Rattle.lists.specs.Pick.{pick}
-use Rattle.frames.specs.Answer.{Reply, number, index, count, reply, Lent}
+use Rattle.frames.specs.Answer.{number, Lent}
 use Rattle.listing.specs.Listing.{Listed}
 use Rattle.state.specs.State.{Made}
 use Rattle.runs.specs.Run.{Run, run}
-use Rattle.runs.specs.declared.TickReport.{TickReport}
 use Rattle.runs.specs.Advance.{Advance, advance}
 use Rattle.machine.specs.Live.{liveRun, liveTick}
 use Rattle.cause.specs.Cause as cause
 use Rattle.rebinding.specs.Rebind.{rebind, liveRebind}
 use Rattle.runs.specs.InPlace.{bytesAfter, ifTicked}
 use Rattle.state.specs.Bytes.{stateOf, bytesOf}
-
--- the number returned, and the index and the count written, are those of the reply
-pub record Told (x : Reply) (returned at made : ℕ) : Type 0 where
-  pub number-is : returned ≡ number x
-  pub index-is : at ≡ index x
-  pub count-is : made ≡ count x
+use Rattle.telling.specs.Told.{Told}
 
 -- a call with one lent buffer
 pub record LendsC (x : Lent) (returned at made : ℕ) (after : List ℕ) : Type 0 where
@@ -61,12 +55,6 @@ tickFor image state word = advance image (stateOf state) word
 -- the same on a prepared table
 abbrev pub liveTickFor : List ℕ → List ℕ → ℕ → Advance
 liveTickFor table state word = liveTick table (stateOf state) word
-
--- what is written of a tick's report, over the mask and the code before it
-pub record Ticked (r : TickReport) (m₀ k₀ returned at made m k : ℕ) : Type 0 where
-  pub told : Told (reply (r .answer)) returned at made
-  pub mask : m ≡ pick (eqb returned 0) (r .mask) m₀
-  pub code : k ≡ pick (eqb returned 0) (r .code) k₀
 
 -- a call that makes one tick, with bytes, mask and code before it and after it
 pub record AdvancesC (x : Advance) (before : List ℕ) (m₀ k₀ : ℕ) (returned at made : ℕ) (after : List ℕ) (m k : ℕ) : Type 0 where

@@ -1,9 +1,5 @@
 // The entry points for C, as the header has them: a slice is a pointer and a length, a reference is a pointer, and a state is 130 bytes.
 // `at` and `made` are the header's index and count.
-mod answers;
-
-use answers::tell;
-use answers::tell_tick;
 use cause::cause_bytes;
 use codes::Meaning;
 use codes::meaning_of;
@@ -14,16 +10,20 @@ use machine::run_bytes;
 use machine::tick_bytes;
 use rebinding::live_rebind_bytes;
 use rebinding::rebind_bytes;
-use state::bytes_of;
+use state_bytes::bytes_of;
+use telling::tell;
+use telling::tell_tick;
 ghost use Rattle.frames.specs.Answer.{judged};
 ghost use Rattle.charts.specs.Entry.{readChart, writeChart};
 ghost use Rattle.image.specs.Check.{imageVerdict};
 ghost use Rattle.translator.specs.Entry.{translate};
 ghost use Rattle.places.specs.Entry.{placesNeeded};
+ghost use Rattle.minimising.specs.Entry.{minimise};
 ghost use Rattle.state.specs.State.{freshState};
 ghost use Rattle.tables.specs.Prepare.{prepare};
 ghost use Rattle.listing.specs.Listing.{list};
-ghost use Rattle.fairleadow.specs.Calls.{Told, LendsC, ListsC, MakesC, runFor, liveRunFor, RunsC, tickFor, liveTickFor, AdvancesC, causeFor, CausesC, rebindFor, liveRebindFor, RebindsC};
+ghost use Rattle.telling.specs.Told.{Told};
+ghost use Rattle.fairleadow.specs.Calls.{LendsC, ListsC, MakesC, runFor, liveRunFor, RunsC, tickFor, liveTickFor, AdvancesC, causeFor, CausesC, rebindFor, liveRebindFor, RebindsC};
 ghost use Rattle.fairleadow.specs.Meant.{Meant};
 
 #[no_mangle]
@@ -62,6 +62,19 @@ pub extern "C" fn fairleadow_translate(
     ensures { λ r. ⌜ LendsC (translate (now (chart .entry)) (now (image .entry))) r (now (at .exit)) (now (made .exit)) (now (image .exit)) ⌝ }
 {
     let answer = translator::translate(chart, image);
+    tell(answer, at, made)
+}
+
+#[no_mangle]
+pub extern "C" fn fairleadow_minimise(
+    image: &[u8],
+    smaller: &mut [u8],
+    at: &mut usize,
+    made: &mut usize,
+) -> u8
+    ensures { λ r. ⌜ LendsC (minimise (now (image .entry)) (now (smaller .entry))) r (now (at .exit)) (now (made .exit)) (now (smaller .exit)) ⌝ }
+{
+    let answer = minimising::minimise(image, smaller);
     tell(answer, at, made)
 }
 
@@ -154,7 +167,7 @@ pub extern "C" fn fairleadow_prepare(
 ) -> u8
     ensures { λ r. ⌜ LendsC (prepare (now (image .entry)) (now (table .entry))) r (now (at .exit)) (now (made .exit)) (now (table .exit)) ⌝ }
 {
-    let answer = tables::prepare(image, table);
+    let answer = preparing::prepare(image, table);
     tell(answer, at, made)
 }
 

@@ -2,11 +2,11 @@
 use frames::Answer;
 use frames::refused;
 use image::rows_from;
+use preparing::prepare_table;
 use rows::end_of;
 use rows::first_of;
 use tables::LARGEST;
 use tables::last_label;
-use tables::prepare_table;
 use tables::scheme_count;
 ghost use mathlib.Core.Path.{_≡_};
 ghost use Prim.Native.Nat.{_<_};

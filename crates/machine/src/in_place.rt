@@ -2,11 +2,11 @@
 use super::TickReport;
 use frames::Answer;
 use frames::refused;
+use preparing::prepare_table;
 use runs::run_table;
 use runs::tick_table;
 use tables::LARGEST;
 use tables::bad_table;
-use tables::prepare_table;
 use tables::table_length;
 ghost use Rattle.state.specs.Bytes.{stateOf};
 ghost use Rattle.runs.specs.Run.{run};

@@ -1,11 +1,11 @@
 // The places that a chart needs, by its text. There is no buffer.
 use chains::longest_chain;
-use chart_rows::bound_rows;
 use chart_rows::count_rows;
 use chart_rows::note_nodes;
 use chart_text::read_chart;
 use frames::Answer;
 use frames::refused;
+use row_bounds::bound_rows;
 ghost use mathlib.Core.Path.{_≡_};
 ghost use lib.Dec.{ltb};
 ghost use lib.ListN.{length};

@@ -23,7 +23,7 @@ use Rattle.state.specs.State.{Sized}
 use Rattle.fitness.specs.Fitness.{callable, badServed, unfit}
 use Rattle.fitness.proofs.Fitness.{Fits, fits, unfits, range-callable}
 use Rattle.rebinding.specs.Rebind.{rebinding, rebindOn, rebind}
-use Rattle.rebinding.proofs.Refusal.{Allowed, allowed}
+use Rattle.rebindable.proofs.Refusal.{Allowed, allowed}
 
 pub rebinding-sized : (s : State) (h k : ℕ) → Sized s → Sized (rebinding h k s)
 rebinding-sized s h k z = record {

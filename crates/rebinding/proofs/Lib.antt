@@ -1,4 +1,3 @@
-pub mod Refusal
 pub mod Keeps
 pub mod Held
 pub mod Live

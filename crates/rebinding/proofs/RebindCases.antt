@@ -22,7 +22,7 @@ use Rattle.state.specs.Changes.{withServing}
 use Rattle.state.specs.Bytes.{stateOf, bytesOf}
 use Rattle.fitness.specs.Fitness.{unfit}
 use Rattle.rebinding.specs.Rebind.{rebindOn, tableRebind, RebindsOn}
-use Rattle.rebinding.proofs.Refusal.{Allowed, allowed}
+use Rattle.rebindable.proofs.Refusal.{Allowed, allowed}
 
 -- a refusal hands back what it was given
 abbrev pub keptBy : ℕ → ℕ → State → Made

@@ -3,8 +3,8 @@ use crate::in_place::live_rebind_bytes;
 use crate::in_place::rebind_bytes;
 use state::Answered;
 use state::State;
-use state::bytes_of;
-use state::state_of;
+use state_bytes::bytes_of;
+use state_bytes::state_of;
 ghost use Rattle.state.specs.State.{Makes};
 ghost use Rattle.rebinding.specs.Rebind.{rebind, liveRebind};
 

@@ -1,42 +1,17 @@
 // Rebindings in the bytes of a state that the caller keeps.
-use fitness::is_unfit;
+use fitting::is_unfit;
 use frames::Answer;
 use frames::refused;
-use state::put_serving;
-use state::tidy_results;
+use preparing::prepare_table;
+use rebindable::bad_rebinding;
+use state_results::put_serving;
+use state_results::tidy_results;
 use tables::LARGEST;
 use tables::bad_table;
-use tables::handler_of;
-use tables::prepare_table;
-use tables::scheme_count;
 use tables::table_length;
-ghost use mathlib.Core.Path.{_≡_};
-ghost use Rattle.bits.specs.Binding.{badRebinding};
-ghost use Rattle.image.specs.Decode.{handlerIn, schemeCount};
 ghost use Rattle.tables.specs.Table.{Whole};
 ghost use Rattle.state.specs.Bytes.{stateOf};
 ghost use Rattle.rebinding.specs.Rebind.{rebind, tableRebind, liveRebind, RebindsOn};
-
-// Refusal 22: the number or the scheme is not of 2 to H, or the number is the handler's.
-fn bad_rebinding(table: &[u8], number: usize, scheme: usize) -> bool
-    requires { ⌜ Whole (now table) ⌝ }
-    ensures { λ r. ⌜ r ≡ badRebinding (schemeCount (now (table .entry))) (handlerIn (now (table .entry))) number scheme ⌝ }
-{
-    let schemes = scheme_count(table) as usize;
-    if number < 2 {
-        return true;
-    }
-    if schemes < number {
-        return true;
-    }
-    if scheme < 2 {
-        return true;
-    }
-    if schemes < scheme {
-        return true;
-    }
-    number == handler_of(table) as usize
-}
 
 // A rebinding on a prepared table: 15, then 22.
 fn rebind_table(table: &[u8], bytes: &mut [u8; 130], number: usize, scheme: usize) -> Answer

@@ -9,7 +9,7 @@ use native.Mathlib.Omega.{arith}
 use lib.Bits.{bitAnd}
 use lib.Count.{ones}
 use lib.Dec.{ltb, eqb}
-use lib.ListN.{length, getD}
+use lib.ListN.{getD}
 use borrow.Author.Tests.{lt-ltb, le-ltb, eq-eqb, ne-eqb}
 use Rattle.lists.specs.Pick.{pick}
 use Rattle.lists.specs.Numbers.{range}
@@ -17,8 +17,7 @@ use Rattle.lists.proofs.Tests.{yes-pick, no-pick}
 use Rattle.bits.specs.Word.{agrees}
 use Rattle.frames.specs.Frame.{size, field, pairAt}
 use Rattle.image.specs.Decode.{labelsFrom}
-use Rattle.tables.specs.Table.{tableEnd, labelOf, notedIn, firstOn, endOn, rowOn, rowsOn, Whole}
-use Rattle.tables.specs.Labels.{Framed}
+use Rattle.tables.specs.Table.{labelOf, firstOn, endOn, rowOn, rowsOn, Whole}
 use Rattle.tables.proofs.Front.{end-inside}
 use Rattle.rows.specs.Rows.{matches, isOwn, Choice, row, none, better, bestRow}
 use Rattle.rows.specs.Search.{swapped, matching, foundAt, BetterOf, Chosen, Deciding}
@@ -272,23 +271,3 @@ end-within b l end x e = omega (arith, end-inside b l, x .alone)
 
 pub first-small : (b : List ℕ) (l : ℕ) → ((k : ℕ) → getD b k 0 < 256) → firstOn b l < 65536
 first-small b l bytes = let f : ℕ = labelsFrom b + (l - 1) in omega (arith, bytes (10 * f + 0), bytes (10 * f + 1))
-
--- n is H as the caller has it
-module _ (b : List ℕ) (n l : ℕ) (x : Framed b n l) where
-  pub frames-all : size b ≡ tableEnd b
-  frames-all = omega (arith, x .label .whole .alone)
-
-  pub first-read : (r : ℕ) → r ≡ field b (n + l) 0 + field b (n + l) 1 * 256 → r ≡ firstOn b l
-  first-read r q =
-      q ∙ ap (λ (f : ℕ). field b f 0 + field b f 1 * 256)
-      (let e : n + l ≡ labelsFrom b + (l - 1) = omega (arith, x .schemes, x .label .low) in e)
-
-  module _ (end : ℕ) (q : end ≡ field b (1 + n + l) 0 + field b (1 + n + l) 1 * 256) where
-    end-read : end ≡ notedIn b l
-    end-read = q ∙ ap (λ (m : ℕ). field b (1 + m + l) 0 + field b (1 + m + l) 1 * 256) (x .schemes)
-
-    pub end-here : 10 * end < length b → end ≡ endOn b l
-    end-here k = omega (arith, end-read, frames-all, x .label .whole .alone)
-
-    pub end-clipped : length b ≤ 10 * end → (all : ℕ) → all ≡ size b → all ≡ endOn b l
-    end-clipped k all e = omega (arith, end-read, frames-all, x .label .whole .alone)

@@ -1,13 +1,15 @@
 // Which row of a prepared table a label takes, by the word and a result bit.
 use image::byte;
 use image::pair;
+pub use row_ranges::end_of;
+pub use row_ranges::first_of;
+use row_ranges::low_pair;
 ghost use mathlib.Core.Path.{_≡_};
-ghost use Prim.Native.Nat.{_+_, _*_, _<_};
+ghost use Prim.Native.Nat.{_<_};
 ghost use Rattle.lists.specs.Pick.{pick};
-ghost use Rattle.frames.specs.Frame.{size, field};
+ghost use Rattle.frames.specs.Frame.{size};
 ghost use Rattle.image.specs.Decode.{schemeCount};
-ghost use Rattle.tables.specs.Table.{firstOn, endOn, tableImage};
-ghost use Rattle.tables.specs.Labels.{Framed};
+ghost use Rattle.tables.specs.Table.{tableImage};
 ghost use Rattle.rows.specs.Rows.{bestRow, leads, nextOf};
 ghost use Rattle.rows.specs.Search.{swapped, matching, BetterOf, Chosen, LastTaken, Deciding};
 
@@ -28,14 +30,6 @@ fn swap(word: u16) -> u16
     (word % 256) * 256 + word / 256
 }
 
-// Two bytes of frame f from k on, the low one first.
-fn low_pair(table: &[u8], f: usize, k: usize) -> u16
-    requires { ⌜ (f < size (now table)) × (k < 9) ⌝ }
-    ensures { λ r. ⌜ r ≡ field (now (table .entry)) f k + field (now (table .entry)) f (k + 1) * 256 ⌝ }
-{
-    (byte(table, f, k) as u16) + (byte(table, f, k + 1) as u16) * 256
-}
-
 // Whether the row in frame f matches a word, given with its bytes swapped; bit 2 says that no bit decides.
 fn is_matching(table: &[u8], f: usize, turned: u16, bit: u8) -> bool
     requires { ⌜ f < size (now table) ⌝ }
@@ -52,27 +46,6 @@ fn is_matching(table: &[u8], f: usize, turned: u16, bit: u8) -> bool
         return true;
     }
     only == bit
-}
-
-// Where the rows of label l begin: the frame that the label before it notes.
-pub fn first_of(table: &[u8], schemes: u8, l: usize) -> usize
-    requires { ⌜ Framed (now table) schemes l ⌝ }
-    ensures { λ r. ⌜ r ≡ firstOn (now (table .entry)) l ⌝ }
-{
-    low_pair(table, (schemes as usize) + l, 0) as usize
-}
-
-// Where the rows of label l end: the frame that it notes, within the table. It divides only where that frame is not: controllers divide
-// slowly.
-pub fn end_of(table: &[u8], schemes: u8, l: usize) -> usize
-    requires { ⌜ Framed (now table) schemes l ⌝ }
-    ensures { λ r. ⌜ r ≡ endOn (now (table .entry)) l ⌝ }
-{
-    let end = low_pair(table, 1 + (schemes as usize) + l, 0) as usize;
-    if 10 * end < table.len() {
-        return end;
-    }
-    table.len() / 10
 }
 
 // Of the row in frame best, none where that is past the table, and a later one in frame f: the later, unless the care mask of the first

@@ -1,13 +1,13 @@
 // Ticks on a prepared table, one or one for each word, after 15 and 16 were tried.
 use super::Ended;
 use super::TickReport;
-use fitness::is_unfit;
+use fitting::is_unfit;
 use frames::Answer;
 use frames::refused;
-use state::tidy_results;
+use state_results::tidy_results;
+use stepping::tick_on;
 use tables::last_label;
 use tables::scheme_count;
-use ticks::tick_on;
 ghost use mathlib.Core.Path.{_≡_};
 ghost use mathlib.Core.List.{[], _∷_};
 ghost use Rattle.tables.specs.Table.{Whole};

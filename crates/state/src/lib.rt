@@ -1,28 +1,12 @@
-// The state of the stack machine: a fresh one, and its 130 bytes.
+// The state of the stack machine, a fresh one, and what its 130 bytes stand for.
 use frames::Answer;
+ghost use mathlib.Core.Path.{_≡_};
+ghost use Prim.Native.Nat.{_<_};
+ghost use lib.ListN.{length, set};
 
-mod bytes;
 mod fresh;
-mod parts;
 
-pub use bytes::bytes_of;
-pub use bytes::state_of;
 pub use fresh::bad_size;
-pub use parts::depth_of;
-pub use parts::number_of;
-pub use parts::open_place;
-pub use parts::place_of;
-pub use parts::put_alone;
-pub use parts::put_depth;
-pub use parts::put_place;
-pub use parts::put_result;
-pub use parts::put_serving;
-pub use parts::result_of;
-pub use parts::result_place;
-pub use parts::server_of;
-pub use parts::serving_of;
-pub use parts::size_of;
-pub use parts::tidy_results;
 
 // Places (the paper's word for the entries of the stack) hold labels, the bottom first, up to the depth, and 0 above it; beside each stand the
 // number that its scheme was called by and the scheme that served it. Number h's result bit and the scheme that serves h stand at h - 1.
@@ -50,4 +34,12 @@ impl State {
     pub const ROWS: usize = 1024;
 
     pub const SCHEMES: usize = 16;
+}
+
+// One byte written; as a slice an array tells how long it is.
+pub fn put_byte(bytes: &mut [u8], at: usize, value: u8)
+    requires { ⌜ at < length (now bytes) ⌝ }
+    ensures { λ _. ⌜ now (bytes .exit) ≡ set (now (bytes .entry)) at value ⌝ }
+{
+    bytes[at] = value;
 }

@@ -1,11 +1,7 @@
-// Tables prepared for ticks: an image checked and decoded once, with the place of each label's rows noted in it, and what such a table holds.
-mod entry;
+// Tables prepared for ticks: what such a table holds, and its header, entries and labels as they are read.
 mod header;
 mod labels;
-mod noting;
 
-pub use entry::prepare;
-pub use entry::prepare_table;
 pub use header::bad_table;
 pub use header::table_length;
 pub use labels::entry_of;

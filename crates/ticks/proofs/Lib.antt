@@ -5,6 +5,4 @@ pub mod Keeps
 pub mod Depths
 pub mod TickCases
 pub mod RowCases
-pub mod StepCases
-pub mod FullCases
 pub mod Functions

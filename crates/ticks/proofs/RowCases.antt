@@ -1,8 +1,8 @@
--- Which bit decides among the rows of a label, and where the label beneath a return leads.
+-- Which bit decides among the rows of a label, and where a row leads.
 use mathlib.Core.Path.{_≡_, refl, sym, _∙_, ap}
 use mathlib.Core.Bool.{Bool, true, false}
 use mathlib.Core.List.{List}
-use Prim.Native.Nat.{ℕ, _-_, _<_}
+use Prim.Native.Nat.{ℕ, _≤_, _<_}
 use native.Mathlib.Omega.{arith}
 use native.Mathlib.Decide.{ℕ-discrete}
 use lib.Dec.{eqb}
@@ -11,18 +11,12 @@ use Rattle.lists.specs.Pick.{pick}
 use Rattle.lists.proofs.Tests.{yes-pick, no-pick}
 use Rattle.bits.specs.Results.{Results, resultOf}
 use Rattle.image.specs.Image.{Label}
-use Rattle.image.specs.Decode.{lastLabel}
-use Rattle.tables.specs.Table.{labelOf, tableImage}
+use Rattle.tables.specs.Table.{labelOf}
 use Rattle.tables.specs.Labels.{asLabel, Numbered}
 use Rattle.tables.specs.declared.Label as declared
-use Rattle.tables.proofs.TableReads.{label-at}
-use Rattle.rows.specs.Rows.{Choice, none, bestRow, leads, nextOf}
+use Rattle.rows.specs.Rows.{Found, found, missing, nextOf}
 use Rattle.rows.specs.Search.{Deciding}
-use Rattle.rows.proofs.TableRows.{row-none, row-above, any-row}
-use Rattle.state.specs.declared.State.{State}
-use Rattle.state.specs.State.{labelAt, placeAt}
-use Rattle.ticks.specs.Tick.{calledBit, choice}
-use Rattle.ticks.specs.Parts.{beneath, bitOf}
+use Rattle.ticks.specs.Parts.{bitOf}
 
 -- ---- the bit that decides among the rows of label l, read as z
 bit-low : (r : Bool) → pick r 1 0 < 2
@@ -30,7 +24,7 @@ bit-low true = omega arith
 bit-low false = omega arith
 
 module _ (b : List ℕ) (l : ℕ) (z : declared.Label) (read : asLabel z ≡ labelOf b l) (bs : Results) (bit : ℕ) (e : bit ≡ bitOf (z .kind) (z .called) bs) where
-  bit-called : z .kind ≡ 2 → bit ≡ pick (resultOf (z .called) bs) 1 0
+  pub bit-called : z .kind ≡ 2 → bit ≡ pick (resultOf (z .called) bs) 1 0
   bit-called k = e ∙ yes-pick (eqb (z .kind) 2) (pick (resultOf (z .called) bs) 1 0) 2 (eq-eqb (z .kind) 2 k)
 
   bit-none : (z .kind ≡ 2 → ⊥) → bit ≡ 2
@@ -50,31 +44,18 @@ module _ (b : List ℕ) (l : ℕ) (z : declared.Label) (read : asLabel z ≡ lab
       }
       go (no k) = record { label = g; none = λ _ m. k (kind ∙ m); some = λ m. absurd (m (bit-none k)) }
 
--- ---- where the label beneath a return leads
-module _ (b : List ℕ) (s : State) (w l : ℕ) (at : l ≡ placeAt s (s .depth - 2)) where
-  abbrev rowBeneath : Choice
-  rowBeneath = choice (tableImage b) (s .bits) (placeAt s (s .depth - 2)) w
-
-  chosen : (bit : ℕ) → bit ≡ calledBit (tableImage b) (s .bits) l → bestRow l w bit 0 (tableImage b .rows) ≡ rowBeneath
-  chosen bit e =
-      ap (λ (k : ℕ). bestRow l w k 0 (tableImage b .rows)) e ∙ ap (λ (k : ℕ). choice (tableImage b) (s .bits) k w) at
-
-  next-is : (x : Choice) → x ≡ rowBeneath → nextOf (leads x) ≡ nextOf (beneath (tableImage b) s w)
-  next-is x e = ap (λ (y : Choice). nextOf (leads y)) e
-
-  pub beneath-low : l < 2 → 256 ≡ nextOf (beneath (tableImage b) s w)
-  beneath-low h = next-is none (sym (row-none b l w _ h) ∙ chosen _ refl)
-
-  pub beneath-high : lastLabel b < l → 256 ≡ nextOf (beneath (tableImage b) s w)
-  beneath-high h = next-is none (sym (row-above b l w _ h) ∙ chosen _ refl)
-
-  pub beneath-row : Numbered b l → (z : declared.Label) → asLabel z ≡ labelOf b l → (bit : ℕ) → bit ≡ bitOf (z .kind) (z .called) (s .bits)
-      → (n : ℕ) → n ≡ nextOf (leads (bestRow l w bit 0 (tableImage b .rows))) → n ≡ nextOf (beneath (tableImage b) s w)
-  beneath-row g z read bit e n q = q ∙ next-is (bestRow l w bit 0 (tableImage b .rows)) (go (ℕ-discrete (z .kind) 2))
+-- ---- where a row leads, as the number that was found
+module _ (n : ℕ) (f : Found) (e : n ≡ nextOf f) where
+  pub none-found : ((u : ℕ) → f ≡ found u → u < 256) → 256 ≤ n → f ≡ missing
+  none-found small h = go f refl
     where
-      called : z .called ≡ labelAt (tableImage b) l .called
-      called = ap (λ (k : Label). k .called) (read ∙ sym (label-at b l))
+      go : (g : Found) → f ≡ g → f ≡ missing
+      go (found u) p = absurd (omega (arith, small u p, e ∙ ap nextOf p))
+      go missing p = p
 
-      go : Dec (z .kind ≡ 2) → bestRow l w bit 0 (tableImage b .rows) ≡ rowBeneath
-      go (yes k) = chosen bit (bit-called b l z read (s .bits) bit e k ∙ ap (λ (h : ℕ). pick (resultOf h (s .bits)) 1 0) called)
-      go (no k) = any-row b l w bit _ (λ m. k (ap (λ (x : Label). x .kind) read ∙ m)) (g .low) (g .high) ∙ chosen _ refl
+  pub one-found : n < 256 → f ≡ found n
+  one-found h = go f refl
+    where
+      go : (g : Found) → f ≡ g → f ≡ found n
+      go (found u) p = p ∙ ap found (sym (e ∙ ap nextOf p))
+      go missing p = absurd (omega (arith, e ∙ ap nextOf p))

@@ -1,13 +1,34 @@
-// One tick of the stack machine, on a prepared table and the bytes of a state.
-mod full;
-mod ticks;
-
-pub use ticks::bit_of;
-pub use ticks::tick_on;
+// One tick of the stack machine: what it does, what holds of it, and what its functions share.
+use state_results::result_of;
+ghost use mathlib.Core.Path.{_≡_};
+ghost use Rattle.state.specs.Bytes.{stateOf};
+ghost use Rattle.ticks.specs.Tick.{stopped};
+ghost use Rattle.ticks.specs.Parts.{bitOf, stepOf};
 
 // What a tick answers: 0, or the number that stops it, and then nothing is changed.
 pub struct Stepped {
     pub number: u8,
     pub mask: u32,
     pub code: u8,
+}
+
+// The bit that decides among the rows of a label: the result of the number that it calls, where it is a function's, else 2.
+pub fn bit_of(bytes: &[u8; 130], kind: u8, called: u8) -> u8
+    ensures { λ r. ⌜ r ≡ bitOf kind called (stateOf (now (bytes .entry)) .bits) ⌝ }
+{
+    if kind == 2 {
+        return result_of(bytes, called) as u8;
+    }
+    2
+}
+
+// A tick that finds no row to go on by: nothing is done.
+pub fn no_row() -> Stepped
+    ensures { λ r. ⌜ r ≡ stepOf (stopped 18) ⌝ }
+{
+    Stepped {
+        number: 18,
+        mask: 0,
+        code: 0,
+    }
 }

@@ -1,5 +1,4 @@
 // The image of an accepted chart: 10 and 16 are settled before anything is written.
-use chart_rows::bound_rows;
 use chart_rows::count_rows;
 use chart_rows::note_nodes;
 use chart_text::spread;
@@ -10,6 +9,7 @@ use label_text::put_entries;
 use label_text::put_fixed;
 use label_text::put_header;
 use label_text::put_labels;
+use row_bounds::bound_rows;
 use row_text::put_rows;
 ghost use mathlib.Core.Path.{_≡_};
 ghost use Prim.Native.Nat.{_≤_};

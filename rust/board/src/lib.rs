@@ -251,6 +251,10 @@ impl Library for Board<'_> {
         self.listed(image, firsts, counts).unwrap_or_else(|| self.instead.list_rows(image, firsts, counts))
     }
 
+    fn minimise(&self, image: &[u8], out: &mut [u8]) -> Answer {
+        self.written(Call::Minimise, image, out).unwrap_or_else(|| self.instead.minimise(image, out))
+    }
+
     fn prepare(&self, image: &[u8], table: &mut [u8]) -> Answer {
         self.written(Call::Prepare, image, table).unwrap_or_else(|| self.instead.prepare(image, table))
     }

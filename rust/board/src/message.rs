@@ -16,6 +16,7 @@ pub enum Call {
     Tick,
     Cause,
     ListRows,
+    Minimise,
     Rebind,
     Prepare,
     LiveRun,

@@ -169,6 +169,14 @@ extern "C" {
         index: *mut usize,
         count: *mut usize,
     ) -> u8;
+    pub fn fairleadow_minimise(
+        image: *const u8,
+        image_len: usize,
+        smaller: *mut u8,
+        smaller_len: usize,
+        index: *mut usize,
+        count: *mut usize,
+    ) -> u8;
     pub fn fairleadow_prepare(
         image: *const u8,
         image_len: usize,

@@ -206,6 +206,10 @@ impl Library for Proved {
         })
     }
 
+    fn minimise(&self, image: &[u8], out: &mut [u8]) -> Answer {
+        written(c::fairleadow_minimise, image, out)
+    }
+
     fn prepare(&self, image: &[u8], table: &mut [u8]) -> Answer {
         written(c::fairleadow_prepare, image, table)
     }

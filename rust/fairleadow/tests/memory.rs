@@ -1,15 +1,17 @@
 //! The deepest stack use of the C functions, measured on a stack of its own that is filled with one byte first. The
 //! lathe has 64 kilobytes: each call has to leave room for the chart's text and the image's, a preparation for the image's
-//! text and the table, a live call for the table.
+//! text and the table, a live call for the table; a call that makes an image smaller for as much of both texts as there is room for.
 
 use std::arch::asm;
 use std::ffi::c_void;
 
-use fairleadow::{c, LABELS, TABLE};
+use fairleadow::{c, LABELS, LINE, TABLE};
 use reference::entry::translated;
+use reference::entry_point::EntryPoint;
 use reference::frames::{text_of, Frame, CHART_TEXT, IMAGE_TEXT};
 use reference::generate::{charts, Random};
 use reference::samples;
+use reference::samples::worst::candidates;
 
 const MEMORY: usize = 65_536;
 const STACK: usize = 1 << 20;
@@ -75,6 +77,22 @@ struct Preparation {
     table: Vec<u8>,
     number: u8,
     count: usize,
+}
+
+/// The table's place holds the smaller text.
+extern "C" fn minimise(job: &mut Preparation) {
+    let mut index = 0;
+    let (image, smaller) = (&job.image, &mut job.table);
+    job.number = unsafe {
+        c::fairleadow_minimise(
+            image.as_ptr(),
+            image.len(),
+            smaller.as_mut_ptr(),
+            smaller.len(),
+            &mut index,
+            &mut job.count,
+        )
+    };
 }
 
 extern "C" fn prepare(job: &mut Preparation) {
@@ -366,6 +384,29 @@ fn a_preparation_fits_beside_the_image_and_its_table() {
     }
     println!("prepare: {deepest} bytes of stack");
     assert!(IMAGE_TEXT + TABLE + deepest < MEMORY, "prepare takes {deepest} bytes of stack");
+}
+
+/// The lines of an image for which controller/README.md promises room for both texts.
+const BOTH: usize = 1_090;
+
+/// The images that keep the joining of labels busy, and those of charts. Beside the longest text there is no room for a second one, so
+/// the image is in flash then; both texts fit up to some length.
+#[test]
+fn a_joining_fits_beside_the_longest_smaller_image_or_two_shorter_texts() {
+    let joined = candidates(EntryPoint::Minimise).into_iter().map(|one| text_of(&one.input.frames));
+    let (mut deepest, mut answered) = (0, [false; 2]);
+    for image in worst_images().into_iter().chain(joined) {
+        let mut job = Preparation { image, table: vec![0; IMAGE_TEXT], number: 0, count: 0 };
+        deepest = deepest.max(depth(&mut job, minimise));
+        answered[usize::from(job.number != 0)] = true;
+    }
+    assert_eq!(answered, [true; 2]);
+    println!(
+        "minimise: {deepest} bytes of stack; texts of up to {} lines fit twice",
+        (MEMORY - deepest) / 2 / LINE
+    );
+    assert!(IMAGE_TEXT + deepest < MEMORY, "minimise takes {deepest} bytes of stack");
+    assert!(2 * BOTH * LINE + deepest < MEMORY, "beside two texts minimise takes {deepest} bytes of stack");
 }
 
 /// The tables of all images that translate.

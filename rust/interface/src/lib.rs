@@ -119,6 +119,10 @@ pub trait Library {
     /// 0 and 0 where it has none. Tries what the image check tries, then 16, for either buffer; counts labels.
     fn list_rows(&self, image: &[u8], firsts: &mut [u16], counts: &mut [u16]) -> Answer;
 
+    /// An image's lines to those of the image with its alike labels joined, which ticks as it does. Tries what the image check tries,
+    /// then 23 and 16; counts characters.
+    fn minimise(&self, image: &[u8], out: &mut [u8]) -> Answer;
+
     /// An image's lines to the table that live runs and live ticks take. Tries what the image check tries, then 16;
     /// counts bytes.
     fn prepare(&self, image: &[u8], table: &mut [u8]) -> Answer;

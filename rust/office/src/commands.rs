@@ -1,6 +1,7 @@
 //! The commands, each in a file of its own.
 
 pub mod draw;
+pub mod minimise;
 pub mod options;
 pub mod page;
 pub mod trace;

@@ -50,7 +50,7 @@ fn help_and_wrong_calls() {
     for name in ["check FILE", "compose FILE", "show FILE", "places FILE"] {
         assert!(help.lines().any(|line| line.trim_start().starts_with(name) && line.len() > 30), "{name}");
     }
-    assert!(help.contains("for check and why also an image; - is standard input.\n"), "{help}");
+    assert!(help.contains("for check, why and minimise also an image; - is standard input.\n"), "{help}");
     assert_eq!(fairleadow(&["-h"], b"").1, help);
     assert_eq!(fairleadow(&[], b""), (2, String::new(), help.clone()));
     let (status, out, told) = fairleadow(&["chekc", "x"], b"");
@@ -132,7 +132,9 @@ fn files_that_cannot_be_read() {
 
 #[test]
 fn compose_and_show_turn_into_each_other() {
-    for name in ["bore", "finishing", "full_stack", "home", "paper", "roughing", "swapped", "two_blocks"] {
+    for name in
+        ["bore", "branches", "finishing", "full_stack", "home", "paper", "roughing", "swapped", "two_blocks"]
+    {
         let (chart, notation) = (format!("{name}.chart"), format!("{name}.txt"));
         assert_eq!(fairleadow(&["compose", &path(&notation)], b""), (0, file(&chart), String::new()));
         let (status, shown, _) = fairleadow(&["show", &path(&chart)], b"");

@@ -18,8 +18,9 @@ use reference::generate::{chains, Random};
 use shared::{example, file, run};
 
 /// What is said of each example.
-const EXAMPLES: [(&str, &str); 8] = [
+const EXAMPLES: [(&str, &str); 9] = [
     ("bore", "needs 2 places: drilling > bore_test"),
+    ("branches", "needs 1 place: branches"),
     ("finishing", "needs 2 places: finishing > polishing"),
     ("full_stack", "may need any number of places: roughing calls itself"),
     ("home", "needs 1 place: s1"),

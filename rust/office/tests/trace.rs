@@ -188,7 +188,9 @@ fn without_options_the_words_are_random_and_the_ticks_64() {
 
 #[test]
 fn counted_words_are_those_of_the_run_program() {
-    for name in ["bore", "finishing", "full_stack", "home", "paper", "roughing", "swapped", "two_blocks"] {
+    for name in
+        ["bore", "branches", "finishing", "full_stack", "home", "paper", "roughing", "swapped", "two_blocks"]
+    {
         let ran = traced(&format!("{name}.chart"), &["--words", "count"]);
         let codes = std::fs::read_to_string(example(&format!("{name}.codes"))).expect("the example's codes");
         let happenings = ["plain", "return", "home", "call of s2"];

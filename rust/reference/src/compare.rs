@@ -3,6 +3,7 @@
 
 mod alike;
 mod live;
+mod minimised;
 mod rebindings;
 mod rows;
 mod ticks;
@@ -39,13 +40,15 @@ impl fmt::Display for Difference {
 }
 
 /// How often each call gave each answer (0 for success), how often its ticks dropped the stack and returned at the bottom, how often
-/// they called a number that another scheme served, and how many of its texts had small letters and were refused by none of 1 to 3.
+/// they called a number that another scheme served, and how many of its texts had small letters and were refused by none of 1 to 3. And
+/// how many images became smaller when their alike labels were joined.
 #[derive(Debug, Default)]
 pub struct Summary {
     pub answers: BTreeMap<(&'static str, u8), usize>,
     pub handled: BTreeMap<&'static str, Handled>,
     pub swapped: BTreeMap<&'static str, usize>,
     pub small: BTreeMap<&'static str, usize>,
+    pub joined: usize,
 }
 
 /// Drops to the handler, and returns at the bottom: the handler's, or those that a damaged table leads to.
@@ -77,6 +80,10 @@ impl Summary {
         if small && frames_of(text, IMAGE_TEXT).is_ok() {
             *self.small.entry(call).or_insert(0) += 1;
         }
+    }
+
+    fn note_joined(&mut self, given: usize, smaller: usize) {
+        self.joined += usize::from(smaller < given);
     }
 
     /// Follows the depth by the codes of finished ticks, which go by one binding, and hands back the depth after them.
@@ -118,7 +125,7 @@ impl fmt::Display for Summary {
         for (call, count) in &self.small {
             writeln!(f, "{call:>12} {count:>8} texts with small letters")?;
         }
-        Ok(())
+        writeln!(f, "{:>12} {:>8} images became smaller", "minimise", self.joined)
     }
 }
 
@@ -182,7 +189,7 @@ impl<'a> Case<'a> {
             11 | 12 => self.live_tick(),
             13 => self.calls("live_runs", true),
             14 => self.cause(),
-            15 => self.list_rows(),
+            15 => self.list_rows().and_then(|()| self.minimise()),
             16 => self.rebind(),
             17 => self.live_rebind(),
             _ => self.mixture(),

@@ -8,6 +8,7 @@ use crate::frames::{frames_of, text_of, Frame, CHART_TEXT, IMAGE_TEXT, RECORDS};
 use crate::image::{self, Image};
 use crate::live::Held;
 use crate::machine::{self, Advanced};
+use crate::minimise::{joined, uneven};
 use crate::places::longest_chain;
 use crate::prepare::table_of;
 use crate::row_list::row_list;
@@ -188,6 +189,21 @@ pub fn prepare(image: &[u8], out: &mut [u8]) -> Answer {
         let table = table_of(&image).concat();
         put(&table, out)?;
         Ok(table.len())
+    }))
+}
+
+/// The text of the image with its alike labels joined: refusals 1 to 3, 11 to 13 and 23.
+pub fn minimised(text: &[u8]) -> Result<Vec<u8>, Refusal> {
+    let image = image_from_text(text)?;
+    refuse_if(23, uneven(&image))?;
+    Ok(text_of(&joined(&image).frames()))
+}
+
+/// Refusals 1 to 3, 11 to 13, 23 and 16; counts characters.
+pub fn minimise(text: &[u8], out: &mut [u8]) -> Answer {
+    answered(minimised(text).and_then(|smaller| {
+        put(&smaller, out)?;
+        Ok(smaller.len())
     }))
 }
 

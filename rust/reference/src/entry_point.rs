@@ -2,6 +2,7 @@
 //! answers and leaves.
 
 use crate::answer::Answer;
+use crate::entry::minimised;
 use crate::frames::{text_of, Frame};
 use crate::library::{Cause, Library, Meaning, Ticked};
 use crate::state::State;
@@ -19,6 +20,7 @@ pub enum EntryPoint {
     Run,
     Cause,
     ListRows,
+    Minimise,
     Rebind,
     LiveTick,
     LiveRun,
@@ -61,7 +63,7 @@ pub struct Made {
 }
 
 impl EntryPoint {
-    pub const ALL: [EntryPoint; 16] = [
+    pub const ALL: [EntryPoint; 17] = [
         EntryPoint::ReadChart,
         EntryPoint::WriteChart,
         EntryPoint::Translate,
@@ -72,6 +74,7 @@ impl EntryPoint {
         EntryPoint::Run,
         EntryPoint::Cause,
         EntryPoint::ListRows,
+        EntryPoint::Minimise,
         EntryPoint::Rebind,
         EntryPoint::LiveTick,
         EntryPoint::LiveRun,
@@ -92,6 +95,7 @@ impl EntryPoint {
             EntryPoint::Run => "run",
             EntryPoint::Cause => "cause",
             EntryPoint::ListRows => "list_rows",
+            EntryPoint::Minimise => "minimise",
             EntryPoint::Rebind => "rebind",
             EntryPoint::LiveTick => "live_tick",
             EntryPoint::LiveRun => "live_run",
@@ -125,6 +129,11 @@ impl EntryPoint {
                 let (mut firsts, mut counts) = (vec![0xAAAA; LABELS], vec![0xAAAA; LABELS]);
                 let answer = library.list_rows(&text(), &mut firsts, &mut counts);
                 Made { numbers: [firsts, counts].concat(), ..answered(answer) }
+            }
+            EntryPoint::Minimise => {
+                // just as long as needed: the board has no room for two of the longest texts
+                let room = minimised(&text()).map_or(0, |smaller| smaller.len());
+                written(room, |out| library.minimise(&text(), out))
             }
             EntryPoint::Rebind => rebound(state, |after| library.rebind(&text(), after, *number, *scheme)),
             EntryPoint::LiveRebind => {

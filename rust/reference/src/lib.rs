@@ -18,6 +18,7 @@ pub mod image;
 pub mod library;
 pub mod live;
 pub mod machine;
+pub mod minimise;
 pub mod places;
 pub mod prepare;
 pub mod programs;

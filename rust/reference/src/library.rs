@@ -54,6 +54,10 @@ impl Library for Reference {
         entry::list_rows(image, firsts, counts)
     }
 
+    fn minimise(&self, image: &[u8], out: &mut [u8]) -> Answer {
+        entry::minimise(image, out)
+    }
+
     fn prepare(&self, image: &[u8], table: &mut [u8]) -> Answer {
         entry::prepare(image, table)
     }

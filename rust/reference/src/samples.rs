@@ -5,6 +5,7 @@ mod named;
 pub mod worst;
 mod worst_charts;
 mod worst_images;
+mod worst_joined;
 mod worst_tables;
 
 use crate::frames::Frame;
@@ -20,6 +21,18 @@ pub fn chart_p() -> Vec<Frame> {
         [3, 2, 0, 5, 6, 0, 0, 0, 0, 0],
         [1, 2, 0, 0, 0, 0, 0, 0, 0, 0],
         [2, 2, 2, 5, 0, 0, 0, 0, 0, 2],
+    ]
+}
+
+/// An operation, and a condition that leads from it to one of two operations of the same mask: these act alike.
+pub fn alike() -> Vec<Frame> {
+    vec![
+        [0, 1, 0, 1, 0, 0, 0, 0, 0, 0],
+        [2, 1, 0, 2, 0, 0, 0, 0, 0, 1],
+        [3, 1, 0, 3, 4, 0, 0, 0, 0, 0],
+        [2, 1, 0, 5, 0, 0, 0, 0, 0, 2],
+        [2, 1, 0, 5, 0, 0, 0, 0, 0, 2],
+        [1, 1, 0, 0, 0, 0, 0, 0, 0, 0],
     ]
 }
 

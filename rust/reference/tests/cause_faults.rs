@@ -147,7 +147,16 @@ impl Faulty {
 }
 
 impl Library for Faulty {
-    as_the_reference!(chart_calls, check_image, list_rows, prepare, run_calls, rebindings, value_calls);
+    as_the_reference!(
+        chart_calls,
+        check_image,
+        list_rows,
+        minimise,
+        prepare,
+        run_calls,
+        rebindings,
+        value_calls
+    );
 
     fn cause(&self, text: &[u8], state: &State, word: u16) -> Cause {
         let right = Reference.cause(text, state, word);

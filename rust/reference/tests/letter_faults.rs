@@ -70,6 +70,10 @@ impl Library for Misreading {
         Reference.list_rows(&self.read(image), firsts, counts)
     }
 
+    fn minimise(&self, image: &[u8], out: &mut [u8]) -> Answer {
+        Reference.minimise(&self.read(image), out)
+    }
+
     fn prepare(&self, image: &[u8], table: &mut [u8]) -> Answer {
         Reference.prepare(&self.read(image), table)
     }

@@ -1,4 +1,4 @@
-//! Calls on texts: charts read, written and translated, images checked and run, numbers rebound.
+//! Calls on texts: charts read, written and translated, images checked and run, numbers rebound, alike labels joined.
 
 use std::cell::RefCell;
 use std::hint::black_box;
@@ -14,7 +14,8 @@ use reference::{fresh_state, samples, Library, State};
 
 use crate::measure::{Call, Line};
 
-const CALLS: [&str; 7] = ["read", "write", "translate", "check", "run of 64", "run of 65,536", "rebind"];
+const CALLS: [&str; 8] =
+    ["read", "write", "translate", "check", "run of 64", "run of 65,536", "minimise", "rebind"];
 
 /// Buffers for one side.
 struct Room {
@@ -77,7 +78,7 @@ impl Input {
         let state = fresh_state(32).expect("a good size");
         let (name, records) = (name.to_string(), records.concat());
         // with one scheme there is no number to rebind
-        let calls = if image.starts_with(b"0F01") { &CALLS[..6] } else { &CALLS };
+        let calls = if image.starts_with(b"0F01") { &CALLS[..7] } else { &CALLS };
         Input { name, calls, chart, records, image, state, words: words(65_536) }
     }
 
@@ -86,6 +87,12 @@ impl Input {
         let state = fresh_state(32).expect("a good size");
         let (chart, image, words) = (text_of(records), Vec::new(), Vec::new());
         Input { name, calls, chart, records: records.concat(), image, state, words }
+    }
+
+    /// An image whose labels are joined: it may be refused.
+    fn of_image(name: String, frames: &[Frame]) -> Input {
+        let (image, calls) = (text_of(frames), &CALLS[6..7]);
+        Input { image, chart: Vec::new(), ..Input::of_chart(name, calls, &[]) }
     }
 
     fn call(&self, call: &str, library: &dyn Library, room: &mut Room) {
@@ -98,6 +105,7 @@ impl Input {
             "translate" => drop(black_box(library.translate(&self.chart, &mut room.image))),
             "check" => drop(black_box(library.check_image(&self.image))),
             "run of 64" => run(&self.words[..64]),
+            "minimise" => drop(black_box(library.minimise(&self.image, &mut room.image))),
             "rebind" => {
                 let mut state = self.state;
                 black_box(library.rebind(&self.image, &mut state, 2, 2));
@@ -129,6 +137,9 @@ fn slow_inputs() -> Vec<Input> {
         let worst = worst.filter(|one| matches!(one.origin, Origin::Construction | Origin::Search));
         inputs.extend(worst.map(|one| Input::of_chart(one.name, calls, &one.input.frames)));
     }
+    let joined = candidates(EntryPoint::Minimise).into_iter();
+    let joined = joined.filter(|one| matches!(one.origin, Origin::Construction | Origin::Search));
+    inputs.extend(joined.map(|one| Input::of_image(one.name, &one.input.frames)));
     inputs
 }
 

@@ -8,6 +8,7 @@ mod nodes;
 mod paths;
 mod rows;
 pub mod rules;
+mod uneven;
 mod voice;
 
 use fairleadow::{Answer, Refusal, CHART_TEXT, IMAGE_TEXT, LINE, NODES, RECORD};
@@ -41,6 +42,7 @@ fn reason(text: &[u8], asked: Kind, refusal: &Refusal) -> Option<Problem> {
         11 => image::header(&frames(text)?),
         12 => image::place(&frames(text)?, index),
         13 => image_fields::field(&frames(text)?, index),
+        23 => uneven::label(&frames(text)?),
         _ => of_run(refusal),
     }
 }

@@ -7,6 +7,7 @@ mod image;
 mod kept;
 mod live;
 mod machine;
+mod minimise;
 mod places;
 mod table;
 
@@ -114,6 +115,13 @@ fn put_list(text: &[u8], firsts: &mut [u16], counts: &mut [u16]) -> Result<usize
         counts[label] += 1;
     }
     Ok(parts.labels)
+}
+
+fn put_smaller(text: &[u8], out: &mut [u8]) -> Result<usize, Refusal> {
+    let mut frames = [[0; 10]; IMAGE_FRAMES];
+    let (frames, parts) = accepted(text, &mut frames)?;
+    let mut smaller = [[0; 10]; IMAGE_FRAMES];
+    put(minimise::fill(frames, &parts, &mut smaller)?, out)
 }
 
 /// A run on an image's text. Where it `SCANS`, each tick that takes a row looks through all rows of the image, to compare times.
@@ -233,6 +241,10 @@ impl Library for Fast {
 
     fn list_rows(&self, image: &[u8], firsts: &mut [u16], counts: &mut [u16]) -> Answer {
         answered(put_list(image, firsts, counts))
+    }
+
+    fn minimise(&self, image: &[u8], out: &mut [u8]) -> Answer {
+        answered(put_smaller(image, out))
     }
 
     fn prepare(&self, image: &[u8], table: &mut [u8]) -> Answer {

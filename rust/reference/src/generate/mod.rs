@@ -1,5 +1,6 @@
 //! Random inputs from a seed: charts, images, tables, states, words, buffers, lists of runs, sizes of letters, and damage to each.
 
+pub mod alike;
 pub mod chains;
 pub mod charts;
 pub mod damage;

@@ -43,7 +43,7 @@ fn change(random: &mut Random, entry: EntryPoint, input: &mut Input) {
         EntryPoint::ReadChart | EntryPoint::WriteChart | EntryPoint::Translate | EntryPoint::Places => {
             chart(random, &mut input.frames);
         }
-        EntryPoint::CheckImage | EntryPoint::Prepare | EntryPoint::ListRows => {
+        EntryPoint::CheckImage | EntryPoint::Prepare | EntryPoint::ListRows | EntryPoint::Minimise => {
             image(random, &mut input.frames)
         }
         EntryPoint::Tick

@@ -3,11 +3,13 @@
 
 use super::worst_charts::worst_charts;
 use super::worst_images::{worst_images, worst_ticks};
+use super::worst_joined::worst_joined;
 use super::worst_tables::worst_tables;
 use super::{chart_p, found, largest_image, named_charts};
 use crate::check::chart_of;
+use crate::entry::minimised;
 use crate::entry_point::{EntryPoint, Input};
-use crate::frames::Frame;
+use crate::frames::{text_of, Frame};
 use crate::image::{image_of, Image};
 use crate::prepare::table_of;
 use crate::state::{fresh_state, State};
@@ -15,6 +17,9 @@ use crate::{machine, translator};
 
 /// How many words a run has here.
 pub const WORDS: usize = 64;
+
+/// The bytes of the board's buffers.
+const BUFFERS: usize = 47_104;
 
 /// Where an input is from.
 #[derive(Clone, Copy, Debug, PartialEq, Eq)]
@@ -57,6 +62,7 @@ pub fn known(entry: EntryPoint) -> Vec<Candidate> {
             charts()
         }
         EntryPoint::CheckImage | EntryPoint::Prepare | EntryPoint::ListRows => images(),
+        EntryPoint::Minimise => smaller_images(),
         EntryPoint::Tick | EntryPoint::Run | EntryPoint::Cause | EntryPoint::Rebind => ticks(entry),
         EntryPoint::LiveTick | EntryPoint::LiveRun | EntryPoint::LiveRebind => live(entry),
         EntryPoint::Fresh => values("stack of", 0..=33),
@@ -113,6 +119,20 @@ fn images() -> Vec<Candidate> {
     all.extend(
         constructed.map(|(name, it)| Candidate::new(name, Origin::Construction, Input::of(it.frames()))),
     );
+    all
+}
+
+/// The same and images that take long to join, less those that have no room on the board beside what they become.
+fn smaller_images() -> Vec<Candidate> {
+    let mut all = images();
+    let constructed = worst_joined().into_iter();
+    all.extend(
+        constructed.map(|(name, it)| Candidate::new(name, Origin::Construction, Input::of(it.frames()))),
+    );
+    all.retain(|candidate| {
+        let text = text_of(&candidate.input.frames);
+        text.len() + minimised(&text).map_or(0, |smaller| smaller.len()) <= BUFFERS
+    });
     all
 }
 

@@ -25,7 +25,7 @@ macro_rules! faults {
 macro_rules! as_the_reference {
     ($($call:ident),* $(,)?) => { $(as_the_reference!(@$call);)* };
     (@chart_calls) => { as_the_reference!(read_chart, write_chart, translate, places); };
-    (@image_calls) => { as_the_reference!(check_image, cause, list_rows, prepare); };
+    (@image_calls) => { as_the_reference!(check_image, cause, list_rows, minimise, prepare); };
     (@run_calls) => { as_the_reference!(run, live_run); };
     (@rebindings) => { as_the_reference!(rebind, live_rebind); };
     (@value_calls) => { as_the_reference!(fresh, meaning); };
@@ -40,6 +40,7 @@ macro_rules! as_the_reference {
     (@list_rows) => {
         as_the_reference!(@fn list_rows(image: &[u8], firsts: &mut [u16], counts: &mut [u16]) -> reference::Answer);
     };
+    (@minimise) => { as_the_reference!(@fn minimise(image: &[u8], out: &mut [u8]) -> reference::Answer); };
     (@prepare) => { as_the_reference!(@fn prepare(image: &[u8], table: &mut [u8]) -> reference::Answer); };
     (@live_run) => { as_the_reference!(@run live_run); };
     (@rebind) => { as_the_reference!(@rebind rebind); };

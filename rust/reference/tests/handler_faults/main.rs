@@ -195,7 +195,17 @@ impl Faulty {
 }
 
 impl Library for Faulty {
-    as_the_reference!(write_chart, places, cause, list_rows, prepare, live_run, rebindings, value_calls);
+    as_the_reference!(
+        write_chart,
+        places,
+        cause,
+        list_rows,
+        minimise,
+        prepare,
+        live_run,
+        rebindings,
+        value_calls
+    );
 
     fn read_chart(&self, text: &[u8], out: &mut [u8]) -> Answer {
         self.judged(text).map_or_else(Answer::from, |text| entry::read_chart(&text, out))

@@ -1,0 +1,10 @@
+pub mod Cases
+pub mod Together
+pub mod Hits
+pub mod WordCount
+pub mod Sums
+pub mod Covered
+pub mod LabelRows
+pub mod CoverCases
+pub mod LoopCases
+pub mod Tables

@@ -1,0 +1,3 @@
+pub mod Matched
+pub mod Sizes
+pub mod Parts

@@ -1,0 +1,50 @@
+-- What the functions that try 23 ask and promise, by frames of the table.
+use Prim.Native.Nat.{ℕ, _+_, _-_, _^_}
+use mathlib.Core.Bool.{Bool, _||_, not}
+use mathlib.Core.List.{List}
+use mathlib.Core.Path.{_≡_}
+use lib.Count.{ones}
+use lib.Dec.{eqb}
+use Rattle.lists.specs.Pick.{pick}
+use Rattle.lists.specs.Numbers.{any, sum}
+use Rattle.frames.specs.Frame.{size, field, pairAt}
+use Rattle.image.specs.Image.{Row}
+use Rattle.image.specs.Decode.{rowCount, rowsFrom, decoded}
+use Rattle.image.proofs.Sound.{Sound}
+use Rattle.covering.specs.Sizes.{together}
+
+-- a table of an accepted image, as it is read or prepared for ticks
+pub record SoundTable (b : List ℕ) : Type 0 where
+  pub image : Sound (decoded b)
+  pub all : size b ≡ rowsFrom b + rowCount b
+
+-- the row in frame f
+abbrev pub rowIn : List ℕ → ℕ → Row
+rowIn b f = record { from = field b f 1; care = pairAt b f 2; values = pairAt b f 4; bit = field b f 6; next = field b f 7 }
+
+-- a row of which only that is told which decides what it matches
+abbrev pub rowWith : ℕ → ℕ → ℕ → Row
+rowWith care values bit = record { from = 0; care = care; values = values; bit = bit; next = 0 }
+
+-- some word and bit match the row and one of the n rows from frame first on
+abbrev pub togetherSome : List ℕ → Row → ℕ → ℕ → Bool
+togetherSome b r first n = any (λ g. together r (rowIn b g)) first n
+
+-- some word and bit match two of these rows
+abbrev pub togetherAny : List ℕ → ℕ → ℕ → Bool
+togetherAny b first n = any (λ f. togetherSome b (rowIn b f) first (f - first)) first n
+
+-- how many words a row matches with bit b, whatever its label
+abbrev pub wordsWith : ℕ → Row → ℕ
+wordsWith b r = pick (eqb (r .bit) 2 || eqb (r .bit) b) (2 ^ (16 - ones (r .care))) 0
+
+abbrev pub wordsIn : List ℕ → ℕ → ℕ → ℕ → ℕ
+wordsIn b bit first n = sum (λ f. wordsWith bit (rowIn b f)) first n
+
+-- of the n rows from frame first on, if they are those of one label, some word and bit match none or two
+abbrev pub unevenRows : List ℕ → ℕ → ℕ → Bool
+unevenRows b first n = not (eqb (wordsIn b 0 first n) 65536) || not (eqb (wordsIn b 1 first n) 65536) || togetherAny b first n
+
+-- frame f holds no row of label l
+abbrev pub isOther : List ℕ → ℕ → ℕ → Bool
+isOther b l f = not (eqb (field b f 1) l)

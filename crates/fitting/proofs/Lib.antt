@@ -1,0 +1,2 @@
+pub mod AboveCases
+pub mod ServedCases

@@ -1,0 +1,110 @@
+// The smaller image, written frame by frame of the given one.
+use group_frames::put_entry;
+use group_frames::put_header;
+use group_frames::put_label;
+use group_frames::put_row;
+use image::byte;
+use image::labels_from;
+use image::rows_from;
+ghost use mathlib.Core.Path.{_≡_};
+ghost use Prim.Native.Nat.{_+_, _≤_, _<_};
+ghost use lib.ListN.{length};
+ghost use Rattle.lists.specs.Sequences.{written};
+ghost use Rattle.frames.specs.Frame.{size};
+ghost use Rattle.image.specs.Decode.{labelsFrom, rowsFrom};
+ghost use Rattle.label_text.specs.Parts.{Put};
+ghost use Rattle.group_text.specs.Pieces.{groupsIn, rowsKept, piece, allPieces};
+ghost use Rattle.group_text.specs.Parts.{Numbered};
+
+fn put_kept_label(
+    table: &[u8],
+    classes: &[u8],
+    numbers: &[u8],
+    f: usize,
+    out: &mut [u8],
+    at: usize,
+) -> usize
+    requires { ⌜ Numbered (now table) (now classes) (now numbers) ⌝ }
+    requires { ⌜ (labelsFrom (now table) ≤ f) × (f < rowsFrom (now table)) ⌝ }
+    requires { ⌜ at + length (piece (now table) (now classes) f) ≤ length (now out) ⌝ }
+    ensures { λ r. ⌜ Put (now (out .entry)) at (piece (now (table .entry)) (now (classes .entry)) f) r (now (out .exit)) ⌝ }
+{
+    let l = f - labels_from(table);
+    if classes[l] as usize != l {
+        return at;
+    }
+    put_label(table, f, numbers[l], out, at);
+    at + 23
+}
+
+fn put_kept_row(
+    table: &[u8],
+    classes: &[u8],
+    numbers: &[u8],
+    f: usize,
+    out: &mut [u8],
+    at: usize,
+) -> usize
+    requires { ⌜ Numbered (now table) (now classes) (now numbers) ⌝ }
+    requires { ⌜ (rowsFrom (now table) ≤ f) × (f < size (now table)) ⌝ }
+    requires { ⌜ at + length (piece (now table) (now classes) f) ≤ length (now out) ⌝ }
+    ensures { λ r. ⌜ Put (now (out .entry)) at (piece (now (table .entry)) (now (classes .entry)) f) r (now (out .exit)) ⌝ }
+{
+    let from = byte(table, f, 1) as usize;
+    if classes[from] as usize != from {
+        return at;
+    }
+    put_row(table, numbers, f, out, at);
+    at + 23
+}
+
+// The piece of a frame after the header, and the offset after it.
+fn put_piece(
+    table: &[u8],
+    classes: &[u8],
+    numbers: &[u8],
+    f: usize,
+    out: &mut [u8],
+    at: usize,
+) -> usize
+    requires { ⌜ Numbered (now table) (now classes) (now numbers) ⌝ }
+    requires { ⌜ (1 ≤ f) × (f < size (now table)) ⌝ }
+    requires { ⌜ at + length (piece (now table) (now classes) f) ≤ length (now out) ⌝ }
+    ensures { λ r. ⌜ Put (now (out .entry)) at (piece (now (table .entry)) (now (classes .entry)) f) r (now (out .exit)) ⌝ }
+{
+    if f < labels_from(table) {
+        let entry = byte(table, f, 2) as usize;
+        put_entry(out, at, f as u8, numbers[entry]);
+        return at + 23;
+    }
+    if f < rows_from(table) {
+        return put_kept_label(table, classes, numbers, f, out, at);
+    }
+    put_kept_row(table, classes, numbers, f, out, at)
+}
+
+pub fn put_pieces(
+    table: &[u8],
+    classes: &[u8],
+    numbers: &[u8],
+    groups: usize,
+    rows: usize,
+    out: &mut [u8],
+)
+    requires { ⌜ Numbered (now table) (now classes) (now numbers) ⌝ }
+    requires { ⌜ (groups ≡ groupsIn (now table) (now classes)) × (rows ≡ rowsKept (now table) (now classes)) ⌝ }
+    requires { ⌜ (1 ≤ groups) × (groups ≤ 256) × (rows ≤ 1024) ⌝ }
+    requires { ⌜ length (allPieces (now table) (now classes)) ≤ length (now out) ⌝ }
+    ensures { λ _. ⌜ now (out .exit) ≡ written (now (out .entry)) 0 (allPieces (now (table .entry)) (now (classes .entry))) ⌝ }
+{
+    let n = table.len() / 10;
+    let schemes = byte(table, 0, 1);
+    let handler = byte(table, 0, 5);
+    put_header(out, schemes, groups, rows, handler);
+    let mut place: usize = 23;
+    let mut f: usize = 1;
+    while f < n {
+        place = put_piece(table, classes, numbers, f, out, place);
+        f += 1;
+    }
+}

@@ -1,0 +1,30 @@
+-- The rule for a grouping of an image's labels, and how many groups a grouping has.
+use Prim.Native.Nat.{ℕ, _<_}
+use mathlib.Core.Bool.{Bool, true, not}
+use mathlib.Core.Path.{_≡_}
+use lib.Dec.{eqb}
+use lib.ListN.{length}
+use Rattle.lists.specs.Numbers.{any, count}
+use Rattle.image.specs.Image.{Image}
+use Rattle.rows.specs.Rows.{isOwn}
+use Rattle.state.specs.State.{labelAt}
+use Rattle.covering.specs.Sizes.{rowAt}
+
+-- each label with the number of its group
+abbrev pub Grouping : Type 0
+Grouping = ℕ → ℕ
+
+-- Two labels share a group only if they hold the same kind, called scheme, owner, result and mask, and, where a row of each matches one
+-- word and bit, the two next labels share a group.
+pub record Meets (i : Image) (g : Grouping) : Type 0 where
+  pub same : (l m : ℕ) → l < length (i .labels) → m < length (i .labels) → g l ≡ g m → labelAt i l ≡ labelAt i m
+  pub leads : (l m : ℕ) → l < length (i .labels) → m < length (i .labels) → g l ≡ g m
+      → (w b : ℕ) → w < 65536 → b < 2 → (j k : ℕ) → j < length (i .rows) → k < length (i .rows)
+      → isOwn l w b (rowAt i j) ≡ true → isOwn m w b (rowAt i k) ≡ true → g (rowAt i j .next) ≡ g (rowAt i k .next)
+
+-- a group is counted at its lowest member
+abbrev pub isLowest : Grouping → ℕ → Bool
+isLowest g l = not (any (λ k. eqb (g k) (g l)) 0 l)
+
+abbrev pub groups : Grouping → ℕ → ℕ
+groups g n = count (isLowest g) 0 n

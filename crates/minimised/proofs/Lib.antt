@@ -1,0 +1,7 @@
+pub mod Renumbered
+pub mod Fitting
+pub mod Steps
+pub mod Runs
+pub mod Accepted
+pub mod Charts
+pub mod Delivered

@@ -1,0 +1,208 @@
+-- The smaller image joined again is itself.
+use Prim.Native.Nat.{ℕ, zero, suc, _+_, _/_, _≤_, _<_}
+use mathlib.Core.Bool.{Bool, true, false}
+use mathlib.Core.Path.{_≡_, refl, sym, _∙_, ap, ap₂, subst}
+use mathlib.Core.List.{List, [], _∷_, map}
+use native.Mathlib.Nat.{zero-add}
+use native.Mathlib.Omega.{arith}
+use lib.Dec.{eqb}
+use lib.ListN.{length, getD, take}
+use borrow.Author.Tests.{eqb-true, eq-eqb}
+use Rattle.lists.specs.Pick.{pick}
+use Rattle.lists.specs.Numbers.{range, count}
+use Rattle.lists.specs.Sequences.{filter, over}
+use Rattle.lists.proofs.Tests.{and-l}
+use Rattle.lists.proofs.Counts.{count-alike, count-all}
+use Rattle.lists.proofs.Ranges.{filter-yes, map-places}
+use Rattle.lists.proofs.Filters.{filter-none}
+use Rattle.lists.proofs.Joins.{All, all-places, all-of, all-range}
+use Rattle.frames.specs.Frame.{contents}
+use Rattle.frames.specs.Verdict.{Verdict, fine, next, when}
+use Rattle.frames.specs.Answer.{success, lent}
+use Rattle.frames.proofs.Verdicts.{next-first, next-rest, when-fine}
+use Rattle.frames.proofs.Lent.{lent-told, lent-fits, front}
+use Rattle.image.specs.Image.{Image, Row, imageText}
+use Rattle.image.specs.Decode.{decoded}
+use Rattle.image.specs.Check.{imageVerdict}
+use Rattle.image.proofs.Sound.{noLabel, noRow, SoundRow, Sound}
+use Rattle.image.proofs.Accepted.{image-sound}
+use Rattle.image.proofs.Passes.{image-fine}
+use Rattle.image.proofs.Decoded.{image-decoded}
+use Rattle.rows.specs.Rows.{matches, isOwn}
+use Rattle.state.specs.State.{labelAt}
+use Rattle.covering.specs.Matched.{uneven}
+use Rattle.covering.specs.Sizes.{rowAt}
+use Rattle.covering.proofs.Hits.{OneRow, one-row}
+use Rattle.grouping.specs.Rule.{Meets}
+use Rattle.grouping.specs.Classes.{classOf, isFirst, grouping}
+use Rattle.grouping.proofs.Onward.{onward, onward-is}
+use Rattle.grouping.proofs.Rounds.{Round, group-round, group-leads}
+use Rattle.grouping.proofs.Coarsest.{within-grouping}
+use Rattle.group_numbers.specs.Smaller.{renumbered, led, joined, smaller}
+use Rattle.minimising.specs.Entry.{minimiseVerdict, minimise}
+use Rattle.group_numbers.proofs.Numbering.{new-inside, label-new, joined-sound}
+use Rattle.group_numbers.proofs.Led.{Member, member, one-new, even-new, onward-new}
+
+-- ---- an image in which each label is alone stays as it is
+map-own : {A : Type 0} (f : A → A) (xs : List A) → All (λ x. f x ≡ x) xs → map f xs ≡ xs
+map-own f [] a = refl
+map-own f (x ∷ xs) a = ap₂ (λ y ys. y ∷ ys) (a .0) (map-own f xs (a .1))
+
+filter-own : {A : Type 0} (p : A → Bool) (xs : List A) → All (λ x. p x ≡ true) xs → filter p xs ≡ xs
+filter-own p [] a = filter-none p
+filter-own p (x ∷ xs) a = filter-yes p x xs (a .0) ∙ ap (λ ys. x ∷ ys) (filter-own p xs (a .1))
+
+module _ (i : Image) (S : Sound i) (c : List ℕ) (alone : (l : ℕ) → l < length (i .labels) → classOf c l ≡ l) where
+  abbrev n : ℕ
+  n = length (i .labels)
+
+  first-own : (l : ℕ) → l < n → isFirst c l ≡ true
+  first-own l h = eq-eqb (classOf c l) l (alone l h)
+
+  number-own : (l : ℕ) → l < n → renumbered c l ≡ l
+  number-own l h = ap (λ (x : ℕ). count (isFirst c) 0 x) (alone l h)
+      ∙ count-alike (λ _. true) (isFirst c) 0 l (λ k a b. first-own k (omega arith)) ∙ count-all 0 l
+
+  sound-rows : All (SoundRow i) (i .rows)
+  sound-rows = all-places (SoundRow i) noRow (i .rows) (S .each)
+
+  row-own : (r : Row) → SoundRow i r → led c r ≡ r
+  row-own r x =
+      let p : renumbered c (r .from) ≡ r .from = number-own (r .from) (x .high) in
+      let q : renumbered c (r .next) ≡ r .next = number-own (r .next) (x .leading .inside) in
+      λ j. record { from = p j; care = r .care; values = r .values; bit = r .bit; next = q j }
+
+  pub joined-own : joined i c ≡ i
+  unfolding joined
+  joined-own =
+      let e : map (renumbered c) (i .entries) ≡ i .entries =
+      map-own (renumbered c) (i .entries) (all-places (λ l. renumbered c l ≡ l) 0 (i .entries)
+      (λ k h. number-own (getD (i .entries) k 0) (S .starts k h .inside))) in
+      let l : map (labelAt i) (filter (isFirst c) (range 0 n)) ≡ i .labels =
+      ap (map (labelAt i)) (filter-own (isFirst c) (range 0 n) (all-range (λ l. isFirst c l ≡ true) 0 n (λ k h. first-own (0 + k) (omega arith))))
+      ∙ map-places (labelAt i) noLabel (i .labels) 0 (λ k h. ap (labelAt i) (zero-add k)) in
+      let r : map (led c) (filter (λ r. isFirst c (r .from)) (i .rows)) ≡ i .rows =
+      ap (map (led c)) (filter-own (λ r. isFirst c (r .from)) (i .rows)
+      (all-of (SoundRow i) (λ r. isFirst c (r .from) ≡ true) (λ r x. first-own (r .from) (x .high)) (i .rows) sound-rows))
+      ∙ map-own (led c) (i .rows) (all-of (SoundRow i) (λ r. led c r ≡ r) row-own (i .rows) sound-rows) in
+      λ j. record { handler = i .handler; entries = e j; labels = l j; rows = r j }
+
+-- ---- the labels of the smaller image are alone in their groups
+bit-of : (b : ℕ) → b < 2 → (t : Bool) × (pick t 1 0 ≡ b)
+bit-of zero h = (false, refl)
+bit-of (suc zero) h = (true, refl)
+bit-of (suc (suc b)) h = absurd (omega arith)
+
+module _ (i : Image) (S : Sound i) (even : uneven i ≡ false) where
+  one : OneRow i
+  one = one-row i S even
+
+  abbrev c : List ℕ
+  c = grouping i
+
+  R : Round i (grouping i)
+  R = group-round i S one
+
+  pub smaller-sound : Sound (smaller i)
+  smaller-sound = joined-sound i S (grouping i) R
+
+  one′ : OneRow (smaller i)
+  one′ = one-new i S (grouping i) R one
+
+  pub smaller-even : uneven (smaller i) ≡ false
+  smaller-even = even-new i S (grouping i) R one
+
+  abbrev d : List ℕ
+  d = grouping (smaller i)
+
+  R′ : Round (smaller i) (grouping (smaller i))
+  R′ = group-round (smaller i) smaller-sound one′
+
+  -- groups of the smaller image make a grouping of the given one
+  abbrev whole : ℕ → ℕ
+  whole l = classOf (grouping (smaller i)) (renumbered (grouping i) l)
+
+  inside : (l : ℕ) → l < length (i .labels) → renumbered (grouping i) l < length (smaller i .labels)
+  inside = new-inside i S (grouping i) R
+
+  module _ (l w b k : ℕ) (h : k < length (i .rows)) (own : isOwn l w b (rowAt i k) ≡ true) where
+    from-is : rowAt i k .from ≡ l
+    from-is = eqb-true (rowAt i k .from) l (and-l (eqb (rowAt i k .from) l) (matches w b (rowAt i k)) own)
+
+    next-whole : (t : Bool) → pick t 1 0 ≡ b → whole (rowAt i k .next) ≡ classOf d (onward (smaller i) (renumbered c l) w t)
+    next-whole t q =
+        let low : 2 ≤ l = omega (arith, S .each k h .low, from-is) in
+        let high : l < length (i .labels) = omega (arith, S .each k h .high, from-is) in
+        ap whole (sym (onward-is i S one l w t low high k h (subst (λ (x : ℕ). isOwn l w x (rowAt i k) ≡ true) (sym q) own)))
+        ∙ ap (classOf d) (sym (onward-new i S (grouping i) R one (group-leads i S one) l w t low high))
+
+  whole-meets : Meets i whole
+  whole-meets = record {
+    same = λ l m hl hm e.
+        sym (label-new i S (grouping i) R l hl)
+        ∙ R′ .same (renumbered c l) (renumbered c m) (inside l hl) (inside m hm) e
+        ∙ label-new i S (grouping i) R m hm;
+    leads = λ l m hl hm e w b hw hb j k hj hk p q.
+        let t = bit-of b hb in
+        next-whole l w b j hj p (t .0) (t .1)
+        ∙ group-leads (smaller i) smaller-sound one′ (renumbered c l) (renumbered c m) (inside l hl) (inside m hm) e w (t .0)
+        ∙ sym (next-whole m w b k hk q (t .0) (t .1));
+  }
+
+  alone-again : (l : ℕ) → l < length (smaller i .labels) → classOf d l ≡ l
+  alone-again l h =
+      let k : ℕ = classOf d l in
+      let x : Member i S c R l = member i S c R l h in
+      let y : Member i S c R k = member i S c R k (omega (arith, R′ .below l h)) in
+      let e : whole (y .label) ≡ whole (x .label) = ap (classOf d) (y .number) ∙ R′ .own l h ∙ sym (ap (classOf d) (x .number)) in
+      let g : classOf c (y .label) ≡ classOf c (x .label) = within-grouping i S one whole whole-meets (y .label) (x .label) (y .inside)
+      (x .inside) e in
+      sym (y .number) ∙ ap (λ (z : ℕ). count (isFirst c) 0 z) g ∙ x .number
+
+  pub smaller-again : smaller (smaller i) ≡ smaller i
+  smaller-again = joined-own (smaller i) smaller-sound (grouping (smaller i)) alone-again
+
+  pub smaller-passes : imageVerdict (imageText (smaller i)) ≡ fine
+  smaller-passes = image-fine (smaller i) smaller-sound
+
+  pub smaller-decoded : decoded (contents (imageText (smaller i))) ≡ smaller i
+  smaller-decoded = image-decoded (smaller i) smaller-sound
+
+  text-again : (old : List ℕ) → length (imageText (smaller i)) ≤ length old
+      → minimise (imageText (smaller i)) old ≡ record {
+        reply = success (length (imageText (smaller i)) / 1);
+        buffer = over (imageText (smaller i)) old;
+      }
+  unfolding minimise minimiseVerdict
+  text-again old h =
+      ap (λ (v : Verdict). lent (next v λ _. when 23 (uneven (decoded (contents (imageText (smaller i)))))) 1
+      (λ _. imageText (smaller (decoded (contents (imageText (smaller i)))))) old) smaller-passes
+      ∙ ap (λ (j : Image). lent (when 23 (uneven j)) 1 (λ _. imageText (smaller j)) old) smaller-decoded
+      ∙ ap₂ (λ (t : Bool) (j : Image). lent (when 23 t) 1 (λ _. imageText j) old) smaller-even smaller-again
+      ∙ lent-fits 1 (λ _. imageText (smaller i)) old h
+
+-- ---- by the entry point: the text that it wrote, given back to it
+pub record Allowed (t : List ℕ) : Type 0 where
+  pub accepted : imageVerdict t ≡ fine
+  pub even : uneven (decoded (contents t)) ≡ false
+
+pub minimise-allowed : (t : List ℕ) → minimiseVerdict t ≡ fine → Allowed t
+unfolding minimiseVerdict
+minimise-allowed t e =
+    record {
+      accepted = next-first (imageVerdict t) (λ _. when 23 (uneven (decoded (contents t)))) e;
+      even = when-fine 23 (uneven (decoded (contents t))) (next-rest (imageVerdict t) (λ _. when 23 (uneven (decoded (contents t)))) e);
+    }
+
+pub minimise-again : (t old : List ℕ) (n : ℕ) → minimise t old .reply ≡ success n → (again : List ℕ) → n ≤ length again
+    → let u = take n (minimise t old .buffer) in minimise u again ≡ record { reply = success n; buffer = over u again }
+unfolding minimise
+minimise-again t old n e again h =
+    let x : List ℕ = imageText (smaller (decoded (contents t))) in
+    let s = lent-told (minimiseVerdict t) 1 (λ _. imageText (smaller (decoded (contents t)))) old n e in
+    let a : Allowed t = minimise-allowed t (s .accepted) in
+    let m : n ≡ length x = omega (arith, s .count) in
+    let u : take n (minimise t old .buffer) ≡ x = ap (take n) (s .buffer) ∙ front n x old m in
+    ap (λ (y : List ℕ). minimise y again) u
+    ∙ text-again (decoded (contents t)) (image-sound t (a .accepted)) (a .even) again (omega arith)
+    ∙ ap₂ (λ (k : ℕ) (y : List ℕ). record { reply = success k; buffer = over y again }) (let q : length x / 1 ≡ n = omega arith in q) (sym u)

@@ -1,0 +1,5 @@
+pub mod Again
+pub mod TableCases
+pub mod EntryCases
+pub mod Alike
+pub mod Shorter

@@ -1,0 +1,91 @@
+-- The smaller image has as few labels as a grouping can have groups, and its text is no longer than the one given.
+use Prim.Native.Nat.{ℕ, _*_, _/_, _≤_}
+use mathlib.Core.Bool.{false}
+use mathlib.Core.Path.{_≡_, _∙_, ap}
+use mathlib.Core.List.{List}
+use native.Mathlib.Omega.{arith}
+use lib.ListN.{length, length-map}
+use Rattle.lists.specs.Sequences.{filter}
+use Rattle.lists.proofs.Counts.{count-le}
+use Rattle.frames.specs.Frame.{contents}
+use Rattle.frames.specs.Verdict.{Verdict, fine}
+use Rattle.frames.specs.Answer.{success, Lent, lent}
+use Rattle.frames.proofs.Contents.{any-contents-length}
+use Rattle.frames.proofs.Texts.{text-length}
+use Rattle.frames.proofs.Lent.{lent-told, lent-fits}
+use Rattle.image.specs.Image.{Image, Row, imageFrames, imageText}
+use Rattle.image.specs.Decode.{decoded}
+use Rattle.image.specs.Check.{imageVerdict}
+use Rattle.image.proofs.Sound.{Sound}
+use Rattle.image.proofs.Accepted.{Counted, counted, entries-count, labels-count, rows-count, image-sound, image-table}
+use Rattle.image.proofs.Written.{frames-length, image-frames}
+use Rattle.covering.specs.Matched.{uneven}
+use Rattle.covering.proofs.Hits.{one-row}
+use Rattle.grouping.specs.Rule.{Grouping, Meets, groups}
+use Rattle.grouping.specs.Classes.{isFirst, grouping}
+use Rattle.grouping.proofs.Rounds.{Round, group-round}
+use Rattle.grouping.proofs.Coarsest.{groups-counted, even-fewest}
+use Rattle.group_numbers.specs.Smaller.{led, joined, smaller}
+use Rattle.group_numbers.proofs.Numbering as numbered
+use Rattle.group_numbers.proofs.Numbering.{length-filtered}
+use Rattle.minimising.specs.Entry.{minimiseVerdict, minimise}
+use Rattle.minimising.proofs.Again.{smaller-sound, Allowed, minimise-allowed}
+
+module _ (i : Image) (S : Sound i) (even : uneven i ≡ false) where
+  rounds : Round i (grouping i)
+  rounds = group-round i S (one-row i S even)
+
+  pub fewest-labels : (g : Grouping) → Meets i g → length (smaller i .labels) ≤ groups g (length (i .labels))
+  fewest-labels g m =
+      omega (arith, numbered.labels-count i S (grouping i) rounds, groups-counted i S (one-row i S even), even-fewest i S even g m)
+
+  rows-fewer : length (smaller i .rows) ≤ length (i .rows)
+  unfolding joined
+  rows-fewer = omega (
+    arith,
+    length-map (filter (λ r. isFirst (grouping i) (r .from)) (i .rows)) (led (grouping i)),
+    length-filtered (λ (r : Row). isFirst (grouping i) (r .from)) (i .rows),
+  )
+
+  pub text-shorter : length (imageText (smaller i)) ≤ 23 * length (imageFrames i)
+  unfolding imageText
+  text-shorter = omega (
+    arith,
+    text-length (imageFrames (smaller i)) (image-frames (smaller i) (smaller-sound i S even)),
+    frames-length (smaller i),
+    frames-length i,
+    numbered.entries-count i S (grouping i) rounds,
+    numbered.labels-count i S (grouping i) rounds,
+    count-le (isFirst (grouping i)) 0 (length (i .labels)),
+    rows-fewer,
+  )
+
+-- an accepted text has a frame for each part of its image
+frames-all : (t : List ℕ) → imageVerdict t ≡ fine → 23 * length (imageFrames (decoded (contents t))) ≤ length t
+frames-all t e =
+    let b : List ℕ = contents t in
+    let c : Counted b = counted b (image-table t e) in
+    omega (arith, frames-length (decoded b), entries-count b, labels-count b, rows-count b, c .all, any-contents-length t)
+
+-- where nothing but 16 can refuse it
+module _ (t : List ℕ) (ok : minimiseVerdict t ≡ fine) where
+  abbrev small : List ℕ
+  small = imageText (smaller (decoded (contents t)))
+
+  pub never-longer : length small ≤ length t
+  never-longer =
+      let a : Allowed t = minimise-allowed t ok in
+      omega (arith, text-shorter (decoded (contents t)) (image-sound t (a .accepted)) (a .even), frames-all t (a .accepted))
+
+  -- room for the given text is enough
+  pub room-enough : (room : List ℕ) → length t ≤ length room → minimise t room .reply ≡ success (length small / 1)
+  unfolding minimise
+  room-enough room h =
+      ap (λ (v : Verdict). lent v 1 (λ _. small) room .reply) ok
+      ∙ ap (λ (x : Lent). x .reply) (lent-fits 1 (λ _. small) room (omega (arith, never-longer)))
+
+pub minimise-shorter : (t room : List ℕ) (m : ℕ) → minimise t room .reply ≡ success m → m ≤ length t
+unfolding minimise
+minimise-shorter t room m e =
+    let s = lent-told (minimiseVerdict t) 1 (λ _. imageText (smaller (decoded (contents t)))) room m e in
+    omega (arith, s .count, never-longer t (s .accepted))

@@ -1,0 +1,2 @@
+pub mod BeneathCases
+pub mod ReturnCases

@@ -1,0 +1,82 @@
+// The results, and the schemes that serve, of a state that is kept as 130 bytes, read and changed in place.
+use state::put_byte;
+ghost use mathlib.Core.Path.{_≡_};
+ghost use Prim.Native.Nat.{_-_, _≤_};
+ghost use lib.ListN.{length};
+ghost use Rattle.bits.specs.Results.{resultOf};
+ghost use Rattle.bits.specs.Binding.{served, rebound};
+ghost use Rattle.state.specs.Changes.{withServing, afterResult};
+ghost use Rattle.state.specs.Bytes.{stateOf, bytesOf};
+
+// Where number h stands among the results and the schemes that serve; 0 counts as 1.
+pub fn result_place(h: u8) -> usize
+    ensures { λ r. ⌜ r ≡ h - 1 ⌝ }
+{
+    if h == 0 {
+        return 0;
+    }
+    (h - 1) as usize
+}
+
+// Number h's result; one above 16 has none, which counts as false.
+pub fn result_of(bytes: &[u8; 130], h: u8) -> bool
+    ensures { λ r. ⌜ r ≡ resultOf h (stateOf (now (bytes .entry)) .bits) ⌝ }
+{
+    let k = result_place(h);
+    if 16 <= k {
+        return false;
+    }
+    bytes[34 + k] != 0
+}
+
+// The result of a tick of a scheme that number h called: 0 keeps its bit, 2 writes 1, any other 0; a number above 16 has no bit.
+pub fn put_result(bytes: &mut [u8; 130], result: u8, h: u8)
+    ensures { λ _. ⌜ stateOf (now (bytes .exit)) ≡ afterResult (stateOf (now (bytes .entry))) result h ⌝ }
+{
+    if result == 0 {
+        return;
+    }
+    let k = result_place(h);
+    if 16 <= k {
+        return;
+    }
+    put_byte(bytes, 34 + k, (result == 2) as u8);
+}
+
+// The scheme that serves number h; for a number above 16 it counts as 0.
+pub fn serving_of(bytes: &[u8; 130], h: u8) -> u8
+    ensures { λ r. ⌜ r ≡ served (stateOf (now (bytes .entry)) .serving) h ⌝ }
+{
+    let k = result_place(h);
+    if 16 <= k {
+        return 0;
+    }
+    bytes[50 + k]
+}
+
+// Number h, up to 16, is served by that scheme.
+pub fn put_serving(bytes: &mut [u8; 130], h: usize, scheme: u8)
+    requires { ⌜ 1 ≤ h ⌝ }
+    requires { ⌜ h ≤ 16 ⌝ }
+    ensures { λ _. ⌜ stateOf (now (bytes .exit)) ≡ withServing (stateOf (now (bytes .entry))) (rebound h scheme (stateOf (now (bytes .entry)) .serving)) ⌝ }
+{
+    put_byte(bytes, 49 + h, scheme);
+}
+
+// Each result byte as it is written: 0 or 1.
+fn tidy_bytes(bytes: &mut [u8])
+    requires { ⌜ length (now bytes) ≡ 130 ⌝ }
+    ensures { λ _. ⌜ now (bytes .exit) ≡ bytesOf (stateOf (now (bytes .entry))) ⌝ }
+{
+    let mut k: usize = 0;
+    while k < 16 {
+        bytes[34 + k] = (bytes[34 + k] != 0) as u8;
+        k += 1;
+    }
+}
+
+pub fn tidy_results(bytes: &mut [u8; 130])
+    ensures { λ _. ⌜ now (bytes .exit) ≡ bytesOf (stateOf (now (bytes .entry))) ⌝ }
+{
+    tidy_bytes(bytes);
+}

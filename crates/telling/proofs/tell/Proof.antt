@@ -1,0 +1,19 @@
+-- `telling::tell` meets its contract: each case of the answer gives its three numbers.
+use borrow.Author.Needs.{needs}
+use Rattle.telling.proofs.tell.Statement.{statement}
+use Rattle.telling.proofs.tell.Tie as tie
+
+enum-known-answer : tie.Need-enum-known-answer
+enum-known-answer c = search needs
+
+enum-known-answer-2 : tie.Need-enum-known-answer-2
+enum-known-answer-2 c = search needs
+
+returns : tie.Need-returns
+returns c = search needs
+
+returns-2 : tie.Need-returns-2
+returns-2 c = search needs
+
+pub tell-spec : {M : Type 1} → statement M
+tell-spec = tie.close (tie.spec enum-known-answer enum-known-answer-2 returns returns-2)
