@@ -1,5 +1,5 @@
--- Cases of the image with one label a group: of the image of chart P, whose labels all act differently, of two branches that end alike, and of
--- images that 23 refuses.
+-- Cases of the image with one label a group: of the image of chart P, whose labels all act differently, of two branches that end
+-- alike, and of images that 23 refuses.
 use Prim.Native.Nat.{ℕ}
 use mathlib.Core.Path.{_≡_}
 use mathlib.Core.List.{List, [], _∷_}

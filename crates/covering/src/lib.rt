@@ -12,7 +12,8 @@ ghost use Rattle.frames.specs.Frame.{size};
 ghost use Rattle.image.specs.Decode.{decoded};
 ghost use Rattle.covering.specs.Sizes.{together};
 ghost use Rattle.covering.specs.Matched.{uneven};
-ghost use Rattle.covering.specs.Parts.{SoundTable, rowIn, rowWith, togetherSome, togetherAny, wordsWith, wordsIn, unevenRows, isOther};
+ghost use Rattle.covering.specs.Parts.{SoundTable, rowIn, rowWith, togetherSome, togetherAny};
+ghost use Rattle.covering.specs.Parts.{wordsWith, wordsIn, unevenRows, isOther};
 
 // Whether some word and bit match the row in frame g and one with this care mask, these values and this function bit.
 fn meets(table: &[u8], g: usize, care: u16, values: u16, bit: u8) -> bool

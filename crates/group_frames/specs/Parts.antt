@@ -11,4 +11,5 @@ headerPiece schemes groups rows handler = frameText (headerBytes schemes (groups
 
 -- a row with the numbers that a buffer has
 abbrev pub ledBy : List ℕ → Row → Row
-ledBy numbers r = record { from = getD numbers (r .from) 0; care = r .care; values = r .values; bit = r .bit; next = getD numbers (r .next) 0 }
+ledBy numbers r =
+    record { from = getD numbers (r .from) 0; care = r .care; values = r .values; bit = r .bit; next = getD numbers (r .next) 0 }

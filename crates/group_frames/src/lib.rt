@@ -36,7 +36,8 @@ pub fn put_entry(out: &mut [u8], at: usize, scheme: u8, label: u8)
 pub fn put_label(table: &[u8], f: usize, number: u8, out: &mut [u8], at: usize)
     requires { ⌜ (labelsFrom (now table) ≤ f) × (f < size (now table)) ⌝ }
     requires { ⌜ at + 23 ≤ length (now out) ⌝ }
-    ensures { λ _. ⌜ now (out .exit) ≡ written (now (out .entry)) at (frameText (labelFrame number (labelIn (now (table .entry)) (f - labelsFrom (now (table .entry)))))) ⌝ }
+    ensures { λ _. ⌜ now (out .exit) ≡ written (now (out .entry)) at
+        (frameText (labelFrame number (labelIn (now (table .entry)) (f - labelsFrom (now (table .entry)))))) ⌝ }
 {
     let kind = byte(table, f, 2);
     let called = byte(table, f, 3);
@@ -65,7 +66,8 @@ pub fn put_label(table: &[u8], f: usize, number: u8, out: &mut [u8], at: usize)
 pub fn put_row(table: &[u8], numbers: &[u8], f: usize, out: &mut [u8], at: usize)
     requires { ⌜ (f < size (now table)) × (length (now numbers) ≡ 256) ⌝ }
     requires { ⌜ at + 23 ≤ length (now out) ⌝ }
-    ensures { λ _. ⌜ now (out .exit) ≡ written (now (out .entry)) at (frameText (rowFrame (ledBy (now (numbers .entry)) (rowIn (now (table .entry)) f)))) ⌝ }
+    ensures { λ _. ⌜ now (out .exit) ≡ written (now (out .entry)) at
+        (frameText (rowFrame (ledBy (now (numbers .entry)) (rowIn (now (table .entry)) f)))) ⌝ }
 {
     let from = numbers[byte(table, f, 1) as usize];
     let next = numbers[byte(table, f, 7) as usize];

@@ -215,6 +215,11 @@ module _ (i : Image) (S : Sound i) (c : List ℕ) (R : Round i c) where
       go false e _ ih = subst (λ (ss : List Row). Rising k (map (led c) ss)) (sym (filter-no (λ s. isFirst c (s .from)) r rs e))
           (ih (λ x l t. h x (omega (arith, a .0)) t))
 
+  rows-rising : (k : ℕ) → suc k < length (joined i c .rows) → nthRow (joined i c) k .from ≤ nthRow (joined i c) (suc k) .from
+  unfolding joined
+  rows-rising = rising-at 0 (map (led c) (filter (λ r. isFirst c (r .from)) (i .rows)))
+      (rising-led 0 0 (i .rows) (rising-of 0 (i .rows) (λ l. omega arith) (S .rising)) (λ x l t. omega arith))
+
   rows-few : length (joined i c .rows) ≤ 1024
   unfolding joined
   rows-few = omega (
@@ -227,11 +232,6 @@ module _ (i : Image) (S : Sound i) (c : List ℕ) (R : Round i c) where
   each-sound : (k : ℕ) → k < length (joined i c .rows) → SoundRow (joined i c) (nthRow (joined i c) k)
   unfolding joined
   each-sound k h = all-at (SoundRow (joined i c)) noRow (map (led c) (filter (λ r. isFirst c (r .from)) (i .rows))) rows-sound k h
-
-  rows-rising : (k : ℕ) → suc k < length (joined i c .rows) → nthRow (joined i c) k .from ≤ nthRow (joined i c) (suc k) .from
-  unfolding joined
-  rows-rising = rising-at 0 (map (led c) (filter (λ r. isFirst c (r .from)) (i .rows)))
-      (rising-led 0 0 (i .rows) (rising-of 0 (i .rows) (λ l. omega arith) (S .rising)) (λ x l t. omega arith))
 
   -- a member with at least two groups below it is from 2 up
   member-high : (m : ℕ) → 2 ≤ count (isFirst c) 0 m → 2 ≤ m

@@ -54,7 +54,8 @@ pub fn number_groups(classes: &[u8], numbers: &mut [u8], n: usize) -> usize
 pub fn count_kept(table: &[u8], classes: &[u8], first: usize, end: usize) -> usize
     requires { ⌜ (first ≤ end) × (end ≤ size (now table)) ⌝ }
     requires { ⌜ length (now classes) ≡ 256 ⌝ }
-    ensures { λ r. ⌜ (r ≡ count (λ f. isFirst (now (classes .entry)) (field (now (table .entry)) f 1)) first (end - first)) × (r ≤ end - first) ⌝ }
+    ensures { λ r. ⌜ (r ≡ count (λ f. isFirst (now (classes .entry)) (field (now (table .entry)) f 1)) first (end - first))
+        × (r ≤ end - first) ⌝ }
 {
     let mut total: usize = 0;
     let mut f = first;

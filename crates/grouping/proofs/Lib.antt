@@ -2,9 +2,7 @@ pub mod Representatives
 pub mod Onward
 pub mod Rounds
 pub mod Coarsest
-pub mod SameCases
 pub mod Partings
 pub mod TableRounds
 pub mod Marked
-pub mod GroupSteps
 pub mod Prepared

@@ -76,7 +76,7 @@ module _ (i : Image) (S : Sound i) where
       go [] a = h
       go (r ∷ rs) a = a .0 .0 .leading .inside
 
-  -- labels 0 and 1 hold what no other label isOwn
+  -- labels 0 and 1 hold what no other label holds
   pub low-same : (l m : ℕ) → l < n → m < n → labelAt i l ≡ labelAt i m → l < 2 → l ≡ m
   low-same l m hl hm e low = go l m hl hm (ap (λ (x : Label). x .kind) e) low
     where

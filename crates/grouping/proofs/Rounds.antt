@@ -20,7 +20,7 @@ use Rattle.grouping.proofs.Representatives.{lowestAlike, alike-le, tabu
 use Rattle.covering.proofs.Hits.{OneRow}
 use Rattle.grouping.proofs.Onward.{fields-same, same-fields, onward, low-same, unparted, not-parted}
 
--- ---- what isOwn of every list of classes
+-- ---- what holds of every list of classes
 pub record Round (i : Image) (c : List ℕ) : Type 0 where
   pub long : length c ≡ length (i .labels)
   pub below : (l : ℕ) → l < length (i .labels) → classOf c l ≤ l

@@ -13,7 +13,8 @@ use Rattle.covering.specs.Sizes.{together}
 
 abbrev pub sameFields : Label → Label → Bool
 sameFields x y =
-    eqb (x .kind) (y .kind) && eqb (x .called) (y .called) && eqb (x .owner) (y .owner) && eqb (x .result) (y .result) && eqb (x .mask) (y .mask)
+    eqb (x .kind) (y .kind) && eqb (x .called) (y .called) && eqb (x .owner) (y .owner) && eqb (x .result) (y .result)
+    && eqb (x .mask) (y .mask)
 
 abbrev pub classOf : List ℕ → ℕ → ℕ
 classOf c l = getD c l 0

@@ -14,8 +14,7 @@ use Rattle.covering.specs.Sizes.{rowAt}
 abbrev pub Grouping : Type 0
 Grouping = ℕ → ℕ
 
--- Two labels share a group only if they hold the same kind, called scheme, owner, result and mask, and, where a row of each matches one
--- word and bit, the two next labels share a group.
+-- The rule: labels of one group hold the same, and their rows that match a common word and bit lead to one group.
 pub record Meets (i : Image) (g : Grouping) : Type 0 where
   pub same : (l m : ℕ) → l < length (i .labels) → m < length (i .labels) → g l ≡ g m → labelAt i l ≡ labelAt i m
   pub leads : (l m : ℕ) → l < length (i .labels) → m < length (i .labels) → g l ≡ g m

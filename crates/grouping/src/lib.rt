@@ -1,7 +1,1 @@
-// Labels that act alike, in groups: the grouping with fewest groups.
-mod first;
-mod marking;
-mod parting;
-mod refining;
-
-pub use refining::group;
+// Labels that act alike, in groups: definitions and laws alone.

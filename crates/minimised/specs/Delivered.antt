@@ -1,5 +1,5 @@
--- Demand 3 for the smaller image over the functions: calls of translate, of minimise on what it wrote and of State::fresh, then calls that run,
--- tick and rebind in any mixture on the smaller image, or on a table that prepare made of it. The same for C.
+-- Demand 3 for the smaller image over the functions: calls of translate, of minimise on what it wrote and of State::fresh, then calls
+-- that run, tick and rebind in any mixture on the smaller image, or on a table that prepare made of it. The same for C.
 use Prim.Native.Nat.{ℕ, _≤_}
 use mathlib.Core.Path.{_≡_}
 use mathlib.Core.List.{List, map}
@@ -21,7 +21,8 @@ SmallerDelivered =
     (text before after : List ℕ) (answer : Answer) → Lends (translate text before) answer after → (n : ℕ) → reply answer ≡ success n
     → (room smaller : List ℕ) (told : Answer) → Lends (minimise (take n after) room) told smaller → (m : ℕ) → reply told ≡ success m
     → (size : ℕ) → 1 ≤ size → size ≤ 32 → (made : Answered) → Makes (freshState size) made
-    → (given : List Given) (handed : List Handed) → Calls (take m smaller) (made .state) given handed → handed ≡ walked size (contents text) given
+    → (given : List Given) (handed : List Handed) → Calls (take m smaller) (made .state) given handed
+    → handed ≡ walked size (contents text) given
 
 unfoldable pub SmallerDeliveredC : Type 0
 SmallerDeliveredC =

@@ -168,20 +168,7 @@ module _ (i : Image) (S : Sound i) (even : uneven i ≡ false) where
   pub smaller-decoded : decoded (contents (imageText (smaller i))) ≡ smaller i
   smaller-decoded = image-decoded (smaller i) smaller-sound
 
-  text-again : (old : List ℕ) → length (imageText (smaller i)) ≤ length old
-      → minimise (imageText (smaller i)) old ≡ record {
-        reply = success (length (imageText (smaller i)) / 1);
-        buffer = over (imageText (smaller i)) old;
-      }
-  unfolding minimise minimiseVerdict
-  text-again old h =
-      ap (λ (v : Verdict). lent (next v λ _. when 23 (uneven (decoded (contents (imageText (smaller i)))))) 1
-      (λ _. imageText (smaller (decoded (contents (imageText (smaller i)))))) old) smaller-passes
-      ∙ ap (λ (j : Image). lent (when 23 (uneven j)) 1 (λ _. imageText (smaller j)) old) smaller-decoded
-      ∙ ap₂ (λ (t : Bool) (j : Image). lent (when 23 t) 1 (λ _. imageText j) old) smaller-even smaller-again
-      ∙ lent-fits 1 (λ _. imageText (smaller i)) old h
-
--- ---- by the entry point: the text that it wrote, given back to it
+-- ---- an image that is made smaller
 pub record Allowed (t : List ℕ) : Type 0 where
   pub accepted : imageVerdict t ≡ fine
   pub even : uneven (decoded (contents t)) ≡ false
@@ -193,16 +180,3 @@ minimise-allowed t e =
       accepted = next-first (imageVerdict t) (λ _. when 23 (uneven (decoded (contents t)))) e;
       even = when-fine 23 (uneven (decoded (contents t))) (next-rest (imageVerdict t) (λ _. when 23 (uneven (decoded (contents t)))) e);
     }
-
-pub minimise-again : (t old : List ℕ) (n : ℕ) → minimise t old .reply ≡ success n → (again : List ℕ) → n ≤ length again
-    → let u = take n (minimise t old .buffer) in minimise u again ≡ record { reply = success n; buffer = over u again }
-unfolding minimise
-minimise-again t old n e again h =
-    let x : List ℕ = imageText (smaller (decoded (contents t))) in
-    let s = lent-told (minimiseVerdict t) 1 (λ _. imageText (smaller (decoded (contents t)))) old n e in
-    let a : Allowed t = minimise-allowed t (s .accepted) in
-    let m : n ≡ length x = omega (arith, s .count) in
-    let u : take n (minimise t old .buffer) ≡ x = ap (take n) (s .buffer) ∙ front n x old m in
-    ap (λ (y : List ℕ). minimise y again) u
-    ∙ text-again (decoded (contents t)) (image-sound t (a .accepted)) (a .even) again (omega arith)
-    ∙ ap₂ (λ (k : ℕ) (y : List ℕ). record { reply = success k; buffer = over y again }) (let q : length x / 1 ≡ n = omega arith in q) (sym u)

@@ -3,3 +3,4 @@ pub mod TableCases
 pub mod EntryCases
 pub mod Alike
 pub mod Shorter
+pub mod Texts

@@ -5,10 +5,10 @@ use frames::refused;
 use group_numbers::count_kept;
 use group_numbers::number_groups;
 use group_text::put_pieces;
-use grouping::group;
 use image::byte;
 use image::rows_from;
 use preparing::prepare_table;
+use refining::group;
 use tables::LARGEST;
 ghost use mathlib.Core.Path.{_≡_};
 ghost use mathlib.Core.Bool.{false};
@@ -51,7 +51,8 @@ fn minimise_in(table: &[u8], classes: &mut [u8], numbers: &mut [u8], out: &mut [
 // 23, then 16.
 fn minimise_table(table: &[u8], out: &mut [u8]) -> Answer
     requires { ⌜ Prepared (now table) ⌝ }
-    ensures { λ r. ⌜ Lends (smallerLent (now (table .entry)) (when 23 (uneven (decoded (now (table .entry))))) (now (out .entry))) r (now (out .exit)) ⌝ }
+    ensures { λ r. ⌜ Lends (smallerLent (now (table .entry)) (when 23 (uneven (decoded (now (table .entry))))) (now (out .entry)))
+        r (now (out .exit)) ⌝ }
 {
     if is_uneven(table) {
         return refused(23, 0);

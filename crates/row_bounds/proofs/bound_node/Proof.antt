@@ -1,4 +1,4 @@
--- `chart_rows::bound_node`: no rows without a label, else the bounds of one arc or of both.
+-- `row_bounds::bound_node`: no rows without a label, else the bounds of one arc or of both.
 use Rattle.row_bounds.proofs.BoundSteps.{Side, bound-none, bound-other, bound-both, bound-inside0, bound-inside1}
 use native.Mathlib.Omega.{arith}
 use borrow.Author.Needs.{needs}

@@ -1,4 +1,4 @@
--- `chart_rows::bound_nodes`: the rows of the nodes before v are no more than the total.
+-- `row_bounds::bound_nodes`: the rows of the nodes before v are no more than the total.
 use Prim.Native.Nat.{_-_}
 use mathlib.Core.Path.{refl}
 use Rattle.row_bounds.proofs.BoundSteps.{Bounding, bounding-start, bounding-on, bounding-done}

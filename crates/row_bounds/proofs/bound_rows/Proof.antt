@@ -1,4 +1,4 @@
--- `chart_rows::bound_rows`: all numbers at first, then those of each node.
+-- `row_bounds::bound_rows`: all numbers at first, then those of each node.
 use mathlib.Core.Path.{refl}
 use Rattle.row_bounds.proofs.BoundLaws.{masked-full}
 use borrow.Author.Needs.{needs}

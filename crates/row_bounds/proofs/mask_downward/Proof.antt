@@ -1,4 +1,4 @@
--- `chart_rows::mask_downward`: each node's mask goes into its place, and the others stay.
+-- `row_bounds::mask_downward`: each node's mask goes into its place, and the others stay.
 use mathlib.Core.Path.{refl}
 use Rattle.frames.specs.Frame.{size}
 use Rattle.row_bounds.proofs.BoundLaws.{Masking, masking-on}

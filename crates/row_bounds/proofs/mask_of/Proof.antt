@@ -1,4 +1,4 @@
--- `chart_rows::mask_of`: no number at a stop; at a condition its own and those behind its two arcs.
+-- `row_bounds::mask_of`: no number at a stop; at a condition its own and those behind its two arcs.
 use Rattle.row_bounds.proofs.BoundLaws.{mask-stop, mask-side0, mask-side1, mask-goes}
 use borrow.Author.Needs.{needs}
 use Rattle.row_bounds.proofs.mask_of.Statement.{statement}

@@ -1,4 +1,4 @@
--- `chart_rows::mask_upward`: each node's mask goes into its place, and the others stay.
+-- `row_bounds::mask_upward`: each node's mask goes into its place, and the others stay.
 use mathlib.Core.Path.{refl}
 use Prim.Native.Nat.{_-_}
 use Rattle.frames.specs.Frame.{size}

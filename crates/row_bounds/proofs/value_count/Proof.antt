@@ -1,4 +1,4 @@
--- `chart_rows::value_count`: two values for each number.
+-- `row_bounds::value_count`: two values for each number.
 use Prim.Native.Nat.{_+_, _*_, _^_, _%_, _≤_, _<_}
 use lib.Count.{ones-le}
 use Rattle.row_bounds.proofs.BoundLaws.{no-values, count-values}

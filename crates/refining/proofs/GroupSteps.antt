@@ -1,0 +1,198 @@
+-- Steps of the round and of all rounds over a table.
+use Prim.Native.Nat.{ℕ, zero, suc, _+_, _-_, _≤_, _<_}
+use mathlib.Core.Bool.{Bool, true, false, _&&_, not}
+use mathlib.Core.Path.{_≡_, refl, sym, _∙_, ap, ap₂, subst}
+use mathlib.Core.List.{List, _++_, append-nil}
+use native.Mathlib.Omega.{arith}
+use lib.Dec.{eqb}
+use lib.ListN.{length, getD, set, replicate, drop-of-length-le}
+use lib.Seq.{ext-getD}
+use borrow.Author.Tests.{eq-eqb, ne-eqb, eqb-true}
+use Rattle.lists.specs.Numbers.{any}
+use Rattle.lists.specs.Sequences.{written}
+use Rattle.lists.proofs.Tests.{not-false}
+use Rattle.lists.proofs.Searches.{any-false}
+use Rattle.lists.proofs.Written.{written-front}
+use Rattle.image.specs.Image.{Image}
+use Rattle.image.specs.Decode.{lastLabel}
+use Rattle.tables.specs.Table.{tableImage}
+use Rattle.tables.proofs.TableReads.{labels-count}
+use Rattle.grouping.specs.Classes.{staysWith, classesBy, classes, grouping}
+use Rattle.grouping.specs.Parts.{Even, Classed, Refined, OneMore, Marks, Asked, partedOn, leadsClass, nextClass, differs}
+use Rattle.grouping.proofs.Representatives.{lowestAlike}
+use Rattle.grouping.proofs.TableRounds.{Filling, fill-start, fill-on, fill-all, value-small, classes-long, class-low, class-below}
+use Rattle.grouping.proofs.TableRounds.{zero-alone, one-alone, next-is}
+use Rattle.grouping.proofs.Marked.{first-marks}
+
+-- ---- leads_class
+module _ (b c next : List ℕ) (l m : ℕ) where
+  pub leads-other : (getD c m 0 ≡ getD c l 0 → ⊥) → false ≡ leadsClass b c next l m
+  leads-other e = sym (ap (λ (t : Bool). t && eqb (getD next m 0) m && not (partedOn b c m l)) (ne-eqb (getD c m 0) (getD c l 0) e))
+
+  pub leads-not : getD c m 0 ≡ getD c l 0 → (getD next m 0 ≡ m → ⊥) → false ≡ leadsClass b c next l m
+  leads-not p e =
+      sym (ap₂ (λ (s t : Bool). s && t && not (partedOn b c m l)) (eq-eqb (getD c m 0) (getD c l 0) p) (ne-eqb (getD next m 0) m e))
+
+  pub leads-by : getD c m 0 ≡ getD c l 0 → getD next m 0 ≡ m → (t : Bool) → t ≡ partedOn b c m l → not t ≡ leadsClass b c next l m
+  leads-by p q t e =
+      ap not e ∙ sym (ap₂ (λ (s t : Bool). s && t && not (partedOn b c m l)) (eq-eqb (getD c m 0) (getD c l 0) p) (eq-eqb (getD next m 0) m q))
+
+-- ---- differ
+module _ (c d : List ℕ) (l : ℕ) where
+  pub differs-yes : (getD c l 0 ≡ getD d l 0 → ⊥) → differs c d l ≡ true
+  differs-yes e = ap not (ne-eqb (getD c l 0) (getD d l 0) e)
+
+  pub differs-no : getD c l 0 ≡ getD d l 0 → differs c d l ≡ false
+  differs-no e = ap not (eq-eqb (getD c l 0) (getD d l 0) e)
+
+module _ (b : List ℕ) where
+  abbrev i : Image
+  i = tableImage b
+
+  abbrev n : ℕ
+  n = length (i .labels)
+
+  -- a buffer holds the classes of one list only
+  held : (c d buffer : List ℕ) → length c ≡ n → length d ≡ n → Classed b c buffer → Classed b d buffer → c ≡ d
+  held c d buffer p q s t = ext-getD 0 c d (p ∙ sym q) (λ l h.
+      let z : l ≤ lastLabel b = omega (arith, labels-count b) in sym (s .at l z) ∙ t .at l z)
+
+  one-more : (k : ℕ) → classesBy i (staysWith i (classes i k)) ≡ classes i (suc k)
+  unfolding classes
+  one-more k = refl
+
+  -- ---- refine
+  pub record Refining (buffer next : List ℕ) (m l : ℕ) : Type 0 where
+    pub rounds : ℕ
+    pub now : Classed b (classes i rounds) buffer
+    pub filled : Filling b (staysWith i (classes i rounds)) next m l
+    pub low : 2 ≤ l
+
+  module _ (x : Even b) where
+    pub refining-start : ((k : ℕ) → getD b k 0 < 256) → (buffer next : List ℕ) (m : ℕ) → Refined b buffer → length next ≡ 256 → m ≡ lastLabel b
+        → Refining buffer (set (set next 0 0) 1 1) m 2
+    refining-start bytes buffer next m r h e =
+        let k : ℕ = r .rounds in
+        let stays : ℕ → ℕ → Bool = staysWith i (classes i k) in
+        let two : 1 ≤ m = omega (arith, x .sound .two, labels-count b) in
+        let s : Filling b stays next m 0 = fill-start b stays next m bytes h e in
+        let t : Filling b stays (set next 0 0) m 1 = fill-on b stays next m 0 s (omega arith) 0 (zero-alone b x k buffer (r .now)) in
+        record {
+          rounds = k;
+          now = r .now;
+          filled = fill-on b stays (set next 0 0) m 1 t two 1 (one-alone b x k buffer (r .now));
+          low = omega arith;
+        }
+
+    module _ (buffer next : List ℕ) (m l : ℕ) (t : Refining buffer next m l) (h : l ≤ m) where
+      inside : l ≤ lastLabel b
+      inside = omega (arith, t .filled .is)
+
+      pub refining-asks : (marks touched : List ℕ) → Marks b buffer marks touched → Asked b buffer next marks touched l
+      refining-asks marks touched M = record {
+        whole = x .whole;
+        long = t .now .long;
+        room = t .filled .long;
+        marked = M;
+        low = class-low b x (t .rounds) buffer (t .now) l (t .low) inside;
+        high = inside;
+      }
+
+      pub refining-below : getD buffer l 0 ≤ l
+      refining-below = class-below b x (t .rounds) buffer (t .now) l inside
+
+      module _ (v : ℕ) (e : v ≡ nextClass b buffer next l) where
+        is : v ≡ lowestAlike (staysWith i (classes i (t .rounds))) l
+        is = e ∙ next-is b x (t .rounds) buffer (t .now) next l (t .low) inside (t .filled .each)
+
+        pub refining-small : v < 256
+        refining-small = value-small b (staysWith i (classes i (t .rounds))) next m l (t .filled) h v is
+
+        pub refining-on : Refining buffer (set next l v) m (l + 1)
+        refining-on = record {
+          rounds = t .rounds;
+          now = t .now;
+          filled = fill-on b (staysWith i (classes i (t .rounds))) next m l (t .filled) h v is;
+          low = omega (arith, t .low);
+        }
+
+    pub refining-all : (buffer next : List ℕ) (m l : ℕ) → Refining buffer next m l → m < l → OneMore b buffer next
+    refining-all buffer next m l t h k now =
+        let j : ℕ = t .rounds in
+        let same : classes i j ≡ classes i k = held (classes i j) (classes i k) buffer (classes-long b j) (classes-long b k) (t .now) now in
+        subst (λ (c : List ℕ). Classed b c next) (ap (λ (c : List ℕ). classesBy i (staysWith i c)) same ∙ one-more k)
+        (fill-all b (staysWith i (classes i j)) next m l (t .filled) h)
+
+  -- ---- group_in
+  at-rest-on : (k : ℕ) → classes i (suc k) ≡ classes i k → (d : ℕ) → classes i (d + k) ≡ classes i k
+  unfolding classes
+  at-rest-on k e zero = ap (classes i) (let z : 0 + k ≡ k = omega arith in z)
+  at-rest-on k e (suc d) =
+      ap (classes i) (let z : suc d + k ≡ suc (d + k) = omega arith in z)
+      ∙ ap (λ (c : List ℕ). classesBy i (staysWith i c)) (at-rest-on k e d) ∙ e
+
+  pub record Rounding (buffer next marks touched kept : List ℕ) (m k : ℕ) : Type 0 where
+    pub count : m ≡ lastLabel b + 1
+    pub small : m ≤ 256
+    pub done : k ≤ m
+    pub room : length next ≡ 256
+    pub spare : length kept ≡ 256
+    pub marked : Marks b buffer marks touched
+    pub now : Classed b (classes i k) buffer
+
+  pub rounding-start : ((k : ℕ) → getD b k 0 < 256) → (buffer next marks touched kept : List ℕ) (last m : ℕ) → last ≡ lastLabel b → m ≡ last + 1
+      → length next ≡ 256 → length kept ≡ 256 → marks ≡ replicate 256 1 → touched ≡ replicate 256 1
+      → Classed b (classes i 0) buffer → Rounding buffer next marks touched kept m 0
+  rounding-start bytes buffer next marks touched kept last m e f h g p q t = record {
+    count = omega arith;
+    small = omega (arith, bytes 2);
+    done = omega arith;
+    room = h;
+    spare = g;
+    marked = first-marks b buffer bytes marks touched p q;
+    now = t;
+  }
+
+  module _ (buffer next marks touched kept : List ℕ) (m k : ℕ) (t : Rounding buffer next marks touched kept m k) where
+    pub rounding-refined : Refined b buffer
+    rounding-refined = record { rounds = k; now = t .now }
+
+    module _ (next′ : List ℕ) (r : OneMore b buffer next′) where
+      pub rounding-room : length next′ ≡ 256
+      rounding-room = r k (t .now) .long
+
+      pub rounding-on : k < m → (marks′ touched′ kept′ : List ℕ) → Marks b next′ marks′ touched′ → length kept′ ≡ 256
+          → (buffer′ : List ℕ) → buffer′ ≡ written buffer 0 next′ → Rounding buffer′ next′ marks′ touched′ kept′ m (k + 1)
+      rounding-on h marks′ touched′ kept′ M g buffer′ e =
+          let short : length buffer ≤ length next′ = omega (arith, t .now .long, rounding-room) in
+          let whole : written buffer 0 next′ ≡ next′ = written-front buffer next′
+          ∙ ap (λ (xs : List ℕ). next′ ++ xs) (drop-of-length-le buffer short) ∙ append-nil next′ in
+          record {
+            count = t .count;
+            small = t .small;
+            done = omega arith;
+            room = rounding-room;
+            spare = g;
+            marked = subst (λ (y : List ℕ). Marks b y marks′ touched′) (sym (e ∙ whole)) M;
+            now = subst (λ (y : List ℕ). Classed b (classes i (k + 1)) y) (sym (e ∙ whole))
+                (subst (λ (j : ℕ). Classed b (classes i j) next′) (let z : suc k ≡ k + 1 = omega arith in z) (r k (t .now)));
+          }
+
+      pub rounding-rest : k < m → (d : Bool) → d ≡ any (differs buffer next′) 0 m → d ≡ false → Classed b (grouping i) buffer
+      unfolding grouping
+      rounding-rest h d e z =
+          let same : classes i (suc k) ≡ classes i k =
+          ext-getD 0 (classes i (suc k)) (classes i k) (classes-long b (suc k) ∙ sym (classes-long b k)) (λ l g.
+          let low : l ≤ lastLabel b = omega (arith, labels-count b, classes-long b (suc k)) in
+          sym (r k (t .now) .at l low)
+          ∙ sym (eqb-true (getD buffer l 0) (getD next′ l 0) (not-false (eqb (getD buffer l 0) (getD next′ l 0))
+          (any-false (differs buffer next′) 0 m (sym e ∙ z) l (omega arith) (omega (arith, t .count)))))
+          ∙ t .now .at l low) in
+          let steps : n - k + k ≡ n = omega (arith, labels-count b, t .count) in
+          subst (λ (c : List ℕ). Classed b c buffer) (sym (at-rest-on k same (n - k)) ∙ ap (classes i) steps) (t .now)
+
+    pub rounding-all : m ≤ k → Classed b (grouping i) buffer
+    unfolding grouping
+    rounding-all h =
+        let e : k ≡ n = omega (arith, t .done, t .count, labels-count b) in
+        subst (λ (j : ℕ). Classed b (classes i j) buffer) e (t .now)

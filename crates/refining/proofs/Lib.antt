@@ -1,0 +1,2 @@
+pub mod SameCases
+pub mod GroupSteps
