@@ -7,7 +7,7 @@ use Rattle.charts.proofs.Alike as chart
 use Rattle.image.proofs.Alike as image
 use Rattle.tables.proofs.Alike as table
 use Rattle.listing.proofs.Alike as listing
-use Rattle.minimising.proofs.Alike as minimising
+use Rattle.minimising.proofs.Letters as minimising
 use Rattle.translator.proofs.Alike as translation
 use Rattle.places.proofs.Alike as needed
 use Rattle.cause.proofs.Alike as cause

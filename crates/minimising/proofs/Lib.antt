@@ -1,6 +1,6 @@
 pub mod Again
 pub mod TableCases
 pub mod EntryCases
-pub mod Alike
+pub mod Letters
 pub mod Shorter
 pub mod Texts
