@@ -76,9 +76,9 @@ const SENSES: [&str; 27] = [
     "a state whose tick takes no row",
     "a rebinding of or to a number that is not 2 to H, or of the handler's",
     "a word and bit that match no row, or two rows, of a label from 2 up",
-    "a frame count other than 2 to 4, or a number past the last chart",
-    "a spindle number above 3",
-    "a call when all 64 places are taken",
+    "a little chart of other than 2 to 4 frames, or a number past the last one",
+    "a spindle's number above 3",
+    "a call while all 64 places of the spindles are taken",
     "more than 65,536 words in a priced run",
 ];
 

@@ -71,7 +71,7 @@ fn every_call_that_ticks_meets_swapped_schemes() {
 fn priced_runs_meet_halves_and_long_runs() {
     let summary = compare(&Reference, 81, 16_000).unwrap_or_else(|difference| panic!("{difference}"));
     let Priced { stopped, halves, below_halves, longest, large } = summary.priced;
-    assert!(stopped > 40 && halves > 40 && below_halves > 40 && longest > 5 && large > 5, "{summary}");
+    assert!(stopped > 40 && halves > 40 && below_halves > 40 && longest > 3 && large > 2, "{summary}");
 }
 
 /// Each kind of call that takes a text is given enough of them with small letters that are read.

@@ -29,7 +29,7 @@ impl Summary {
 
 impl Case<'_> {
     pub(super) fn priced_run(&mut self) -> Compared {
-        let long = self.random.once_in(6);
+        let long = self.random.once_in(15);
         let (image, state) = if long { self.long_image_and_state() } else { self.image_and_state() };
         self.summary.note_letters("priced_run", &image);
         let run = if long { self.long_run() } else { self.any_run() };
