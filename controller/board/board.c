@@ -78,8 +78,10 @@ static uint8_t list_rows(const uint8_t *image, uint8_t *output, size_t *index, s
 /* One word more than a priced run takes, all 0: there is no room for so many in memory. */
 static const uint16_t many_words[FAIRLEADOW_PRICED_WORDS + 1];
 
-/* A priced run: the prices lie before the words. Where the value is not 0, so many words of the flash are run. */
-static uint8_t priced_run(const uint8_t *image, const uint16_t *words, uint32_t *masks, uint8_t *codes, size_t *index, size_t *count) {
+/* A priced run: the prices lie before the words. Where the value is not 0, so many words of the flash are run. A function of its own, so
+ * that other calls do not have its frame. */
+__attribute__((noinline)) static uint8_t priced_run(const uint8_t *image, const uint16_t *words, uint32_t *masks, uint8_t *codes,
+                                                    size_t *index, size_t *count) {
     const uint16_t *run = head.value ? many_words : words + FAIRLEADOW_OPERATIONS;
     size_t length = head.value ? head.value : head.words - FAIRLEADOW_OPERATIONS;
     uint64_t price = UINT64_MAX;

@@ -81,7 +81,9 @@ fn a_run_that_finds_no_row_is_priced_as_far_as_it_came() {
 
 #[test]
 fn refusals_write_a_price_of_0_and_nothing_else() {
-    let (image, state, words) = (image_p(), fresh(3), vec![0; MOST + 1]);
+    let (image, mut state, words) = (image_p(), fresh(3), vec![0; MOST + 1]);
+    // a run would write this byte as 1
+    state.results[4] = 7;
     let mut unfit = state;
     unfit.places[20] = 1;
     for (image, state, words, room, number) in [

@@ -50,13 +50,13 @@ pub struct Summary {
     pub swapped: BTreeMap<&'static str, usize>,
     pub small: BTreeMap<&'static str, usize>,
     pub joined: usize,
-    pub priced: Priced,
+    pub priced: PricedRuns,
 }
 
 /// Priced runs with an accepted image and a fitting state: those that have a price above 0 when 17 or 18 ends them, those whose sum ends
 /// in 50 and in 49 hundredths, those of as many ticks as there may be, and those whose sum passes 32 bits.
 #[derive(Clone, Copy, Debug, Default)]
-pub struct Priced {
+pub struct PricedRuns {
     pub stopped: usize,
     pub halves: usize,
     pub below_halves: usize,

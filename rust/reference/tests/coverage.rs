@@ -4,7 +4,7 @@ use std::collections::BTreeMap;
 
 use reference::chart::{Chart, Kind};
 use reference::check::chart_of;
-use reference::compare::{compare, Handled, Priced};
+use reference::compare::{compare, Handled, PricedRuns};
 use reference::generate::{charts, images, runs, states, Random};
 use reference::image::{image_of, Image, Row, FUNCTION_CALL, RETURN, ROWS};
 use reference::machine::{self, handles};
@@ -70,7 +70,7 @@ fn every_call_that_ticks_meets_swapped_schemes() {
 #[test]
 fn priced_runs_meet_halves_and_long_runs() {
     let summary = compare(&Reference, 81, 16_000).unwrap_or_else(|difference| panic!("{difference}"));
-    let Priced { stopped, halves, below_halves, longest, large } = summary.priced;
+    let PricedRuns { stopped, halves, below_halves, longest, large } = summary.priced;
     assert!(stopped > 40 && halves > 40 && below_halves > 40 && longest > 3 && large > 2, "{summary}");
 }
 
