@@ -12,9 +12,12 @@ use Rattle.runs.specs.declared.TickReport.{TickReport}
 use Rattle.runs.specs.Run.{Run}
 use Rattle.runs.specs.Advance.{Advance}
 use Rattle.runs.specs.InPlace.{RunsOn, AdvancesOn}
+use Rattle.priced_runs.specs.declared.Priced.{Priced}
+use Rattle.priced_runs.specs.PricedRun.{PricedRun}
+use Rattle.priced_runs.specs.InPlace.{PricedOn}
 use Rattle.rebinding.specs.Rebind.{RebindsOn}
 use Rattle.telling.specs.Told.{Told, Ticked}
-use Rattle.fairleadow.specs.Calls.{RunsC, AdvancesC, RebindsC}
+use Rattle.fairleadow.specs.Calls.{RunsC, PricedC, AdvancesC, RebindsC}
 
 pub told-as : {a b : Reply} {n i m : ℕ} → a ≡ b → Told a n i m → Told b n i m
 told-as {n = n} {i = i} {m = m} e t = subst (λ (x : Reply). Told x n i m) e t
@@ -22,6 +25,16 @@ told-as {n = n} {i = i} {m = m} e t = subst (λ (x : Reply). Told x n i m) e t
 pub run-told : {x : Run} {before after ms ks : List ℕ} {a : Answer} {n i m : ℕ} → RunsOn x before a after ms ks → Told (reply a) n i m
     → RunsC x before n i m after ms ks
 run-told runs told = record { told = told-as (runs .answered) told; bytes = runs .bytes; masks = runs .masks; codes = runs .codes }
+
+pub priced-told : {x : PricedRun} {words before after ms ks : List ℕ} {r : Priced} {n i m : ℕ} → PricedOn x words before r after ms ks
+    → Told (reply (r .answer)) n i m → PricedC x words before n i m after ms ks (r .price)
+priced-told priced told = record {
+  told = told-as (priced .answered) told;
+  bytes = priced .bytes;
+  masks = priced .masks;
+  codes = priced .codes;
+  price = priced .price;
+}
 
 pub rebinding-told : {x : Made} {before after : List ℕ} {a : Answer} {n i m : ℕ} → RebindsOn x before a after → Told (reply a) n i m
     → RebindsC x before n i m after

@@ -1,5 +1,5 @@
--- What a call from C hands back, and what it leaves in the bytes of a state: for each of Lends, Lists, Makes, Runs, Advances, Tells and
--- RebindsOn the record for C.
+-- What a call from C hands back, and what it leaves in the bytes of a state: for each of Lends, Lists, Makes, Runs, PricedOn, Advances,
+-- Tells and RebindsOn the record for C.
 use Prim.Native.Nat.{ℕ}
 use mathlib.Core.Path.{_≡_}
 use mathlib.Core.List.{List}
@@ -11,6 +11,8 @@ use Rattle.state.specs.State.{Made}
 use Rattle.runs.specs.Run.{Run, run}
 use Rattle.runs.specs.Advance.{Advance, advance}
 use Rattle.machine.specs.Live.{liveRun, liveTick}
+use Rattle.priced_runs.specs.PricedRun.{PricedRun, pricedRun}
+use Rattle.priced_runs.specs.InPlace.{bytesPriced}
 use Rattle.cause.specs.Cause as cause
 use Rattle.rebinding.specs.Rebind.{rebind, liveRebind}
 use Rattle.runs.specs.InPlace.{bytesAfter, ifTicked}
@@ -47,6 +49,18 @@ pub record RunsC (x : Run) (before : List ℕ) (returned at made : ℕ) (after m
   pub bytes : after ≡ bytesAfter before x
   pub masks : ms ≡ x .masks
   pub codes : ks ≡ x .codes
+
+-- a priced run on the state that the bytes hold
+abbrev pub pricedRunFor : List ℕ → List ℕ → List ℕ → List ℕ → List ℕ → List ℕ → PricedRun
+pricedRunFor image state prices words masks codes = pricedRun image (stateOf state) prices words masks codes
+
+-- a call that prices a run: what a call that runs hands back, and the price, which is written in every case
+pub record PricedC (x : PricedRun) (words before : List ℕ) (returned at made : ℕ) (after ms ks : List ℕ) (cents : ℕ) : Type 0 where
+  pub told : Told (x .run .reply) returned at made
+  pub bytes : after ≡ bytesPriced words before (x .run)
+  pub masks : ms ≡ x .run .masks
+  pub codes : ks ≡ x .run .codes
+  pub price : cents ≡ x .price
 
 -- one tick of the state that the bytes hold
 abbrev pub tickFor : List ℕ → List ℕ → ℕ → Advance

@@ -8,6 +8,7 @@ use machine::live_run_bytes;
 use machine::live_tick_bytes;
 use machine::run_bytes;
 use machine::tick_bytes;
+use priced_runs::priced_run_bytes;
 use rebinding::live_rebind_bytes;
 use rebinding::rebind_bytes;
 use state_bytes::bytes_of;
@@ -23,7 +24,7 @@ ghost use Rattle.state.specs.State.{freshState};
 ghost use Rattle.tables.specs.Prepare.{prepare};
 ghost use Rattle.listing.specs.Listing.{list};
 ghost use Rattle.telling.specs.Told.{Told};
-ghost use Rattle.fairleadow.specs.Calls.{LendsC, ListsC, MakesC, runFor, liveRunFor, RunsC, tickFor, liveTickFor, AdvancesC, causeFor, CausesC, rebindFor, liveRebindFor, RebindsC};
+ghost use Rattle.fairleadow.specs.Calls.{LendsC, ListsC, MakesC, runFor, liveRunFor, RunsC, pricedRunFor, PricedC, tickFor, liveTickFor, AdvancesC, causeFor, CausesC, rebindFor, liveRebindFor, RebindsC};
 ghost use Rattle.fairleadow.specs.Meant.{Meant};
 
 #[no_mangle]
@@ -138,6 +139,27 @@ pub extern "C" fn fairleadow_run(
     ensures { λ r. ⌜ RunsC (runFor (now (image .entry)) (now (state .entry)) (now (words .entry)) (now (masks .entry)) (now (codes .entry))) (now (state .entry)) r (now (at .exit)) (now (made .exit)) (now (state .exit)) (now (masks .exit)) (now (codes .exit)) ⌝ }
 {
     let answer = run_bytes(image, state, words, masks, codes);
+    tell(answer, at, made)
+}
+
+// A run, and its price: the price is written in every case, 0 with every refusal but 17 and 18.
+#[no_mangle]
+pub extern "C" fn fairleadow_priced_run(
+    image: &[u8],
+    state: &mut [u8; 130],
+    prices: &[u16; 32],
+    words: &[u16],
+    masks: &mut [u32],
+    codes: &mut [u8],
+    price: &mut u64,
+    at: &mut usize,
+    made: &mut usize,
+) -> u8
+    ensures { λ r. ⌜ PricedC (pricedRunFor (now (image .entry)) (now (state .entry)) (now (prices .entry)) (now (words .entry)) (now (masks .entry)) (now (codes .entry))) (now (words .entry)) (now (state .entry)) r (now (at .exit)) (now (made .exit)) (now (state .exit)) (now (masks .exit)) (now (codes .exit)) (now (price .exit)) ⌝ }
+{
+    let done = priced_run_bytes(image, state, prices, words, masks, codes);
+    let answer = done.answer;
+    *price = done.price;
     tell(answer, at, made)
 }
 

@@ -1,0 +1,173 @@
+-- The answers of a priced run, by what its parts give.
+use Prim.Native.Nat.{ℕ, _≤_, _<_}
+use mathlib.Core.Bool.{Bool, true, false}
+use mathlib.Core.Path.{_≡_, refl, sym, _∙_, ap, ap₂, subst}
+use mathlib.Core.Logic.{_⊎_, inl, inr}
+use mathlib.Core.List.{List, [], _∷_}
+use native.Mathlib.Omega.{arith}
+use lib.ListN.{length, take}
+use borrow.Author.Tests.{lt-ltb, le-ltb}
+use Rattle.lists.specs.Pick.{pick}
+use Rattle.lists.proofs.Tests.{yes-pick, no-pick, split}
+use Rattle.frames.specs.Frame.{contents}
+use Rattle.frames.specs.Verdict.{Verdict, fine, refused, next, when}
+use Rattle.frames.specs.Answer.{refusal, reply, judged, count}
+use Rattle.frames.specs.declared.Answer.{Answer}
+use Rattle.frames.specs.declared.Answer.the-variants.{Done, Refused}
+use Rattle.image.specs.Decode.{decoded}
+use Rattle.image.specs.Check.{imageVerdict}
+use Rattle.state.specs.declared.State.{State}
+use Rattle.state.specs.State.{Sized}
+use Rattle.state.specs.Bytes.{stateOf, bytesOf}
+use Rattle.state.proofs.ResultBytes.{state-back}
+use Rattle.fitness.specs.Fitness.{unfit}
+use Rattle.runs.specs.Run.{Ran, ticks, Run, noRoom, runVerdict, runOn, run}
+use Rattle.runs.specs.InPlace.{bytesAfter, RunsOn}
+use Rattle.machine.proofs.Held.{run-held}
+use Rattle.prices.specs.Prices.{price}
+use Rattle.priced_runs.specs.declared.Priced.{Priced}
+use Rattle.priced_runs.specs.PricedRun.{tooMany, pricedVerdict, manyVerdict, PricedRun, priceOn, pricedRun, PricedRuns}
+use Rattle.priced_runs.specs.InPlace.{bytesPriced, PricedOn}
+use Rattle.priced_runs.proofs.Pricing.{does-all, run-count, by-the-masks}
+
+-- ---- more words than are priced
+-- what is tried before 27, and with it
+abbrev tried : Verdict → Bool → Verdict
+tried v b = next v λ _. when 15 b
+
+abbrev many : Verdict → Bool → Verdict
+many v b = next v λ _. next (when 15 b) λ _. refused 27 0
+
+module _ (t : List ℕ) (s : State) where
+  -- a run of no words is refused by what is tried before 27
+  none-answer : run t s [] (0 ∷ []) (0 ∷ []) .reply ≡ judged (tried (imageVerdict t) (unfit (decoded (contents t)) s)) 0
+  unfolding run runVerdict ticks
+  none-answer = go (imageVerdict t) (unfit (decoded (contents t)) s)
+    where
+      go : (v : Verdict) (b : Bool)
+          → runOn (next v λ _. next (when 15 b) λ _. fine) (λ _. ticks (decoded (contents t)) s []) s (0 ∷ []) (0 ∷ []) .reply ≡ judged (tried v b) 0
+      go (refused k i) b = refl
+      go fine true = refl
+      go fine false = refl
+
+  module _ (a : Answer) (gives : reply a ≡ run t s [] (0 ∷ []) (0 ∷ []) .reply) where
+    pub many-before : (k i n : ℕ) → a ≡ Refused k i n → reply a ≡ judged (manyVerdict t s) 0
+    unfolding manyVerdict
+    many-before k i n e = go (imageVerdict t) (unfit (decoded (contents t)) s) (gives ∙ none-answer)
+      where
+        go : (v : Verdict) (b : Bool) → reply a ≡ judged (tried v b) 0 → reply a ≡ judged (many v b) 0
+        go (refused l j) b q = q
+        go fine true q = q
+        go fine false q = absurd (let z : _≡_ {A = ℕ} 0 1 = cc in omega arith)
+
+    pub many-itself : (n : ℕ) → a ≡ Done n → (r : Answer) → r ≡ Refused 27 0 0 → reply r ≡ judged (manyVerdict t s) 0
+    unfolding manyVerdict
+    many-itself n e r q = ap reply q ∙ go (imageVerdict t) (unfit (decoded (contents t)) s) (gives ∙ none-answer)
+      where
+        go : (v : Verdict) (b : Bool) → reply a ≡ judged (tried v b) 0 → refusal 27 0 0 ≡ judged (many v b) 0
+        go (refused l j) b z = absurd (let y : _≡_ {A = ℕ} 0 1 = cc in omega arith)
+        go fine true z = absurd (let y : _≡_ {A = ℕ} 0 1 = cc in omega arith)
+        go fine false z = refl
+
+-- ---- a run's ticks are counted: so many masks are written, and no more than words
+module _ (t before ws ms ks : List ℕ) (a : Answer) (after us vs : List ℕ) (runs : RunsOn (run t (stateOf before) ws ms ks) before a after us vs)
+    (n : ℕ) (counts : n ≡ count (reply a)) where
+  same : n ≡ count (run t (stateOf before) ws ms ks .reply)
+  same = counts ∙ ap count (runs .answered)
+
+  pub counted-inside : n ≤ length us
+  counted-inside = omega (arith, same, run-count t (stateOf before) ws ms ks .0, ap (λ (l : List ℕ). length l) (runs .masks))
+
+  pub counted-few : length ws ≤ 65536 → n ≤ 65536
+  counted-few few = omega (arith, same, run-count t (stateOf before) ws ms ks .1)
+
+-- ---- a priced run by the bytes
+module _ (t before prices ws ms ks : List ℕ) where
+  abbrev s₀ : State
+  s₀ = stateOf before
+
+  abbrev whole : PricedRun
+  whole = pricedRun t s₀ prices ws ms ks
+
+  abbrev ran : Ran
+  ran = ticks (decoded (contents t)) s₀ ws
+
+  -- what a verdict makes of it
+  abbrev pricedBy : Verdict → PricedRun
+  pricedBy v = record { run = runOn v (λ _. ran) s₀ ms ks; price = priceOn prices v (λ _. ran) }
+
+  module _ (more : 65536 < length ws) where
+    many-is : whole ≡ pricedBy (manyVerdict t s₀)
+    unfolding pricedRun pricedVerdict manyVerdict
+    many-is =
+        ap (λ (b : Bool). pricedBy
+        (next (imageVerdict t) λ _. next (when 15 (unfit (decoded (contents t)) s₀)) λ _. next (when 27 b) λ _. when 16 (noRoom ws ms ks)))
+        (lt-ltb 65536 (length ws) more)
+
+    pub many-priced : (a : Answer) → reply a ≡ judged (manyVerdict t s₀) 0 → PricedOn whole ws before (record { answer = a; price = 0 }) before ms ks
+    unfolding bytesPriced manyVerdict
+    many-priced a e = rw many-is (go (imageVerdict t) (unfit (decoded (contents t)) s₀) e)
+      where
+        kept : (r : Run) → before ≡ pick (tooMany ws) before (bytesAfter before r)
+        kept r = sym (yes-pick (tooMany ws) before (bytesAfter before r) (lt-ltb 65536 (length ws) more))
+
+        go : (v : Verdict) (b : Bool) → reply a ≡ judged (many v b) 0
+            → PricedOn (pricedBy (many v b)) ws before (record { answer = a; price = 0 }) before ms ks
+        go (refused k i) b q = record { answered = q; price = refl; bytes = kept _; masks = refl; codes = refl }
+        go fine true q = record { answered = q; price = refl; bytes = kept _; masks = refl; codes = refl }
+        go fine false q = record { answered = q; price = refl; bytes = kept _; masks = refl; codes = refl }
+
+  module _ (few : length ws ≤ 65536) (a : Answer) (after us vs : List ℕ) (runs : RunsOn (run t s₀ ws ms ks) before a after us vs)
+      (n : ℕ) (counts : n ≡ count (reply a)) where
+    pub run-priced : (p : ℕ) → p ≡ price prices (take n us) → PricedOn whole ws before (record { answer = a; price = p }) after us vs
+    unfolding bytesPriced
+    run-priced p e =
+        let all : whole .run ≡ run t s₀ ws ms ks = does-all t s₀ prices ws ms ks few in
+        record {
+          answered = runs .answered ∙ sym (ap (λ (r : Run). r .reply) all);
+          price = e
+              ∙ ap₂ (λ (k : ℕ) (l : List ℕ). price prices (take k l)) (counts ∙ ap count (runs .answered)) (runs .masks)
+              ∙ sym (ap (λ (r : Run). price prices (take (count (r .reply)) (r .masks))) all)
+              ∙ sym (by-the-masks t s₀ prices ws ms ks);
+          bytes = runs .bytes
+              ∙ sym (ap (bytesAfter before) all)
+              ∙ sym (no-pick (tooMany ws) before (bytesAfter before (whole .run)) (le-ltb 65536 (length ws) few));
+          masks = runs .masks ∙ sym (ap (λ (r : Run). r .masks) all);
+          codes = runs .codes ∙ sym (ap (λ (r : Run). r .codes) all);
+        }
+
+  -- what the bytes then hold is the state that it hands back
+  priced-held : stateOf (bytesPriced ws before (whole .run)) ≡ whole .run .state
+  unfolding bytesPriced pricedRun manyVerdict
+  priced-held = go (split 65536 (length ws))
+    where
+      old : Run → List ℕ
+      old r = bytesAfter before r
+
+      go : (65536 < length ws) ⊎ (length ws ≤ 65536) → stateOf (pick (tooMany ws) before (old (whole .run))) ≡ whole .run .state
+      go (inl more) = ap stateOf (yes-pick (tooMany ws) before (old (whole .run)) (lt-ltb 65536 (length ws) more))
+          ∙ sym (ap (λ (x : PricedRun). x .run .state) (many-is more) ∙ kept (imageVerdict t) (unfit (decoded (contents t)) s₀))
+        where
+          kept : (v : Verdict) (b : Bool) → pricedBy (many v b) .run .state ≡ s₀
+          kept (refused k i) b = refl
+          kept fine true = refl
+          kept fine false = refl
+      go (inr few) =
+          ap stateOf (no-pick (tooMany ws) before (old (whole .run)) (le-ltb 65536 (length ws) few))
+          ∙ run-held before (decoded (contents t)) ws ms ks (pricedVerdict t s₀ ws ms ks)
+
+-- ---- by value: the bytes are those of the state, and what they then hold is handed back
+module _ (state : State) (sized : Sized state) (bits : length (state .bits) ≡ 16) (bytes : List ℕ) (e : bytes ≡ bytesOf state) where
+  pub value-priced : (t prices ws ms ks : List ℕ) (r : Priced) (after us vs : List ℕ) (u : State) → u ≡ stateOf after
+      → PricedOn (pricedRun t (stateOf bytes) prices ws ms ks) ws bytes r after us vs
+      → PricedRuns (pricedRun t state prices ws ms ks) (record { answer = r .answer; state = u; price = r .price }) us vs
+  value-priced t prices ws ms ks r after us vs u q x =
+      subst (λ (s : State). PricedRuns (pricedRun t s prices ws ms ks) (record { answer = r .answer; state = u; price = r .price }) us vs)
+      (ap stateOf e ∙ state-back state sized bits)
+      (record {
+        answered = x .answered;
+        price = x .price;
+        state = q ∙ ap stateOf (x .bytes) ∙ priced-held t bytes prices ws ms ks;
+        masks = x .masks;
+        codes = x .codes;
+      })

@@ -1,0 +1,3 @@
+pub mod Pricing
+pub mod EntryCases
+pub mod Alike

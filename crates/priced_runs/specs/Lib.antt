@@ -1,0 +1,2 @@
+pub mod PricedRun
+pub mod InPlace
