@@ -2,9 +2,9 @@
  *
  * Every function answers for everything that it is handed. All but fairleadow_meaning return 0, or the number of a refusal, and write
  *   *index   the frame (a line or a record) that the refusal names, from 0; only 2, 3, 4, 6 to 9, 12 and 13 name one, else it is 0
- *   *count   records, characters, labels, bytes of a table or ticks written, or places needed; with refusals 1 to 16 and 19 to 23
+ *   *count   records, characters, labels, bytes of a table or ticks written, or places needed; with refusals 1 to 16 and 19 to 27
  *            it is 0, with 17 and 18 the ticks finished before
- * With refusals 1 to 16 and 19 to 23 no buffer and no state is changed; only 14 writes a state, of zeros. With success, and with
+ * With refusals 1 to 16 and 19 to 27 no buffer and no state is changed; only 14 writes a state, of zeros. With success, and with
  * 17 and 18, nothing past the count is changed.
  * A buffer is a pointer and how many elements it has. No pointer is null, and nothing that a call writes may overlap anything
  * else that the call is given. Nothing is allocated and nothing is kept between calls. The archive of `rt staticlib` is code for
@@ -14,8 +14,8 @@
  * controller/README.md tells of archives for ARM. This file is for both, and for C and C++: lengths are of type size_t, and
  * fairleadow_calls.h, which lies beside it, makes of them what the archive takes.
  *
- * The refusals, tried in this order, but 19 directly after 5, 21 before 18, 22 after 15 and 23 after 13 (docs/REFUSALS.md tells what to
- * look for; H is how many schemes there are):
+ * The refusals, tried in this order, but 19 directly after 5, 21 before 18, 22 and 27 after 15 and 23 after 13 (docs/REFUSALS.md tells
+ * what to look for; H is how many schemes there are):
  *    1  the length of the text or of the records           10  more than 1,024 rows
  *    2  a character other than 0-9, A-F, a-f, line feed    11  the image's header
  *    3  the sum of a frame                                 12  an image frame that stands in a wrong place
@@ -32,6 +32,7 @@
  *                                                              the handler's
  *                                                          23  a word and bit that match no row, or two rows, of a label
  *                                                              from 2 up
+ *                                                          27  more than 65,536 words in a priced run
  */
 #ifndef FAIRLEADOW_H
 #define FAIRLEADOW_H
@@ -51,6 +52,10 @@ extern "C" {
 
 /* The most labels of an image. */
 #define FAIRLEADOW_LABELS 256
+
+/* The micro operations of a mask, each of which has a price, and the most words of a priced run. */
+#define FAIRLEADOW_OPERATIONS 32
+#define FAIRLEADOW_PRICED_WORDS 65536
 
 /* The machine's state, 130 bytes. Only fairleadow_fresh makes one; the controller keeps it and hands it to each run, tick or rebinding.
  * A call names a number, and the scheme that serves the number then is opened: its own, unless fairleadow_rebind gave it another.
@@ -105,6 +110,14 @@ uint8_t fairleadow_fresh(size_t size, fairleadow_state *state, size_t *index, si
  * Tries what the image check tries, then 15 to 18; counts ticks. With 17 and 18 the state is that after the ticks counted. */
 uint8_t fairleadow_run(const uint8_t *image, size_t image_len, fairleadow_state *state, const uint16_t *words, size_t words_len,
                        uint32_t *masks, size_t masks_len, uint8_t *codes, size_t codes_len, size_t *index, size_t *count);
+
+/* A run that tells what it costs. Price i is that of micro operation i for each tick that it is on, in hundredths of a cent, 0 to 65,535;
+ * *price is the sum over the ticks counted, divided by 100 once, halves upward, in cents. It is written in every case: with 17 and 18 it
+ * is that of the ticks finished before, with other refusals 0. All else is as in fairleadow_run. The prices are a pointer to 32.
+ * Tries what the image check tries, then 15, 27 (more than 65,536 words, whatever room there is for them), and 16 to 18; counts ticks. */
+uint8_t fairleadow_priced_run(const uint8_t *image, size_t image_len, fairleadow_state *state,
+                              const uint16_t prices[FAIRLEADOW_OPERATIONS], const uint16_t *words, size_t words_len, uint32_t *masks,
+                              size_t masks_len, uint8_t *codes, size_t codes_len, uint64_t *price, size_t *index, size_t *count);
 
 /* One tick. Tries what a run tries but 16; counts 1. A refused tick counts 0 and leaves the state, *mask and *code as they were.
  * The image is checked anew at each tick, which takes most of its time; where several words are at hand, a run checks it once,

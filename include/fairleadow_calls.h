@@ -16,6 +16,9 @@ uint32_t fairleadow_check_image(const uint8_t *image, uint64_t image_len, uint64
 uint32_t fairleadow_fresh(uint64_t size, fairleadow_state *state, uint64_t *index, uint64_t *count);
 uint32_t fairleadow_run(const uint8_t *image, uint64_t image_len, fairleadow_state *state, const uint16_t *words, uint64_t words_len,
                         uint32_t *masks, uint64_t masks_len, uint8_t *codes, uint64_t codes_len, uint64_t *index, uint64_t *count);
+uint32_t fairleadow_priced_run(const uint8_t *image, uint64_t image_len, fairleadow_state *state, const uint16_t *prices,
+                               const uint16_t *words, uint64_t words_len, uint32_t *masks, uint64_t masks_len, uint8_t *codes,
+                               uint64_t codes_len, uint64_t *price, uint64_t *index, uint64_t *count);
 uint32_t fairleadow_tick(const uint8_t *image, uint64_t image_len, fairleadow_state *state, uint16_t word,
                          uint32_t *mask, uint8_t *code, uint64_t *index, uint64_t *count);
 uint32_t fairleadow_rebind(const uint8_t *image, uint64_t image_len, fairleadow_state *state, uint64_t number, uint64_t scheme,
@@ -96,6 +99,16 @@ static inline uint8_t fairleadow_c_run(const uint8_t *image, size_t image_len, f
     return fairleadow_tell(number, &told, index, count);
 }
 
+static inline uint8_t fairleadow_c_priced_run(const uint8_t *image, size_t image_len, fairleadow_state *state,
+                                              const uint16_t prices[FAIRLEADOW_OPERATIONS], const uint16_t *words, size_t words_len,
+                                              uint32_t *masks, size_t masks_len, uint8_t *codes, size_t codes_len, uint64_t *price,
+                                              size_t *index, size_t *count) {
+    fairleadow_told told;
+    uint32_t number = fairleadow_priced_run(image, image_len, state, prices, words, words_len, masks, masks_len, codes, codes_len,
+                                            price, &told.index, &told.count);
+    return fairleadow_tell(number, &told, index, count);
+}
+
 static inline uint8_t fairleadow_c_tick(const uint8_t *image, size_t image_len, fairleadow_state *state, uint16_t word,
                                         uint32_t *mask, uint8_t *code, size_t *index, size_t *count) {
     fairleadow_told told;
@@ -172,6 +185,7 @@ static inline uint8_t fairleadow_c_meaning(uint8_t code, uint8_t *called) {
 #define fairleadow_check_image fairleadow_c_check_image
 #define fairleadow_fresh fairleadow_c_fresh
 #define fairleadow_run fairleadow_c_run
+#define fairleadow_priced_run fairleadow_c_priced_run
 #define fairleadow_tick fairleadow_c_tick
 #define fairleadow_rebind fairleadow_c_rebind
 #define fairleadow_cause fairleadow_c_cause

@@ -15,6 +15,7 @@ enum {
     CHECK_IMAGE,
     FRESH,
     RUN,
+    PRICED_RUN,
     TICK,
     CAUSE,
     LIST_ROWS,
@@ -28,15 +29,17 @@ enum {
     KNOWN,
 };
 
-/* As it stands in a message: numbers with the low byte first, 184 bytes. */
+/* As it stands in a message: numbers with the low byte first, 192 bytes. */
 typedef struct {
     uint32_t call;
     uint32_t masks, words, codes, output, input; /* how many of each */
-    uint32_t value;                              /* a stack's size, a code, how many firsts a list has, or a number to rebind */
+    uint32_t value;                              /* a stack's size, a code, how many firsts a list has, a number to rebind, or how
+                                                  * many words of the flash are run */
     uint32_t scheme;                             /* the scheme that is to serve it */
     uint32_t number, index, count;               /* the answer */
     uint32_t stack;                              /* the bytes of stack that the call took */
     uint32_t code;                               /* the bytes of the library's code */
+    uint32_t price[2];                           /* a run's price, the low half first */
     fairleadow_state state;
 } message;
 
@@ -72,6 +75,23 @@ static uint8_t list_rows(const uint8_t *image, uint8_t *output, size_t *index, s
     return fairleadow_list_rows(image, head.input, firsts, head.value, firsts + head.value, head.output / 2 - head.value, index, count);
 }
 
+/* One word more than a priced run takes, all 0: there is no room for so many in memory. */
+static const uint16_t many_words[FAIRLEADOW_PRICED_WORDS + 1];
+
+/* A priced run: the prices lie before the words. Where the value is not 0, so many words of the flash are run. A function of its own, so
+ * that other calls do not have its frame. */
+__attribute__((noinline)) static uint8_t priced_run(const uint8_t *image, const uint16_t *words, uint32_t *masks, uint8_t *codes,
+                                                    size_t *index, size_t *count) {
+    const uint16_t *run = head.value ? many_words : words + FAIRLEADOW_OPERATIONS;
+    size_t length = head.value ? head.value : head.words - FAIRLEADOW_OPERATIONS;
+    uint64_t price = UINT64_MAX;
+    uint8_t number = fairleadow_priced_run(image, head.input, &head.state, words, run, length, masks, head.masks, codes, head.codes,
+                                           &price, index, count);
+    head.price[0] = (uint32_t)price;
+    head.price[1] = (uint32_t)(price >> 32);
+    return number;
+}
+
 /* One call, on the buffers as they lie. A function of its own: its frame is that of a caller, and counted. */
 __attribute__((noinline)) static void make_call(void) {
     uint32_t *masks = (uint32_t *)buffers.bytes;
@@ -103,6 +123,9 @@ __attribute__((noinline)) static void make_call(void) {
     case RUN:
         number = fairleadow_run(input, head.input, &head.state, words, head.words, masks, head.masks, codes, head.codes,
                                 &index, &count);
+        break;
+    case PRICED_RUN:
+        number = priced_run(input, words, masks, codes, &index, &count);
         break;
     case TICK:
         number = fairleadow_tick(input, head.input, &head.state, words[0], masks, codes, &index, &count);
@@ -156,7 +179,7 @@ void fault(void) {
 }
 
 int main(void) {
-    _Static_assert(sizeof head == 184, "the head is as rust/board has it");
+    _Static_assert(sizeof head == 192, "the head is as rust/board has it");
     host_open();
     for (;;) {
         host_read(&head, sizeof head);

@@ -1,7 +1,7 @@
 /* Makes every call of the header on the chart on standard input: reads it and writes it back, counts its places, translates it,
  * checks the image, runs eight words from a fresh state of three places, makes the same ticks one by one, both on the image and on
- * the table prepared from it, rebinds each number up to 3 to its own scheme, and tells what each code stands for, which signals made
- * each tick go on and which rows each label has, and joins the labels that act alike. Prints what came of each. */
+ * the table prepared from it, runs them with prices, rebinds each number up to 3 to its own scheme, and tells what each code stands for,
+ * which signals made each tick go on and which rows each label has, and joins the labels that act alike. Prints what came of each. */
 #include <stdio.h>
 #include <string.h>
 
@@ -129,6 +129,27 @@ static int run_and_tick(size_t length, outcome *all) {
     return 0;
 }
 
+/* The same run with prices, and on two places, where it is stopped (17) and costs as far as it came: micro operation 0 is 1.50 cents a
+ * tick, micro operation 1 is 10 cents, the others are free. */
+static int run_with_prices(size_t length, const outcome *unpriced) {
+    static const uint16_t prices[FAIRLEADOW_OPERATIONS] = {150, 1000};
+    for (size_t places = 3; places >= 2; places--) {
+        outcome all;
+        size_t index, count;
+        uint64_t price;
+        uint8_t number = fairleadow_fresh(places, &all.state, &index, &count);
+        if (number)
+            return refused(number, index);
+        number = fairleadow_priced_run(image, length, &all.state, prices, words, WORDS, all.masks, WORDS, all.codes, WORDS, &price,
+                                       &index, &count);
+        printf("priced on %zu places: %u after %zu ticks, %llu cents", places, number, count, (unsigned long long)price);
+        if (!number)
+            printf(", all else %s", compared(&all, unpriced));
+        printf("\n");
+    }
+    return 0;
+}
+
 static int live_run_and_tick(size_t length, const outcome *on_image) {
     outcome all, each;
     size_t index, count, one;
@@ -180,7 +201,7 @@ int main(void) {
     if ((number = fairleadow_prepare(image, count, table, sizeof table, &index, &prepared)))
         return refused(number, index);
     printf("bytes of the table: %zu\n", prepared);
-    if (run_and_tick(count, &all) || live_run_and_tick(prepared, &all) || rebind(count, prepared))
+    if (run_and_tick(count, &all) || live_run_and_tick(prepared, &all) || run_with_prices(count, &all) || rebind(count, prepared))
         return 1;
     tell_codes(all.codes, WORDS);
     return tell_causes(count) || tell_rows(count) || tell_smaller(count);

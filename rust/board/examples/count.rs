@@ -40,7 +40,8 @@ fn longest(lines: &[Counted], wanted: impl Fn(&Candidate) -> bool) -> Option<&Co
 
 fn print_entry(entry: EntryPoint, lines: &[Counted], all: bool) {
     let live = matches!(entry, EntryPoint::LiveTick | EntryPoint::LiveRun);
-    let words = if matches!(entry, EntryPoint::Run | EntryPoint::LiveRun) { " of 64 words" } else { "" };
+    let runs = matches!(entry, EntryPoint::Run | EntryPoint::PricedRun | EntryPoint::LiveRun);
+    let words = if runs { " of 64 words" } else { "" };
     let call = format!("{}{words}", entry.name());
     let prepared = |candidate: &Candidate| live && is_table(&candidate.input.frames);
     let chosen = [

@@ -10,7 +10,7 @@ use std::io::{Read, Write};
 use std::process::{Child, ChildStdin, ChildStdout, Command, Stdio};
 
 pub use count::{Count, Counting};
-use interface::{Answer, Cause, Library, Meaning, State, Ticked};
+use interface::{Answer, Cause, Library, Meaning, Priced, Prices, State, Ticked, PRICED_WORDS};
 pub use message::Call;
 use message::{Message, Told, HEAD};
 
@@ -126,11 +126,36 @@ impl<'a> Board<'a> {
     ) -> Option<(Answer, State)> {
         let mut message = Message::new(call, input);
         (message.state, message.words) = (*state, words.to_vec());
+        let told = self.ran_with(&mut message, masks, codes)?;
+        Some((told.answer(), message.state))
+    }
+
+    /// A run of a message that has all but its buffers.
+    fn ran_with(&self, message: &mut Message, masks: &mut [u32], codes: &mut [u8]) -> Option<Told> {
         (message.masks, message.codes) = (masks.to_vec(), codes.to_vec());
-        let told = self.made(&mut message)?;
+        let told = self.made(message)?;
         masks.copy_from_slice(&message.masks);
         codes.copy_from_slice(&message.codes);
-        Some((told.answer(), message.state))
+        Some(told)
+    }
+
+    /// The prices go before the words. The board's flash has one word more than a priced run takes, all 0, so that 27 is tried there too.
+    fn paid(
+        &self,
+        image: &[u8],
+        state: &State,
+        prices: &Prices,
+        words: &[u16],
+        masks: &mut [u32],
+        codes: &mut [u8],
+    ) -> Option<Priced> {
+        let mut message = Message::new(Call::PricedRun, image);
+        let in_flash = words.len() == PRICED_WORDS + 1 && words.iter().all(|word| *word == 0);
+        message.value = if in_flash { words.len() as u32 } else { 0 };
+        message.words = [prices.as_slice(), if in_flash { &[] } else { words }].concat();
+        message.state = *state;
+        let told = self.ran_with(&mut message, masks, codes)?;
+        Some(Priced { answer: told.answer(), state: message.state, price: told.price })
     }
 
     /// Row and mask come back as the message's masks, the bit as its code.
@@ -232,6 +257,19 @@ impl Library for Board<'_> {
     ) -> (Answer, State) {
         self.ran(Call::Run, image, state, words, masks, codes)
             .unwrap_or_else(|| self.instead.run(image, state, words, masks, codes))
+    }
+
+    fn priced_run(
+        &self,
+        image: &[u8],
+        state: &State,
+        prices: &Prices,
+        words: &[u16],
+        masks: &mut [u32],
+        codes: &mut [u8],
+    ) -> Priced {
+        self.paid(image, state, prices, words, masks, codes)
+            .unwrap_or_else(|| self.instead.priced_run(image, state, prices, words, masks, codes))
     }
 
     fn tick(&self, image: &[u8], state: &mut State, word: u16) -> Ticked {

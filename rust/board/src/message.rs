@@ -1,4 +1,4 @@
-//! A call as it goes to the board and comes back: a head of 184 bytes, then the buffers, masks, words, codes, output and
+//! A call as it goes to the board and comes back: a head of 192 bytes, then the buffers, masks, words, codes, output and
 //! input in this order. controller/board/board.c is the other side.
 
 use interface::{Answer, State};
@@ -13,6 +13,7 @@ pub enum Call {
     CheckImage,
     Fresh,
     Run,
+    PricedRun,
     Tick,
     Cause,
     ListRows,
@@ -27,8 +28,8 @@ pub enum Call {
     Known,
 }
 
-pub const HEAD: usize = 184;
-const STATE: usize = 52;
+pub const HEAD: usize = 192;
+const STATE: usize = 60;
 
 /// One call's buffers and state, before it and after it.
 #[derive(Clone, Debug, PartialEq, Eq)]
@@ -54,6 +55,8 @@ pub struct Told {
     pub stack: usize,
     /// The bytes of the library's code.
     pub code: usize,
+    /// What a priced run costs, in cents.
+    pub price: u64,
 }
 
 impl Told {
@@ -140,6 +143,7 @@ impl Message {
             count: number(10) as usize,
             stack: number(11) as usize,
             code: number(12) as usize,
+            price: u64::from(number(14)) << 32 | u64::from(number(13)),
         }
     }
 }

@@ -2,17 +2,19 @@
 //! processor, FAIRLEADOW_SEED and FAIRLEADOW_CASES choose the inputs.
 
 use board::{Board, Call, Notes};
-use interface::{Answer, Library, TABLE};
+use interface::{Answer, Library, State, PRICED_WORDS, TABLE};
 use reference::compare::compare;
+use reference::entry::translated;
 use reference::entry_point::EntryPoint;
 use reference::frames::text_of;
+use reference::samples::chart_p;
 use reference::samples::worst::candidates;
 use reference::{fresh_state, Reference};
 
 const CASES: u64 = 20_000;
 
 /// The bytes of stack that each call may take, as controller/README.md states them.
-const STACK: [(Call, usize); 17] = [
+const STACK: [(Call, usize); 18] = [
     (Call::ReadChart, 4_608),
     (Call::WriteChart, 2_048),
     (Call::Translate, 8_192),
@@ -20,6 +22,7 @@ const STACK: [(Call, usize); 17] = [
     (Call::CheckImage, 14_336),
     (Call::Fresh, 512),
     (Call::Run, 14_336),
+    (Call::PricedRun, 14_336),
     (Call::Tick, 14_336),
     (Call::Cause, 14_336),
     (Call::ListRows, 14_336),
@@ -102,6 +105,23 @@ fn ticks(board: &Board<'static>, image: &[u8], table: &[u8]) {
     }
 }
 
+/// One word more than a priced run takes, with a fresh state and with one that does not fit, and with no room for masks and codes.
+fn too_many_words(board: &Board) {
+    let image = translated(&text_of(&chart_p())).expect("a valid chart");
+    let words = vec![0; PRICED_WORDS + 1];
+    for (state, number) in [(fresh_state(3).expect("3 is a size"), 27), (State::NONE, 15)] {
+        let made = |library: &dyn Library| {
+            let (mut masks, mut codes) = ([7; 9], [7; 5]);
+            let priced = library.priced_run(&image, &state, &[1; 32], &words, &mut masks, &mut codes);
+            (priced, masks, codes)
+        };
+        let given = made(board);
+        assert_eq!((given.0.answer.number(), given.0.price), (number, 0));
+        assert_eq!(given, made(&Reference));
+    }
+    assert_eq!(board.notes().too_large, 0, "they are run from the flash");
+}
+
 #[test]
 #[ignore = "needs the emulated board: controller/test"]
 fn the_largest_inputs_keep_to_the_budgets() {
@@ -109,6 +129,7 @@ fn the_largest_inputs_keep_to_the_budgets() {
     let known = board.known_stack();
     assert!((4_000..4_200).contains(&known), "the measure is wrong: {known}");
     every_code(&board);
+    too_many_words(&board);
     for entry in EntryPoint::ALL {
         for candidate in candidates(entry) {
             let made = |library: &dyn Library| entry.make(library, &candidate.input);

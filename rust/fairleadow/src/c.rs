@@ -129,6 +129,21 @@ extern "C" {
         index: *mut usize,
         count: *mut usize,
     ) -> u8;
+    pub fn fairleadow_priced_run(
+        image: *const u8,
+        image_len: usize,
+        state: *mut State,
+        prices: *const [u16; 32],
+        words: *const u16,
+        words_len: usize,
+        masks: *mut u32,
+        masks_len: usize,
+        codes: *mut u8,
+        codes_len: usize,
+        price: *mut u64,
+        index: *mut usize,
+        count: *mut usize,
+    ) -> u8;
     pub fn fairleadow_tick(
         image: *const u8,
         image_len: usize,

@@ -1,7 +1,7 @@
 //! Safe calls of the C functions. Each borrows its buffers for the call: no reference is null, and what is borrowed for
 //! writing overlaps nothing else, which is all that the header asks.
 
-use interface::{Answer, Cause, Library, Meaning, State, Ticked};
+use interface::{Answer, Cause, Library, Meaning, Priced, Prices, State, Ticked};
 
 use crate::c;
 
@@ -38,6 +38,23 @@ use crate::c;
 /// let ticked = Proved.live_tick(&table[..length], &mut state, 0);
 /// assert_eq!(ticked.answer.ok()?, 1);
 /// assert_eq!((ticked.code, state.depth, state.results[0]), (0x04, 1, false));
+/// # Ok::<(), fairleadow::Refusal>(())
+/// ```
+///
+/// A run can be priced: here a tick of micro operation 0 costs 1.5 cents, and of three ticks the second has it on.
+///
+/// ```
+/// use fairleadow::{Library, Proved, IMAGE_TEXT, OPERATIONS, PLACES};
+///
+/// let chart = b"00010001000000000000FE\n02010002000000000001FA\n01010000000000000000FE\n";
+/// let mut image = [0; IMAGE_TEXT];
+/// let length = Proved.translate(chart, &mut image).ok()?;
+/// let mut prices = [0; OPERATIONS];
+/// prices[0] = 150;
+/// let (_, state) = Proved.fresh(PLACES);
+/// let (mut masks, mut codes) = ([0; 3], [0; 3]);
+/// let priced = Proved.priced_run(&image[..length], &state, &prices, &[0, 0, 0], &mut masks, &mut codes);
+/// assert_eq!((priced.answer.ok()?, masks, priced.price), (3, [0, 1, 0], 2));
 /// # Ok::<(), fairleadow::Refusal>(())
 /// ```
 ///
@@ -162,6 +179,37 @@ impl Library for Proved {
         codes: &mut [u8],
     ) -> (Answer, State) {
         ran(c::fairleadow_run, image, state, words, masks, codes)
+    }
+
+    fn priced_run(
+        &self,
+        image: &[u8],
+        state: &State,
+        prices: &Prices,
+        words: &[u16],
+        masks: &mut [u32],
+        codes: &mut [u8],
+    ) -> Priced {
+        let mut kept = c::State::from(state);
+        let mut price = u64::MAX;
+        let answer = answered(|index, count| unsafe {
+            c::fairleadow_priced_run(
+                image.as_ptr(),
+                image.len(),
+                &mut kept,
+                prices,
+                words.as_ptr(),
+                words.len(),
+                masks.as_mut_ptr(),
+                masks.len(),
+                codes.as_mut_ptr(),
+                codes.len(),
+                &mut price,
+                index,
+                count,
+            )
+        });
+        Priced { answer, state: State::from(&kept), price }
     }
 
     fn tick(&self, image: &[u8], state: &mut State, word: u16) -> Ticked {

@@ -5,7 +5,7 @@
 use std::arch::asm;
 use std::ffi::c_void;
 
-use fairleadow::{c, LABELS, LINE, TABLE};
+use fairleadow::{c, LABELS, LINE, OPERATIONS, TABLE};
 use reference::entry::translated;
 use reference::entry_point::EntryPoint;
 use reference::frames::{text_of, Frame, CHART_TEXT, IMAGE_TEXT};
@@ -141,6 +141,28 @@ macro_rules! run_job {
                 )
             };
         }
+    };
+}
+
+/// The same with prices.
+extern "C" fn priced_run(job: &mut Ticks) {
+    let (mut price, mut index, mut count) = (0, 0, 0);
+    job.number = unsafe {
+        c::fairleadow_priced_run(
+            job.ground.as_ptr(),
+            job.ground.len(),
+            &mut job.state,
+            &[u16::MAX; OPERATIONS],
+            job.words.as_ptr(),
+            job.words.len(),
+            job.masks.as_mut_ptr(),
+            job.masks.len(),
+            job.codes.as_mut_ptr(),
+            job.codes.len(),
+            &mut price,
+            &mut index,
+            &mut count,
+        )
     };
 }
 
@@ -311,6 +333,13 @@ fn a_run_and_a_tick_fit_beside_both_texts() {
     let [run, tick] = deepest(&worst_images(), run, tick);
     println!("run: {run} bytes of stack, tick: {tick}");
     assert!(CHART_TEXT + IMAGE_TEXT + run.max(tick) < MEMORY, "run takes {run}, tick {tick}");
+}
+
+#[test]
+fn a_priced_run_fits_beside_both_texts() {
+    let [run, _] = deepest(&worst_images(), priced_run, tick);
+    println!("priced run: {run} bytes of stack");
+    assert!(CHART_TEXT + IMAGE_TEXT + run < MEMORY, "a priced run takes {run} bytes of stack");
 }
 
 /// Of a tick that takes a row and of one that takes none.

@@ -42,6 +42,17 @@ pub struct Ticked {
     pub code: u8,
 }
 
+/// The price of each micro operation, that of mask bit 0 first, in hundredths of a cent a tick.
+pub type Prices = [u16; OPERATIONS];
+
+/// What a priced run hands back: what the run does, and the price of its finished ticks in cents, 0 with a refusal other than 17 and 18.
+#[derive(Clone, Copy, Debug, PartialEq, Eq)]
+pub struct Priced {
+    pub answer: Answer,
+    pub state: State,
+    pub price: u64,
+}
+
 /// What made a tick go where it went: the row taken, by its number among the image's rows, from 0; a mask of conditions that decide
 /// on it; and the result bit of the number called where the label is a function call's, else 2. With a refusal all three are 0.
 #[derive(Clone, Copy, Debug, PartialEq, Eq)]
@@ -98,6 +109,18 @@ pub trait Library {
         masks: &mut [u32],
         codes: &mut [u8],
     ) -> (Answer, State);
+
+    /// A run, and its price: the prices of all set bits of the masks of its finished ticks, summed and divided by 100 once, halves
+    /// upward. Tries what the image check tries, then 15, 27 for more than 65,536 words, and 16 to 18; counts ticks.
+    fn priced_run(
+        &self,
+        image: &[u8],
+        state: &State,
+        prices: &Prices,
+        words: &[u16],
+        masks: &mut [u32],
+        codes: &mut [u8],
+    ) -> Priced;
 
     /// One tick of a lent state: what a run of one word does. A refused tick emits nothing: mask and code 0.
     fn tick(&self, image: &[u8], state: &mut State, word: u16) -> Ticked {

@@ -30,6 +30,8 @@ pub const FRAME: usize = 10;
 pub const TABLE: usize = FRAMES * FRAME;
 /// The most places of a stack.
 pub const PLACES: usize = 32;
+/// The most words of a priced run.
+pub const PRICED_WORDS: usize = 65_536;
 
 #[cfg(test)]
 mod tests {

@@ -1,5 +1,6 @@
 //! The commands, each in a file of its own.
 
+pub mod bill;
 pub mod draw;
 pub mod minimise;
 pub mod options;

@@ -1,8 +1,10 @@
-//! The office program: charts composed, shown, checked, traced, drawn and asked about. Every answer comes from the proved library.
+//! The office program: charts composed, shown, checked, traced, drawn, priced and asked about. Every answer comes from the proved library.
 
+pub mod bill;
 pub mod calls;
 pub mod chart;
 pub mod check;
+pub mod columns;
 pub mod command;
 pub mod commands;
 pub mod compose;

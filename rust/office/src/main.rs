@@ -6,7 +6,7 @@ use std::io::{self, ErrorKind, Write};
 use std::process::ExitCode;
 
 use office::command::{Command, Failure, Run};
-use office::commands::{draw, minimise, page, trace, why};
+use office::commands::{bill, draw, minimise, page, trace, why};
 use office::{check, compose, places};
 
 const fn command(name: &'static str, arguments: &'static str, help: &'static str, run: Run) -> Command {
@@ -22,6 +22,7 @@ const COMMANDS: &[Command] = &[
     command("places", "FILE ...", "tells how many places of the stack a chart needs, and by which calls", places::run),
     trace::COMMAND,
     why::COMMAND,
+    bill::COMMAND,
     minimise::COMMAND,
     draw::COMMAND,
     page::COMMAND,
@@ -39,7 +40,7 @@ fn help() -> String {
         let gap = if call.len() > 16 { format!("\n{:19}", "") } else { " ".repeat(17 - call.len()) };
         text.push_str(&format!("  {call}{gap}{}\n", command.help));
     }
-    text.push_str("\nA FILE or CHART holds chart lines or the readable notation, for check, why and minimise also an image; - is standard input.\n");
+    text.push_str("\nA FILE or CHART holds chart lines or the readable notation, for check, why, bill and minimise also an image; - is standard input.\n");
     text.push_str(
         "`fairleadow COMMAND --help` tells of one command. Status 1 means refused, 2 a wrong call.\n",
     );

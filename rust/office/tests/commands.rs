@@ -50,7 +50,10 @@ fn help_and_wrong_calls() {
     for name in ["check FILE", "compose FILE", "show FILE", "places FILE"] {
         assert!(help.lines().any(|line| line.trim_start().starts_with(name) && line.len() > 30), "{name}");
     }
-    assert!(help.contains("for check, why and minimise also an image; - is standard input.\n"), "{help}");
+    assert!(
+        help.contains("for check, why, bill and minimise also an image; - is standard input.\n"),
+        "{help}"
+    );
     assert_eq!(fairleadow(&["-h"], b"").1, help);
     assert_eq!(fairleadow(&[], b""), (2, String::new(), help.clone()));
     let (status, out, told) = fairleadow(&["chekc", "x"], b"");

@@ -4,6 +4,7 @@
 mod alike;
 mod live;
 mod minimised;
+mod priced;
 mod rebindings;
 mod rows;
 mod ticks;
@@ -41,7 +42,7 @@ impl fmt::Display for Difference {
 
 /// How often each call gave each answer (0 for success), how often its ticks dropped the stack and returned at the bottom, how often
 /// they called a number that another scheme served, and how many of its texts had small letters and were refused by none of 1 to 3. And
-/// how many images became smaller when their alike labels were joined.
+/// how many images became smaller when their alike labels were joined, and what was met in priced runs.
 #[derive(Debug, Default)]
 pub struct Summary {
     pub answers: BTreeMap<(&'static str, u8), usize>,
@@ -49,6 +50,18 @@ pub struct Summary {
     pub swapped: BTreeMap<&'static str, usize>,
     pub small: BTreeMap<&'static str, usize>,
     pub joined: usize,
+    pub priced: PricedRuns,
+}
+
+/// Priced runs with an accepted image and a fitting state: those that have a price above 0 when 17 or 18 ends them, those whose sum ends
+/// in 50 and in 49 hundredths, those of as many ticks as there may be, and those whose sum passes 32 bits.
+#[derive(Clone, Copy, Debug, Default)]
+pub struct PricedRuns {
+    pub stopped: usize,
+    pub halves: usize,
+    pub below_halves: usize,
+    pub longest: usize,
+    pub large: usize,
 }
 
 /// Drops to the handler, and returns at the bottom: the handler's, or those that a damaged table leads to.
@@ -125,7 +138,8 @@ impl fmt::Display for Summary {
         for (call, count) in &self.small {
             writeln!(f, "{call:>12} {count:>8} texts with small letters")?;
         }
-        writeln!(f, "{:>12} {:>8} images became smaller", "minimise", self.joined)
+        writeln!(f, "{:>12} {:>8} images became smaller", "minimise", self.joined)?;
+        writeln!(f, "{:>12} {:?}", "priced_run", self.priced)
     }
 }
 
@@ -175,7 +189,7 @@ type Call<'a> = fn(&(dyn Library + 'a), &[u8], &mut [u8]) -> Answer;
 
 impl<'a> Case<'a> {
     fn one(&mut self) -> Compared {
-        match self.random.below(19) {
+        match self.random.below(21) {
             0 => self.read_chart(),
             1 => self.write_chart(),
             2 => self.translate().and_then(|()| self.places()),
@@ -192,6 +206,7 @@ impl<'a> Case<'a> {
             15 => self.list_rows().and_then(|()| self.minimise()),
             16 => self.rebind(),
             17 => self.live_rebind(),
+            18 | 19 => self.priced_run(),
             _ => self.mixture(),
         }
     }

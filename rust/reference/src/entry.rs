@@ -11,10 +11,11 @@ use crate::machine::{self, Advanced};
 use crate::minimise::{joined, uneven};
 use crate::places::longest_chain;
 use crate::prepare::table_of;
+use crate::price::{price, Prices, PRICED_WORDS};
 use crate::row_list::row_list;
 use crate::state::{can_rebind, fresh_state, Shape, State};
 use crate::translator;
-use interface::Cause;
+use interface::{Cause, Priced};
 
 /// Writes all of it, or refuses with 16 and writes nothing.
 fn put<T: Copy>(all: &[T], out: &mut [T]) -> Result<(), Refusal> {
@@ -127,6 +128,30 @@ pub fn run(
     match ready {
         Ok(image) => run_ticks(|s, word| machine::tick(&image, s, word), *state, words, masks, codes),
         Err(refusal) => (refusal.into(), *state),
+    }
+}
+
+/// What the image check tries, then 15, 27 and 16 to 18; counts ticks. Of the masks those of finished ticks alone are priced.
+pub fn priced_run(
+    image: &[u8],
+    state: &State,
+    prices: &Prices,
+    words: &[u16],
+    masks: &mut [u32],
+    codes: &mut [u8],
+) -> Priced {
+    let ready = image_for(image, state).and_then(|image| {
+        refuse_if(27, words.len() > PRICED_WORDS)?;
+        roomy(words, masks, codes)?;
+        Ok(image)
+    });
+    match ready {
+        Ok(image) => {
+            let tick = |s: &State, word| machine::tick(&image, s, word);
+            let (answer, state) = run_ticks(tick, *state, words, masks, codes);
+            Priced { answer, state, price: price(prices, &masks[..answer.count()]) }
+        }
+        Err(refusal) => Priced { answer: refusal.into(), state: *state, price: 0 },
     }
 }
 

@@ -4,9 +4,9 @@
 use crate::answer::Answer;
 use crate::entry::minimised;
 use crate::frames::{text_of, Frame};
-use crate::library::{Cause, Library, Meaning, Ticked};
+use crate::library::{Cause, Library, Meaning, Priced, Prices, Ticked};
 use crate::state::State;
-use interface::{CHART_TEXT, IMAGE_TEXT, LABELS, RECORDS, TABLE};
+use interface::{CHART_TEXT, IMAGE_TEXT, LABELS, OPERATIONS, RECORDS, TABLE};
 
 #[derive(Clone, Copy, Debug, PartialEq, Eq)]
 pub enum EntryPoint {
@@ -18,6 +18,7 @@ pub enum EntryPoint {
     Prepare,
     Tick,
     Run,
+    PricedRun,
     Cause,
     ListRows,
     Minimise,
@@ -36,6 +37,7 @@ pub struct Input {
     pub frames: Vec<Frame>,
     pub state: State,
     pub words: Vec<u16>,
+    pub prices: Prices,
     /// A stack's size, or a code.
     pub value: usize,
     /// A number, and the scheme that is to serve it.
@@ -43,9 +45,11 @@ pub struct Input {
 }
 
 impl Input {
-    /// A chart's records or an image's frames, and nothing besides but a rebinding that any image with calls allows.
+    /// A chart's records or an image's frames, and nothing besides but the highest prices and a rebinding that any image with calls
+    /// allows.
     pub fn of(frames: Vec<Frame>) -> Input {
-        Input { frames, state: State::NONE, words: vec![0], value: 0, rebinding: (2, 2) }
+        let prices = [u16::MAX; OPERATIONS];
+        Input { frames, state: State::NONE, words: vec![0], prices, value: 0, rebinding: (2, 2) }
     }
 }
 
@@ -59,11 +63,12 @@ pub struct Made {
     pub numbers: Vec<u16>,
     pub masks: Vec<u32>,
     pub codes: Vec<u8>,
+    pub price: Option<u64>,
     pub state: State,
 }
 
 impl EntryPoint {
-    pub const ALL: [EntryPoint; 17] = [
+    pub const ALL: [EntryPoint; 18] = [
         EntryPoint::ReadChart,
         EntryPoint::WriteChart,
         EntryPoint::Translate,
@@ -72,6 +77,7 @@ impl EntryPoint {
         EntryPoint::Prepare,
         EntryPoint::Tick,
         EntryPoint::Run,
+        EntryPoint::PricedRun,
         EntryPoint::Cause,
         EntryPoint::ListRows,
         EntryPoint::Minimise,
@@ -93,6 +99,7 @@ impl EntryPoint {
             EntryPoint::Prepare => "prepare",
             EntryPoint::Tick => "tick",
             EntryPoint::Run => "run",
+            EntryPoint::PricedRun => "priced_run",
             EntryPoint::Cause => "cause",
             EntryPoint::ListRows => "list_rows",
             EntryPoint::Minimise => "minimise",
@@ -107,7 +114,7 @@ impl EntryPoint {
 
     /// Makes the call, with buffers that are never too short.
     pub fn make(self, library: &dyn Library, input: &Input) -> Made {
-        let Input { frames, state, words, value, rebinding: (number, scheme) } = input;
+        let Input { frames, state, words, prices, value, rebinding: (number, scheme) } = input;
         let (text, bytes) = (|| text_of(frames), || frames.concat());
         match self {
             EntryPoint::ReadChart => written(RECORDS, |out| library.read_chart(&text(), out)),
@@ -120,6 +127,16 @@ impl EntryPoint {
             EntryPoint::LiveTick => ticked(state, |after| library.live_tick(&bytes(), after, words[0])),
             EntryPoint::Run => {
                 ran(words.len(), |masks, codes| library.run(&text(), state, words, masks, codes))
+            }
+            EntryPoint::PricedRun => {
+                let mut paid = None;
+                let made = ran(words.len(), |masks, codes| {
+                    let Priced { answer, state, price } =
+                        library.priced_run(&text(), state, prices, words, masks, codes);
+                    paid = Some(price);
+                    (answer, state)
+                });
+                Made { price: paid, ..made }
             }
             EntryPoint::Cause => {
                 let cause = library.cause(&text(), state, words[0]);
@@ -156,7 +173,8 @@ impl EntryPoint {
 
 fn answered(answer: Answer) -> Made {
     let (bytes, numbers, masks, codes) = (Vec::new(), Vec::new(), Vec::new(), Vec::new());
-    Made { answer, cause: None, meaning: None, bytes, numbers, masks, codes, state: State::NONE }
+    let (cause, meaning, price) = (None, None, None);
+    Made { answer, cause, meaning, bytes, numbers, masks, codes, price, state: State::NONE }
 }
 
 fn written(room: usize, call: impl FnOnce(&mut [u8]) -> Answer) -> Made {

@@ -2,15 +2,17 @@
 
 use crate::answer::Answer;
 use crate::chart::Chart;
+use crate::price::{price, Prices};
 use crate::state::{can_rebind, OWN};
 use crate::walk::{walk_told, Signal, Tick};
 
-/// One run of a list: its words, and its output buffers as they stand before it.
+/// One run of a list: its words, its output buffers as they stand before it, and the prices by which it is priced, if it is.
 #[derive(Clone, Debug)]
 pub struct Run {
     pub words: Vec<u16>,
     pub masks: Vec<u32>,
     pub codes: Vec<u8>,
+    pub prices: Option<Prices>,
 }
 
 impl Run {
@@ -28,17 +30,18 @@ pub enum Step {
     Rebind(usize, usize),
 }
 
-/// What a call answers and what its buffers hold afterwards; a rebinding has none.
+/// What a call answers, what its buffers hold afterwards, and the price of a run that is priced; a rebinding has neither.
 #[derive(Clone, Debug, PartialEq, Eq)]
 pub struct Outcome {
     pub answer: Answer,
     pub masks: Vec<u32>,
     pub codes: Vec<u8>,
+    pub price: Option<u64>,
 }
 
 impl Outcome {
     pub fn of_rebinding(answer: Answer) -> Outcome {
-        Outcome { answer, masks: Vec::new(), codes: Vec::new() }
+        Outcome { answer, masks: Vec::new(), codes: Vec::new(), price: None }
     }
 }
 
@@ -104,5 +107,6 @@ fn outcome(run: &Run, ticks: &[Tick], passed: bool) -> Outcome {
         masks[k] = tick.mask;
         codes[k] = tick.code;
     }
-    Outcome { answer, masks, codes }
+    let walked: Vec<u32> = ticks.iter().map(|tick| tick.mask).collect();
+    Outcome { answer, masks, codes, price: run.prices.map(|prices| price(&prices, &walked)) }
 }

@@ -21,6 +21,7 @@ pub mod machine;
 pub mod minimise;
 pub mod places;
 pub mod prepare;
+pub mod price;
 pub mod programs;
 pub mod row_list;
 pub mod samples;
@@ -30,5 +31,5 @@ pub mod translator;
 pub mod walk;
 
 pub use answer::Answer;
-pub use library::{Cause, Library, Meaning, Reference, Ticked};
+pub use library::{Cause, Library, Meaning, Priced, Prices, Reference, Ticked};
 pub use state::{fresh_state, State};

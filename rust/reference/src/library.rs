@@ -1,7 +1,7 @@
 //! The reference as a library.
 
 use crate::{codes, entry};
-pub use interface::{Answer, Cause, Library, Meaning, State, Ticked};
+pub use interface::{Answer, Cause, Library, Meaning, Priced, Prices, State, Ticked};
 
 /// The reference itself.
 pub struct Reference;
@@ -40,6 +40,18 @@ impl Library for Reference {
         codes: &mut [u8],
     ) -> (Answer, State) {
         entry::run(image, state, words, masks, codes)
+    }
+
+    fn priced_run(
+        &self,
+        image: &[u8],
+        state: &State,
+        prices: &Prices,
+        words: &[u16],
+        masks: &mut [u32],
+        codes: &mut [u8],
+    ) -> Priced {
+        entry::priced_run(image, state, prices, words, masks, codes)
     }
 
     fn rebind(&self, image: &[u8], state: &mut State, number: usize, scheme: usize) -> Answer {

@@ -153,6 +153,7 @@ fn a_rebinding_keeps_a_fitting_state_fitting() {
 #[test]
 fn lists_of_runs_and_rebindings_tick_as_the_walk_does() {
     let (mut full, mut drops, mut swapped) = ([0; 2], 0, 0);
+    let (mut paid, mut paid_at_17) = (0, 0);
     for seed in 0..CASES {
         let mut random = Random::new(seed);
         let (records, image) = images::translated(&mut random);
@@ -171,9 +172,20 @@ fn lists_of_runs_and_rebindings_tick_as_the_walk_does() {
                 }
             };
             let (mut masks, mut codes) = (run.masks.clone(), run.codes.clone());
-            let (answer, after) = entry::run(&text, &state, &run.words, &mut masks, &mut codes);
+            let (answer, after, price) = match &run.prices {
+                Some(prices) => {
+                    let priced = entry::priced_run(&text, &state, prices, &run.words, &mut masks, &mut codes);
+                    (priced.answer, priced.state, Some(priced.price))
+                }
+                None => {
+                    let (answer, after) = entry::run(&text, &state, &run.words, &mut masks, &mut codes);
+                    (answer, after, None)
+                }
+            };
             state = after;
-            assert_eq!(&Outcome { answer, masks, codes }, wanted, "seed {seed}");
+            assert_eq!(&Outcome { answer, masks, codes, price }, wanted, "seed {seed}");
+            paid += usize::from(price.is_some_and(|price| price > 0));
+            paid_at_17 += usize::from(answer.number() == 17 && price.is_some_and(|price| price > 0));
             full[usize::from(image.handler != 0)] += usize::from(answer.number() == 17);
             drops += wanted.codes[..answer.count()].iter().filter(|code| **code == 0x60).count();
             swapped += usize::from((0..32).any(|at| state.numbers[at] != state.servers[at]));
@@ -183,4 +195,5 @@ fn lists_of_runs_and_rebindings_tick_as_the_walk_does() {
     assert!(full[1] > 100, "too few runs met a full stack with the handler at the bottom: {full:?}");
     assert!(drops > 500, "too few ticks dropped the stack: {drops}");
     assert!(swapped > 200, "too few runs ended in a scheme that serves another's number: {swapped}");
+    assert!(paid > 500 && paid_at_17 > 30, "too few runs had a price: {paid}, with 17 {paid_at_17}");
 }

@@ -4,7 +4,7 @@ use std::collections::BTreeMap;
 
 use reference::chart::{Chart, Kind};
 use reference::check::chart_of;
-use reference::compare::{compare, Handled};
+use reference::compare::{compare, Handled, PricedRuns};
 use reference::generate::{charts, images, runs, states, Random};
 use reference::image::{image_of, Image, Row, FUNCTION_CALL, RETURN, ROWS};
 use reference::machine::{self, handles};
@@ -12,7 +12,7 @@ use reference::translator;
 use reference::{Reference, State};
 
 /// Which refusals each call may give; 0 is success.
-const TRIED: [(&str, &[u8]); 19] = [
+const TRIED: [(&str, &[u8]); 20] = [
     ("read_chart", &[0, 1, 2, 3, 4, 5, 6, 7, 8, 9, 16, 19]),
     ("write_chart", &[0, 1, 4, 5, 6, 7, 8, 9, 16, 19]),
     ("translate", &[0, 1, 2, 3, 4, 5, 6, 7, 8, 9, 10, 16, 19]),
@@ -20,6 +20,7 @@ const TRIED: [(&str, &[u8]); 19] = [
     ("check_image", &[0, 1, 2, 3, 11, 12, 13]),
     ("fresh", &[0, 14]),
     ("run", &[0, 1, 2, 3, 11, 12, 13, 15, 16, 17, 18]),
+    ("priced_run", &[0, 1, 2, 3, 11, 12, 13, 15, 16, 17, 18, 27]),
     ("tick", &[0, 1, 2, 3, 11, 12, 13, 15, 17, 18]),
     ("runs", &[0, 16, 17, 22]),
     ("prepare", &[0, 1, 2, 3, 11, 12, 13, 16]),
@@ -38,7 +39,7 @@ const TRIED: [(&str, &[u8]); 19] = [
 fn every_answer_is_met_and_no_other() {
     let summary = compare(&Reference, 77, 8_000).unwrap_or_else(|difference| panic!("{difference}"));
     for (call, numbers) in TRIED {
-        for number in 0..=23 {
+        for number in 0..=27 {
             let met = summary.count(call, number) > 0;
             assert_eq!(met, numbers.contains(&number), "{call} {number}\n{summary}");
         }
@@ -49,7 +50,7 @@ fn every_answer_is_met_and_no_other() {
 #[test]
 fn every_call_that_ticks_meets_the_handler() {
     let summary = compare(&Reference, 78, 16_000).unwrap_or_else(|difference| panic!("{difference}"));
-    for call in ["run", "tick", "runs", "live_run", "live_tick", "live_runs", "mixture"] {
+    for call in ["run", "priced_run", "tick", "runs", "live_run", "live_tick", "live_runs", "mixture"] {
         let Handled { drops, returns } = summary.handled(call);
         assert!(drops > 20 && returns > 20, "{call}\n{summary}");
     }
@@ -59,9 +60,18 @@ fn every_call_that_ticks_meets_the_handler() {
 #[test]
 fn every_call_that_ticks_meets_swapped_schemes() {
     let summary = compare(&Reference, 80, 16_000).unwrap_or_else(|difference| panic!("{difference}"));
-    for call in ["run", "tick", "runs", "live_run", "live_tick", "live_runs", "mixture"] {
+    for call in ["run", "priced_run", "tick", "runs", "live_run", "live_tick", "live_runs", "mixture"] {
         assert!(summary.swapped(call) > 40, "{call}\n{summary}");
     }
+}
+
+/// Priced runs have a price when they are stopped, sums of a half and right below one, as many ticks as there may be, and sums that
+/// 32 bits do not hold, each often enough to tell.
+#[test]
+fn priced_runs_meet_halves_and_long_runs() {
+    let summary = compare(&Reference, 81, 16_000).unwrap_or_else(|difference| panic!("{difference}"));
+    let PricedRuns { stopped, halves, below_halves, longest, large } = summary.priced;
+    assert!(stopped > 40 && halves > 40 && below_halves > 40 && longest > 3 && large > 2, "{summary}");
 }
 
 /// Each kind of call that takes a text is given enough of them with small letters that are read.
@@ -75,6 +85,7 @@ fn every_call_that_reads_meets_small_letters() {
         "check_image",
         "prepare",
         "run",
+        "priced_run",
         "tick",
         "cause",
         "list_rows",

@@ -4,7 +4,7 @@
 mod common;
 
 use common::is_found;
-use reference::{Answer, Cause, Library, Reference, State};
+use reference::{Answer, Cause, Library, Priced, Prices, Reference, State};
 
 /// Which character is read in the place of each.
 type Reading = fn(u8) -> u8;
@@ -56,6 +56,18 @@ impl Library for Misreading {
         codes: &mut [u8],
     ) -> (Answer, State) {
         Reference.run(&self.read(image), state, words, masks, codes)
+    }
+
+    fn priced_run(
+        &self,
+        image: &[u8],
+        state: &State,
+        prices: &Prices,
+        words: &[u16],
+        masks: &mut [u32],
+        codes: &mut [u8],
+    ) -> Priced {
+        Reference.priced_run(&self.read(image), state, prices, words, masks, codes)
     }
 
     fn cause(&self, image: &[u8], state: &State, word: u16) -> Cause {

@@ -1,9 +1,10 @@
-//! The library against plain Rust written for speed, on the same inputs in one run. `cargo bench --offline` prints three
-//! tables, of calls on texts, of long runs by the rows that a tick looks at, and of live calls; a ratio below 1 means that the
-//! library takes less. Where valgrind is at hand, instructions are counted too. A word after `--` picks the lines that have it.
+//! The library against plain Rust written for speed, on the same inputs in one run. `cargo bench --offline` prints four
+//! tables, of calls on texts, of long runs by the rows that a tick looks at, of long runs with prices, and of live calls; a ratio
+//! below 1 means that the library takes less, or that a priced run takes less than one without prices. Where valgrind is at hand, instructions are counted too. A word after `--` picks the lines that have it.
 
 mod live;
 mod measure;
+mod prices;
 mod rows;
 mod texts;
 
@@ -13,7 +14,8 @@ fn main() {
     let words: Vec<String> = env::args().skip(1).collect();
     if let [first, line, side] = &words[..] {
         if first == measure::ONE_CALL {
-            let lines = texts::lines().into_iter().chain(rows::lines()).chain(live::lines()).collect();
+            let [texts, rows, live] = [texts::lines(), rows::lines(), live::lines()];
+            let lines = texts.into_iter().chain(rows).chain(prices::lines()).chain(live).collect();
             return measure::make_one_call(lines, line, side);
         }
     }
@@ -21,6 +23,8 @@ fn main() {
     measure::print_table(&["Library", "Plain Rust"], texts::lines(), wanted);
     println!();
     measure::print_table(&rows::SIDES, rows::lines(), wanted);
+    println!();
+    measure::print_table(&prices::SIDES, prices::lines(), wanted);
     println!();
     measure::print_table(&["Library", "Plain Rust, kept", "Plain Rust on the table"], live::lines(), wanted);
 }

@@ -2,7 +2,7 @@
 
 use std::io::Write;
 
-use super::options::{Arguments, TRACING, TRACING_HELP};
+use super::options::{Arguments, RUNNING_HELP, SWAP_HELP, TRACING};
 use super::trace::summary;
 use crate::command::{Command, Failure};
 use crate::draw::{dot, drawing};
@@ -18,7 +18,8 @@ pub const COMMAND: Command = Command {
         "
   --svg          print SVG, laid out by dot (Debian's package graphviz)
   --trace        run the chart first: what the ticks took is bold, what they never took grey",
-        TRACING_HELP,
+        RUNNING_HELP,
+        SWAP_HELP,
     ],
     run,
 };

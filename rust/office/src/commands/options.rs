@@ -21,8 +21,11 @@ const WORDS: &str = "random:1";
 /// The options of a trace.
 pub const TRACING: [&str; 4] = ["--places", "--words", "--ticks", "--swap"];
 
+/// Those of a run, which nothing is swapped in.
+pub const RUNNING: [&str; 3] = ["--places", "--words", "--ticks"];
+
 /// Their help.
-pub const TRACING_HELP: &str = "
+pub const RUNNING_HELP: &str = "
   --places N     places of the stack, 1 to 32; 32 if not given
   --words WORDS  the words, one a tick; bit i of a word is condition i. One of
                    random:SEED    random words, the same for the same seed
@@ -32,10 +35,21 @@ pub const TRACING_HELP: &str = "
                                   ./FILE one whose name begins with a digit
                  random:1 if not given, so that every condition is 0 and 1 in turn
   --ticks N      how many ticks, 1 to 100000. If not given, as many as the words of a list
-                 or a file, else 64. A list or a file that is shorter begins again.
-  --swap SWAPS   TICK:NUMBER=SCHEME, with commas between them: right before that tick, counted
+                 or a file, else 64. A list or a file that is shorter begins again.";
+
+/// The help of the other option of a trace.
+pub const SWAP_HELP: &str =
+    "  --swap SWAPS   TICK:NUMBER=SCHEME, with commas between them: right before that tick, counted
                  from 0, the number is given to that scheme to serve. Later calls of the number
                  open it; what is open goes on.";
+
+/// A file without the folders before it.
+pub fn title(file: &str) -> String {
+    match Path::new(file).file_name() {
+        Some(name) if file != "-" => name.to_string_lossy().into_owned(),
+        _ => "standard input".to_string(),
+    }
+}
 
 /// The arguments taken apart.
 pub struct Arguments {
@@ -66,11 +80,25 @@ impl Arguments {
         }
         match charts.as_slice() {
             [] => Err(Failure::Usage("a chart is missing".to_string())),
-            [chart] if chart == "-" && taken.value("--words") == Some("-") => {
-                Err(Failure::Usage("chart and words cannot both be standard input".to_string()))
-            }
-            [chart] => Ok(Arguments { chart: chart.clone(), ..taken }),
+            [chart] => Arguments { chart: chart.clone(), ..taken }.with_one_input(),
             [_, second, ..] => Err(Failure::Usage(format!("one chart only, and {second} is one more"))),
+        }
+    }
+
+    /// Refused where two files are to be read from standard input.
+    fn with_one_input(self) -> Result<Arguments, Failure> {
+        let files = [
+            ("chart", Some(self.chart.as_str())),
+            ("words", self.value("--words")),
+            ("prices", self.value("--prices")),
+        ];
+        let read: Vec<&str> =
+            files.into_iter().filter(|(_, file)| *file == Some("-")).map(|(what, _)| what).collect();
+        match read[..] {
+            [first, second, ..] => {
+                Err(Failure::Usage(format!("{first} and {second} cannot both be standard input")))
+            }
+            _ => Ok(self),
         }
     }
 
@@ -93,10 +121,7 @@ impl Arguments {
 
     /// The chart's file without the folders before it.
     pub fn title(&self) -> String {
-        match Path::new(&self.chart).file_name() {
-            Some(name) if self.chart != "-" => name.to_string_lossy().into_owned(),
-            _ => "standard input".to_string(),
-        }
+        title(&self.chart)
     }
 
     /// Whether a file is the chart or that of the words.

@@ -3,7 +3,7 @@
 use std::io::Write;
 
 use super::draw::ended;
-use super::options::{Arguments, TRACING, TRACING_HELP};
+use super::options::{Arguments, RUNNING_HELP, SWAP_HELP, TRACING};
 use super::trace::summary;
 use crate::command::{Command, Failure};
 use crate::draw::{dot, drawing};
@@ -24,7 +24,8 @@ FILE.html#tick=5 opens it at tick 5. It is also written where a full stack ends 
 
   -o FILE.html   where the page is written, - for standard output; the drawing is laid out by dot (Debian's package
                  graphviz)",
-        TRACING_HELP,
+        RUNNING_HELP,
+        SWAP_HELP,
     ],
     run,
 };

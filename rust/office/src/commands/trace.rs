@@ -2,7 +2,7 @@
 
 use std::io::Write;
 
-use super::options::{Arguments, TRACING, TRACING_HELP};
+use super::options::{Arguments, RUNNING_HELP, SWAP_HELP, TRACING};
 use crate::command::{Command, Failure};
 use crate::plan::Plan;
 use crate::problem::counted;
@@ -19,7 +19,8 @@ Each tick has a line: the word, the node, what happens, the micro operations, th
 after it. Of the conditions at 1 those are named that the chart tests. A call that finds the stack full drops all that
 is open and starts the handler, if the chart marks one. Where another scheme serves a number, both are named. Status 1
 means that a refusal ended it.",
-        TRACING_HELP,
+        RUNNING_HELP,
+        SWAP_HELP,
     ],
     run,
 };

@@ -2,7 +2,7 @@
 
 use std::io::Write;
 
-use super::options::{Arguments, TRACING, TRACING_HELP};
+use super::options::{Arguments, RUNNING_HELP, SWAP_HELP, TRACING};
 use crate::command::{Command, Failure};
 use crate::why::{asked, told, Subject};
 
@@ -19,7 +19,8 @@ told too. An image that is given has no names, and may be patched. Home ticks, c
 with nothing beneath it take no row. Status 1 means such a tick, or one that finds no row.
 
   --tick N       the tick, counted from 0 as trace counts them; the last if not given",
-        TRACING_HELP,
+        RUNNING_HELP,
+        SWAP_HELP,
     ],
     run,
 };

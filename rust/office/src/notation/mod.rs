@@ -37,7 +37,9 @@ use crate::explain;
 use crate::names::Names;
 use crate::problem::{Problem, LONE_RETURNS};
 
+pub use resolve::{output, unknown};
 use statement::Statement;
+pub use words::Word;
 
 /// What the Begin of the handler says.
 pub const WHEN_FULL: &str = "when the stack is full";

@@ -81,7 +81,8 @@ impl Table {
     }
 }
 
-fn unknown<'a>(
+/// A name that nothing has, with the one that was likely meant.
+pub fn unknown<'a>(
     line: usize,
     name: &Word,
     noun: impl Display,
@@ -122,6 +123,12 @@ impl Kind {
         let in_range = (self.first..self.first + self.count).contains(&number);
         (in_range && name == format!("{}{number}", self.prefix)).then_some(number as u8)
     }
+}
+
+/// The number of an output by its name, or by one that stands for its number.
+pub fn output(names: &Names, name: &str) -> Option<u8> {
+    let given = names.operations.iter().find(|(_, own)| *own == name).map(|(number, _)| *number);
+    given.or_else(|| OUTPUT.own_number(name))
 }
 
 /// All that can be looked up.

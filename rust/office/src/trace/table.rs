@@ -3,6 +3,7 @@
 use fairleadow::Answer;
 
 use super::{Stopped, Tick, Trace};
+use crate::columns::aligned;
 use crate::marking::called;
 use crate::plan::Plan;
 use crate::problem::{counted, Problem};
@@ -40,29 +41,13 @@ pub fn cells(plan: &Plan, number: usize, tick: &Tick) -> [String; 9] {
 pub fn report(plan: &Plan, trace: &Trace) -> String {
     let mut rows = vec![HEADINGS.map(str::to_string)];
     rows.extend(trace.ticks.iter().enumerate().map(|(number, tick)| cells(plan, number, tick)));
-    let mut text = aligned(&rows);
+    let mut text = aligned(&rows, |column| column == 0);
     text.push('\n');
     if let Some(stopped) = &trace.stopped {
         text.push_str(&format!("{}\n\n", problem(plan, trace, stopped)));
     }
     for line in never_taken(plan, trace) {
         text.push_str(&line);
-        text.push('\n');
-    }
-    text
-}
-
-/// Columns as wide as their widest cell; the numbers of the ticks end under each other.
-fn aligned(rows: &[[String; 9]]) -> String {
-    let width = |column: usize| rows.iter().map(|row| row[column].chars().count()).max().unwrap_or(0);
-    let widths: Vec<usize> = (0..HEADINGS.len()).map(width).collect();
-    let mut text = String::new();
-    for row in rows {
-        let mut line = format!("{:>1$}", row[0], widths[0]);
-        for (cell, width) in row.iter().zip(&widths).skip(1) {
-            line.push_str(&format!("  {cell:<width$}"));
-        }
-        text.push_str(line.trim_end());
         text.push('\n');
     }
     text

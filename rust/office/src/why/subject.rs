@@ -36,8 +36,17 @@ impl Subject {
         Ok(Subject { image, plan: Some(plan) })
     }
 
-    fn names(&self) -> Option<&Names> {
+    /// The shop's names; an image by itself has none.
+    pub fn names(&self) -> Option<&Names> {
         self.plan.as_ref().map(|plan| &plan.names)
+    }
+
+    /// Why the library refuses a run of it.
+    pub fn problem(&self, answer: Answer) -> Problem {
+        match &self.plan {
+            Some(plan) => plan.source.problem(answer),
+            None => explain::refusal(&self.image.text, Kind::Image, answer),
+        }
     }
 
     /// An open label: its node, or in an image without a chart the label alone.

@@ -60,7 +60,7 @@ fn same_run(library: &dyn Library, prepared: &Prepared, state: &State, run: &Run
         } else {
             library.run(&prepared.text, state, &run.words, &mut masks, &mut codes)
         };
-        (Outcome { answer, masks, codes }, after)
+        (Outcome { answer, masks, codes, price: None }, after)
     };
     let (wanted, given) = (made(false), made(true));
     assert_eq!(wanted, given, "seed {seed}, {state:?}");

@@ -112,9 +112,16 @@ impl<'a> Case<'a> {
         made.live && !self.random.once_in(3)
     }
 
-    /// A run of a list; one of a single word is made as a tick by turns, which writes nothing where it is refused.
+    /// A run of a list, a priced one where it has prices; one of a single word is made as a tick by turns, which writes nothing where
+    /// it is refused.
     fn list_run(&mut self, made: &Made, state: &mut State, run: &Run) -> Outcome {
         let (mut masks, mut codes) = (run.masks.clone(), run.codes.clone());
+        if let Some(prices) = &run.prices {
+            let priced =
+                self.library.priced_run(&made.image, state, prices, &run.words, &mut masks, &mut codes);
+            *state = priced.state;
+            return Outcome { answer: priced.answer, masks, codes, price: Some(priced.price) };
+        }
         let live = self.on_table(made);
         if run.words.len() == 1 && run.joins() && self.random.once_in(2) {
             let ticked = if live {
@@ -125,7 +132,7 @@ impl<'a> Case<'a> {
             if ticked.answer.number() == 0 {
                 (masks[0], codes[0]) = (ticked.mask, ticked.code);
             }
-            return Outcome { answer: ticked.answer, masks, codes };
+            return Outcome { answer: ticked.answer, masks, codes, price: None };
         }
         let (answer, after) = if live {
             self.library.live_run(&made.table, state, &run.words, &mut masks, &mut codes)
@@ -133,7 +140,7 @@ impl<'a> Case<'a> {
             self.library.run(&made.image, state, &run.words, &mut masks, &mut codes)
         };
         *state = after;
-        Outcome { answer, masks, codes }
+        Outcome { answer, masks, codes, price: None }
     }
 
     fn list_rebinding(&mut self, made: &Made, state: &mut State, number: usize, scheme: usize) -> Outcome {

@@ -1,5 +1,7 @@
 //! Cases of runs and ticks on an image's text, and what every kind of run and tick is compared by.
 
+use std::fmt::Debug;
+
 use super::{Case, Compared, Difference, MARGIN};
 use crate::answer::Answer;
 use crate::expectation::Run;
@@ -36,7 +38,7 @@ impl<'a> Case<'a> {
         (letters::sizes(&mut self.random, text), state)
     }
 
-    /// Compares a run of any kind, and hands back the state after it.
+    /// Compares a run or a live run, and hands back the state after it.
     pub(super) fn ran(
         &mut self,
         name: &'static str,
@@ -45,12 +47,26 @@ impl<'a> Case<'a> {
         state: &State,
         run: &Run,
     ) -> Result<State, Box<Difference>> {
+        self.ran_by(name, ground, state, run, |library, masks, codes| {
+            call(library, ground.bytes, state, &run.words, masks, codes)
+        })
+    }
+
+    /// Compares a run of any kind, and hands back what it leaves besides its answer and its buffers.
+    pub(super) fn ran_by<T: Copy + PartialEq + Debug>(
+        &mut self,
+        name: &'static str,
+        ground: Ground,
+        state: &State,
+        run: &Run,
+        call: impl Fn(&(dyn Library + 'a), &mut [u32], &mut [u8]) -> (Answer, T),
+    ) -> Result<T, Box<Difference>> {
         let (mut masks, mut codes) = (widened(&run.masks, 0xA5A5_A5A5), widened(&run.codes, 0xA5));
         let (mut got_masks, mut got_codes) = (masks.clone(), codes.clone());
         let made = |library: &(dyn Library + 'a), masks: &mut [u32], codes: &mut [u8]| {
             let masks = &mut masks[MARGIN..][..run.masks.len()];
             let codes = &mut codes[MARGIN..][..run.codes.len()];
-            call(library, ground.bytes, state, &run.words, masks, codes)
+            call(library, masks, codes)
         };
         let (answer, after) = made(&Reference, &mut masks, &mut codes);
         let finished = &codes[MARGIN..][..answer.count()];
@@ -150,5 +166,6 @@ fn widened<T: Copy>(buffer: &[T], filler: T) -> Vec<T> {
 
 pub(super) fn show_run(run: &Run) -> String {
     let (masks, codes) = (run.masks.len(), run.codes.len());
-    format!("{}; room for {masks} masks, {codes} codes", show::words(&run.words))
+    let prices = run.prices.map_or(String::new(), |prices| format!("; prices {prices:?}"));
+    format!("{}; room for {masks} masks, {codes} codes{prices}", show::words(&run.words))
 }

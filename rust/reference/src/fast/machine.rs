@@ -149,7 +149,7 @@ impl<const SCANS: bool> Machine<SCANS> {
     }
 
     /// Refusal 15 is for states that do not fit.
-    fn fits(&self, state: &State) -> bool {
+    pub fn fits(&self, state: &State) -> bool {
         let depth = usize::from(state.depth);
         if !(1..=32).contains(&state.size) || depth == 0 || state.depth > state.size {
             return false;

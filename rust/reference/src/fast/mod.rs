@@ -9,11 +9,12 @@ mod live;
 mod machine;
 mod minimise;
 mod places;
+mod price;
 mod table;
 
 use crate::answer::{answered, Answer, Refusal};
 use crate::frames::{Frame, CHARACTERS, CHART_TEXT, IMAGE_TEXT};
-use crate::library::{Cause, Library, Meaning, Ticked};
+use crate::library::{Cause, Library, Meaning, Priced, Prices, Ticked};
 use crate::state::{can_rebind, State};
 pub use kept::Kept;
 use machine::Machine;
@@ -221,6 +222,24 @@ impl Library for Fast {
         codes: &mut [u8],
     ) -> (Answer, State) {
         run_on::<false>(image, state, words, masks, codes)
+    }
+
+    fn priced_run(
+        &self,
+        image: &[u8],
+        state: &State,
+        prices: &Prices,
+        words: &[u16],
+        masks: &mut [u32],
+        codes: &mut [u8],
+    ) -> Priced {
+        let mut frames = [[0; 10]; IMAGE_FRAMES];
+        match accepted(image, &mut frames) {
+            Ok((frames, parts)) => {
+                Machine::<false>::new(frames, &parts).priced_run(state, prices, words, masks, codes)
+            }
+            Err(refusal) => Priced { answer: refusal.into(), state: *state, price: 0 },
+        }
     }
 
     fn rebind(&self, image: &[u8], state: &mut State, number: usize, scheme: usize) -> Answer {

@@ -1,6 +1,6 @@
 //! Words, buffers, rebindings, and lists of runs and rebindings.
 
-use super::Random;
+use super::{prices, Random};
 use crate::expectation::{Run, Step};
 
 /// So many words: any, of few conditions, or the same again and again.
@@ -44,6 +44,7 @@ pub fn run(random: &mut Random, count: usize) -> Run {
         words: words(random, count),
         masks: (0..masks).map(|_| random.number() as u32).collect(),
         codes: bytes(random, codes),
+        prices: None,
     }
 }
 
@@ -59,7 +60,7 @@ pub fn rebinding(random: &mut Random, schemes: usize) -> (usize, usize) {
     (number(), number())
 }
 
-/// A list of runs, some with no words, some with too little room, some of one word; in most lists there are rebindings among them, more
+/// A list of runs, some with no words, some with too little room, some of one word, some priced; in most lists there are rebindings among them, more
 /// of them in front.
 pub fn list(random: &mut Random, schemes: usize) -> Vec<Step> {
     let most = random.pick(&[1, 3, 20, 80]);
@@ -72,7 +73,8 @@ pub fn list(random: &mut Random, schemes: usize) -> Vec<Step> {
                 return Step::Rebind(number, scheme);
             }
             let words = if random.once_in(8) { 0 } else { random.within(0, most) };
-            Step::Run(run(random, words))
+            let prices = random.once_in(3).then(|| prices::list(random));
+            Step::Run(Run { prices, ..run(random, words) })
         })
         .collect()
 }

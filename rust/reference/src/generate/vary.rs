@@ -48,6 +48,7 @@ fn change(random: &mut Random, entry: EntryPoint, input: &mut Input) {
         }
         EntryPoint::Tick
         | EntryPoint::Run
+        | EntryPoint::PricedRun
         | EntryPoint::Cause
         | EntryPoint::Rebind
         | EntryPoint::LiveTick

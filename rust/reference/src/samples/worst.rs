@@ -63,7 +63,11 @@ pub fn known(entry: EntryPoint) -> Vec<Candidate> {
         }
         EntryPoint::CheckImage | EntryPoint::Prepare | EntryPoint::ListRows => images(),
         EntryPoint::Minimise => smaller_images(),
-        EntryPoint::Tick | EntryPoint::Run | EntryPoint::Cause | EntryPoint::Rebind => ticks(entry),
+        EntryPoint::Tick
+        | EntryPoint::Run
+        | EntryPoint::PricedRun
+        | EntryPoint::Cause
+        | EntryPoint::Rebind => ticks(entry),
         EntryPoint::LiveTick | EntryPoint::LiveRun | EntryPoint::LiveRebind => live(entry),
         EntryPoint::Fresh => values("stack of", 0..=33),
         EntryPoint::Meaning => values("code", 0..=255),
@@ -141,7 +145,7 @@ fn sample_ticks(entry: EntryPoint) -> Vec<(String, Origin, Image, State, Vec<u16
     let fresh = fresh_state(32).expect("32 is a size");
     let mut all = Vec::new();
     for (name, origin, image) in sample_images() {
-        if matches!(entry, EntryPoint::Run | EntryPoint::LiveRun) {
+        if matches!(entry, EntryPoint::Run | EntryPoint::PricedRun | EntryPoint::LiveRun) {
             all.push((name, origin, image, fresh, vec![0xFFFF; WORDS]));
             continue;
         }
@@ -235,7 +239,7 @@ mod tests {
     /// No run ends early but by a stack that is full or a row that is missing.
     #[test]
     fn runs_go_on_to_their_end() {
-        for entry in [EntryPoint::Run, EntryPoint::LiveRun] {
+        for entry in [EntryPoint::Run, EntryPoint::PricedRun, EntryPoint::LiveRun] {
             for candidate in constructions(entry) {
                 let (number, _, count) = answer(entry, &candidate.name);
                 match candidate.name.as_str() {

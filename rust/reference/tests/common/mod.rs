@@ -26,7 +26,7 @@ macro_rules! as_the_reference {
     ($($call:ident),* $(,)?) => { $(as_the_reference!(@$call);)* };
     (@chart_calls) => { as_the_reference!(read_chart, write_chart, translate, places); };
     (@image_calls) => { as_the_reference!(check_image, cause, list_rows, minimise, prepare); };
-    (@run_calls) => { as_the_reference!(run, live_run); };
+    (@run_calls) => { as_the_reference!(run, priced_run, live_run); };
     (@rebindings) => { as_the_reference!(rebind, live_rebind); };
     (@value_calls) => { as_the_reference!(fresh, meaning); };
     (@read_chart) => { as_the_reference!(@fn read_chart(text: &[u8], out: &mut [u8]) -> reference::Answer); };
@@ -36,6 +36,16 @@ macro_rules! as_the_reference {
     (@check_image) => { as_the_reference!(@fn check_image(text: &[u8]) -> reference::Answer); };
     (@fresh) => { as_the_reference!(@fn fresh(size: usize) -> (reference::Answer, reference::State)); };
     (@run) => { as_the_reference!(@run run); };
+    (@priced_run) => {
+        as_the_reference!(@fn priced_run(
+            image: &[u8],
+            state: &reference::State,
+            prices: &reference::Prices,
+            words: &[u16],
+            masks: &mut [u32],
+            codes: &mut [u8]
+        ) -> reference::Priced);
+    };
     (@cause) => { as_the_reference!(@fn cause(image: &[u8], state: &reference::State, word: u16) -> reference::Cause); };
     (@list_rows) => {
         as_the_reference!(@fn list_rows(image: &[u8], firsts: &mut [u16], counts: &mut [u16]) -> reference::Answer);

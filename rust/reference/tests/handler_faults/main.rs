@@ -202,6 +202,7 @@ impl Library for Faulty {
         list_rows,
         minimise,
         prepare,
+        priced_run,
         live_run,
         rebindings,
         value_calls
