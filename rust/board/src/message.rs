@@ -17,6 +17,7 @@ pub enum Call {
     Cause,
     ListRows,
     Minimise,
+    LittleChart,
     Rebind,
     Prepare,
     LiveRun,

@@ -12,7 +12,7 @@ use reference::{fresh_state, Reference};
 const CASES: u64 = 20_000;
 
 /// The bytes of stack that each call may take, as controller/README.md states them.
-const STACK: [(Call, usize); 17] = [
+const STACK: [(Call, usize); 18] = [
     (Call::ReadChart, 4_608),
     (Call::WriteChart, 2_048),
     (Call::Translate, 8_192),
@@ -24,6 +24,7 @@ const STACK: [(Call, usize); 17] = [
     (Call::Cause, 14_336),
     (Call::ListRows, 14_336),
     (Call::Minimise, 15_360),
+    (Call::LittleChart, 4_608),
     (Call::Rebind, 14_336),
     (Call::Prepare, 14_336),
     (Call::LiveRun, 1_024),

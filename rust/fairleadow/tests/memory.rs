@@ -5,7 +5,7 @@
 use std::arch::asm;
 use std::ffi::c_void;
 
-use fairleadow::{c, LABELS, LINE, TABLE};
+use fairleadow::{c, LABELS, LINE, LITTLE_TEXT, TABLE};
 use reference::entry::translated;
 use reference::entry_point::EntryPoint;
 use reference::frames::{text_of, Frame, CHART_TEXT, IMAGE_TEXT};
@@ -217,6 +217,21 @@ extern "C" fn list_rows(job: &mut Listing) {
     };
 }
 
+struct Fetch {
+    frames: usize,
+    chart: usize,
+    text: [u8; LITTLE_TEXT],
+    number: u8,
+}
+
+extern "C" fn little_chart(job: &mut Fetch) {
+    let (mut index, mut count) = (0, 0);
+    let (frames, chart, text) = (job.frames, job.chart, &mut job.text);
+    job.number = unsafe {
+        c::fairleadow_little_chart(frames, chart, text.as_mut_ptr(), text.len(), &mut index, &mut count)
+    };
+}
+
 run_job!(run, c::fairleadow_run);
 run_job!(live_run, c::fairleadow_live_run);
 tick_job!(tick, c::fairleadow_tick);
@@ -407,6 +422,21 @@ fn a_joining_fits_beside_the_longest_smaller_image_or_two_shorter_texts() {
     );
     assert!(IMAGE_TEXT + deepest < MEMORY, "minimise takes {deepest} bytes of stack");
     assert!(2 * BOTH * LINE + deepest < MEMORY, "beside two texts minimise takes {deepest} bytes of stack");
+}
+
+/// Every little chart, and those that there are not.
+#[test]
+fn a_little_chart_fits_beside_both_texts() {
+    let (mut deepest, mut answered) = (0, [0; 2]);
+    for candidate in candidates(EntryPoint::LittleChart) {
+        let (frames, chart) = (candidate.input.value, candidate.input.chart);
+        let mut job = Fetch { frames, chart, text: [0; LITTLE_TEXT], number: 0 };
+        deepest = deepest.max(depth(&mut job, little_chart));
+        answered[usize::from(job.number == 24)] += 1;
+    }
+    println!("little chart: {deepest} bytes of stack");
+    assert_eq!(answered, [669, 5]);
+    assert!(CHART_TEXT + IMAGE_TEXT + deepest < MEMORY, "a little chart takes {deepest} bytes of stack");
 }
 
 /// The tables of all images that translate.

@@ -5,4 +5,5 @@ pub mod minimise;
 pub mod options;
 pub mod page;
 pub mod trace;
+pub mod wall;
 pub mod why;

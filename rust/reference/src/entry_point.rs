@@ -6,7 +6,7 @@ use crate::entry::minimised;
 use crate::frames::{text_of, Frame};
 use crate::library::{Cause, Library, Meaning, Ticked};
 use crate::state::State;
-use interface::{CHART_TEXT, IMAGE_TEXT, LABELS, RECORDS, TABLE};
+use interface::{CHART_TEXT, IMAGE_TEXT, LABELS, LITTLE_TEXT, RECORDS, TABLE};
 
 #[derive(Clone, Copy, Debug, PartialEq, Eq)]
 pub enum EntryPoint {
@@ -21,6 +21,7 @@ pub enum EntryPoint {
     Cause,
     ListRows,
     Minimise,
+    LittleChart,
     Rebind,
     LiveTick,
     LiveRun,
@@ -36,8 +37,10 @@ pub struct Input {
     pub frames: Vec<Frame>,
     pub state: State,
     pub words: Vec<u16>,
-    /// A stack's size, or a code.
+    /// A stack's size, a code, or how many frames a little chart has.
     pub value: usize,
+    /// A little chart's number.
+    pub chart: usize,
     /// A number, and the scheme that is to serve it.
     pub rebinding: (usize, usize),
 }
@@ -45,7 +48,7 @@ pub struct Input {
 impl Input {
     /// A chart's records or an image's frames, and nothing besides but a rebinding that any image with calls allows.
     pub fn of(frames: Vec<Frame>) -> Input {
-        Input { frames, state: State::NONE, words: vec![0], value: 0, rebinding: (2, 2) }
+        Input { frames, state: State::NONE, words: vec![0], value: 0, chart: 0, rebinding: (2, 2) }
     }
 }
 
@@ -63,7 +66,7 @@ pub struct Made {
 }
 
 impl EntryPoint {
-    pub const ALL: [EntryPoint; 17] = [
+    pub const ALL: [EntryPoint; 18] = [
         EntryPoint::ReadChart,
         EntryPoint::WriteChart,
         EntryPoint::Translate,
@@ -75,6 +78,7 @@ impl EntryPoint {
         EntryPoint::Cause,
         EntryPoint::ListRows,
         EntryPoint::Minimise,
+        EntryPoint::LittleChart,
         EntryPoint::Rebind,
         EntryPoint::LiveTick,
         EntryPoint::LiveRun,
@@ -96,6 +100,7 @@ impl EntryPoint {
             EntryPoint::Cause => "cause",
             EntryPoint::ListRows => "list_rows",
             EntryPoint::Minimise => "minimise",
+            EntryPoint::LittleChart => "little_chart",
             EntryPoint::Rebind => "rebind",
             EntryPoint::LiveTick => "live_tick",
             EntryPoint::LiveRun => "live_run",
@@ -107,7 +112,7 @@ impl EntryPoint {
 
     /// Makes the call, with buffers that are never too short.
     pub fn make(self, library: &dyn Library, input: &Input) -> Made {
-        let Input { frames, state, words, value, rebinding: (number, scheme) } = input;
+        let Input { frames, state, words, value, chart, rebinding: (number, scheme) } = input;
         let (text, bytes) = (|| text_of(frames), || frames.concat());
         match self {
             EntryPoint::ReadChart => written(RECORDS, |out| library.read_chart(&text(), out)),
@@ -135,6 +140,7 @@ impl EntryPoint {
                 let room = minimised(&text()).map_or(0, |smaller| smaller.len());
                 written(room, |out| library.minimise(&text(), out))
             }
+            EntryPoint::LittleChart => written(LITTLE_TEXT, |out| library.little_chart(*value, *chart, out)),
             EntryPoint::Rebind => rebound(state, |after| library.rebind(&text(), after, *number, *scheme)),
             EntryPoint::LiveRebind => {
                 rebound(state, |after| library.live_rebind(&bytes(), after, *number, *scheme))

@@ -2,8 +2,8 @@
 
 use fairleadow::Refusal;
 
-/// The rules of refusals 1 to 23, in that order.
-const RULES: [&str; 23] = [
+/// The rules of refusals 1 to 24, in that order.
+const RULES: [&str; 24] = [
     "a chart has 1 to 256 nodes, each a line of 22 digits and a line feed; an image has at most 1,297 such lines",
     "a line is 22 digits, 0-9 and A-F or a-f, and a line feed",
     "the eleven bytes of a line sum to 0 modulo 256; the last byte is there for that",
@@ -27,6 +27,7 @@ const RULES: [&str; 23] = [
     "what made a tick go where it went is told by the row that it takes: plain ticks take one, and returns to a scheme beneath",
     "a number of 2 to the highest scheme can be given to another of these schemes to serve, but not the handler's number",
     "labels can be joined where each word, with each result of the scheme called, matches one row of each label and no more",
+    "little charts have 2, 3 or 4 frames, and are numbered from 0 up to 1, 17 and 647",
 ];
 
 /// The rule of a refusal.
