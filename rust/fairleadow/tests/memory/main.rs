@@ -2,44 +2,21 @@
 //! lathe has 64 kilobytes: each call has to leave room for the chart's text and the image's, a preparation for the image's
 //! text and the table, a live call for the table; a call that makes an image smaller for as much of both texts as there is room for.
 
-use std::arch::asm;
-use std::ffi::c_void;
+mod little;
+mod stack;
 
-use fairleadow::{c, LABELS, LINE, LITTLE_TEXT, TABLE};
+use fairleadow::{c, LABELS, LINE, TABLE};
 use reference::entry::translated;
 use reference::entry_point::EntryPoint;
 use reference::frames::{text_of, Frame, CHART_TEXT, IMAGE_TEXT};
 use reference::generate::{charts, Random};
 use reference::samples;
 use reference::samples::worst::candidates;
+use stack::depth;
 
 const MEMORY: usize = 65_536;
-const STACK: usize = 1 << 20;
-const FILL: u8 = 0xA5;
 /// The words of a run: so many that the chart with a handler is left before a drop.
 const WORDS: usize = 522;
-
-/// Runs a job on a filled stack and returns how many bytes of it were written to, from the top down.
-fn depth<T>(job: &mut T, run: extern "C" fn(&mut T)) -> usize {
-    let mut stack = vec![FILL; STACK];
-    let top = (stack.as_mut_ptr() as usize + STACK) & !63;
-    // The job runs to its end on the filled memory, which nothing else uses; then the old stack is back.
-    unsafe {
-        asm!(
-            "mov r12, rsp",
-            "mov rsp, {top}",
-            "call {run}",
-            "mov rsp, r12",
-            top = in(reg) top,
-            run = in(reg) run as *const c_void,
-            in("rdi") std::ptr::from_mut(job),
-            out("r12") _,
-            clobber_abi("C"),
-        );
-    }
-    let untouched = std::hint::black_box(&stack).iter().take_while(|byte| **byte == FILL).count();
-    top - stack.as_ptr() as usize - untouched
-}
 
 struct Translation {
     chart: Vec<u8>,
@@ -217,21 +194,6 @@ extern "C" fn list_rows(job: &mut Listing) {
     };
 }
 
-struct Fetch {
-    frames: usize,
-    chart: usize,
-    text: [u8; LITTLE_TEXT],
-    number: u8,
-}
-
-extern "C" fn little_chart(job: &mut Fetch) {
-    let (mut index, mut count) = (0, 0);
-    let (frames, chart, text) = (job.frames, job.chart, &mut job.text);
-    job.number = unsafe {
-        c::fairleadow_little_chart(frames, chart, text.as_mut_ptr(), text.len(), &mut index, &mut count)
-    };
-}
-
 run_job!(run, c::fairleadow_run);
 run_job!(live_run, c::fairleadow_live_run);
 tick_job!(tick, c::fairleadow_tick);
@@ -252,19 +214,6 @@ fn ticks(ground: Vec<u8>) -> Ticks {
     unsafe { c::fairleadow_fresh(32, &mut state, &mut index, &mut count) };
     let words = (0..WORDS as u16).map(|k| k.wrapping_mul(40_503)).collect();
     Ticks { ground, state, words, masks: vec![0; WORDS], codes: vec![0; WORDS], number: 0 }
-}
-
-/// Writes to 10,000 bytes of its stack.
-extern "C" fn write_ten_thousand(job: &mut u8) {
-    let mut held = [0u8; 10_000];
-    std::hint::black_box(&mut held).fill(*job);
-    *job = held[5_000];
-}
-
-#[test]
-fn the_depth_of_a_known_call_is_measured() {
-    let depth = depth(&mut 7, write_ten_thousand);
-    assert!((10_000..11_000).contains(&depth), "{depth}");
 }
 
 #[test]
@@ -422,21 +371,6 @@ fn a_joining_fits_beside_the_longest_smaller_image_or_two_shorter_texts() {
     );
     assert!(IMAGE_TEXT + deepest < MEMORY, "minimise takes {deepest} bytes of stack");
     assert!(2 * BOTH * LINE + deepest < MEMORY, "beside two texts minimise takes {deepest} bytes of stack");
-}
-
-/// Every little chart, and those that there are not.
-#[test]
-fn a_little_chart_fits_beside_both_texts() {
-    let (mut deepest, mut answered) = (0, [0; 2]);
-    for candidate in candidates(EntryPoint::LittleChart) {
-        let (frames, chart) = (candidate.input.value, candidate.input.chart);
-        let mut job = Fetch { frames, chart, text: [0; LITTLE_TEXT], number: 0 };
-        deepest = deepest.max(depth(&mut job, little_chart));
-        answered[usize::from(job.number == 24)] += 1;
-    }
-    println!("little chart: {deepest} bytes of stack");
-    assert_eq!(answered, [669, 5]);
-    assert!(CHART_TEXT + IMAGE_TEXT + deepest < MEMORY, "a little chart takes {deepest} bytes of stack");
 }
 
 /// The tables of all images that translate.
