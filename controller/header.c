@@ -13,6 +13,7 @@ typedef uint8_t (*rebinds)(const uint8_t *, size_t, fairleadow_state *, size_t, 
 typedef uint8_t (*tells)(const uint8_t *, size_t, const fairleadow_state *, uint16_t, uint16_t *, uint16_t *, uint8_t *, size_t *,
                          size_t *);
 typedef uint8_t (*lists)(const uint8_t *, size_t, uint16_t *, size_t, uint16_t *, size_t, size_t *, size_t *);
+typedef uint8_t (*fetches)(size_t, size_t, uint8_t *, size_t, size_t *, size_t *);
 typedef uint8_t (*means)(uint8_t, uint8_t *);
 
 struct every_function {
@@ -25,6 +26,7 @@ struct every_function {
     rebinds rebind, live_rebind;
     tells cause;
     lists list_rows;
+    fetches little_chart;
     means meaning;
 };
 
@@ -36,7 +38,7 @@ struct every_function every_function(void) {
         fairleadow_places,     fairleadow_check_image, fairleadow_fresh,     fairleadow_run,       fairleadow_live_run,
         fairleadow_priced_run,
         fairleadow_tick,       fairleadow_live_tick,   fairleadow_rebind,    fairleadow_live_rebind,
-        fairleadow_cause,      fairleadow_list_rows,   fairleadow_meaning,
+        fairleadow_cause,      fairleadow_list_rows,   fairleadow_little_chart, fairleadow_meaning,
     };
     return all;
 }

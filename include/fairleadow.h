@@ -14,8 +14,8 @@
  * controller/README.md tells of archives for ARM. This file is for both, and for C and C++: lengths are of type size_t, and
  * fairleadow_calls.h, which lies beside it, makes of them what the archive takes.
  *
- * The refusals, tried in this order, but 19 directly after 5, 21 before 18, 22 and 27 after 15 and 23 after 13 (docs/REFUSALS.md tells
- * what to look for; H is how many schemes there are):
+ * The refusals, tried in this order, but 19 directly after 5, 21 before 18, 22 and 27 after 15, 23 after 13 and 24 before 16
+ * (docs/REFUSALS.md tells what to look for; H is how many schemes there are):
  *    1  the length of the text or of the records           10  more than 1,024 rows
  *    2  a character other than 0-9, A-F, a-f, line feed    11  the image's header
  *    3  the sum of a frame                                 12  an image frame that stands in a wrong place
@@ -32,6 +32,8 @@
  *                                                              the handler's
  *                                                          23  a word and bit that match no row, or two rows, of a label
  *                                                              from 2 up
+ *                                                          24  a little chart of other than 2 to 4 frames, or a number
+ *                                                              past the last one
  *                                                          27  more than 65,536 words in a priced run
  */
 #ifndef FAIRLEADOW_H
@@ -44,9 +46,11 @@
 extern "C" {
 #endif
 
-/* The longest texts, in characters, and the longest list of node records and the largest table, in bytes. */
+/* The longest texts of a chart, an image and a little chart, in characters, and the longest list of node records and the largest table,
+ * in bytes. */
 #define FAIRLEADOW_CHART_TEXT 5888
 #define FAIRLEADOW_IMAGE_TEXT 29831
+#define FAIRLEADOW_LITTLE_TEXT 92
 #define FAIRLEADOW_RECORDS 2560
 #define FAIRLEADOW_TABLE 12970
 
@@ -154,6 +158,13 @@ uint8_t fairleadow_list_rows(const uint8_t *image, size_t image_len, uint16_t *f
  * to 1,090 lines each; a longer image is handed over from flash. Tries what the image check tries, then 23 and 16; counts characters. */
 uint8_t fairleadow_minimise(const uint8_t *image, size_t image_len, uint8_t *smaller, size_t smaller_len,
                             size_t *index, size_t *count);
+
+/* The lines of little chart `number`, from 0, of `frames` frames. Little charts are all accepted charts of 2 to 4 frames with one scheme
+ * that have, besides Begin and End, only operations of mask 0 or 1 that write no result, and conditions of number 0. There are 2 of 2
+ * frames, 18 of 3 and 648 of 4; those of one frame count are numbered in increasing order of their texts as fairleadow_write_chart
+ * writes them, each once. Both are as wide as a length, so that none is cut off before it is tried. Tries 24, then 16; counts
+ * characters, 23 a frame. */
+uint8_t fairleadow_little_chart(size_t frames, size_t number, uint8_t *text, size_t text_len, size_t *index, size_t *count);
 
 /* An image's lines to a table, ten bytes a line, for live runs, ticks and rebindings: the image is checked here and not again, and its
  * lines are not needed afterwards. Tries what the image check tries, then 16; counts bytes. */

@@ -1,5 +1,5 @@
 /* How the functions of fairleadow.h reach the archive; to be included by that file alone. Whatever the processor, the archive takes
- * lengths, and numbers to rebind, and writes index and count as 64 bits, and of what it returns only the low eight bits have a meaning.
+ * lengths, numbers to rebind and numbers of little charts, and writes index and count as 64 bits, and of what it returns only the low eight bits have a meaning.
  * The functions below have the types of fairleadow.h, and from there on its names stand for them. */
 #ifndef FAIRLEADOW_CALLS_H
 #define FAIRLEADOW_CALLS_H
@@ -29,6 +29,8 @@ uint32_t fairleadow_list_rows(const uint8_t *image, uint64_t image_len, uint16_t
                               uint16_t *counts, uint64_t counts_len, uint64_t *index, uint64_t *count);
 uint32_t fairleadow_minimise(const uint8_t *image, uint64_t image_len, uint8_t *smaller, uint64_t smaller_len,
                              uint64_t *index, uint64_t *count);
+uint32_t fairleadow_little_chart(uint64_t frames, uint64_t number, uint8_t *text, uint64_t text_len,
+                                 uint64_t *index, uint64_t *count);
 uint32_t fairleadow_prepare(const uint8_t *image, uint64_t image_len, uint8_t *table, uint64_t table_len,
                             uint64_t *index, uint64_t *count);
 uint32_t fairleadow_live_run(const uint8_t *table, uint64_t table_len, fairleadow_state *state, const uint16_t *words,
@@ -144,6 +146,13 @@ static inline uint8_t fairleadow_c_minimise(const uint8_t *image, size_t image_l
     return fairleadow_tell(number, &told, index, count);
 }
 
+static inline uint8_t fairleadow_c_little_chart(size_t frames, size_t number, uint8_t *text, size_t text_len,
+                                                size_t *index, size_t *count) {
+    fairleadow_told told;
+    uint32_t refusal = fairleadow_little_chart(frames, number, text, text_len, &told.index, &told.count);
+    return fairleadow_tell(refusal, &told, index, count);
+}
+
 static inline uint8_t fairleadow_c_prepare(const uint8_t *image, size_t image_len, uint8_t *table, size_t table_len,
                                            size_t *index, size_t *count) {
     fairleadow_told told;
@@ -191,6 +200,7 @@ static inline uint8_t fairleadow_c_meaning(uint8_t code, uint8_t *called) {
 #define fairleadow_cause fairleadow_c_cause
 #define fairleadow_list_rows fairleadow_c_list_rows
 #define fairleadow_minimise fairleadow_c_minimise
+#define fairleadow_little_chart fairleadow_c_little_chart
 #define fairleadow_prepare fairleadow_c_prepare
 #define fairleadow_live_run fairleadow_c_live_run
 #define fairleadow_live_tick fairleadow_c_live_tick

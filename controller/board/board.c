@@ -20,6 +20,7 @@ enum {
     CAUSE,
     LIST_ROWS,
     MINIMISE,
+    LITTLE_CHART,
     REBIND,
     PREPARE,
     LIVE_RUN,
@@ -33,9 +34,9 @@ enum {
 typedef struct {
     uint32_t call;
     uint32_t masks, words, codes, output, input; /* how many of each */
-    uint32_t value;                              /* a stack's size, a code, how many firsts a list has, a number to rebind, or how
-                                                  * many words of the flash are run */
-    uint32_t scheme;                             /* the scheme that is to serve it */
+    uint32_t value;                              /* a stack's size, a code, how many firsts a list has, a number to rebind, how many
+                                                  * words of the flash are run, or a little chart's number */
+    uint32_t scheme;                             /* the scheme that is to serve it, or how many frames a little chart has */
     uint32_t number, index, count;               /* the answer */
     uint32_t stack;                              /* the bytes of stack that the call took */
     uint32_t code;                               /* the bytes of the library's code */
@@ -138,6 +139,9 @@ __attribute__((noinline)) static void make_call(void) {
         break;
     case MINIMISE:
         number = fairleadow_minimise(input, head.input, output, head.output, &index, &count);
+        break;
+    case LITTLE_CHART:
+        number = fairleadow_little_chart(head.scheme, head.value, output, head.output, &index, &count);
         break;
     case REBIND:
         number = fairleadow_rebind(input, head.input, &head.state, head.value, head.scheme, &index, &count);

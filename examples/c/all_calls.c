@@ -1,7 +1,8 @@
 /* Makes every call of the header on the chart on standard input: reads it and writes it back, counts its places, translates it,
  * checks the image, runs eight words from a fresh state of three places, makes the same ticks one by one, both on the image and on
  * the table prepared from it, runs them with prices, rebinds each number up to 3 to its own scheme, and tells what each code stands for,
- * which signals made each tick go on and which rows each label has, and joins the labels that act alike. Prints what came of each. */
+ * which signals made each tick go on and which rows each label has, and joins the labels that act alike. Then it fetches every little
+ * chart. Prints what came of each. */
 #include <stdio.h>
 #include <string.h>
 
@@ -97,6 +98,21 @@ static int tell_smaller(size_t length) {
     if (number)
         return refused(number, index);
     printf("characters with alike labels joined: %zu\n", count);
+    return 0;
+}
+
+/* How many little charts there are of each frame count, with the last one, which the refused call after it leaves in the buffer. */
+static int tell_little_charts(void) {
+    uint8_t little[FAIRLEADOW_LITTLE_TEXT];
+    for (size_t frames = 2; frames <= 4; frames++) {
+        size_t index, count, fetched = 0;
+        uint8_t number;
+        while (!(number = fairleadow_little_chart(frames, fetched, little, sizeof little, &index, &count)))
+            fetched++;
+        if (number != 24)
+            return refused(number, index);
+        printf("little charts of %zu frames: %zu, the last of them\n%.*s", frames, fetched, (int)(23 * frames), (char *)little);
+    }
     return 0;
 }
 
@@ -204,5 +220,5 @@ int main(void) {
     if (run_and_tick(count, &all) || live_run_and_tick(prepared, &all) || run_with_prices(count, &all) || rebind(count, prepared))
         return 1;
     tell_codes(all.codes, WORDS);
-    return tell_causes(count) || tell_rows(count) || tell_smaller(count);
+    return tell_causes(count) || tell_rows(count) || tell_smaller(count) || tell_little_charts();
 }

@@ -20,6 +20,7 @@ ghost use Rattle.image.specs.Check.{imageVerdict};
 ghost use Rattle.translator.specs.Entry.{translate};
 ghost use Rattle.places.specs.Entry.{placesNeeded};
 ghost use Rattle.minimising.specs.Entry.{minimise};
+ghost use Rattle.little_charts.specs.Little.{littleChart};
 ghost use Rattle.state.specs.State.{freshState};
 ghost use Rattle.tables.specs.Prepare.{prepare};
 ghost use Rattle.listing.specs.Listing.{list};
@@ -76,6 +77,20 @@ pub extern "C" fn fairleadow_minimise(
     ensures { λ r. ⌜ LendsC (minimise (now (image .entry)) (now (smaller .entry))) r (now (at .exit)) (now (made .exit)) (now (smaller .exit)) ⌝ }
 {
     let answer = minimising::minimise(image, smaller);
+    tell(answer, at, made)
+}
+
+#[no_mangle]
+pub extern "C" fn fairleadow_little_chart(
+    frames: usize,
+    number: usize,
+    text: &mut [u8],
+    at: &mut usize,
+    made: &mut usize,
+) -> u8
+    ensures { λ r. ⌜ LendsC (littleChart frames number (now (text .entry))) r (now (at .exit)) (now (made .exit)) (now (text .exit)) ⌝ }
+{
+    let answer = fetching::little_chart(frames, number, text);
     tell(answer, at, made)
 }
 

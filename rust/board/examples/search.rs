@@ -112,9 +112,11 @@ fn main() {
     let (seed, cases) = (number(0, 1), number(1, 4_000));
     let chosen = |entry: &EntryPoint| words.len() < 3 || words[2..].iter().any(|word| word == entry.name());
     let mut search = Search { board: Counting::start(&Reference), entry: EntryPoint::ReadChart };
-    // of fresh and meaning every value is among the candidates
-    let searched =
-        EntryPoint::ALL.into_iter().filter(|e| !matches!(e, EntryPoint::Fresh | EntryPoint::Meaning));
+    // of these every value is among the candidates
+    let tried = |entry: &EntryPoint| {
+        matches!(entry, EntryPoint::LittleChart | EntryPoint::Fresh | EntryPoint::Meaning)
+    };
+    let searched = EntryPoint::ALL.into_iter().filter(|entry| !tried(entry));
     for entry in searched.filter(chosen) {
         search.entry = entry;
         search.search(seed, cases);

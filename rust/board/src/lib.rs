@@ -108,7 +108,11 @@ impl<'a> Board<'a> {
 
     /// A call that reads one list of bytes and writes another.
     fn written(&self, call: Call, input: &[u8], out: &mut [u8]) -> Option<Answer> {
-        let mut message = Message::new(call, input);
+        self.filled(Message::new(call, input), out)
+    }
+
+    /// A call that writes a list of bytes.
+    fn filled(&self, mut message: Message, out: &mut [u8]) -> Option<Answer> {
         message.output = out.to_vec();
         let told = self.made(&mut message)?;
         out.copy_from_slice(&message.output);
@@ -194,6 +198,13 @@ impl<'a> Board<'a> {
         let told = self.made(&mut message)?;
         *state = message.state;
         Some(told.answer())
+    }
+
+    /// The number goes to the board as the value, the frame count in the scheme's place.
+    fn fetched(&self, frames: usize, number: usize, text: &mut [u8]) -> Option<Answer> {
+        let mut message = Message::new(Call::LittleChart, &[]);
+        (message.scheme, message.value) = (as_wide_as_there(frames), as_wide_as_there(number));
+        self.filled(message, text)
     }
 
     fn ticked(&self, call: Call, input: &[u8], state: &mut State, word: u16) -> Option<Ticked> {
@@ -291,6 +302,10 @@ impl Library for Board<'_> {
 
     fn minimise(&self, image: &[u8], out: &mut [u8]) -> Answer {
         self.written(Call::Minimise, image, out).unwrap_or_else(|| self.instead.minimise(image, out))
+    }
+
+    fn little_chart(&self, frames: usize, number: usize, text: &mut [u8]) -> Answer {
+        self.fetched(frames, number, text).unwrap_or_else(|| self.instead.little_chart(frames, number, text))
     }
 
     fn prepare(&self, image: &[u8], table: &mut [u8]) -> Answer {

@@ -18,6 +18,7 @@ pub enum Call {
     Cause,
     ListRows,
     Minimise,
+    LittleChart,
     Rebind,
     Prepare,
     LiveRun,

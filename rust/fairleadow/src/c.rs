@@ -192,6 +192,14 @@ extern "C" {
         index: *mut usize,
         count: *mut usize,
     ) -> u8;
+    pub fn fairleadow_little_chart(
+        frames: usize,
+        number: usize,
+        text: *mut u8,
+        text_len: usize,
+        index: *mut usize,
+        count: *mut usize,
+    ) -> u8;
     pub fn fairleadow_prepare(
         image: *const u8,
         image_len: usize,

@@ -71,6 +71,18 @@ use crate::c;
 /// assert_eq!(state, Proved.fresh(PLACES).1);
 /// # Ok::<(), fairleadow::Refusal>(())
 /// ```
+///
+/// Every little chart can be fetched by its frame count and its number; there are 2 of 2 frames:
+///
+/// ```
+/// use fairleadow::{Library, Proved, LITTLE_TEXT};
+///
+/// let mut text = [0; LITTLE_TEXT];
+/// let length = Proved.little_chart(2, 1, &mut text).ok()?;
+/// assert_eq!(&text[..length], b"01010000000000000000FE\n00010000000000000000FF\n");
+/// assert_eq!(Proved.little_chart(2, 2, &mut text).ok().unwrap_err().number, 24);
+/// # Ok::<(), fairleadow::Refusal>(())
+/// ```
 pub struct Proved;
 
 /// Calls with room for index and count, and puts the answer together.
@@ -256,6 +268,12 @@ impl Library for Proved {
 
     fn minimise(&self, image: &[u8], out: &mut [u8]) -> Answer {
         written(c::fairleadow_minimise, image, out)
+    }
+
+    fn little_chart(&self, frames: usize, number: usize, text: &mut [u8]) -> Answer {
+        answered(|index, count| unsafe {
+            c::fairleadow_little_chart(frames, number, text.as_mut_ptr(), text.len(), index, count)
+        })
     }
 
     fn prepare(&self, image: &[u8], table: &mut [u8]) -> Answer {

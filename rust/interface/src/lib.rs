@@ -146,6 +146,11 @@ pub trait Library {
     /// then 23 and 16; counts characters.
     fn minimise(&self, image: &[u8], out: &mut [u8]) -> Answer;
 
+    /// A little chart's lines, by how many frames it has and its number, from 0, among those of as many, in the order of their texts.
+    /// These are all accepted charts of 2 to 4 frames with one scheme that have, besides Begin and End, only operations of mask 0 or 1
+    /// and no result, and conditions of number 0. Tries 24 and 16; counts characters.
+    fn little_chart(&self, frames: usize, number: usize, text: &mut [u8]) -> Answer;
+
     /// An image's lines to the table that live runs and live ticks take. Tries what the image check tries, then 16;
     /// counts bytes.
     fn prepare(&self, image: &[u8], table: &mut [u8]) -> Answer;

@@ -24,6 +24,10 @@ pub const ROWS: usize = 1_024;
 pub const FRAMES: usize = 1 + SCHEMES + LABELS + ROWS;
 /// The longest image text, in characters.
 pub const IMAGE_TEXT: usize = FRAMES * LINE;
+/// The most frames of a little chart.
+pub const LITTLE_FRAMES: usize = 4;
+/// The longest text of a little chart, in characters.
+pub const LITTLE_TEXT: usize = LITTLE_FRAMES * LINE;
 /// The bytes of a frame in a prepared table.
 pub const FRAME: usize = 10;
 /// The largest prepared table, in bytes.
@@ -39,6 +43,7 @@ mod tests {
 
     #[test]
     fn the_sizes_are_those_of_the_header() {
-        assert_eq!((CHART_TEXT, IMAGE_TEXT, RECORDS, TABLE), (5_888, 29_831, 2_560, 12_970));
+        assert_eq!((CHART_TEXT, IMAGE_TEXT, LITTLE_TEXT), (5_888, 29_831, 92));
+        assert_eq!((RECORDS, TABLE), (2_560, 12_970));
     }
 }

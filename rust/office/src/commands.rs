@@ -6,4 +6,5 @@ pub mod minimise;
 pub mod options;
 pub mod page;
 pub mod trace;
+pub mod wall;
 pub mod why;

@@ -6,7 +6,7 @@ use std::io::{self, ErrorKind, Write};
 use std::process::ExitCode;
 
 use office::command::{Command, Failure, Run};
-use office::commands::{bill, draw, minimise, page, trace, why};
+use office::commands::{bill, draw, minimise, page, trace, wall, why};
 use office::{check, compose, places};
 
 const fn command(name: &'static str, arguments: &'static str, help: &'static str, run: Run) -> Command {
@@ -26,6 +26,7 @@ const COMMANDS: &[Command] = &[
     minimise::COMMAND,
     draw::COMMAND,
     page::COMMAND,
+    wall::COMMAND,
 ];
 
 fn line(command: &Command) -> String {

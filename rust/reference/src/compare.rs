@@ -2,6 +2,7 @@
 //! can be made again by its own seed; seeds that lie closer than the number of cases share cases.
 
 mod alike;
+mod little;
 mod live;
 mod minimised;
 mod priced;
@@ -20,6 +21,7 @@ use crate::library::{Library, Reference};
 use crate::show;
 use crate::state::Binding;
 pub use alike::live_alike;
+pub use little::{run_little_charts, Tried};
 
 /// The first input on which the library and the reference differ.
 #[derive(Debug)]
@@ -194,7 +196,7 @@ impl<'a> Case<'a> {
             1 => self.write_chart(),
             2 => self.translate().and_then(|()| self.places()),
             3 => self.check_image(),
-            4 => self.fresh(),
+            4 => self.fresh().and_then(|()| self.little_chart()),
             5 => self.run(),
             6 => self.tick(),
             7 => self.calls("runs", false),
@@ -249,7 +251,7 @@ impl<'a> Case<'a> {
         letters::sizes(&mut self.random, text)
     }
 
-    /// Compares a call, with a filled buffer for what it would write.
+    /// Compares a call on some bytes, with a filled buffer for what it would write.
     fn written(
         &mut self,
         name: &'static str,
@@ -258,14 +260,25 @@ impl<'a> Case<'a> {
         needed: usize,
         shown: fn(&[u8]) -> String,
     ) -> Compared {
+        self.lent(name, needed, |library, out| call(library, input, out), || shown(input))
+    }
+
+    /// Compares a call that is lent a filled buffer.
+    fn lent(
+        &mut self,
+        name: &'static str,
+        needed: usize,
+        call: impl Fn(&(dyn Library + 'a), &mut [u8]) -> Answer,
+        shown: impl FnOnce() -> String,
+    ) -> Compared {
         let length = runs::room(&mut self.random, needed);
         let out = runs::bytes(&mut self.random, length + 2 * MARGIN);
         let lent = MARGIN..MARGIN + length;
         let (mut wanted, mut given) = (out.clone(), out.clone());
-        let answer = call(&Reference, input, &mut wanted[lent.clone()]);
-        let got = call(self.library, input, &mut given[lent]);
+        let answer = call(&Reference, &mut wanted[lent.clone()]);
+        let got = call(self.library, &mut given[lent]);
         self.hold(name, answer, &(answer, wanted), &(got, given), || {
-            format!("{}buffer of {}", shown(input), show::bytes(&out))
+            format!("{}buffer of {}", shown(), show::bytes(&out))
         })
     }
 

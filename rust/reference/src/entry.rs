@@ -6,6 +6,7 @@ use crate::chart::Chart;
 use crate::check::chart_of;
 use crate::frames::{frames_of, text_of, Frame, CHART_TEXT, IMAGE_TEXT, RECORDS};
 use crate::image::{self, Image};
+use crate::little;
 use crate::live::Held;
 use crate::machine::{self, Advanced};
 use crate::minimise::{joined, uneven};
@@ -22,6 +23,14 @@ fn put<T: Copy>(all: &[T], out: &mut [T]) -> Result<(), Refusal> {
     refuse_if(16, out.len() < all.len())?;
     out[..all.len()].copy_from_slice(all);
     Ok(())
+}
+
+/// Writes all characters of a text or all bytes of a table, and counts them, or refuses.
+fn written(all: Result<impl AsRef<[u8]>, Refusal>, out: &mut [u8]) -> Answer {
+    answered(all.and_then(|all| {
+        put(all.as_ref(), out)?;
+        Ok(all.as_ref().len())
+    }))
 }
 
 /// The chart of a text, with its records: refusals 1 to 9.
@@ -58,12 +67,11 @@ fn records_of(bytes: &[u8]) -> Result<Vec<Frame>, Refusal> {
 
 /// Refusals 1, 4 to 9 and 16; counts characters.
 pub fn write_chart(bytes: &[u8], out: &mut [u8]) -> Answer {
-    answered(records_of(bytes).and_then(|records| {
+    let text = records_of(bytes).and_then(|records| {
         chart_of(&records)?;
-        let text = text_of(&records);
-        put(&text, out)?;
-        Ok(text.len())
-    }))
+        Ok(text_of(&records))
+    });
+    written(text, out)
 }
 
 /// The image text of a chart text: refusals 1 to 10.
@@ -74,10 +82,7 @@ pub fn translated(text: &[u8]) -> Result<Vec<u8>, Refusal> {
 
 /// Refusals 1 to 10 and 16; counts characters.
 pub fn translate(text: &[u8], out: &mut [u8]) -> Answer {
-    answered(translated(text).and_then(|image| {
-        put(&image, out)?;
-        Ok(image.len())
-    }))
+    written(translated(text), out)
 }
 
 /// Refusals 1 to 10 and 20; counts places.
@@ -210,11 +215,7 @@ pub fn list_rows(image: &[u8], firsts: &mut [u16], counts: &mut [u16]) -> Answer
 
 /// Refusals 1 to 3, 11 to 13 and 16; counts bytes.
 pub fn prepare(image: &[u8], out: &mut [u8]) -> Answer {
-    answered(image_from_text(image).and_then(|image| {
-        let table = table_of(&image).concat();
-        put(&table, out)?;
-        Ok(table.len())
-    }))
+    written(image_from_text(image).map(|image| table_of(&image).concat()), out)
 }
 
 /// The text of the image with its alike labels joined: refusals 1 to 3, 11 to 13 and 23.
@@ -226,10 +227,12 @@ pub fn minimised(text: &[u8]) -> Result<Vec<u8>, Refusal> {
 
 /// Refusals 1 to 3, 11 to 13, 23 and 16; counts characters.
 pub fn minimise(text: &[u8], out: &mut [u8]) -> Answer {
-    answered(minimised(text).and_then(|smaller| {
-        put(&smaller, out)?;
-        Ok(smaller.len())
-    }))
+    written(minimised(text), out)
+}
+
+/// Refusals 24 and 16; counts characters.
+pub fn little_chart(frames: usize, number: usize, out: &mut [u8]) -> Answer {
+    written(little::texts(frames).get(number).ok_or(Refusal { number: 24, index: 0 }), out)
 }
 
 /// The image that a table holds, if the state fits: refusals 11 and 15.

@@ -6,7 +6,7 @@ use crate::entry::minimised;
 use crate::frames::{text_of, Frame};
 use crate::library::{Cause, Library, Meaning, Priced, Prices, Ticked};
 use crate::state::State;
-use interface::{CHART_TEXT, IMAGE_TEXT, LABELS, OPERATIONS, RECORDS, TABLE};
+use interface::{CHART_TEXT, IMAGE_TEXT, LABELS, LITTLE_TEXT, OPERATIONS, RECORDS, TABLE};
 
 #[derive(Clone, Copy, Debug, PartialEq, Eq)]
 pub enum EntryPoint {
@@ -22,6 +22,7 @@ pub enum EntryPoint {
     Cause,
     ListRows,
     Minimise,
+    LittleChart,
     Rebind,
     LiveTick,
     LiveRun,
@@ -38,8 +39,10 @@ pub struct Input {
     pub state: State,
     pub words: Vec<u16>,
     pub prices: Prices,
-    /// A stack's size, or a code.
+    /// A stack's size, a code, or how many frames a little chart has.
     pub value: usize,
+    /// A little chart's number.
+    pub chart: usize,
     /// A number, and the scheme that is to serve it.
     pub rebinding: (usize, usize),
 }
@@ -49,7 +52,7 @@ impl Input {
     /// allows.
     pub fn of(frames: Vec<Frame>) -> Input {
         let prices = [u16::MAX; OPERATIONS];
-        Input { frames, state: State::NONE, words: vec![0], prices, value: 0, rebinding: (2, 2) }
+        Input { frames, state: State::NONE, words: vec![0], prices, value: 0, chart: 0, rebinding: (2, 2) }
     }
 }
 
@@ -81,6 +84,7 @@ impl EntryPoint {
         EntryPoint::Cause,
         EntryPoint::ListRows,
         EntryPoint::Minimise,
+        EntryPoint::LittleChart,
         EntryPoint::Rebind,
         EntryPoint::LiveTick,
         EntryPoint::LiveRun,
@@ -103,6 +107,7 @@ impl EntryPoint {
             EntryPoint::Cause => "cause",
             EntryPoint::ListRows => "list_rows",
             EntryPoint::Minimise => "minimise",
+            EntryPoint::LittleChart => "little_chart",
             EntryPoint::Rebind => "rebind",
             EntryPoint::LiveTick => "live_tick",
             EntryPoint::LiveRun => "live_run",
@@ -114,7 +119,7 @@ impl EntryPoint {
 
     /// Makes the call, with buffers that are never too short.
     pub fn make(self, library: &dyn Library, input: &Input) -> Made {
-        let Input { frames, state, words, prices, value, rebinding: (number, scheme) } = input;
+        let Input { frames, state, words, prices, value, chart, rebinding: (number, scheme) } = input;
         let (text, bytes) = (|| text_of(frames), || frames.concat());
         match self {
             EntryPoint::ReadChart => written(RECORDS, |out| library.read_chart(&text(), out)),
@@ -152,6 +157,7 @@ impl EntryPoint {
                 let room = minimised(&text()).map_or(0, |smaller| smaller.len());
                 written(room, |out| library.minimise(&text(), out))
             }
+            EntryPoint::LittleChart => written(LITTLE_TEXT, |out| library.little_chart(*value, *chart, out)),
             EntryPoint::Rebind => rebound(state, |after| library.rebind(&text(), after, *number, *scheme)),
             EntryPoint::LiveRebind => {
                 rebound(state, |after| library.live_rebind(&bytes(), after, *number, *scheme))

@@ -16,6 +16,7 @@ pub mod frames;
 pub mod generate;
 pub mod image;
 pub mod library;
+pub mod little;
 pub mod live;
 pub mod machine;
 pub mod minimise;

@@ -70,6 +70,10 @@ impl Library for Reference {
         entry::minimise(image, out)
     }
 
+    fn little_chart(&self, frames: usize, number: usize, text: &mut [u8]) -> Answer {
+        entry::little_chart(frames, number, text)
+    }
+
     fn prepare(&self, image: &[u8], table: &mut [u8]) -> Answer {
         entry::prepare(image, table)
     }

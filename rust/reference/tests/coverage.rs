@@ -1,12 +1,13 @@
 //! The generator reaches what it is meant to reach.
 
-use std::collections::BTreeMap;
+use std::collections::{BTreeMap, BTreeSet};
 
 use reference::chart::{Chart, Kind};
 use reference::check::chart_of;
 use reference::compare::{compare, Handled, PricedRuns};
-use reference::generate::{charts, images, runs, states, Random};
+use reference::generate::{charts, images, little, runs, states, Random};
 use reference::image::{image_of, Image, Row, FUNCTION_CALL, RETURN, ROWS};
+use reference::little::texts;
 use reference::machine::{self, handles};
 use reference::translator;
 use reference::{Reference, State};
@@ -27,6 +28,7 @@ const TRIED: [(&str, &[u8]); 20] = [
     ("cause", &[0, 1, 2, 3, 11, 12, 13, 15, 18, 21]),
     ("list_rows", &[0, 1, 2, 3, 11, 12, 13, 16]),
     ("minimise", &[0, 1, 2, 3, 11, 12, 13, 16, 23]),
+    ("little_chart", &[0, 16, 24]),
     ("live_run", &[0, 11, 15, 16, 17, 18]),
     ("live_tick", &[0, 11, 15, 17, 18]),
     ("live_runs", &[0, 16, 17, 22]),
@@ -98,6 +100,41 @@ fn every_call_that_reads_meets_small_letters() {
     for call in calls {
         assert!(summary.small(call) > 100, "{call}\n{summary}");
     }
+}
+
+/// Every little chart is asked for, and often enough what there is not, such as numbers that are small where they are cut.
+#[test]
+fn little_charts_are_asked_for_in_every_way() {
+    let (mut met, mut found) = (BTreeSet::new(), BTreeMap::new());
+    for seed in 0..20_000 {
+        let (frames, number) = little::asked(&mut Random::new(seed));
+        let count = texts(frames).len();
+        let there = |frames: usize, number: usize| number < texts(frames).len();
+        let cut = |number: usize| [number & 0xFF, number & 0xFFFF, number & 0xFFFF_FFFF];
+        if there(frames, number) {
+            met.insert((frames, number));
+        }
+        for (way, asked) in [
+            ("1 frame", frames == 1),
+            ("5 frames", frames == 5),
+            ("the last number", number + 1 == count),
+            ("one past the last number", number == count && count > 0),
+            (
+                "frames that are cut",
+                count == 0 && cut(frames).into_iter().any(|frames| there(frames, number)),
+            ),
+            (
+                "a number that is cut",
+                !there(frames, number) && cut(number).into_iter().any(|cut| there(frames, cut)),
+            ),
+        ] {
+            *found.entry(way).or_insert(0) += usize::from(asked);
+        }
+    }
+    println!("{found:?}");
+    assert_eq!(met.len(), 2 + 18 + 648);
+    let rare: Vec<_> = found.iter().filter(|(_, count)| **count < 100).collect();
+    assert!(rare.is_empty(), "too few are asked for by {rare:?}");
 }
 
 /// What the rows that match at a tick of a fitting state have to do with each other, whether those of this tick have it, and at how

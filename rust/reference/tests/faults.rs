@@ -190,7 +190,8 @@ fn joined(image: &mut Image) {
 }
 
 impl Library for Faulty {
-    as_the_reference!(places, priced_run, cause, list_rows, minimise, prepare, live_run, rebindings, meaning);
+    as_the_reference!(places, priced_run, cause, list_rows, minimise, prepare, live_run);
+    as_the_reference!(rebindings, meaning, little_chart);
 
     fn read_chart(&self, text: &[u8], out: &mut [u8]) -> Answer {
         let answer = entry::read_chart(text, out);

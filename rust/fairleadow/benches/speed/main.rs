@@ -1,7 +1,9 @@
 //! The library against plain Rust written for speed, on the same inputs in one run. `cargo bench --offline` prints four
-//! tables, of calls on texts, of long runs by the rows that a tick looks at, of long runs with prices, and of live calls; a ratio
-//! below 1 means that the library takes less, or that a priced run takes less than one without prices. Where valgrind is at hand, instructions are counted too. A word after `--` picks the lines that have it.
+//! tables, of calls on texts, of little charts, of long runs by the rows that a tick looks at, of long runs with prices, and of live
+//! calls; a ratio below 1 means that the library takes less, or that a priced run takes less than one without prices. Where valgrind is
+//! at hand, instructions are counted too. A word after `--` picks the lines that have it.
 
+mod little;
 mod live;
 mod measure;
 mod prices;
@@ -14,13 +16,15 @@ fn main() {
     let words: Vec<String> = env::args().skip(1).collect();
     if let [first, line, side] = &words[..] {
         if first == measure::ONE_CALL {
-            let [texts, rows, live] = [texts::lines(), rows::lines(), live::lines()];
-            let lines = texts.into_iter().chain(rows).chain(prices::lines()).chain(live).collect();
+            let lines = [texts::lines(), little::lines(), rows::lines(), prices::lines(), live::lines()];
+            let lines = lines.into_iter().flatten().collect();
             return measure::make_one_call(lines, line, side);
         }
     }
     let wanted = |line: &str| words.iter().all(|word| word.starts_with("--") || line.contains(word));
     measure::print_table(&["Library", "Plain Rust"], texts::lines(), wanted);
+    println!();
+    measure::print_table(&["Library", "Plain Rust"], little::lines(), wanted);
     println!();
     measure::print_table(&rows::SIDES, rows::lines(), wanted);
     println!();

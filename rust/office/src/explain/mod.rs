@@ -92,7 +92,7 @@ fn of_records(records: &[[u8; RECORD]], refusal: &Refusal, voice: Voice) -> Opti
     }
 }
 
-/// Refusals 14 to 18, 21, 22 and 27, which name no line.
+/// Refusals 14 to 18, 21, 22, 24 and 27, which name no line.
 fn of_run(refusal: &Refusal) -> Option<Problem> {
     let ticks = counted(refusal.count, "tick");
     let (words, advice) = match refusal.number {
@@ -115,6 +115,10 @@ fn of_run(refusal: &Refusal) -> Option<Problem> {
         22 => (
             "this number cannot be given to that scheme".to_string(),
             "a number and a scheme from 2 to the highest one, and a number that is not the handler's",
+        ),
+        24 => (
+            "there is no such little chart".to_string(),
+            "a frame count of 2, 3 or 4, and a number that the wall sheet has; the first is 0",
         ),
         27 => (
             "there are too many words for one price".to_string(),

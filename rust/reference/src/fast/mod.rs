@@ -5,6 +5,7 @@ mod chart;
 mod frames;
 mod image;
 mod kept;
+mod little;
 mod live;
 mod machine;
 mod minimise;
@@ -123,6 +124,10 @@ fn put_smaller(text: &[u8], out: &mut [u8]) -> Result<usize, Refusal> {
     let (frames, parts) = accepted(text, &mut frames)?;
     let mut smaller = [[0; 10]; IMAGE_FRAMES];
     put(minimise::fill(frames, &parts, &mut smaller)?, out)
+}
+
+fn put_little(frames: usize, number: usize, out: &mut [u8]) -> Result<usize, Refusal> {
+    put(&little::fill(frames, number)?[..frames], out)
 }
 
 /// A run on an image's text. Where it `SCANS`, each tick that takes a row looks through all rows of the image, to compare times.
@@ -264,6 +269,10 @@ impl Library for Fast {
 
     fn minimise(&self, image: &[u8], out: &mut [u8]) -> Answer {
         answered(put_smaller(image, out))
+    }
+
+    fn little_chart(&self, frames: usize, number: usize, text: &mut [u8]) -> Answer {
+        answered(put_little(frames, number, text))
     }
 
     fn prepare(&self, image: &[u8], table: &mut [u8]) -> Answer {

@@ -1,4 +1,5 @@
-//! Random inputs from a seed: charts, images, tables, states, words, buffers, lists of runs and of prices, sizes of letters, and damage to each.
+//! Random inputs from a seed: charts, images, tables, states, words, buffers, lists of runs and of prices, sizes of letters, numbers of
+//! little charts, and damage to each.
 
 pub mod alike;
 pub mod chains;
@@ -7,6 +8,7 @@ pub mod damage;
 pub mod images;
 pub mod ladders;
 pub mod letters;
+pub mod little;
 pub mod prices;
 pub mod random;
 pub mod runs;

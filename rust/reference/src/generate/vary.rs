@@ -61,6 +61,7 @@ fn change(random: &mut Random, entry: EntryPoint, input: &mut Input) {
             }
             remember(input);
         }
+        EntryPoint::LittleChart => input.chart = random.below(648),
         EntryPoint::Fresh | EntryPoint::Meaning => input.value = random.below(256),
     }
 }

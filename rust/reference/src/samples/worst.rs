@@ -11,6 +11,7 @@ use crate::entry::minimised;
 use crate::entry_point::{EntryPoint, Input};
 use crate::frames::{text_of, Frame};
 use crate::image::{image_of, Image};
+use crate::little;
 use crate::prepare::table_of;
 use crate::state::{fresh_state, State};
 use crate::{machine, translator};
@@ -63,6 +64,7 @@ pub fn known(entry: EntryPoint) -> Vec<Candidate> {
         }
         EntryPoint::CheckImage | EntryPoint::Prepare | EntryPoint::ListRows => images(),
         EntryPoint::Minimise => smaller_images(),
+        EntryPoint::LittleChart => little_charts(),
         EntryPoint::Tick
         | EntryPoint::Run
         | EntryPoint::PricedRun
@@ -84,6 +86,20 @@ fn values(name: &str, all: std::ops::RangeInclusive<usize>) -> Vec<Candidate> {
     let first = candidate(format!("{name} 32"), Origin::ChartP, 32);
     let rest = all.map(|value| candidate(format!("{name} {value}"), Origin::Construction, value));
     [first].into_iter().chain(rest).collect()
+}
+
+/// Every little chart, the first of 2 frames in chart P's place, and one of each count that there is not.
+fn little_charts() -> Vec<Candidate> {
+    let candidate = |origin, value, chart| {
+        let input = Input { value, chart, ..Input::of(Vec::new()) };
+        Candidate::new(&format!("{value} frames, number {chart}"), origin, input)
+    };
+    let mut all = vec![candidate(Origin::ChartP, 2, 0)];
+    for frames in 1..=5 {
+        let numbers = 0..=little::texts(frames).len();
+        all.extend(numbers.map(|number| candidate(Origin::Construction, frames, number)));
+    }
+    all
 }
 
 fn sample_charts() -> Vec<(String, Origin, Vec<Frame>)> {
@@ -226,6 +242,20 @@ mod tests {
         assert_eq!(answer(EntryPoint::Translate, name), image(34));
         let name = "Begin before falling conditions with 11 numbers";
         assert_eq!(answer(EntryPoint::Translate, name), (10, 0, 0));
+    }
+
+    #[test]
+    fn every_little_chart_is_there() {
+        let answers = known(EntryPoint::LittleChart).into_iter().skip(1).map(|candidate| {
+            let made = EntryPoint::LittleChart.make(&Reference, &candidate.input);
+            (made.answer.number(), made.answer.count())
+        });
+        let mut counts = std::collections::BTreeMap::new();
+        answers.for_each(|answer| *counts.entry(answer).or_insert(0) += 1);
+        assert_eq!(
+            counts.into_iter().collect::<Vec<_>>(),
+            [((0, 46), 2), ((0, 69), 18), ((0, 92), 648), ((24, 0), 5)]
+        );
     }
 
     #[test]

@@ -28,7 +28,7 @@ macro_rules! as_the_reference {
     (@image_calls) => { as_the_reference!(check_image, cause, list_rows, minimise, prepare); };
     (@run_calls) => { as_the_reference!(run, priced_run, live_run); };
     (@rebindings) => { as_the_reference!(rebind, live_rebind); };
-    (@value_calls) => { as_the_reference!(fresh, meaning); };
+    (@value_calls) => { as_the_reference!(fresh, meaning, little_chart); };
     (@read_chart) => { as_the_reference!(@fn read_chart(text: &[u8], out: &mut [u8]) -> reference::Answer); };
     (@write_chart) => { as_the_reference!(@fn write_chart(records: &[u8], out: &mut [u8]) -> reference::Answer); };
     (@translate) => { as_the_reference!(@fn translate(text: &[u8], out: &mut [u8]) -> reference::Answer); };
@@ -51,6 +51,9 @@ macro_rules! as_the_reference {
         as_the_reference!(@fn list_rows(image: &[u8], firsts: &mut [u16], counts: &mut [u16]) -> reference::Answer);
     };
     (@minimise) => { as_the_reference!(@fn minimise(image: &[u8], out: &mut [u8]) -> reference::Answer); };
+    (@little_chart) => {
+        as_the_reference!(@fn little_chart(frames: usize, number: usize, text: &mut [u8]) -> reference::Answer);
+    };
     (@prepare) => { as_the_reference!(@fn prepare(image: &[u8], table: &mut [u8]) -> reference::Answer); };
     (@live_run) => { as_the_reference!(@run live_run); };
     (@rebind) => { as_the_reference!(@rebind rebind); };

@@ -2,8 +2,8 @@
 //! lathe has 64 kilobytes: each call has to leave room for the chart's text and the image's, a preparation for the image's
 //! text and the table, a live call for the table; a call that makes an image smaller for as much of both texts as there is room for.
 
-use std::arch::asm;
-use std::ffi::c_void;
+mod little;
+mod stack;
 
 use fairleadow::{c, LABELS, LINE, OPERATIONS, TABLE};
 use reference::entry::translated;
@@ -12,34 +12,11 @@ use reference::frames::{text_of, Frame, CHART_TEXT, IMAGE_TEXT};
 use reference::generate::{charts, Random};
 use reference::samples;
 use reference::samples::worst::candidates;
+use stack::depth;
 
 const MEMORY: usize = 65_536;
-const STACK: usize = 1 << 20;
-const FILL: u8 = 0xA5;
 /// The words of a run: so many that the chart with a handler is left before a drop.
 const WORDS: usize = 522;
-
-/// Runs a job on a filled stack and returns how many bytes of it were written to, from the top down.
-fn depth<T>(job: &mut T, run: extern "C" fn(&mut T)) -> usize {
-    let mut stack = vec![FILL; STACK];
-    let top = (stack.as_mut_ptr() as usize + STACK) & !63;
-    // The job runs to its end on the filled memory, which nothing else uses; then the old stack is back.
-    unsafe {
-        asm!(
-            "mov r12, rsp",
-            "mov rsp, {top}",
-            "call {run}",
-            "mov rsp, r12",
-            top = in(reg) top,
-            run = in(reg) run as *const c_void,
-            in("rdi") std::ptr::from_mut(job),
-            out("r12") _,
-            clobber_abi("C"),
-        );
-    }
-    let untouched = std::hint::black_box(&stack).iter().take_while(|byte| **byte == FILL).count();
-    top - stack.as_ptr() as usize - untouched
-}
 
 struct Translation {
     chart: Vec<u8>,
@@ -259,19 +236,6 @@ fn ticks(ground: Vec<u8>) -> Ticks {
     unsafe { c::fairleadow_fresh(32, &mut state, &mut index, &mut count) };
     let words = (0..WORDS as u16).map(|k| k.wrapping_mul(40_503)).collect();
     Ticks { ground, state, words, masks: vec![0; WORDS], codes: vec![0; WORDS], number: 0 }
-}
-
-/// Writes to 10,000 bytes of its stack.
-extern "C" fn write_ten_thousand(job: &mut u8) {
-    let mut held = [0u8; 10_000];
-    std::hint::black_box(&mut held).fill(*job);
-    *job = held[5_000];
-}
-
-#[test]
-fn the_depth_of_a_known_call_is_measured() {
-    let depth = depth(&mut 7, write_ten_thousand);
-    assert!((10_000..11_000).contains(&depth), "{depth}");
 }
 
 #[test]

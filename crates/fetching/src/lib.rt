@@ -1,0 +1,41 @@
+// The entry point to the little charts: one of them as text, by its frame count and its number.
+use frames::Answer;
+use frames::put_text;
+use frames::refused;
+use little_seek::seek;
+ghost use Rattle.frames.specs.Frame.{size};
+ghost use Rattle.frames.specs.Answer.{Lends};
+ghost use Rattle.little_charts.specs.Little.{littleChart};
+ghost use Rattle.little_seek.specs.Parts.{Few};
+
+// A number past the last chart is 24, then 16; else the text is written. The records serve the search.
+fn fetch(records: &mut [u8], number: usize, text: &mut [u8]) -> Answer
+    requires { ⌜ Few (now records) ⌝ }
+    ensures { λ r. ⌜ Lends (littleChart (size (now (records .entry))) number (now (text .entry))) r (now (text .exit)) ⌝ }
+{
+    let sought = seek(records, 0, number);
+    if !sought.found {
+        return refused(24, 0);
+    }
+    let count = 23 * (records.len() / 10);
+    if text.len() < count {
+        return refused(16, 0);
+    }
+    put_text(text, 0, records);
+    Answer::Done(count)
+}
+
+// A frame count outside 2 to 4 is 24 too. Counts characters; a refusal leaves the buffer as it was.
+pub fn little_chart(frames: usize, number: usize, text: &mut [u8]) -> Answer
+    ensures { λ r. ⌜ Lends (littleChart frames number (now (text .entry))) r (now (text .exit)) ⌝ }
+{
+    if frames < 2 {
+        return refused(24, 0);
+    }
+    if 4 < frames {
+        return refused(24, 0);
+    }
+    let mut records = [0u8; 40];
+    let end = 10 * frames;
+    fetch(&mut records[..end], number, text)
+}

@@ -1,0 +1,4 @@
+pub mod Members
+pub mod Order
+pub mod Nodes
+pub mod Listing

@@ -1,0 +1,1 @@
+// All the little charts: definitions and laws, no function.

@@ -1,0 +1,4 @@
+pub mod Ruled
+pub mod Alike
+pub mod Lists
+pub mod Same

@@ -1,0 +1,92 @@
+// A little chart sought by its number: node records are tried place by place, and the charts that are found are counted down.
+use chart_check::check_chart;
+use frames::Answer;
+use frames::put_bytes;
+use little_nodes::any_lonely;
+use little_nodes::first_number;
+use little_nodes::is_barred;
+use little_nodes::node;
+use little_nodes::past_number;
+ghost use mathlib.Core.Path.{_≡_};
+ghost use mathlib.Core.List.{_++_};
+ghost use Prim.Native.Nat.{_*_, _-_, _≤_, _<_};
+ghost use lib.ListN.{take};
+ghost use Rattle.frames.specs.Frame.{size};
+ghost use Rattle.little_search.specs.Search.{nodeCount, nodeAt, searched};
+ghost use Rattle.little_seek.specs.Parts.{Few, Placed, Counted, Seeks, accepts};
+
+// Whether the chart was found, and else how many are still to be passed over.
+pub struct Sought {
+    pub found: bool,
+    pub left: usize,
+}
+
+// The records are an accepted chart. A node that no other leads to is looked for first, which takes less time.
+fn accepts(records: &[u8]) -> bool
+    requires { ⌜ Few (now records) ⌝ }
+    ensures { λ r. ⌜ r ≡ accepts (now (records .entry)) ⌝ }
+{
+    if any_lonely(records) {
+        return false;
+    }
+    let answer = check_chart(records);
+    let Answer::Done(_) = answer else {
+        return false;
+    };
+    true
+}
+
+// All records stand: the chart is the one sought, or one to pass over, or none.
+fn count_chart(records: &[u8], left: usize) -> Sought
+    requires { ⌜ Few (now records) ⌝ }
+    ensures { λ r. ⌜ Counted (searched (size (now (records .entry))) 0 (now (records .entry))) left r ⌝ }
+{
+    if !accepts(records) {
+        return Sought { found: false, left };
+    }
+    if left == 0 {
+        return Sought { found: true, left };
+    }
+    Sought {
+        found: false,
+        left: left - 1,
+    }
+}
+
+// Record i at place v.
+fn place(records: &mut [u8], v: usize, i: usize)
+    requires { ⌜ (Few (now records)) × (v < size (now records)) × (i < nodeCount (size (now records))) ⌝ }
+    ensures { λ _. ⌜ Placed (now (records .entry)) v (nodeAt (size (now (records .entry))) i) (now (records .exit)) ⌝ }
+{
+    let ten = node(records.len() / 10, i);
+    put_bytes(records, 10 * v, &ten);
+}
+
+// From place v on all records are tried that may stand there, and the rest after each.
+pub fn seek(records: &mut [u8], v: usize, left: usize) -> Sought
+    requires { ⌜ (Few (now records)) × (v ≤ size (now records)) ⌝ }
+    ensures { λ r. ⌜ Seeks (searched (size (now (records .entry))) (size (now (records .entry)) - v) (take (10 * v) (now (records .entry)))) (take (10 * v) (now (records .entry))) left r (now (records .exit)) ⌝ }
+{
+    let n = records.len() / 10;
+    if v == n {
+        return count_chart(records, left);
+    }
+    let past = past_number(records, v);
+    let mut i = first_number(records, v);
+    let mut rest = left;
+    while i < past {
+        place(records, v, i);
+        i += 1;
+        if !is_barred(records, v) {
+            let sought = seek(records, v + 1, rest);
+            if sought.found {
+                return sought;
+            }
+            rest = sought.left;
+        }
+    }
+    Sought {
+        found: false,
+        left: rest,
+    }
+}

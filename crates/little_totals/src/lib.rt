@@ -1,0 +1,1 @@
+// How many little charts there are; no function.
