@@ -52,7 +52,7 @@ pub struct Refusal {
 }
 
 /// What each refusal is about, number 1 first, as include/fairleadow.h says it.
-const SENSES: [&str; 23] = [
+const SENSES: [&str; 26] = [
     "the length of the text or of the records",
     "a character other than 0-9, A-F, a-f, line feed",
     "the sum of a frame",
@@ -76,6 +76,9 @@ const SENSES: [&str; 23] = [
     "a state whose tick takes no row",
     "a rebinding of or to a number that is not 2 to H, or of the handler's",
     "a word and bit that match no row, or two rows, of a label from 2 up",
+    "a little chart of other than 2 to 4 frames, or a number past the last one",
+    "a spindle's number above 3",
+    "a call while all 64 places of the spindles are taken",
 ];
 
 impl Refusal {
@@ -121,11 +124,11 @@ mod tests {
     #[test]
     fn every_refusal_has_a_sense_of_its_own() {
         let mut senses: Vec<_> =
-            (1..=23).map(|number| Refusal { number, index: 0, count: 0 }.sense()).collect();
+            (1..=26).map(|number| Refusal { number, index: 0, count: 0 }.sense()).collect();
         senses.sort_unstable();
         senses.dedup();
-        assert_eq!(senses.len(), 23);
-        for number in [0, 24, 255] {
+        assert_eq!(senses.len(), 26);
+        for number in [0, 27, 255] {
             let refusal = Refusal { number, index: 0, count: 0 };
             assert_eq!(refusal.sense(), "a number that is no refusal");
         }
@@ -134,7 +137,7 @@ mod tests {
     #[test]
     fn only_some_numbers_name_a_frame() {
         let named = |number: &u8| Refusal { number: *number, index: 9, count: 0 }.frame() == Some(9);
-        let numbers: Vec<u8> = (0..=24).filter(named).collect();
+        let numbers: Vec<u8> = (0..=27).filter(named).collect();
         assert_eq!(numbers, [2, 3, 4, 6, 7, 8, 9, 12, 13]);
     }
 }

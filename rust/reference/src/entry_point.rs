@@ -6,7 +6,7 @@ use crate::entry::minimised;
 use crate::frames::{text_of, Frame};
 use crate::library::{Cause, Library, Meaning, Ticked};
 use crate::state::State;
-use interface::{CHART_TEXT, IMAGE_TEXT, LABELS, RECORDS, TABLE};
+use interface::{CHART_TEXT, IMAGE_TEXT, LABELS, RECORDS, SPINDLES, TABLE};
 
 #[derive(Clone, Copy, Debug, PartialEq, Eq)]
 pub enum EntryPoint {
@@ -22,9 +22,11 @@ pub enum EntryPoint {
     ListRows,
     Minimise,
     Rebind,
+    Spin,
     LiveTick,
     LiveRun,
     LiveRebind,
+    LiveSpin,
     Fresh,
     Meaning,
 }
@@ -36,7 +38,7 @@ pub struct Input {
     pub frames: Vec<Frame>,
     pub state: State,
     pub words: Vec<u16>,
-    /// A stack's size, or a code.
+    /// A stack's size, a code, or the number of a spindle.
     pub value: usize,
     /// A number, and the scheme that is to serve it.
     pub rebinding: (usize, usize),
@@ -60,10 +62,11 @@ pub struct Made {
     pub masks: Vec<u32>,
     pub codes: Vec<u8>,
     pub state: State,
+    pub states: Vec<State>,
 }
 
 impl EntryPoint {
-    pub const ALL: [EntryPoint; 17] = [
+    pub const ALL: [EntryPoint; 19] = [
         EntryPoint::ReadChart,
         EntryPoint::WriteChart,
         EntryPoint::Translate,
@@ -76,9 +79,11 @@ impl EntryPoint {
         EntryPoint::ListRows,
         EntryPoint::Minimise,
         EntryPoint::Rebind,
+        EntryPoint::Spin,
         EntryPoint::LiveTick,
         EntryPoint::LiveRun,
         EntryPoint::LiveRebind,
+        EntryPoint::LiveSpin,
         EntryPoint::Fresh,
         EntryPoint::Meaning,
     ];
@@ -97,9 +102,11 @@ impl EntryPoint {
             EntryPoint::ListRows => "list_rows",
             EntryPoint::Minimise => "minimise",
             EntryPoint::Rebind => "rebind",
+            EntryPoint::Spin => "spin",
             EntryPoint::LiveTick => "live_tick",
             EntryPoint::LiveRun => "live_run",
             EntryPoint::LiveRebind => "live_rebind",
+            EntryPoint::LiveSpin => "live_spin",
             EntryPoint::Fresh => "fresh",
             EntryPoint::Meaning => "meaning",
         }
@@ -139,6 +146,12 @@ impl EntryPoint {
             EntryPoint::LiveRebind => {
                 rebound(state, |after| library.live_rebind(&bytes(), after, *number, *scheme))
             }
+            EntryPoint::Spin => {
+                spun(state, *value, |states, taken| library.spin(states, taken, *value, &text(), words[0]))
+            }
+            EntryPoint::LiveSpin => spun(state, *value, |states, taken| {
+                library.live_spin(states, taken, *value, &bytes(), words[0])
+            }),
             EntryPoint::LiveRun => {
                 ran(words.len(), |masks, codes| library.live_run(&bytes(), state, words, masks, codes))
             }
@@ -156,7 +169,8 @@ impl EntryPoint {
 
 fn answered(answer: Answer) -> Made {
     let (bytes, numbers, masks, codes) = (Vec::new(), Vec::new(), Vec::new(), Vec::new());
-    Made { answer, cause: None, meaning: None, bytes, numbers, masks, codes, state: State::NONE }
+    let (state, states) = (State::NONE, Vec::new());
+    Made { answer, cause: None, meaning: None, bytes, numbers, masks, codes, state, states }
 }
 
 fn written(room: usize, call: impl FnOnce(&mut [u8]) -> Answer) -> Made {
@@ -169,6 +183,15 @@ fn ticked(state: &State, call: impl FnOnce(&mut State) -> Ticked) -> Made {
     let mut state = *state;
     let Ticked { answer, mask, code } = call(&mut state);
     Made { masks: vec![mask], codes: vec![code], state, ..answered(answer) }
+}
+
+/// The state is that of this spindle, the others take a place each; the record of places goes to the numbers.
+fn spun(state: &State, spindle: usize, call: impl FnOnce(&mut [State], &mut usize) -> Ticked) -> Made {
+    let mut states = vec![State { depth: 1, ..State::NONE }; SPINDLES];
+    states[spindle] = *state;
+    let mut taken = SPINDLES - 1 + usize::from(state.depth);
+    let Ticked { answer, mask, code } = call(&mut states, &mut taken);
+    Made { masks: vec![mask], codes: vec![code], states, numbers: vec![taken as u16], ..answered(answer) }
 }
 
 fn rebound(state: &State, call: impl FnOnce(&mut State) -> Answer) -> Made {

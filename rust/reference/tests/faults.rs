@@ -190,7 +190,7 @@ fn joined(image: &mut Image) {
 }
 
 impl Library for Faulty {
-    as_the_reference!(places, cause, list_rows, minimise, prepare, live_run, rebindings, meaning);
+    as_the_reference!(places, cause, list_rows, minimise, prepare, live_run, rebindings, spins, meaning);
 
     fn read_chart(&self, text: &[u8], out: &mut [u8]) -> Answer {
         let answer = entry::read_chart(text, out);

@@ -74,7 +74,7 @@ impl Faulty {
 }
 
 impl Library for Faulty {
-    as_the_reference!(chart_calls, image_calls, rebindings, value_calls);
+    as_the_reference!(chart_calls, image_calls, rebindings, spins, value_calls);
 
     fn run(
         &self,

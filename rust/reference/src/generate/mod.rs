@@ -1,4 +1,5 @@
-//! Random inputs from a seed: charts, images, tables, states, words, buffers, lists of runs, sizes of letters, and damage to each.
+//! Random inputs from a seed: charts, images, tables, states, words, buffers, lists of runs, heads of spindles, sizes of letters, and
+//! damage to each.
 
 pub mod alike;
 pub mod chains;
@@ -9,6 +10,7 @@ pub mod ladders;
 pub mod letters;
 pub mod random;
 pub mod runs;
+pub mod spindles;
 pub mod states;
 pub mod tables;
 pub mod vary;

@@ -63,8 +63,12 @@ pub fn known(entry: EntryPoint) -> Vec<Candidate> {
         }
         EntryPoint::CheckImage | EntryPoint::Prepare | EntryPoint::ListRows => images(),
         EntryPoint::Minimise => smaller_images(),
-        EntryPoint::Tick | EntryPoint::Run | EntryPoint::Cause | EntryPoint::Rebind => ticks(entry),
-        EntryPoint::LiveTick | EntryPoint::LiveRun | EntryPoint::LiveRebind => live(entry),
+        EntryPoint::Tick | EntryPoint::Run | EntryPoint::Cause | EntryPoint::Rebind | EntryPoint::Spin => {
+            ticks(entry)
+        }
+        EntryPoint::LiveTick | EntryPoint::LiveRun | EntryPoint::LiveRebind | EntryPoint::LiveSpin => {
+            live(entry)
+        }
         EntryPoint::Fresh => values("stack of", 0..=33),
         EntryPoint::Meaning => values("code", 0..=255),
     }

@@ -204,7 +204,8 @@ impl Library for Faulty {
         prepare,
         live_run,
         rebindings,
-        value_calls
+        spins,
+        value_calls,
     );
 
     fn read_chart(&self, text: &[u8], out: &mut [u8]) -> Answer {

@@ -275,7 +275,17 @@ fn write(state: &mut State, before: &State, label: &Label) {
 }
 
 impl Library for Faulty {
-    as_the_reference!(chart_calls, check_image, cause, list_rows, minimise, run, rebindings, value_calls);
+    as_the_reference!(
+        chart_calls,
+        check_image,
+        cause,
+        list_rows,
+        minimise,
+        run,
+        rebindings,
+        spins,
+        value_calls,
+    );
 
     fn prepare(&self, image: &[u8], table: &mut [u8]) -> Answer {
         let answer = entry::prepare(image, table);

@@ -220,7 +220,7 @@ impl Faulty {
 }
 
 impl Library for Faulty {
-    as_the_reference!(chart_calls, image_calls, meaning);
+    as_the_reference!(chart_calls, image_calls, spins, meaning);
 
     fn fresh(&self, size: usize) -> (Answer, State) {
         let (answer, mut state) = entry::fresh(size);
