@@ -2,6 +2,9 @@
 //! lathe has 64 kilobytes: each call has to leave room for the chart's text and the image's, a preparation for the image's
 //! text and the table, a live call for the table; a call that makes an image smaller for as much of both texts as there is room for.
 
+#[path = "memory/spindles.rs"]
+mod spindles;
+
 use std::arch::asm;
 use std::ffi::c_void;
 
@@ -231,10 +234,15 @@ fn worst_charts() -> Vec<Vec<Frame>> {
     samples.chain([samples::with_handler()]).chain(random).collect()
 }
 
-fn ticks(ground: Vec<u8>) -> Ticks {
+fn fresh(size: usize) -> c::State {
     let (mut index, mut count) = (0, 0);
     let mut state = c::State::NONE;
-    unsafe { c::fairleadow_fresh(32, &mut state, &mut index, &mut count) };
+    unsafe { c::fairleadow_fresh(size, &mut state, &mut index, &mut count) };
+    state
+}
+
+fn ticks(ground: Vec<u8>) -> Ticks {
+    let state = fresh(32);
     let words = (0..WORDS as u16).map(|k| k.wrapping_mul(40_503)).collect();
     Ticks { ground, state, words, masks: vec![0; WORDS], codes: vec![0; WORDS], number: 0 }
 }
