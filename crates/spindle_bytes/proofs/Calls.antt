@@ -24,7 +24,7 @@ use Rattle.machine.specs.Live.{liveTick}
 use Rattle.spindles.specs.declared.SpinReport.{SpinReport}
 use Rattle.spindles.specs.Spindles.{stateAt, Spun, spin, liveSpin}
 use Rattle.spindles.specs.Parts.{badCall, refusedHead, Refuses, Turn, turn, TurnsOn, fourDepths, headSpun, turnSpun, inParts}
-use Rattle.spindles.proofs.InParts.{call-four, call-named, depth-most, spin-parts, live-spin-parts}
+use Rattle.spindles.proofs.InParts.{call-four, call-named, depth-most, head-refused, spin-parts, live-spin-parts}
 use Rattle.turning.proofs.Settled.{Numbered, image-numbered, table-numbered}
 use Rattle.spindle_bytes.specs.Bytes.{partOf, statesOf, bytesSpun, SpinsOn}
 use Rattle.spindle_bytes.specs.Parts.{stateCount, depthsIn}
@@ -64,16 +64,6 @@ unfolding refusedHead
 head-numbered v k l =
     next-refuses (λ m. 1 ≤ m) (when 25 (ltb 3 k)) (λ _. next v λ _. refused 15 0) (when-refuses (λ m. 1 ≤ m) 25 (ltb 3 k) (omega arith))
     (next-refuses (λ m. 1 ≤ m) v (λ _. refused 15 0) l (omega arith))
-
--- it is refused in any case
-head-refused : (v : Verdict) (k : ℕ) → refusedHead v k ≡ fine → ⊥
-unfolding refusedHead
-head-refused v k = go (ltb 3 k) v
-  where
-    go : (t : Bool) (u : Verdict) → (next (when 25 t) λ _. next u λ _. refused 15 0) ≡ fine → ⊥
-    go true u e = let z : _≡_ {A = ℕ} 1 0 = ap (λ (w : Verdict). elim w [ fine ↦ 0 | refused n i ↦ 1 ]) e in omega arith
-    go false fine e = let z : _≡_ {A = ℕ} 1 0 = ap (λ (w : Verdict). elim w [ fine ↦ 0 | refused n i ↦ 1 ]) e in omega arith
-    go false (refused m j) e = let z : _≡_ {A = ℕ} 1 0 = ap (λ (w : Verdict). elim w [ fine ↦ 0 | refused n i ↦ 1 ]) e in omega arith
 
 module _ (b : List ℕ) (taken k : ℕ) (r : SpinReport) where
   head-spins : (u : Verdict) → Numbered u → (u ≡ fine → ⊥) → Refuses u taken r → SpinsOn (headSpun u (statesOf b) taken) b k r b

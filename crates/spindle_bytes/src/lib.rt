@@ -86,8 +86,8 @@ pub fn live_spin_bytes(
         return live_refuse_head(table, spindle, taken);
     }
     let sum = depth_sum(states);
-    let mut part = part_of(states, spindle);
-    let report = live_turn_bytes(table, &mut part, sum, taken, word);
-    put_bytes(states, 130 * spindle, &part);
-    report
+    let mut own = part_of(states, spindle);
+    let turned = live_turn_bytes(table, &mut own, sum, taken, word);
+    put_bytes(states, 130 * spindle, &own);
+    turned
 }

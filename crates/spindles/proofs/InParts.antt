@@ -43,6 +43,16 @@ depth-most states (suc (suc zero)) l = omega arith
 depth-most states (suc (suc (suc zero))) l = omega arith
 depth-most states (suc (suc (suc (suc k)))) l = absurd (omega arith)
 
+-- a bad head is refused in any case
+pub head-refused : (v : Verdict) (k : ℕ) → refusedHead v k ≡ fine → ⊥
+unfolding refusedHead
+head-refused v k = go (ltb 3 k) v
+  where
+    go : (t : Bool) (u : Verdict) → (next (when 25 t) λ _. next u λ _. refused 15 0) ≡ fine → ⊥
+    go true u e = let z : _≡_ {A = ℕ} 1 0 = ap (λ (w : Verdict). elim w [ fine ↦ 0 | refused n i ↦ 1 ]) e in omega arith
+    go false fine e = let z : _≡_ {A = ℕ} 1 0 = ap (λ (w : Verdict). elim w [ fine ↦ 0 | refused n i ↦ 1 ]) e in omega arith
+    go false (refused m j) e = let z : _≡_ {A = ℕ} 1 0 = ap (λ (w : Verdict). elim w [ fine ↦ 0 | refused n i ↦ 1 ]) e in omega arith
+
 module _ (v : Verdict) (states : List State) (taken k : ℕ) (x : Advance) where
   -- a head that is refused before the state is looked at
   head-by : (a b : Bool) (u : Verdict) (y z : Bool) → (not a || b) ≡ true

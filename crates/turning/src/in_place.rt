@@ -63,8 +63,8 @@ fn settle(old: [u8; 130], bytes: &mut [u8; 130], report: TickReport, taken: usiz
     let after = depth_of(bytes) as usize;
     if none_left(before, after, taken) {
         *bytes = old;
-        let answer = refused(26, 0);
-        return turned_back(answer, taken);
+        let full = refused(26, 0);
+        return turned_back(full, taken);
     }
     let answer = report.answer;
     SpinReport {
