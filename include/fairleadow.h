@@ -14,8 +14,8 @@
  * controller/README.md tells of archives for ARM. This file is for both, and for C and C++: lengths are of type size_t, and
  * fairleadow_calls.h, which lies beside it, makes of them what the archive takes.
  *
- * The refusals, tried in this order, but 19 directly after 5, 21 before 18, 22 and 27 after 15, 23 after 13 and 24 before 16
- * (docs/REFUSALS.md tells what to look for; H is how many schemes there are):
+ * The refusals, tried in this order, but 19 directly after 5, 21 before 18, 22 and 27 after 15, 23 after 13, 24 before 16, 25 first of
+ * all and 26 after 17 (docs/REFUSALS.md tells what to look for; H is how many schemes there are):
  *    1  the length of the text or of the records           10  more than 1,024 rows
  *    2  a character other than 0-9, A-F, a-f, line feed    11  the image's header
  *    3  the sum of a frame                                 12  an image frame that stands in a wrong place
@@ -34,6 +34,8 @@
  *                                                              from 2 up
  *                                                          24  a little chart of other than 2 to 4 frames, or a number
  *                                                              past the last one
+ *                                                          25  a spindle's number above 3
+ *                                                          26  a call while all 64 places of the spindles are taken
  *                                                          27  more than 65,536 words in a priced run
  */
 #ifndef FAIRLEADOW_H
@@ -57,6 +59,9 @@ extern "C" {
 /* The most labels of an image. */
 #define FAIRLEADOW_LABELS 256
 
+/* The spindles of a head, and the places that they have together. */
+#define FAIRLEADOW_SPINDLES 4
+#define FAIRLEADOW_STORE 64
 /* The micro operations of a mask, each of which has a price, and the most words of a priced run. */
 #define FAIRLEADOW_OPERATIONS 32
 #define FAIRLEADOW_PRICED_WORDS 65536
@@ -137,6 +142,17 @@ uint8_t fairleadow_tick(const uint8_t *image, size_t image_len, fairleadow_state
 uint8_t fairleadow_rebind(const uint8_t *image, size_t image_len, fairleadow_state *state, size_t number, size_t scheme,
                           size_t *index, size_t *count);
 
+/* One tick of spindle `spindle`, 0 to 3, by its own image. The four states stand in one list, `states_len` tells how many there are, and
+ * *taken how many places they have taken together: 4 when all are fresh, and then what the last call left there. A call takes one of 64
+ * places, a return or a drop gives its places back. Of the other three states only the depths are read, and nothing is changed. Tries 25,
+ * then what the image check tries, then 15: the list is not of four states, their depths do not sum to *taken, that is above 64, or the
+ * spindle's own state does not fit; then 17, 26 and 18. A drop needs no place, and on a full stack a call is a drop or gets 17, never
+ * 26. Counts 1. A refused tick counts 0 and leaves the states, *taken, *mask and *code as they were: after 26 the same tick may be
+ * tried again when another spindle has given back a place. A state of the list may also be rebound (fairleadow_rebind); to tick it by
+ * itself, or to make it fresh, would leave *taken wrong. */
+uint8_t fairleadow_spin(fairleadow_state *states, size_t states_len, size_t *taken, size_t spindle, const uint8_t *image,
+                        size_t image_len, uint16_t word, uint32_t *mask, uint8_t *code, size_t *index, size_t *count);
+
 /* What makes the tick of a state by a word go where it goes: the row that it takes, by its number among the image's rows, from 0;
  * a mask of the conditions that decide, so that every word which agrees with this one on them takes the same row; and the result bit
  * of the number called where the row is a function's, else 2. No tick is made, and the state is only read. A home tick, a call and a
@@ -186,6 +202,11 @@ uint8_t fairleadow_live_tick(const uint8_t *table, size_t table_len, fairleadow_
 /* A rebinding by a table, likewise. Tries 11, 15 and 22; counts 0. A refused rebinding leaves the state as it was. */
 uint8_t fairleadow_live_rebind(const uint8_t *table, size_t table_len, fairleadow_state *state, size_t number, size_t scheme,
                                size_t *index, size_t *count);
+
+/* One tick of a spindle by its own table, likewise. Tries 25, 11, 15, 17, 26 and 18; counts 1. A refused tick counts 0 and leaves the
+ * states, *taken, *mask and *code as they were. */
+uint8_t fairleadow_live_spin(fairleadow_state *states, size_t states_len, size_t *taken, size_t spindle, const uint8_t *table,
+                             size_t table_len, uint16_t word, uint32_t *mask, uint8_t *code, size_t *index, size_t *count);
 
 /* What a tick's code stands for. Returns the tick kind as an image has it (0 plain, 1 operation call, 2 function call, 3 return,
  * 4 home), 5 for a drop, or 255 for a code that no tick has, and writes the number called, 2 to 16, or 0 where none is. Refuses

@@ -1,6 +1,7 @@
 /* How the functions of fairleadow.h reach the archive; to be included by that file alone. Whatever the processor, the archive takes
- * lengths, numbers to rebind and numbers of little charts, and writes index and count as 64 bits, and of what it returns only the low eight bits have a meaning.
- * The functions below have the types of fairleadow.h, and from there on its names stand for them. */
+ * lengths, numbers to rebind, numbers of little charts and spindles' numbers, and writes index, count and the places taken as 64 bits, and
+ * of what it returns only the low eight bits have a meaning. The functions below have the types of fairleadow.h, and from there on its
+ * names stand for them. */
 #ifndef FAIRLEADOW_CALLS_H
 #define FAIRLEADOW_CALLS_H
 
@@ -23,6 +24,8 @@ uint32_t fairleadow_tick(const uint8_t *image, uint64_t image_len, fairleadow_st
                          uint32_t *mask, uint8_t *code, uint64_t *index, uint64_t *count);
 uint32_t fairleadow_rebind(const uint8_t *image, uint64_t image_len, fairleadow_state *state, uint64_t number, uint64_t scheme,
                            uint64_t *index, uint64_t *count);
+uint32_t fairleadow_spin(uint8_t *states, uint64_t states_bytes, uint64_t *taken, uint64_t spindle, const uint8_t *image,
+                         uint64_t image_len, uint16_t word, uint32_t *mask, uint8_t *code, uint64_t *index, uint64_t *count);
 uint32_t fairleadow_cause(const uint8_t *image, uint64_t image_len, const fairleadow_state *state, uint16_t word,
                           uint16_t *row, uint16_t *mask, uint8_t *bit, uint64_t *index, uint64_t *count);
 uint32_t fairleadow_list_rows(const uint8_t *image, uint64_t image_len, uint16_t *firsts, uint64_t firsts_len,
@@ -40,6 +43,8 @@ uint32_t fairleadow_live_tick(const uint8_t *table, uint64_t table_len, fairlead
                               uint32_t *mask, uint8_t *code, uint64_t *index, uint64_t *count);
 uint32_t fairleadow_live_rebind(const uint8_t *table, uint64_t table_len, fairleadow_state *state, uint64_t number, uint64_t scheme,
                                 uint64_t *index, uint64_t *count);
+uint32_t fairleadow_live_spin(uint8_t *states, uint64_t states_bytes, uint64_t *taken, uint64_t spindle, const uint8_t *table,
+                              uint64_t table_len, uint16_t word, uint32_t *mask, uint8_t *code, uint64_t *index, uint64_t *count);
 uint32_t fairleadow_meaning(uint8_t code, uint8_t *called);
 
 typedef struct {
@@ -125,6 +130,24 @@ static inline uint8_t fairleadow_c_rebind(const uint8_t *image, size_t image_len
     return fairleadow_tell(refusal, &told, index, count);
 }
 
+/* How many bytes the archive is told that a list of states has. Of more states than a head has spindles it is told of one more, so that no
+ * count of them wraps around to the bytes of four. */
+static inline uint64_t fairleadow_states_bytes(size_t states_len) {
+    return sizeof(fairleadow_state) * (uint64_t)(states_len > FAIRLEADOW_SPINDLES ? FAIRLEADOW_SPINDLES + 1 : states_len);
+}
+
+/* A record of places that a tick changes is at most 64, and another comes back as it was: it fits a size_t. */
+static inline uint8_t fairleadow_c_spin(fairleadow_state *states, size_t states_len, size_t *taken, size_t spindle,
+                                        const uint8_t *image, size_t image_len, uint16_t word, uint32_t *mask, uint8_t *code,
+                                        size_t *index, size_t *count) {
+    fairleadow_told told;
+    uint64_t places = *taken;
+    uint32_t number = fairleadow_spin((uint8_t *)states, fairleadow_states_bytes(states_len), &places, spindle, image, image_len, word,
+                                      mask, code, &told.index, &told.count);
+    *taken = (size_t)places;
+    return fairleadow_tell(number, &told, index, count);
+}
+
 static inline uint8_t fairleadow_c_cause(const uint8_t *image, size_t image_len, const fairleadow_state *state, uint16_t word,
                                          uint16_t *row, uint16_t *mask, uint8_t *bit, size_t *index, size_t *count) {
     fairleadow_told told;
@@ -183,6 +206,17 @@ static inline uint8_t fairleadow_c_live_rebind(const uint8_t *table, size_t tabl
     return fairleadow_tell(refusal, &told, index, count);
 }
 
+static inline uint8_t fairleadow_c_live_spin(fairleadow_state *states, size_t states_len, size_t *taken, size_t spindle,
+                                             const uint8_t *table, size_t table_len, uint16_t word, uint32_t *mask, uint8_t *code,
+                                             size_t *index, size_t *count) {
+    fairleadow_told told;
+    uint64_t places = *taken;
+    uint32_t number = fairleadow_live_spin((uint8_t *)states, fairleadow_states_bytes(states_len), &places, spindle, table, table_len,
+                                           word, mask, code, &told.index, &told.count);
+    *taken = (size_t)places;
+    return fairleadow_tell(number, &told, index, count);
+}
+
 static inline uint8_t fairleadow_c_meaning(uint8_t code, uint8_t *called) {
     return (uint8_t)(fairleadow_meaning(code, called) & 0xFF);
 }
@@ -197,6 +231,7 @@ static inline uint8_t fairleadow_c_meaning(uint8_t code, uint8_t *called) {
 #define fairleadow_priced_run fairleadow_c_priced_run
 #define fairleadow_tick fairleadow_c_tick
 #define fairleadow_rebind fairleadow_c_rebind
+#define fairleadow_spin fairleadow_c_spin
 #define fairleadow_cause fairleadow_c_cause
 #define fairleadow_list_rows fairleadow_c_list_rows
 #define fairleadow_minimise fairleadow_c_minimise
@@ -205,6 +240,7 @@ static inline uint8_t fairleadow_c_meaning(uint8_t code, uint8_t *called) {
 #define fairleadow_live_run fairleadow_c_live_run
 #define fairleadow_live_tick fairleadow_c_live_tick
 #define fairleadow_live_rebind fairleadow_c_live_rebind
+#define fairleadow_live_spin fairleadow_c_live_spin
 #define fairleadow_meaning fairleadow_c_meaning
 
 #endif

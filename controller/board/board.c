@@ -22,21 +22,24 @@ enum {
     MINIMISE,
     LITTLE_CHART,
     REBIND,
+    SPIN,
     PREPARE,
     LIVE_RUN,
     LIVE_TICK,
     LIVE_REBIND,
+    LIVE_SPIN,
     MEANING,
     KNOWN,
 };
 
-/* As it stands in a message: numbers with the low byte first, 192 bytes. */
+/* As it stands in a message: numbers with the low byte first, 196 bytes. */
 typedef struct {
     uint32_t call;
     uint32_t masks, words, codes, output, input; /* how many of each */
     uint32_t value;                              /* a stack's size, a code, how many firsts a list has, a number to rebind, how many
-                                                  * words of the flash are run, or a little chart's number */
+                                                  * words of the flash are run, a little chart's number, or a spindle */
     uint32_t scheme;                             /* the scheme that is to serve it, or how many frames a little chart has */
+    uint32_t taken;                              /* the places that the spindles have taken */
     uint32_t number, index, count;               /* the answer */
     uint32_t stack;                              /* the bytes of stack that the call took */
     uint32_t code;                               /* the bytes of the library's code */
@@ -93,6 +96,19 @@ __attribute__((noinline)) static uint8_t priced_run(const uint8_t *image, const 
     return number;
 }
 
+/* The tick of a spindle, by an image or by a table: the output is the states, which lie anywhere. */
+typedef uint8_t (*spinning)(fairleadow_state *, size_t, size_t *, size_t, const uint8_t *, size_t, uint16_t, uint32_t *, uint8_t *,
+                            size_t *, size_t *);
+
+static uint8_t spin(spinning call, uint8_t *output, const uint8_t *input, uint16_t word, uint32_t *mask, uint8_t *code, size_t *index,
+                    size_t *count) {
+    fairleadow_state *states = (fairleadow_state *)output;
+    size_t taken = head.taken;
+    uint8_t number = call(states, head.output / sizeof *states, &taken, head.value, input, head.input, word, mask, code, index, count);
+    head.taken = taken;
+    return number;
+}
+
 /* One call, on the buffers as they lie. A function of its own: its frame is that of a caller, and counted. */
 __attribute__((noinline)) static void make_call(void) {
     uint32_t *masks = (uint32_t *)buffers.bytes;
@@ -146,6 +162,9 @@ __attribute__((noinline)) static void make_call(void) {
     case REBIND:
         number = fairleadow_rebind(input, head.input, &head.state, head.value, head.scheme, &index, &count);
         break;
+    case SPIN:
+        number = spin(fairleadow_spin, output, input, words[0], masks, codes, &index, &count);
+        break;
     case PREPARE:
         number = fairleadow_prepare(input, head.input, output, head.output, &index, &count);
         break;
@@ -158,6 +177,9 @@ __attribute__((noinline)) static void make_call(void) {
         break;
     case LIVE_REBIND:
         number = fairleadow_live_rebind(input, head.input, &head.state, head.value, head.scheme, &index, &count);
+        break;
+    case LIVE_SPIN:
+        number = spin(fairleadow_live_spin, output, input, words[0], masks, codes, &index, &count);
         break;
     case MEANING:
         number = fairleadow_meaning((uint8_t)head.value, codes);
@@ -183,7 +205,7 @@ void fault(void) {
 }
 
 int main(void) {
-    _Static_assert(sizeof head == 192, "the head is as rust/board has it");
+    _Static_assert(sizeof head == 196, "the head is as rust/board has it");
     host_open();
     for (;;) {
         host_read(&head, sizeof head);

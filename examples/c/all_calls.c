@@ -1,8 +1,8 @@
 /* Makes every call of the header on the chart on standard input: reads it and writes it back, counts its places, translates it,
  * checks the image, runs eight words from a fresh state of three places, makes the same ticks one by one, both on the image and on
- * the table prepared from it, runs them with prices, rebinds each number up to 3 to its own scheme, and tells what each code stands for,
- * which signals made each tick go on and which rows each label has, and joins the labels that act alike. Then it fetches every little
- * chart. Prints what came of each. */
+ * the table prepared from it, runs them with prices, rebinds each number up to 3 to its own scheme, makes the ticks on each of four
+ * spindles, and tells what each code stands for, which signals made each tick go on and which rows each label has, and joins the labels
+ * that act alike. Then it fetches every little chart. Prints what came of each. */
 #include <stdio.h>
 #include <string.h>
 
@@ -200,6 +200,55 @@ static int rebind(size_t length, size_t prepared) {
     return 0;
 }
 
+/* Four spindles and the places that they have taken. */
+typedef struct {
+    fairleadow_state states[FAIRLEADOW_SPINDLES];
+    size_t taken;
+} head;
+
+/* What a tick of a spindle of a list of so many states answers, by the image and by the table. */
+static void tell_refusals(const char *what, head *kept, size_t states, size_t spindle, size_t length, size_t prepared) {
+    uint32_t mask;
+    uint8_t code;
+    size_t index, count;
+    printf("%s: %u", what, fairleadow_spin(kept->states, states, &kept->taken, spindle, image, length, 0, &mask, &code, &index, &count));
+    printf(", by the table %u\n",
+           fairleadow_live_spin(kept->states, states, &kept->taken, spindle, table, prepared, 0, &mask, &code, &index, &count));
+}
+
+/* Each word ticks each of four spindles, by the image and by the table; then a spindle that there is not (25), and lists that are not of
+ * four states (15), one of them with so many that their bytes, counted in a size_t, would be those of four. */
+static int spin(size_t length, size_t prepared) {
+    head on_image, on_table;
+    size_t index, count, most = 0;
+    uint32_t masks[2];
+    uint8_t number, codes[2];
+    int same = 1;
+    memset(&on_image, 0, sizeof on_image);
+    for (size_t k = 0; k < FAIRLEADOW_SPINDLES; k++)
+        if ((number = fairleadow_fresh(3, &on_image.states[k], &index, &count)))
+            return refused(number, index);
+    on_image.taken = FAIRLEADOW_SPINDLES;
+    on_table = on_image;
+    for (size_t i = 0; i < WORDS * FAIRLEADOW_SPINDLES; i++) {
+        size_t spindle = i % FAIRLEADOW_SPINDLES;
+        uint16_t word = words[i / FAIRLEADOW_SPINDLES];
+        if ((number = fairleadow_spin(on_image.states, FAIRLEADOW_SPINDLES, &on_image.taken, spindle, image, length, word, &masks[0],
+                                      &codes[0], &index, &count)) ||
+            (number = fairleadow_live_spin(on_table.states, FAIRLEADOW_SPINDLES, &on_table.taken, spindle, table, prepared, word,
+                                           &masks[1], &codes[1], &index, &count)))
+            return refused(number, index);
+        same &= !memcmp(&on_image, &on_table, sizeof on_image) && masks[0] == masks[1] && codes[0] == codes[1];
+        most = on_image.taken > most ? on_image.taken : most;
+    }
+    printf("places of four spindles: %zu taken, %zu at most\nmade on the table: %s\n", on_image.taken, most,
+           same ? "the same" : "another outcome");
+    tell_refusals("spindle 4", &on_image, FAIRLEADOW_SPINDLES, 4, length, prepared);
+    tell_refusals("three states", &on_image, 3, 0, length, prepared);
+    tell_refusals("more states than there can be", &on_image, ((size_t)-1 >> 1) + 1 + FAIRLEADOW_SPINDLES, 0, length, prepared);
+    return 0;
+}
+
 int main(void) {
     outcome all;
     size_t index, count, prepared, none;
@@ -217,7 +266,8 @@ int main(void) {
     if ((number = fairleadow_prepare(image, count, table, sizeof table, &index, &prepared)))
         return refused(number, index);
     printf("bytes of the table: %zu\n", prepared);
-    if (run_and_tick(count, &all) || live_run_and_tick(prepared, &all) || run_with_prices(count, &all) || rebind(count, prepared))
+    if (run_and_tick(count, &all) || live_run_and_tick(prepared, &all) || run_with_prices(count, &all) || rebind(count, prepared)
+        || spin(count, prepared))
         return 1;
     tell_codes(all.codes, WORDS);
     return tell_causes(count) || tell_rows(count) || tell_smaller(count) || tell_little_charts();

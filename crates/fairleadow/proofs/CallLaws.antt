@@ -16,8 +16,11 @@ use Rattle.priced_runs.specs.declared.Priced.{Priced}
 use Rattle.priced_runs.specs.PricedRun.{PricedRun}
 use Rattle.priced_runs.specs.InPlace.{PricedOn}
 use Rattle.rebinding.specs.Rebind.{RebindsOn}
+use Rattle.spindles.specs.declared.SpinReport.{SpinReport}
+use Rattle.spindles.specs.Spindles.{Spun}
+use Rattle.spindle_bytes.specs.Bytes.{SpinsOn}
 use Rattle.telling.specs.Told.{Told, Ticked}
-use Rattle.fairleadow.specs.Calls.{RunsC, PricedC, AdvancesC, RebindsC}
+use Rattle.fairleadow.specs.Calls.{RunsC, PricedC, AdvancesC, RebindsC, SpinsC}
 
 pub told-as : {a b : Reply} {n i m : ℕ} → a ≡ b → Told a n i m → Told b n i m
 told-as {n = n} {i = i} {m = m} e t = subst (λ (x : Reply). Told x n i m) e t
@@ -50,4 +53,18 @@ tick-told {x = x} {r = r} {m₀ = m₀} {k₀ = k₀} {n = n} advances ticked =
       bytes = advances .bytes;
       mask = ticked .mask ∙ ap (λ (t : Bool). pick t (r .mask) m₀) test ∙ ap (λ (v : ℕ). pick (eqb (number (x .reply)) 0) v m₀) (advances .mask);
       code = ticked .code ∙ ap (λ (t : Bool). pick t (r .code) k₀) test ∙ ap (λ (v : ℕ). pick (eqb (number (x .reply)) 0) v k₀) (advances .code);
+    }
+
+pub spin-told : {x : Spun} {before after : List ℕ} {spindle : ℕ} {r : SpinReport} {m₀ k₀ n i m mask code : ℕ} → SpinsOn x before spindle r after
+    → Ticked (record { answer = r .answer; mask = r .mask; code = r .code }) m₀ k₀ n i m mask code
+    → SpinsC x before spindle m₀ k₀ n i m after (r .taken) mask code
+spin-told {x = x} {r = r} {m₀ = m₀} {k₀ = k₀} {n = n} spins ticked =
+    let same : n ≡ number (x .reply) = ticked .told .number-is ∙ ap number (spins .answered) in
+    let test : eqb n 0 ≡ eqb (number (x .reply)) 0 = ap (λ (k : ℕ). eqb k 0) same in
+    record {
+      told = told-as (spins .answered) (ticked .told);
+      bytes = spins .bytes;
+      taken = spins .taken;
+      mask = ticked .mask ∙ ap (λ (t : Bool). pick t (r .mask) m₀) test ∙ ap (λ (v : ℕ). pick (eqb (number (x .reply)) 0) v m₀) (spins .mask);
+      code = ticked .code ∙ ap (λ (t : Bool). pick t (r .code) k₀) test ∙ ap (λ (v : ℕ). pick (eqb (number (x .reply)) 0) v k₀) (spins .code);
     }

@@ -1,5 +1,5 @@
 -- What a call from C hands back, and what it leaves in the bytes of a state: for each of Lends, Lists, Makes, Runs, PricedOn, Advances,
--- Tells and RebindsOn the record for C.
+-- Tells, RebindsOn and SpinsOn the record for C.
 use Prim.Native.Nat.{ℕ}
 use mathlib.Core.Path.{_≡_}
 use mathlib.Core.List.{List}
@@ -17,6 +17,8 @@ use Rattle.cause.specs.Cause as cause
 use Rattle.rebinding.specs.Rebind.{rebind, liveRebind}
 use Rattle.runs.specs.InPlace.{bytesAfter, ifTicked}
 use Rattle.state.specs.Bytes.{stateOf, bytesOf}
+use Rattle.spindles.specs.Spindles.{Spun, spin, liveSpin}
+use Rattle.spindle_bytes.specs.Bytes.{statesOf, ifSpun, bytesSpun}
 use Rattle.telling.specs.Told.{Told}
 
 -- a call with one lent buffer
@@ -99,3 +101,18 @@ liveRebindFor table state number scheme = liveRebind table (stateOf state) numbe
 pub record RebindsC (x : Made) (before : List ℕ) (returned at made : ℕ) (after : List ℕ) : Type 0 where
   pub told : Told (x .reply) returned at made
   pub bytes : after ≡ pick (eqb (number (x .reply)) 0) (bytesOf (x .state)) before
+
+-- one tick of a spindle among four whose states the bytes hold, and the same on a prepared table
+abbrev pub spinFor : List ℕ → List ℕ → ℕ → ℕ → ℕ → Spun
+spinFor image states taken spindle word = spin image (statesOf states) taken spindle word
+
+abbrev pub liveSpinFor : List ℕ → List ℕ → ℕ → ℕ → ℕ → Spun
+liveSpinFor table states taken spindle word = liveSpin table (statesOf states) taken spindle word
+
+-- a call that makes it, with the bytes before it and after it, mask and code before it, and the record, mask and code after it
+pub record SpinsC (x : Spun) (before : List ℕ) (spindle m₀ k₀ returned at made : ℕ) (after : List ℕ) (recorded m k : ℕ) : Type 0 where
+  pub told : Told (x .reply) returned at made
+  pub bytes : after ≡ bytesSpun before spindle x
+  pub taken : recorded ≡ x .taken
+  pub mask : m ≡ ifSpun x (x .mask) m₀
+  pub code : k ≡ ifSpun x (x .code) k₀

@@ -4,6 +4,7 @@ use cause::cause_bytes;
 use codes::Meaning;
 use codes::meaning_of;
 use machine::State;
+use machine::TickReport;
 use machine::live_run_bytes;
 use machine::live_tick_bytes;
 use machine::run_bytes;
@@ -11,6 +12,8 @@ use machine::tick_bytes;
 use priced_runs::priced_run_bytes;
 use rebinding::live_rebind_bytes;
 use rebinding::rebind_bytes;
+use spindle_bytes::live_spin_bytes;
+use spindle_bytes::spin_bytes;
 use state_bytes::bytes_of;
 use telling::tell;
 use telling::tell_tick;
@@ -25,7 +28,8 @@ ghost use Rattle.state.specs.State.{freshState};
 ghost use Rattle.tables.specs.Prepare.{prepare};
 ghost use Rattle.listing.specs.Listing.{list};
 ghost use Rattle.telling.specs.Told.{Told};
-ghost use Rattle.fairleadow.specs.Calls.{LendsC, ListsC, MakesC, runFor, liveRunFor, RunsC, pricedRunFor, PricedC, tickFor, liveTickFor, AdvancesC, causeFor, CausesC, rebindFor, liveRebindFor, RebindsC};
+ghost use Rattle.fairleadow.specs.Calls.{LendsC, ListsC, MakesC, runFor, liveRunFor, RunsC, pricedRunFor, PricedC, tickFor, liveTickFor, AdvancesC};
+ghost use Rattle.fairleadow.specs.Calls.{causeFor, CausesC, rebindFor, liveRebindFor, RebindsC, spinFor, liveSpinFor, SpinsC};
 ghost use Rattle.fairleadow.specs.Meant.{Meant};
 
 #[no_mangle]
@@ -270,6 +274,59 @@ pub extern "C" fn fairleadow_live_rebind(
 {
     let answer = live_rebind_bytes(table, state, number, scheme);
     tell(answer, at, made)
+}
+
+// One tick of one of four spindles, whose states are 520 bytes; a refused one writes no mask, no code and no state, and leaves `taken` as it was.
+#[no_mangle]
+pub extern "C" fn fairleadow_spin(
+    states: &mut [u8],
+    taken: &mut usize,
+    spindle: usize,
+    image: &[u8],
+    word: u16,
+    mask: &mut u32,
+    code: &mut u8,
+    at: &mut usize,
+    made: &mut usize,
+) -> u8
+    ensures { λ r. ⌜ SpinsC (spinFor (now (image .entry)) (now (states .entry)) (now (taken .entry)) spindle word) (now (states .entry)) spindle (now (mask .entry)) (now (code .entry)) r (now (at .exit)) (now (made .exit)) (now (states .exit)) (now (taken .exit)) (now (mask .exit)) (now (code .exit)) ⌝ }
+{
+    let recorded = *taken;
+    let report = spin_bytes(states, recorded, spindle, image, word);
+    *taken = report.taken;
+    let answer = report.answer;
+    let ticked = TickReport {
+        answer,
+        mask: report.mask,
+        code: report.code,
+    };
+    tell_tick(ticked, mask, code, at, made)
+}
+
+#[no_mangle]
+pub extern "C" fn fairleadow_live_spin(
+    states: &mut [u8],
+    taken: &mut usize,
+    spindle: usize,
+    table: &[u8],
+    word: u16,
+    mask: &mut u32,
+    code: &mut u8,
+    at: &mut usize,
+    made: &mut usize,
+) -> u8
+    ensures { λ r. ⌜ SpinsC (liveSpinFor (now (table .entry)) (now (states .entry)) (now (taken .entry)) spindle word) (now (states .entry)) spindle (now (mask .entry)) (now (code .entry)) r (now (at .exit)) (now (made .exit)) (now (states .exit)) (now (taken .exit)) (now (mask .exit)) (now (code .exit)) ⌝ }
+{
+    let recorded = *taken;
+    let report = live_spin_bytes(states, recorded, spindle, table, word);
+    *taken = report.taken;
+    let answer = report.answer;
+    let ticked = TickReport {
+        answer,
+        mask: report.mask,
+        code: report.code,
+    };
+    tell_tick(ticked, mask, code, at, made)
 }
 
 // What made a tick go on: writes the row's number, the conditions that decide it and the result bit, each 0 with a refusal.

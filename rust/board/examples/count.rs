@@ -39,7 +39,7 @@ fn longest(lines: &[Counted], wanted: impl Fn(&Candidate) -> bool) -> Option<&Co
 }
 
 fn print_entry(entry: EntryPoint, lines: &[Counted], all: bool) {
-    let live = matches!(entry, EntryPoint::LiveTick | EntryPoint::LiveRun);
+    let live = matches!(entry, EntryPoint::LiveTick | EntryPoint::LiveRun | EntryPoint::LiveSpin);
     let runs = matches!(entry, EntryPoint::Run | EntryPoint::PricedRun | EntryPoint::LiveRun);
     let words = if runs { " of 64 words" } else { "" };
     let call = format!("{}{words}", entry.name());

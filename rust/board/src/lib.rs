@@ -12,7 +12,7 @@ use std::process::{Child, ChildStdin, ChildStdout, Command, Stdio};
 pub use count::{Count, Counting};
 use interface::{Answer, Cause, Library, Meaning, Priced, Prices, State, Ticked, PRICED_WORDS};
 pub use message::Call;
-use message::{Message, Told, HEAD};
+use message::{state_bytes, take_state, Message, Told, HEAD, STATE_BYTES};
 
 /// The bytes that the board has for the buffers of a call.
 pub const BUFFERS: usize = 47_104;
@@ -207,6 +207,32 @@ impl<'a> Board<'a> {
         self.filled(message, text)
     }
 
+    /// The states go to the board and come back as its output; the value is the spindle's number.
+    fn spun(
+        &self,
+        call: Call,
+        states: &mut [State],
+        taken: &mut usize,
+        spindle: usize,
+        input: &[u8],
+        word: u16,
+    ) -> Option<Ticked> {
+        let mut message = Message::new(call, input);
+        let recorded = as_wide_as_there(*taken);
+        (message.value, message.taken) = (as_wide_as_there(spindle), recorded);
+        (message.words, message.masks, message.codes) = (vec![word], vec![0], vec![0]);
+        message.output = states.iter().flat_map(state_bytes).collect();
+        let told = self.made(&mut message)?;
+        for (state, bytes) in states.iter_mut().zip(message.output.chunks_exact(STATE_BYTES)) {
+            take_state(state, bytes);
+        }
+        // a record that was too wide to be handed over whole stays as it is where it comes back
+        if message.taken != recorded {
+            *taken = message.taken as usize;
+        }
+        Some(Ticked { answer: told.answer(), mask: message.masks[0], code: message.codes[0] })
+    }
+
     fn ticked(&self, call: Call, input: &[u8], state: &mut State, word: u16) -> Option<Ticked> {
         let (mut masks, mut codes) = ([0], [0]);
         let (answer, after) = self.ran(call, input, state, &[word], &mut masks, &mut codes)?;
@@ -287,6 +313,18 @@ impl Library for Board<'_> {
         self.ticked(Call::Tick, image, state, word).unwrap_or_else(|| self.instead.tick(image, state, word))
     }
 
+    fn spin(
+        &self,
+        states: &mut [State],
+        taken: &mut usize,
+        spindle: usize,
+        image: &[u8],
+        word: u16,
+    ) -> Ticked {
+        self.spun(Call::Spin, states, taken, spindle, image, word)
+            .unwrap_or_else(|| self.instead.spin(states, taken, spindle, image, word))
+    }
+
     fn rebind(&self, image: &[u8], state: &mut State, number: usize, scheme: usize) -> Answer {
         self.rebound(Call::Rebind, image, state, number, scheme)
             .unwrap_or_else(|| self.instead.rebind(image, state, number, scheme))
@@ -327,6 +365,18 @@ impl Library for Board<'_> {
     fn live_tick(&self, table: &[u8], state: &mut State, word: u16) -> Ticked {
         self.ticked(Call::LiveTick, table, state, word)
             .unwrap_or_else(|| self.instead.live_tick(table, state, word))
+    }
+
+    fn live_spin(
+        &self,
+        states: &mut [State],
+        taken: &mut usize,
+        spindle: usize,
+        table: &[u8],
+        word: u16,
+    ) -> Ticked {
+        self.spun(Call::LiveSpin, states, taken, spindle, table, word)
+            .unwrap_or_else(|| self.instead.live_spin(states, taken, spindle, table, word))
     }
 
     fn live_rebind(&self, table: &[u8], state: &mut State, number: usize, scheme: usize) -> Answer {

@@ -1,4 +1,4 @@
-//! A call as it goes to the board and comes back: a head of 192 bytes, then the buffers, masks, words, codes, output and
+//! A call as it goes to the board and comes back: a head of 196 bytes, then the buffers, masks, words, codes, output and
 //! input in this order. controller/board/board.c is the other side.
 
 use interface::{Answer, State};
@@ -20,17 +20,21 @@ pub enum Call {
     Minimise,
     LittleChart,
     Rebind,
+    Spin,
     Prepare,
     LiveRun,
     LiveTick,
     LiveRebind,
+    LiveSpin,
     Meaning,
     /// No call of the library: it takes 4,000 bytes of stack.
     Known,
 }
 
-pub const HEAD: usize = 192;
-const STATE: usize = 60;
+pub const HEAD: usize = 196;
+const STATE: usize = 64;
+/// The bytes of a state.
+pub const STATE_BYTES: usize = 130;
 
 /// One call's buffers and state, before it and after it.
 #[derive(Clone, Debug, PartialEq, Eq)]
@@ -38,6 +42,7 @@ pub struct Message {
     pub call: Call,
     pub value: u32,
     pub scheme: u32,
+    pub taken: u32,
     pub state: State,
     pub masks: Vec<u32>,
     pub words: Vec<u16>,
@@ -75,6 +80,7 @@ impl Message {
             call,
             value: 0,
             scheme: 0,
+            taken: 0,
             state: State::NONE,
             masks: Vec::new(),
             words: Vec::new(),
@@ -98,13 +104,9 @@ impl Message {
         }
         bytes.extend(self.value.to_le_bytes());
         bytes.extend(self.scheme.to_le_bytes());
+        bytes.extend(self.taken.to_le_bytes());
         bytes.resize(STATE, 0);
-        bytes.extend([self.state.size, self.state.depth]);
-        bytes.extend(self.state.places);
-        bytes.extend(self.state.results.map(u8::from));
-        bytes.extend(self.state.serving);
-        bytes.extend(self.state.numbers);
-        bytes.extend(self.state.servers);
+        bytes.extend(state_bytes(&self.state));
         bytes.resize(HEAD, 0);
         self.masks.iter().for_each(|mask| bytes.extend(mask.to_le_bytes()));
         self.words.iter().for_each(|word| bytes.extend(word.to_le_bytes()));
@@ -117,15 +119,8 @@ impl Message {
     /// Takes over what came back. What the call only reads has to be as it was.
     pub fn take(&mut self, head: &[u8], buffers: &[u8]) -> Told {
         let number = |place: usize| u32::from_le_bytes(four(&head[4 * place..]));
-        let state = &head[STATE..];
-        (self.state.size, self.state.depth) = (state[0], state[1]);
-        self.state.places.copy_from_slice(&state[2..34]);
-        for (result, byte) in self.state.results.iter_mut().zip(&state[34..50]) {
-            *result = *byte != 0;
-        }
-        self.state.serving.copy_from_slice(&state[50..66]);
-        self.state.numbers.copy_from_slice(&state[66..98]);
-        self.state.servers.copy_from_slice(&state[98..130]);
+        take_state(&mut self.state, &head[STATE..]);
+        self.taken = number(8);
         let (masks, rest) = buffers.split_at(4 * self.masks.len());
         let (words, rest) = rest.split_at(2 * self.words.len());
         let (codes, rest) = rest.split_at(self.codes.len());
@@ -139,16 +134,39 @@ impl Message {
         assert!(sent.eq(words.iter().copied()), "{:?} changed its words", self.call);
         assert!(self.input == input, "{:?} changed its input", self.call);
         Told {
-            number: u8::try_from(number(8)).expect("a number is a byte and nothing above it"),
-            index: number(9) as usize,
-            count: number(10) as usize,
-            stack: number(11) as usize,
-            code: number(12) as usize,
-            price: u64::from(number(14)) << 32 | u64::from(number(13)),
+            number: u8::try_from(number(9)).expect("a number is a byte and nothing above it"),
+            index: number(10) as usize,
+            count: number(11) as usize,
+            stack: number(12) as usize,
+            code: number(13) as usize,
+            price: u64::from(number(15)) << 32 | u64::from(number(14)),
         }
     }
 }
 
 fn four(bytes: &[u8]) -> [u8; 4] {
     [bytes[0], bytes[1], bytes[2], bytes[3]]
+}
+
+/// A state as C keeps it.
+pub fn state_bytes(state: &State) -> Vec<u8> {
+    let mut bytes = vec![state.size, state.depth];
+    bytes.extend(state.places);
+    bytes.extend(state.results.map(u8::from));
+    bytes.extend(state.serving);
+    bytes.extend(state.numbers);
+    bytes.extend(state.servers);
+    bytes
+}
+
+/// Takes a state over as C kept it.
+pub fn take_state(state: &mut State, bytes: &[u8]) {
+    (state.size, state.depth) = (bytes[0], bytes[1]);
+    state.places.copy_from_slice(&bytes[2..34]);
+    for (result, byte) in state.results.iter_mut().zip(&bytes[34..50]) {
+        *result = *byte != 0;
+    }
+    state.serving.copy_from_slice(&bytes[50..66]);
+    state.numbers.copy_from_slice(&bytes[66..98]);
+    state.servers.copy_from_slice(&bytes[98..STATE_BYTES]);
 }

@@ -14,7 +14,7 @@ use reference::{fresh_state, Reference};
 const CASES: u64 = 20_000;
 
 /// The bytes of stack that each call may take, as controller/README.md states them.
-const STACK: [(Call, usize); 18] = [
+const STACK: [(Call, usize); 21] = [
     (Call::ReadChart, 4_608),
     (Call::WriteChart, 2_048),
     (Call::Translate, 8_192),
@@ -29,10 +29,12 @@ const STACK: [(Call, usize); 18] = [
     (Call::Minimise, 15_360),
     (Call::LittleChart, 4_608),
     (Call::Rebind, 14_336),
+    (Call::Spin, 15_360),
     (Call::Prepare, 14_336),
     (Call::LiveRun, 1_024),
     (Call::LiveTick, 768),
     (Call::LiveRebind, 512),
+    (Call::LiveSpin, 1_536),
     (Call::Meaning, 256),
 ];
 

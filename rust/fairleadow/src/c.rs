@@ -83,6 +83,22 @@ pub type Tick =
 pub type Rebind =
     unsafe extern "C" fn(*const u8, usize, *mut State, usize, usize, *mut usize, *mut usize) -> u8;
 
+/// The tick of a spindle: the states, how many bytes they have, the record of places taken, the spindle's number, an image or a table,
+/// the word, mask, code, index and count. The header has how many states there are, the archive how many bytes.
+pub type Spin = unsafe extern "C" fn(
+    *mut State,
+    usize,
+    *mut usize,
+    usize,
+    *const u8,
+    usize,
+    u16,
+    *mut u32,
+    *mut u8,
+    *mut usize,
+    *mut usize,
+) -> u8;
+
 extern "C" {
     pub fn fairleadow_read_chart(
         text: *const u8,
@@ -163,6 +179,19 @@ extern "C" {
         index: *mut usize,
         count: *mut usize,
     ) -> u8;
+    pub fn fairleadow_spin(
+        states: *mut State,
+        states_bytes: usize,
+        taken: *mut usize,
+        spindle: usize,
+        image: *const u8,
+        image_len: usize,
+        word: u16,
+        mask: *mut u32,
+        code: *mut u8,
+        index: *mut usize,
+        count: *mut usize,
+    ) -> u8;
     pub fn fairleadow_cause(
         image: *const u8,
         image_len: usize,
@@ -237,6 +266,19 @@ extern "C" {
         state: *mut State,
         number: usize,
         scheme: usize,
+        index: *mut usize,
+        count: *mut usize,
+    ) -> u8;
+    pub fn fairleadow_live_spin(
+        states: *mut State,
+        states_bytes: usize,
+        taken: *mut usize,
+        spindle: usize,
+        table: *const u8,
+        table_len: usize,
+        word: u16,
+        mask: *mut u32,
+        code: *mut u8,
         index: *mut usize,
         count: *mut usize,
     ) -> u8;

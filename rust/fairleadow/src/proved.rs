@@ -83,6 +83,21 @@ use crate::c;
 /// assert_eq!(Proved.little_chart(2, 2, &mut text).ok().unwrap_err().number, 24);
 /// # Ok::<(), fairleadow::Refusal>(())
 /// ```
+///
+/// Four spindles have their states in one list and their places from one store; the places taken are recorded beside it:
+///
+/// ```
+/// use fairleadow::{Library, Proved, IMAGE_TEXT, SPINDLES};
+///
+/// let mut image = [0; IMAGE_TEXT];
+/// let length = Proved.translate(b"00010001000000000000FE\n01010000000000000000FE\n", &mut image).ok()?;
+/// let (mut states, mut taken) = ([Proved.fresh(16).1; SPINDLES], SPINDLES);
+/// let ticked = Proved.spin(&mut states, &mut taken, 3, &image[..length], 0);
+/// assert_eq!((ticked.answer.ok()?, ticked.code, taken), (1, 0x04, 4));
+/// let refusal = Proved.spin(&mut states, &mut taken, 4, &image[..length], 0).answer.ok().unwrap_err();
+/// assert_eq!(refusal.to_string(), "refusal 25: a spindle's number above 3");
+/// # Ok::<(), fairleadow::Refusal>(())
+/// ```
 pub struct Proved;
 
 /// Calls with room for index and count, and puts the answer together.
@@ -142,6 +157,36 @@ fn ticked(call: c::Tick, image: &[u8], state: &mut State, word: u16) -> Ticked {
         call(image.as_ptr(), image.len(), &mut kept, word, &mut mask, &mut code, index, count)
     });
     *state = State::from(&kept);
+    Ticked { answer, mask, code }
+}
+
+/// The tick of a spindle, by an image or by a table.
+fn spun(
+    call: c::Spin,
+    states: &mut [State],
+    taken: &mut usize,
+    spindle: usize,
+    image: &[u8],
+    word: u16,
+) -> Ticked {
+    let mut kept: Vec<c::State> = states.iter().map(c::State::from).collect();
+    let (mut mask, mut code) = (0, 0);
+    let answer = answered(|index, count| unsafe {
+        call(
+            kept.as_mut_ptr(),
+            size_of_val(kept.as_slice()),
+            taken,
+            spindle,
+            image.as_ptr(),
+            image.len(),
+            word,
+            &mut mask,
+            &mut code,
+            index,
+            count,
+        )
+    });
+    states.iter_mut().zip(&kept).for_each(|(state, kept)| *state = State::from(kept));
     Ticked { answer, mask, code }
 }
 
@@ -228,6 +273,17 @@ impl Library for Proved {
         ticked(c::fairleadow_tick, image, state, word)
     }
 
+    fn spin(
+        &self,
+        states: &mut [State],
+        taken: &mut usize,
+        spindle: usize,
+        image: &[u8],
+        word: u16,
+    ) -> Ticked {
+        spun(c::fairleadow_spin, states, taken, spindle, image, word)
+    }
+
     fn rebind(&self, image: &[u8], state: &mut State, number: usize, scheme: usize) -> Answer {
         rebound(c::fairleadow_rebind, image, state, number, scheme)
     }
@@ -293,6 +349,17 @@ impl Library for Proved {
 
     fn live_tick(&self, table: &[u8], state: &mut State, word: u16) -> Ticked {
         ticked(c::fairleadow_live_tick, table, state, word)
+    }
+
+    fn live_spin(
+        &self,
+        states: &mut [State],
+        taken: &mut usize,
+        spindle: usize,
+        table: &[u8],
+        word: u16,
+    ) -> Ticked {
+        spun(c::fairleadow_live_spin, states, taken, spindle, table, word)
     }
 
     fn live_rebind(&self, table: &[u8], state: &mut State, number: usize, scheme: usize) -> Answer {

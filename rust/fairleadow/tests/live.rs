@@ -1,4 +1,4 @@
-//! Live calls of the proved library: on prepared tables they are runs, ticks and rebindings, and each byte of chart P's table
+//! Live calls of the proved library: on prepared tables they are runs, ticks, rebindings and ticks of spindles, and each byte of chart P's table
 //! at each of its values, with a handler and without, is answered for as the reference does.
 
 use fairleadow::{Library, Proved};
@@ -21,6 +21,9 @@ fn live_calls_are_the_calls_on_the_image() {
     }
     for number in [0, 15, 22] {
         assert!(summary.count("live_rebind", number) > 0, "{summary}");
+    }
+    for number in [0, 15, 17, 18, 25, 26] {
+        assert!(summary.count("live_spin", number) > 0, "{summary}");
     }
 }
 

@@ -130,6 +130,19 @@ pub trait Library {
         Ticked { answer, mask: masks[0], code: codes[0] }
     }
 
+    /// One tick of a spindle by its own image: the four states stand in one list, and `taken` is how many places they have taken
+    /// together, 4 at first, of 64. Of the other three only the depths are read. Tries 25, what the image check tries, 15, which is
+    /// also given where the list is not of four states, or their depths do not sum to `taken`, or that is above 64, then 17, 26 and
+    /// 18; counts 1. A refusal changes nothing, and mask and code are 0.
+    fn spin(
+        &self,
+        states: &mut [State],
+        taken: &mut usize,
+        spindle: usize,
+        image: &[u8],
+        word: u16,
+    ) -> Ticked;
+
     /// From now on a call of this number opens this scheme, under the number called; schemes that are open go on as they are. Tries what
     /// the image check tries, then 15 and 22; counts 0.
     fn rebind(&self, image: &[u8], state: &mut State, number: usize, scheme: usize) -> Answer;
@@ -173,6 +186,16 @@ pub trait Library {
         *state = after;
         Ticked { answer, mask: masks[0], code: codes[0] }
     }
+
+    /// One tick of a spindle by its own table: what one by its image does. Tries 25, 11, 15, 17, 26 and 18; counts 1.
+    fn live_spin(
+        &self,
+        states: &mut [State],
+        taken: &mut usize,
+        spindle: usize,
+        table: &[u8],
+        word: u16,
+    ) -> Ticked;
 
     /// A rebinding by a table: what a rebinding by its image does. Tries 11, 15 and 22; counts 0.
     fn live_rebind(&self, table: &[u8], state: &mut State, number: usize, scheme: usize) -> Answer;

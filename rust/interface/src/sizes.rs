@@ -34,6 +34,10 @@ pub const FRAME: usize = 10;
 pub const TABLE: usize = FRAMES * FRAME;
 /// The most places of a stack.
 pub const PLACES: usize = 32;
+/// The spindles of a head, numbered from 0.
+pub const SPINDLES: usize = 4;
+/// The places that the spindles have together.
+pub const STORE: usize = 64;
 /// The most words of a priced run.
 pub const PRICED_WORDS: usize = 65_536;
 

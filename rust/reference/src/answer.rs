@@ -1,10 +1,17 @@
 //! What an entry point answers, and how a refusal becomes that.
 
 pub use interface::Answer;
+use interface::Ticked;
 
 /// Success with this count, or the refusal.
 pub fn answered(counted: Result<usize, Refusal>) -> Answer {
     counted.map_or_else(Answer::from, Answer::Done)
+}
+
+/// What a tick hands back for its mask and code, or for its refusal.
+pub fn ticked(made: Result<(u32, u8), Refusal>) -> Ticked {
+    let (mask, code) = made.unwrap_or((0, 0));
+    Ticked { answer: answered(made.map(|_| 1)), mask, code }
 }
 
 /// A refusal found before anything is written: its count is 0.
@@ -12,6 +19,13 @@ pub fn answered(counted: Result<usize, Refusal>) -> Answer {
 pub struct Refusal {
     pub number: u8,
     pub index: usize,
+}
+
+impl Refusal {
+    /// A refusal that names no frame.
+    pub fn of(number: u8) -> Refusal {
+        Refusal { number, index: 0 }
+    }
 }
 
 impl From<Refusal> for Answer {
@@ -23,7 +37,7 @@ impl From<Refusal> for Answer {
 /// Refuses without an index when the test holds.
 pub fn refuse_if(number: u8, test: bool) -> Result<(), Refusal> {
     if test {
-        Err(Refusal { number, index: 0 })
+        Err(Refusal::of(number))
     } else {
         Ok(())
     }

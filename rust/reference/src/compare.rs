@@ -8,6 +8,7 @@ mod minimised;
 mod priced;
 mod rebindings;
 mod rows;
+mod spindles;
 mod ticks;
 
 use std::collections::BTreeMap;
@@ -44,7 +45,8 @@ impl fmt::Display for Difference {
 
 /// How often each call gave each answer (0 for success), how often its ticks dropped the stack and returned at the bottom, how often
 /// they called a number that another scheme served, and how many of its texts had small letters and were refused by none of 1 to 3. And
-/// how many images became smaller when their alike labels were joined, and what was met in priced runs.
+/// how many images became smaller when their alike labels were joined, what was met in priced runs, and how many drops were made while all
+/// places of four spindles were taken.
 #[derive(Debug, Default)]
 pub struct Summary {
     pub answers: BTreeMap<(&'static str, u8), usize>,
@@ -53,6 +55,7 @@ pub struct Summary {
     pub small: BTreeMap<&'static str, usize>,
     pub joined: usize,
     pub priced: PricedRuns,
+    pub full_drops: BTreeMap<&'static str, usize>,
 }
 
 /// Priced runs with an accepted image and a fitting state: those that have a price above 0 when 17 or 18 ends them, those whose sum ends
@@ -88,6 +91,10 @@ impl Summary {
 
     pub fn small(&self, call: &'static str) -> usize {
         self.small.get(call).copied().unwrap_or(0)
+    }
+
+    pub fn full_drops(&self, call: &'static str) -> usize {
+        self.full_drops.get(call).copied().unwrap_or(0)
     }
 
     fn note_letters(&mut self, call: &'static str, text: &[u8]) {
@@ -137,6 +144,9 @@ impl fmt::Display for Summary {
         for (call, count) in &self.swapped {
             writeln!(f, "{call:>12} {count:>8} calls of a number that another scheme serves")?;
         }
+        for (call, count) in &self.full_drops {
+            writeln!(f, "{call:>12} {count:>8} drops while all places are taken")?;
+        }
         for (call, count) in &self.small {
             writeln!(f, "{call:>12} {count:>8} texts with small letters")?;
         }
@@ -148,6 +158,11 @@ impl fmt::Display for Summary {
 /// Compares on so many cases and stops at the first difference.
 pub fn compare(library: &dyn Library, seed: u64, cases: u64) -> Result<Summary, Box<Difference>> {
     compare_by(library, seed, cases, |case| case.one())
+}
+
+/// The same by lists of calls on four spindles alone, which their walks judge.
+pub fn compare_spins(library: &dyn Library, seed: u64, cases: u64) -> Result<Summary, Box<Difference>> {
+    compare_by(library, seed, cases, |case| case.spins())
 }
 
 /// The same by lists of runs, ticks and rebindings of both kinds alone, which the walk judges and not the reference's machine.
@@ -206,10 +221,10 @@ impl<'a> Case<'a> {
             13 => self.calls("live_runs", true),
             14 => self.cause(),
             15 => self.list_rows().and_then(|()| self.minimise()),
-            16 => self.rebind(),
-            17 => self.live_rebind(),
+            16 => self.rebind().and_then(|()| self.spin()),
+            17 => self.live_rebind().and_then(|()| self.live_spin()),
             18 | 19 => self.priced_run(),
-            _ => self.mixture(),
+            _ => self.mixture().and_then(|()| self.spins()),
         }
     }
 

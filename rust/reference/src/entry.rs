@@ -1,6 +1,6 @@
 //! The entry points: which refusals each tries, in order, and what it writes.
 
-use crate::answer::{answered, refuse_if, Answer, Refusal};
+use crate::answer::{answered, refuse_if, ticked, Answer, Refusal};
 use crate::cause::{cause_of, Found};
 use crate::chart::Chart;
 use crate::check::chart_of;
@@ -14,9 +14,10 @@ use crate::places::longest_chain;
 use crate::prepare::table_of;
 use crate::price::{price, Prices, PRICED_WORDS};
 use crate::row_list::row_list;
+use crate::spindles::Head;
 use crate::state::{can_rebind, fresh_state, Shape, State};
 use crate::translator;
-use interface::{Cause, Priced};
+use interface::{Cause, Priced, Ticked, SPINDLES};
 
 /// Writes all of it, or refuses with 16 and writes nothing.
 fn put<T: Copy>(all: &[T], out: &mut [T]) -> Result<(), Refusal> {
@@ -102,7 +103,7 @@ pub fn check_image(text: &[u8]) -> Answer {
 pub fn fresh(size: usize) -> (Answer, State) {
     match fresh_state(size) {
         Some(state) => (Answer::Done(0), state),
-        None => (Refusal { number: 14, index: 0 }.into(), State::NONE),
+        None => (Refusal::of(14).into(), State::NONE),
     }
 }
 
@@ -194,6 +195,15 @@ pub fn rebind(image: &[u8], state: &mut State, number: usize, scheme: usize) -> 
     answered(image_for(image, state).and_then(|image| bind(image.shape(), state, number, scheme)))
 }
 
+/// Refusal 25, what the image check tries, then 15, 17, 26 and 18; counts 1.
+pub fn spin(states: &mut [State], taken: &mut usize, spindle: usize, image: &[u8], word: u16) -> Ticked {
+    ticked(refuse_if(25, spindle >= SPINDLES).and_then(|()| {
+        let image = image_from_text(image)?;
+        let fits = |state: &State| machine::fits(&image, state);
+        Head { states, taken }.turn(spindle, fits, |state| machine::tick(&image, state, word))
+    }))
+}
+
 /// What the image check tries, then 15, 21 and 18; counts 0.
 pub fn cause(image: &[u8], state: &State, word: u16) -> Cause {
     match image_for(image, state).and_then(|image| cause_of(&image, state, word)) {
@@ -245,6 +255,14 @@ fn held_for(table: &[u8], state: &State) -> Result<Held, Refusal> {
 /// Refusals 11, 15 and 22; counts 0.
 pub fn live_rebind(table: &[u8], state: &mut State, number: usize, scheme: usize) -> Answer {
     answered(held_for(table, state).and_then(|held| bind(held.shape(), state, number, scheme)))
+}
+
+/// Refusals 25, 11, 15, 17, 26 and 18; counts 1.
+pub fn live_spin(states: &mut [State], taken: &mut usize, spindle: usize, table: &[u8], word: u16) -> Ticked {
+    ticked(refuse_if(25, spindle >= SPINDLES).and_then(|()| {
+        let held = Held::of(table)?;
+        Head { states, taken }.turn(spindle, |state| held.fits(state), |state| held.tick(state, word))
+    }))
 }
 
 /// Refusal 11, then 15 to 18; counts ticks.

@@ -6,7 +6,7 @@ use crate::entry::minimised;
 use crate::frames::{text_of, Frame};
 use crate::library::{Cause, Library, Meaning, Priced, Prices, Ticked};
 use crate::state::State;
-use interface::{CHART_TEXT, IMAGE_TEXT, LABELS, LITTLE_TEXT, OPERATIONS, RECORDS, TABLE};
+use interface::{CHART_TEXT, IMAGE_TEXT, LABELS, LITTLE_TEXT, OPERATIONS, RECORDS, SPINDLES, TABLE};
 
 #[derive(Clone, Copy, Debug, PartialEq, Eq)]
 pub enum EntryPoint {
@@ -24,9 +24,11 @@ pub enum EntryPoint {
     Minimise,
     LittleChart,
     Rebind,
+    Spin,
     LiveTick,
     LiveRun,
     LiveRebind,
+    LiveSpin,
     Fresh,
     Meaning,
 }
@@ -39,7 +41,7 @@ pub struct Input {
     pub state: State,
     pub words: Vec<u16>,
     pub prices: Prices,
-    /// A stack's size, a code, or how many frames a little chart has.
+    /// A stack's size, a code, how many frames a little chart has, or the number of a spindle.
     pub value: usize,
     /// A little chart's number.
     pub chart: usize,
@@ -68,10 +70,11 @@ pub struct Made {
     pub codes: Vec<u8>,
     pub price: Option<u64>,
     pub state: State,
+    pub states: Vec<State>,
 }
 
 impl EntryPoint {
-    pub const ALL: [EntryPoint; 18] = [
+    pub const ALL: [EntryPoint; 21] = [
         EntryPoint::ReadChart,
         EntryPoint::WriteChart,
         EntryPoint::Translate,
@@ -86,9 +89,11 @@ impl EntryPoint {
         EntryPoint::Minimise,
         EntryPoint::LittleChart,
         EntryPoint::Rebind,
+        EntryPoint::Spin,
         EntryPoint::LiveTick,
         EntryPoint::LiveRun,
         EntryPoint::LiveRebind,
+        EntryPoint::LiveSpin,
         EntryPoint::Fresh,
         EntryPoint::Meaning,
     ];
@@ -109,9 +114,11 @@ impl EntryPoint {
             EntryPoint::Minimise => "minimise",
             EntryPoint::LittleChart => "little_chart",
             EntryPoint::Rebind => "rebind",
+            EntryPoint::Spin => "spin",
             EntryPoint::LiveTick => "live_tick",
             EntryPoint::LiveRun => "live_run",
             EntryPoint::LiveRebind => "live_rebind",
+            EntryPoint::LiveSpin => "live_spin",
             EntryPoint::Fresh => "fresh",
             EntryPoint::Meaning => "meaning",
         }
@@ -162,6 +169,12 @@ impl EntryPoint {
             EntryPoint::LiveRebind => {
                 rebound(state, |after| library.live_rebind(&bytes(), after, *number, *scheme))
             }
+            EntryPoint::Spin => {
+                spun(state, *value, |states, taken| library.spin(states, taken, *value, &text(), words[0]))
+            }
+            EntryPoint::LiveSpin => spun(state, *value, |states, taken| {
+                library.live_spin(states, taken, *value, &bytes(), words[0])
+            }),
             EntryPoint::LiveRun => {
                 ran(words.len(), |masks, codes| library.live_run(&bytes(), state, words, masks, codes))
             }
@@ -180,7 +193,8 @@ impl EntryPoint {
 fn answered(answer: Answer) -> Made {
     let (bytes, numbers, masks, codes) = (Vec::new(), Vec::new(), Vec::new(), Vec::new());
     let (cause, meaning, price) = (None, None, None);
-    Made { answer, cause, meaning, bytes, numbers, masks, codes, price, state: State::NONE }
+    let (state, states) = (State::NONE, Vec::new());
+    Made { answer, cause, meaning, bytes, numbers, masks, codes, price, state, states }
 }
 
 fn written(room: usize, call: impl FnOnce(&mut [u8]) -> Answer) -> Made {
@@ -193,6 +207,15 @@ fn ticked(state: &State, call: impl FnOnce(&mut State) -> Ticked) -> Made {
     let mut state = *state;
     let Ticked { answer, mask, code } = call(&mut state);
     Made { masks: vec![mask], codes: vec![code], state, ..answered(answer) }
+}
+
+/// The state is that of this spindle, the others take a place each; the record of places goes to the numbers.
+fn spun(state: &State, spindle: usize, call: impl FnOnce(&mut [State], &mut usize) -> Ticked) -> Made {
+    let mut states = vec![State { depth: 1, ..State::NONE }; SPINDLES];
+    states[spindle] = *state;
+    let mut taken = SPINDLES - 1 + usize::from(state.depth);
+    let Ticked { answer, mask, code } = call(&mut states, &mut taken);
+    Made { masks: vec![mask], codes: vec![code], states, numbers: vec![taken as u16], ..answered(answer) }
 }
 
 fn rebound(state: &State, call: impl FnOnce(&mut State) -> Answer) -> Made {

@@ -27,6 +27,8 @@ pub mod programs;
 pub mod row_list;
 pub mod samples;
 pub mod show;
+pub mod spindle_walks;
+pub mod spindles;
 pub mod state;
 pub mod translator;
 pub mod walk;

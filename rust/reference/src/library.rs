@@ -54,6 +54,17 @@ impl Library for Reference {
         entry::priced_run(image, state, prices, words, masks, codes)
     }
 
+    fn spin(
+        &self,
+        states: &mut [State],
+        taken: &mut usize,
+        spindle: usize,
+        image: &[u8],
+        word: u16,
+    ) -> Ticked {
+        entry::spin(states, taken, spindle, image, word)
+    }
+
     fn rebind(&self, image: &[u8], state: &mut State, number: usize, scheme: usize) -> Answer {
         entry::rebind(image, state, number, scheme)
     }
@@ -87,6 +98,17 @@ impl Library for Reference {
         codes: &mut [u8],
     ) -> (Answer, State) {
         entry::live_run(table, state, words, masks, codes)
+    }
+
+    fn live_spin(
+        &self,
+        states: &mut [State],
+        taken: &mut usize,
+        spindle: usize,
+        table: &[u8],
+        word: u16,
+    ) -> Ticked {
+        entry::live_spin(states, taken, spindle, table, word)
     }
 
     fn live_rebind(&self, table: &[u8], state: &mut State, number: usize, scheme: usize) -> Answer {

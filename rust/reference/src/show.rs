@@ -40,3 +40,12 @@ pub fn state(state: &State) -> String {
         state.size, state.depth, state.places, state.serving, state.numbers, state.servers
     )
 }
+
+/// The states of a list, the places recorded as taken, and the spindle that is asked for.
+pub fn spindles(states: &[State], taken: usize, spindle: usize) -> String {
+    let mut shown = format!("{} states, {taken} places taken, spindle {spindle}", states.len());
+    for each in states {
+        shown.push_str(&format!("\n  {}", state(each)));
+    }
+    shown
+}

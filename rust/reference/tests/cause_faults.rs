@@ -155,7 +155,8 @@ impl Library for Faulty {
         prepare,
         run_calls,
         rebindings,
-        value_calls
+        spins,
+        value_calls,
     );
 
     fn cause(&self, text: &[u8], state: &State, word: u16) -> Cause {

@@ -13,7 +13,7 @@ use reference::translator;
 use reference::{Reference, State};
 
 /// Which refusals each call may give; 0 is success.
-const TRIED: [(&str, &[u8]); 20] = [
+const TRIED: [(&str, &[u8]); 24] = [
     ("read_chart", &[0, 1, 2, 3, 4, 5, 6, 7, 8, 9, 16, 19]),
     ("write_chart", &[0, 1, 4, 5, 6, 7, 8, 9, 16, 19]),
     ("translate", &[0, 1, 2, 3, 4, 5, 6, 7, 8, 9, 10, 16, 19]),
@@ -35,6 +35,14 @@ const TRIED: [(&str, &[u8]); 20] = [
     ("mixture", &[0, 11, 15, 16, 17, 18, 22]),
     ("rebind", &[0, 1, 2, 3, 11, 12, 13, 15, 22]),
     ("live_rebind", &[0, 11, 15, 22]),
+    ("spin", &[0, 1, 2, 3, 11, 12, 13, 15, 17, 18, 25, 26]),
+    ("live_spin", &[0, 11, 15, 17, 18, 25, 26]),
+    ("spins", &[0, 17, 22, 25, 26]),
+];
+
+/// The calls that tick.
+const TICKS: [&str; 11] = [
+    "run", "priced_run", "tick", "runs", "live_run", "live_tick", "live_runs", "mixture", "spin", "live_spin", "spins",
 ];
 
 #[test]
@@ -52,9 +60,19 @@ fn every_answer_is_met_and_no_other() {
 #[test]
 fn every_call_that_ticks_meets_the_handler() {
     let summary = compare(&Reference, 78, 16_000).unwrap_or_else(|difference| panic!("{difference}"));
-    for call in ["run", "priced_run", "tick", "runs", "live_run", "live_tick", "live_runs", "mixture"] {
+    for call in TICKS {
         let Handled { drops, returns } = summary.handled(call);
         assert!(drops > 20 && returns > 20, "{call}\n{summary}");
+    }
+}
+
+/// Each kind of call on spindles finds all places taken, and drops a stack then.
+#[test]
+fn every_call_on_spindles_meets_a_store_without_places() {
+    let summary = compare(&Reference, 81, 16_000).unwrap_or_else(|difference| panic!("{difference}"));
+    for (call, drops) in [("spin", 20), ("live_spin", 20), ("spins", 5)] {
+        let met = (summary.count(call, 26), summary.full_drops(call));
+        assert!(met.0 > 100 && met.1 >= drops, "{call}\n{summary}");
     }
 }
 
@@ -62,7 +80,7 @@ fn every_call_that_ticks_meets_the_handler() {
 #[test]
 fn every_call_that_ticks_meets_swapped_schemes() {
     let summary = compare(&Reference, 80, 16_000).unwrap_or_else(|difference| panic!("{difference}"));
-    for call in ["run", "priced_run", "tick", "runs", "live_run", "live_tick", "live_runs", "mixture"] {
+    for call in TICKS {
         assert!(summary.swapped(call) > 40, "{call}\n{summary}");
     }
 }
@@ -96,6 +114,7 @@ fn every_call_that_reads_meets_small_letters() {
         "live_runs",
         "mixture",
         "rebind",
+        "spin",
     ];
     for call in calls {
         assert!(summary.small(call) > 100, "{call}\n{summary}");

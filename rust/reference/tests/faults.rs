@@ -191,7 +191,7 @@ fn joined(image: &mut Image) {
 
 impl Library for Faulty {
     as_the_reference!(places, priced_run, cause, list_rows, minimise, prepare, live_run);
-    as_the_reference!(rebindings, meaning, little_chart);
+    as_the_reference!(rebindings, spins, meaning, little_chart);
 
     fn read_chart(&self, text: &[u8], out: &mut [u8]) -> Answer {
         let answer = entry::read_chart(text, out);

@@ -1,9 +1,10 @@
-//! The generator reaches each ground of 15 and of 22 by itself.
+//! The generator reaches each ground of 15 and of 22 by itself, and each ground for which a spindle's list gets 15.
 
 use std::collections::BTreeMap;
 
 use reference::entry;
 use reference::frames::text_of;
+use reference::generate::spindles::{lent, Lent};
 use reference::generate::{images, runs, states, Random};
 use reference::image::{image_of, Image};
 use reference::machine::{self, handles};
@@ -126,5 +127,60 @@ fn rebindings_fail_by_every_ground_alone() {
     }
     println!("{found:?}");
     assert_eq!(found.len(), 17, "{found:?}");
+    assert!(found.values().all(|count| *count >= 10), "{found:?}");
+}
+
+/// What a list of states is refused for, each ground by itself.
+fn list_grounds(image: &Image, lent: &Lent) -> Vec<&'static str> {
+    let Lent { states, taken, spindle } = lent;
+    let sum: usize = states.iter().map(|state| usize::from(state.depth)).sum();
+    let fits = states.get(*spindle).is_some_and(|state| machine::fits(image, state));
+    let found = [
+        (
+            "fewer than four states, that of the spindle among them",
+            states.len() < 4 && *spindle < states.len(),
+        ),
+        ("fewer than four states, without that of the spindle", states.len() < 4 && *spindle >= states.len()),
+        ("more than four states", states.len() > 4),
+        ("more places recorded than taken", sum < *taken && *taken <= 64),
+        ("fewer places recorded than taken, no more than there are", sum > *taken && sum <= 64),
+        (
+            "fewer places recorded than taken, which a byte holds",
+            sum > 255 && sum % 256 == *taken && *taken <= 64,
+        ),
+        ("fewer places recorded than taken, otherwise", sum > 64 && sum % 256 != *taken && *taken <= 64),
+        ("more places recorded than there are, and not taken", *taken > 64 && sum <= 64),
+        ("more places taken than there are", *taken > 64 && sum > 64),
+        ("a state that does not fit", *spindle < states.len() && !fits),
+    ];
+    found.iter().filter(|(_, met)| *met).map(|(ground, _)| *ground).collect()
+}
+
+/// Each ground is met alone, and where there is one the answer is 15; so are lists in order whose other states do not fit.
+#[test]
+fn lists_fail_by_every_ground_alone() {
+    let mut found = BTreeMap::new();
+    for seed in 0..40_000 {
+        let random = &mut Random::new(seed);
+        let image = images::accepted(random);
+        let own = states::state(random, image.shape());
+        let mut lent = lent(random, &own);
+        if image_of(&image.frames()).is_err() || lent.spindle > 3 {
+            continue;
+        }
+        let grounds = list_grounds(&image, &lent);
+        let misfits = lent.states.iter().filter(|state| !machine::fits(&image, state)).count();
+        let text = text_of(&image.frames());
+        let ticked =
+            entry::spin(&mut lent.states, &mut lent.taken, lent.spindle, &text, random.number() as u16);
+        assert_eq!(ticked.answer.number() == 15, !grounds.is_empty(), "seed {seed}: {grounds:?}");
+        match grounds[..] {
+            [ground] => *found.entry(ground).or_insert(0) += 1,
+            [] if misfits == 3 => *found.entry("in order, no other state fits").or_insert(0) += 1,
+            _ => {}
+        }
+    }
+    println!("{found:?}");
+    assert_eq!(found.len(), 11, "{found:?}");
     assert!(found.values().all(|count| *count >= 10), "{found:?}");
 }

@@ -226,7 +226,7 @@ fn first_of_each(charts: &[Vec<Frame>]) -> Vec<Vec<u8>> {
 }
 
 impl Library for Faulty {
-    as_the_reference!(chart_calls, image_calls, run_calls, rebindings, fresh, meaning);
+    as_the_reference!(chart_calls, image_calls, run_calls, rebindings, spins, fresh, meaning);
 
     fn little_chart(&self, frames: usize, number: usize, out: &mut [u8]) -> Answer {
         if self.fault == LooksForRoomFirst && (2..=4).contains(&frames) && out.len() < 23 * frames {

@@ -3,9 +3,11 @@
 
 use std::collections::BTreeMap;
 
+use interface::SPINDLES;
 use reference::compare::live_alike;
 use reference::fast::{Fast, Kept};
 use reference::frames::text_of;
+use reference::generate::spindles::{self, Lent};
 use reference::generate::{images, runs, states, tables, Random};
 use reference::image::{Image, Label, HOME, PLAIN, RETURN};
 use reference::live::Held;
@@ -53,8 +55,13 @@ fn a_label_without_rows_is_noted_as_the_label_before_it() {
 fn live_runs_and_ticks_are_runs_and_ticks() {
     for library in [&Reference as &dyn Library, &Fast] {
         let summary = live_alike(library, IMAGES, STATES);
-        for (call, numbers) in [("live_run", &[0, 15, 16, 17, 18][..]), ("live_tick", &[0, 15, 17, 18])] {
-            for number in 0..=19 {
+        let tried = [
+            ("live_run", &[0, 15, 16, 17, 18][..]),
+            ("live_tick", &[0, 15, 17, 18]),
+            ("live_spin", &[0, 15, 17, 18, 25, 26]),
+        ];
+        for (call, numbers) in tried {
+            for number in 0..=26 {
                 let met = summary.count(call, number) > 0;
                 assert_eq!(met, numbers.contains(&number), "{call} {number}\n{summary}");
             }
@@ -75,6 +82,14 @@ fn a_kept_machine_ticks_as_the_reference_does() {
             let (mut wanted, mut given) = (state, state);
             let ticked = Reference.tick(&text, &mut wanted, word);
             assert_eq!((kept.tick(&mut given, word), given), (ticked, wanted), "seed {seed}");
+            let lent = spindles::lent(random, &state);
+            if lent.spindle < SPINDLES {
+                let (mut wanted, mut given) = (lent.clone(), lent.clone());
+                let Lent { states, taken, spindle } = &mut wanted;
+                let ticked = Reference.spin(states, taken, *spindle, &text, word);
+                let spun = kept.spin(&mut given.states, &mut given.taken, given.spindle, word);
+                assert_eq!((spun, given), (ticked, wanted), "seed {seed}");
+            }
         }
     }
 }

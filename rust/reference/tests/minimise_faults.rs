@@ -224,7 +224,8 @@ impl Library for Faulty {
         prepare,
         run_calls,
         rebindings,
-        value_calls
+        spins,
+        value_calls,
     );
 
     fn minimise(&self, text: &[u8], out: &mut [u8]) -> Answer {

@@ -101,7 +101,16 @@ fn counted(fault: Fault, chart: Chart) -> Result<usize, Refusal> {
 }
 
 impl Library for Faulty {
-    as_the_reference!(read_chart, write_chart, translate, image_calls, run_calls, rebindings, value_calls);
+    as_the_reference!(
+        read_chart,
+        write_chart,
+        translate,
+        image_calls,
+        run_calls,
+        rebindings,
+        spins,
+        value_calls,
+    );
 
     fn places(&self, text: &[u8]) -> Answer {
         let answer = answered(chart_from_text(text).and_then(|chart| counted(self.0, chart)));

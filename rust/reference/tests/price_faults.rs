@@ -161,7 +161,7 @@ impl Faulty {
 }
 
 impl Library for Faulty {
-    as_the_reference!(chart_calls, image_calls, run, live_run, rebindings, value_calls);
+    as_the_reference!(chart_calls, image_calls, run, live_run, rebindings, spins, value_calls);
 
     fn priced_run(
         &self,

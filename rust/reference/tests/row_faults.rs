@@ -74,7 +74,7 @@ impl Faulty {
 }
 
 impl Library for Faulty {
-    as_the_reference!(chart_calls, image_calls, priced_run, rebindings, value_calls);
+    as_the_reference!(chart_calls, image_calls, priced_run, rebindings, spins, value_calls);
 
     fn run(
         &self,

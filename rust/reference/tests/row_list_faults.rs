@@ -94,7 +94,17 @@ fn write(all: &[u16], out: &mut [u16]) {
 }
 
 impl Library for Faulty {
-    as_the_reference!(chart_calls, check_image, cause, minimise, prepare, run_calls, rebindings, value_calls);
+    as_the_reference!(
+        chart_calls,
+        check_image,
+        cause,
+        minimise,
+        prepare,
+        run_calls,
+        rebindings,
+        spins,
+        value_calls,
+    );
 
     fn list_rows(&self, text: &[u8], firsts: &mut [u16], counts: &mut [u16]) -> Answer {
         if self.0 == LooksForRoomFirst && firsts.len().min(counts.len()) < 2 {

@@ -1,11 +1,11 @@
-//! Preparing tables, live runs, live ticks and live rebindings: the C functions, plain Rust that keeps its machine taken apart, and plain
+//! Preparing tables, live runs, live ticks, of spindles too, and live rebindings: the C functions, plain Rust that keeps its machine taken apart, and plain
 //! Rust on the same table.
 
 use std::cell::RefCell;
 use std::hint::black_box;
 use std::rc::Rc;
 
-use fairleadow::{c, IMAGE_TEXT, TABLE};
+use fairleadow::{c, IMAGE_TEXT, SPINDLES, TABLE};
 use reference::entry::{self, translated};
 use reference::fast::{Fast, Kept};
 use reference::frames::text_of;
@@ -202,6 +202,45 @@ fn tick_line(input: &Rc<Input>, name: &str, start: State, word: u16) -> Line {
     Line { name: format!("{} | {name}", input.name), sides }
 }
 
+/// The same ticks of a spindle, the others fresh.
+fn spin_line(input: &Rc<Input>, name: &str, start: State, word: u16) -> Line {
+    let [for_library, for_table] = [0; 2].map(|_| Rc::clone(input));
+    let kept = Kept::new(&input.image).expect("an accepted image");
+    let mut states = [fresh_state(32).expect("a good size"); SPINDLES];
+    states[0] = start;
+    let (c_states, taken) = (states.each_ref().map(c::State::from), SPINDLES - 1 + usize::from(start.depth));
+    let sides: Vec<Call> = vec![
+        Box::new(move || {
+            let (table, mut states, mut taken) = (&for_library.table, c_states, taken);
+            let (mut mask, mut code, mut index, mut count) = (0, 0, 0, 0);
+            black_box(unsafe {
+                c::fairleadow_live_spin(
+                    states.as_mut_ptr(),
+                    size_of_val(&states),
+                    &mut taken,
+                    0,
+                    table.as_ptr(),
+                    table.len(),
+                    word,
+                    &mut mask,
+                    &mut code,
+                    &mut index,
+                    &mut count,
+                )
+            });
+        }),
+        Box::new(move || {
+            let (mut states, mut taken) = (states, taken);
+            black_box(kept.spin(&mut states, &mut taken, 0, word));
+        }),
+        Box::new(move || {
+            let (mut states, mut taken) = (states, taken);
+            black_box(Fast.live_spin(&mut states, &mut taken, 0, &for_table.table, word));
+        }),
+    ];
+    Line { name: format!("{} | {}", input.name, name.replace("tick", "spin")), sides }
+}
+
 /// Number 2 to its own scheme, in the state that the runs begin with.
 fn rebind_line(input: &Rc<Input>) -> Line {
     let [for_library, for_kept, for_table] = [0; 3].map(|_| Rc::clone(input));
@@ -244,6 +283,7 @@ pub fn lines() -> Vec<Line> {
     for input in charts.chain([Input::largest()]).map(Rc::new) {
         lines.push(prepare_line(&input));
         lines.extend(input.ticks.iter().map(|(name, start, word)| tick_line(&input, name, *start, *word)));
+        lines.extend(input.ticks.iter().map(|(name, start, word)| spin_line(&input, name, *start, *word)));
         lines.extend(input.runs.iter().map(|count| run_line(&input, *count, &room)));
         // only these have a number that can be rebound
         if matches!(input.name, "chart P" | "16 schemes, 256 nodes" | "largest image, depth 32") {

@@ -1,10 +1,11 @@
-//! Calls on texts: charts read, written and translated, images checked and run, numbers rebound, alike labels joined.
+//! Calls on texts: charts read, written and translated, images checked and run, a spindle ticked, numbers rebound, alike
+//! labels joined.
 
 use std::cell::RefCell;
 use std::hint::black_box;
 use std::rc::Rc;
 
-use fairleadow::Proved;
+use fairleadow::{Proved, SPINDLES};
 use reference::entry::translated;
 use reference::entry_point::EntryPoint;
 use reference::fast::Fast;
@@ -14,8 +15,8 @@ use reference::{fresh_state, samples, Library, State};
 
 use crate::measure::{Call, Line};
 
-const CALLS: [&str; 8] =
-    ["read", "write", "translate", "check", "run of 64", "run of 65,536", "minimise", "rebind"];
+const CALLS: [&str; 9] =
+    ["read", "write", "translate", "check", "run of 64", "run of 65,536", "minimise", "spin", "rebind"];
 
 /// Buffers for one side.
 struct Room {
@@ -78,7 +79,7 @@ impl Input {
         let state = fresh_state(32).expect("a good size");
         let (name, records) = (name.to_string(), records.concat());
         // with one scheme there is no number to rebind
-        let calls = if image.starts_with(b"0F01") { &CALLS[..7] } else { &CALLS };
+        let calls = if image.starts_with(b"0F01") { &CALLS[..8] } else { &CALLS };
         Input { name, calls, chart, records, image, state, words: words(65_536) }
     }
 
@@ -106,6 +107,10 @@ impl Input {
             "check" => drop(black_box(library.check_image(&self.image))),
             "run of 64" => run(&self.words[..64]),
             "minimise" => drop(black_box(library.minimise(&self.image, &mut room.image))),
+            "spin" => {
+                let (mut states, mut taken) = ([self.state; SPINDLES], SPINDLES);
+                black_box(library.spin(&mut states, &mut taken, 0, &self.image, self.words[0]));
+            }
             "rebind" => {
                 let mut state = self.state;
                 black_box(library.rebind(&self.image, &mut state, 2, 2));

@@ -3,6 +3,7 @@
 //! text and the table, a live call for the table; a call that makes an image smaller for as much of both texts as there is room for.
 
 mod little;
+mod spindles;
 mod stack;
 
 use fairleadow::{c, LABELS, LINE, OPERATIONS, TABLE};
@@ -230,10 +231,15 @@ fn worst_charts() -> Vec<Vec<Frame>> {
     samples.chain([samples::with_handler()]).chain(random).collect()
 }
 
-fn ticks(ground: Vec<u8>) -> Ticks {
+fn fresh(size: usize) -> c::State {
     let (mut index, mut count) = (0, 0);
     let mut state = c::State::NONE;
-    unsafe { c::fairleadow_fresh(32, &mut state, &mut index, &mut count) };
+    unsafe { c::fairleadow_fresh(size, &mut state, &mut index, &mut count) };
+    state
+}
+
+fn ticks(ground: Vec<u8>) -> Ticks {
+    let state = fresh(32);
     let words = (0..WORDS as u16).map(|k| k.wrapping_mul(40_503)).collect();
     Ticks { ground, state, words, masks: vec![0; WORDS], codes: vec![0; WORDS], number: 0 }
 }

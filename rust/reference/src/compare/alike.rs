@@ -1,8 +1,10 @@
-//! On a table that was prepared from an image a live run is a run, a live tick a tick, and a live rebinding a rebinding.
+//! On a table that was prepared from an image a live run is a run, a live tick a tick, a live rebinding a rebinding, and
+//! the live tick of a spindle is its tick.
 
 use super::Summary;
 use crate::expectation::{Outcome, Run};
 use crate::frames::text_of;
+use crate::generate::spindles::{self, Lent};
 use crate::generate::{images, letters, runs, states, Random};
 use crate::image::Image;
 use crate::library::Library;
@@ -27,10 +29,12 @@ pub fn live_alike(library: &dyn Library, images: u64, states: usize) -> Summary 
             let words = random.pick(&[1, 5, 30]);
             let run = runs::run(random, words);
             let rebinding = runs::rebinding(random, prepared.image.entries.len());
+            let lent = spindles::lent(random, &state);
             let numbers = [
                 ("live_run", same_run(library, &prepared, &state, &run, seed)),
                 ("live_tick", same_tick(library, &prepared, &state, run.words[0], seed)),
                 ("live_rebind", same_rebinding(library, &prepared, &state, rebinding, seed)),
+                ("live_spin", same_spin(library, &prepared, &lent, run.words[0], seed)),
             ];
             for answered in numbers {
                 *summary.answers.entry(answered).or_insert(0) += 1;
@@ -89,4 +93,14 @@ fn same_rebinding(
     let live = library.live_rebind(&prepared.table, &mut after_live, number, scheme);
     assert_eq!((rebound, after), (live, after_live), "seed {seed}, {number} to {scheme}, {state:?}");
     live.number()
+}
+
+/// Makes both ticks of a spindle and hands back the number answered.
+fn same_spin(library: &dyn Library, prepared: &Prepared, lent: &Lent, word: u16, seed: u64) -> u8 {
+    let (mut after, mut after_live) = (lent.clone(), lent.clone());
+    let ticked = library.spin(&mut after.states, &mut after.taken, lent.spindle, &prepared.text, word);
+    let Lent { states, taken, spindle } = &mut after_live;
+    let live = library.live_spin(states, taken, *spindle, &prepared.table, word);
+    assert_eq!((ticked, after), (live, after_live), "seed {seed}, {lent:?}");
+    live.answer.number()
 }

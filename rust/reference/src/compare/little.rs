@@ -59,7 +59,8 @@ fn run_little_chart(library: &dyn Library, text: &[u8], count: usize) -> Result<
         let (_, state) = library.fresh(places);
         for bits in 0..1u16 << count {
             let words: Vec<u16> = (0..count).map(|tick| bits >> tick & 1).collect();
-            let run = Run { words: words.clone(), masks: vec![0xAAAA; count], codes: vec![0xAA; count] };
+            let (masks, codes) = (vec![0xAAAA; count], vec![0xAA; count]);
+            let run = Run { words: words.clone(), masks, codes, prices: None };
             let wanted = expected(&chart, places, &[Step::Run(run.clone())]).remove(0);
             let on_image = outcome(&run, |masks, codes| library.run(&image, &state, &words, masks, codes));
             let live = outcome(&run, |masks, codes| library.live_run(&table, &state, &words, masks, codes));
@@ -77,5 +78,5 @@ fn run_little_chart(library: &dyn Library, text: &[u8], count: usize) -> Result<
 fn outcome(run: &Run, call: impl FnOnce(&mut [u32], &mut [u8]) -> (Answer, State)) -> (Outcome, State) {
     let (mut masks, mut codes) = (run.masks.clone(), run.codes.clone());
     let (answer, after) = call(&mut masks, &mut codes);
-    (Outcome { answer, masks, codes }, after)
+    (Outcome { answer, masks, codes, price: None }, after)
 }

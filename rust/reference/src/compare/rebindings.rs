@@ -152,7 +152,7 @@ impl<'a> Case<'a> {
     }
 
     /// What the library writes into a buffer that is just long enough.
-    fn made(
+    pub(super) fn made(
         &mut self,
         name: &'static str,
         call: Call<'a>,

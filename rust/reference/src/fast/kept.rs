@@ -2,7 +2,7 @@
 //! doubt, only the state.
 
 use super::machine::Machine;
-use super::{accepted, rebound, ticked_of, IMAGE_FRAMES};
+use super::{accepted, rebound, spindles, ticked_of, IMAGE_FRAMES};
 use crate::answer::{Answer, Refusal};
 use crate::library::Ticked;
 use crate::state::State;
@@ -32,5 +32,10 @@ impl Kept {
     /// Refusals 15, 17 and 18; counts 1.
     pub fn tick(&self, state: &mut State, word: u16) -> Ticked {
         ticked_of(self.machine.live_tick(state, word))
+    }
+
+    /// Refusals 15, 17, 26 and 18 of a spindle of 0 to 3; counts 1.
+    pub fn spin(&self, states: &mut [State], taken: &mut usize, spindle: usize, word: u16) -> Ticked {
+        ticked_of(spindles::turn(states, taken, spindle, |state| self.machine.live_tick(state, word)))
     }
 }

@@ -173,6 +173,14 @@ impl<'a> Table<'a> {
         (label.kind == FUNCTION_CALL).then(|| results[place(label.called)])
     }
 
+    /// Refusals 15, 17 and 18, or the mask and the code of one tick of a lent state.
+    pub fn fitting_tick(&self, state: &mut State, word: u16) -> Result<(u32, u8), u8> {
+        if !self.fits(state) {
+            return Err(15);
+        }
+        self.tick(state, word)
+    }
+
     /// One tick of a lent state: the mask and the code, or 17 or 18 and the state as it was.
     pub fn tick(&self, state: &mut State, word: u16) -> Result<(u32, u8), u8> {
         let top = usize::from(state.depth) - 1;

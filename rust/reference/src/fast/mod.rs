@@ -11,12 +11,14 @@ mod machine;
 mod minimise;
 mod places;
 mod price;
+mod spindles;
 mod table;
 
-use crate::answer::{answered, Answer, Refusal};
+use crate::answer::{answered, ticked, Answer, Refusal};
 use crate::frames::{Frame, CHARACTERS, CHART_TEXT, IMAGE_TEXT};
 use crate::library::{Cause, Library, Meaning, Priced, Prices, Ticked};
 use crate::state::{can_rebind, State};
+use interface::SPINDLES;
 pub use kept::Kept;
 use machine::Machine;
 
@@ -97,7 +99,7 @@ fn put_table(text: &[u8], out: &mut [u8]) -> Result<usize, Refusal> {
 fn cause_of(text: &[u8], state: &State, word: u16) -> Result<(u16, u16, u8), Refusal> {
     let mut frames = [[0; 10]; IMAGE_FRAMES];
     let (frames, parts) = accepted(text, &mut frames)?;
-    Machine::<false>::new(frames, &parts).cause(state, word).map_err(|number| Refusal { number, index: 0 })
+    Machine::<false>::new(frames, &parts).cause(state, word).map_err(Refusal::of)
 }
 
 fn put_list(text: &[u8], firsts: &mut [u16], counts: &mut [u16]) -> Result<usize, Refusal> {
@@ -178,15 +180,12 @@ fn bind(
 
 /// What a rebinding answers.
 fn rebound(done: Result<(), u8>) -> Answer {
-    answered(done.map(|()| 0).map_err(|number| Refusal { number, index: 0 }))
+    answered(done.map(|()| 0).map_err(Refusal::of))
 }
 
 /// What a tick hands back for its mask and code, or for its refusal.
-fn ticked_of(ticked: Result<(u32, u8), u8>) -> Ticked {
-    match ticked {
-        Ok((mask, code)) => Ticked { answer: Answer::Done(1), mask, code },
-        Err(number) => Ticked { answer: Refusal { number, index: 0 }.into(), mask: 0, code: 0 },
-    }
+fn ticked_of(made: Result<(u32, u8), u8>) -> Ticked {
+    ticked(made.map_err(Refusal::of))
 }
 
 /// The fast functions.
@@ -247,6 +246,26 @@ impl Library for Fast {
         }
     }
 
+    fn spin(
+        &self,
+        states: &mut [State],
+        taken: &mut usize,
+        spindle: usize,
+        image: &[u8],
+        word: u16,
+    ) -> Ticked {
+        if spindle >= SPINDLES {
+            return ticked_of(Err(25));
+        }
+        let mut frames = [[0; 10]; IMAGE_FRAMES];
+        match accepted(image, &mut frames) {
+            Ok((frames, parts)) => ticked_of(spindles::turn(states, taken, spindle, |state| {
+                Machine::<false>::new(frames, &parts).live_tick(state, word)
+            })),
+            Err(refusal) => ticked(Err(refusal)),
+        }
+    }
+
     fn rebind(&self, image: &[u8], state: &mut State, number: usize, scheme: usize) -> Answer {
         let mut frames = [[0; 10]; IMAGE_FRAMES];
         match accepted(image, &mut frames) {
@@ -287,7 +306,7 @@ impl Library for Fast {
         masks: &mut [u32],
         codes: &mut [u8],
     ) -> (Answer, State) {
-        let refused = |number| (Refusal { number, index: 0 }.into(), *state);
+        let refused = |number| (Refusal::of(number).into(), *state);
         let Some(table) = live::Table::of(table) else {
             return refused(11);
         };
@@ -304,12 +323,24 @@ impl Library for Fast {
     }
 
     fn live_tick(&self, table: &[u8], state: &mut State, word: u16) -> Ticked {
-        let ticked = match live::Table::of(table) {
-            None => Err(11),
-            Some(table) if !table.fits(state) => Err(15),
-            Some(table) => table.tick(state, word),
+        ticked_of(live::Table::of(table).ok_or(11).and_then(|table| table.fitting_tick(state, word)))
+    }
+
+    fn live_spin(
+        &self,
+        states: &mut [State],
+        taken: &mut usize,
+        spindle: usize,
+        table: &[u8],
+        word: u16,
+    ) -> Ticked {
+        if spindle >= SPINDLES {
+            return ticked_of(Err(25));
+        }
+        let Some(table) = live::Table::of(table) else {
+            return ticked_of(Err(11));
         };
-        ticked_of(ticked)
+        ticked_of(spindles::turn(states, taken, spindle, |state| table.fitting_tick(state, word)))
     }
 
     fn live_rebind(&self, table: &[u8], state: &mut State, number: usize, scheme: usize) -> Answer {

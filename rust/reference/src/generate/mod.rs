@@ -1,5 +1,5 @@
-//! Random inputs from a seed: charts, images, tables, states, words, buffers, lists of runs and of prices, sizes of letters, numbers of
-//! little charts, and damage to each.
+//! Random inputs from a seed: charts, images, tables, states, words, buffers, lists of runs and of prices, heads of spindles, sizes of
+//! letters, numbers of little charts, and damage to each.
 
 pub mod alike;
 pub mod chains;
@@ -12,6 +12,7 @@ pub mod little;
 pub mod prices;
 pub mod random;
 pub mod runs;
+pub mod spindles;
 pub mod states;
 pub mod tables;
 pub mod vary;

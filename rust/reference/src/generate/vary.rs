@@ -19,7 +19,7 @@ pub fn drawn(random: &mut Random, entry: EntryPoint) -> Input {
         EntryPoint::ReadChart | EntryPoint::WriteChart | EntryPoint::Translate | EntryPoint::Places => {
             Input::of(charts::chart(random))
         }
-        EntryPoint::LiveTick | EntryPoint::LiveRun | EntryPoint::LiveRebind => {
+        EntryPoint::LiveTick | EntryPoint::LiveRun | EntryPoint::LiveRebind | EntryPoint::LiveSpin => {
             let (bytes, state) = tables::table_and_state(random);
             Input { state, words, ..Input::of(bytes.as_chunks::<10>().0.to_vec()) }
         }
@@ -51,9 +51,11 @@ fn change(random: &mut Random, entry: EntryPoint, input: &mut Input) {
         | EntryPoint::PricedRun
         | EntryPoint::Cause
         | EntryPoint::Rebind
+        | EntryPoint::Spin
         | EntryPoint::LiveTick
         | EntryPoint::LiveRun
-        | EntryPoint::LiveRebind => {
+        | EntryPoint::LiveRebind
+        | EntryPoint::LiveSpin => {
             match random.below(6) {
                 0 => state(random, input),
                 1 => word(random, &mut input.words),

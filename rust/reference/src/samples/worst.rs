@@ -69,8 +69,11 @@ pub fn known(entry: EntryPoint) -> Vec<Candidate> {
         | EntryPoint::Run
         | EntryPoint::PricedRun
         | EntryPoint::Cause
-        | EntryPoint::Rebind => ticks(entry),
-        EntryPoint::LiveTick | EntryPoint::LiveRun | EntryPoint::LiveRebind => live(entry),
+        | EntryPoint::Rebind
+        | EntryPoint::Spin => ticks(entry),
+        EntryPoint::LiveTick | EntryPoint::LiveRun | EntryPoint::LiveRebind | EntryPoint::LiveSpin => {
+            live(entry)
+        }
         EntryPoint::Fresh => values("stack of", 0..=33),
         EntryPoint::Meaning => values("code", 0..=255),
     }

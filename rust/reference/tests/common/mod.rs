@@ -28,6 +28,7 @@ macro_rules! as_the_reference {
     (@image_calls) => { as_the_reference!(check_image, cause, list_rows, minimise, prepare); };
     (@run_calls) => { as_the_reference!(run, priced_run, live_run); };
     (@rebindings) => { as_the_reference!(rebind, live_rebind); };
+    (@spins) => { as_the_reference!(spin, live_spin); };
     (@value_calls) => { as_the_reference!(fresh, meaning, little_chart); };
     (@read_chart) => { as_the_reference!(@fn read_chart(text: &[u8], out: &mut [u8]) -> reference::Answer); };
     (@write_chart) => { as_the_reference!(@fn write_chart(records: &[u8], out: &mut [u8]) -> reference::Answer); };
@@ -65,6 +66,17 @@ macro_rules! as_the_reference {
             number: usize,
             scheme: usize
         ) -> reference::Answer);
+    };
+    (@spin) => { as_the_reference!(@spin spin); };
+    (@live_spin) => { as_the_reference!(@spin live_spin); };
+    (@spin $call:ident) => {
+        as_the_reference!(@fn $call(
+            states: &mut [reference::State],
+            taken: &mut usize,
+            spindle: usize,
+            image: &[u8],
+            word: u16
+        ) -> reference::Ticked);
     };
     (@meaning) => { as_the_reference!(@fn meaning(code: u8) -> reference::Meaning); };
     (@run $call:ident) => {

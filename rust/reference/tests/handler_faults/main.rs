@@ -205,7 +205,8 @@ impl Library for Faulty {
         priced_run,
         live_run,
         rebindings,
-        value_calls
+        spins,
+        value_calls,
     );
 
     fn read_chart(&self, text: &[u8], out: &mut [u8]) -> Answer {

@@ -284,7 +284,8 @@ impl Library for Faulty {
         run,
         priced_run,
         rebindings,
-        value_calls
+        spins,
+        value_calls,
     );
 
     fn prepare(&self, image: &[u8], table: &mut [u8]) -> Answer {

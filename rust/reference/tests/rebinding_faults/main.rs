@@ -220,7 +220,7 @@ impl Faulty {
 }
 
 impl Library for Faulty {
-    as_the_reference!(chart_calls, image_calls, priced_run, meaning, little_chart);
+    as_the_reference!(chart_calls, image_calls, priced_run, spins, meaning, little_chart);
 
     fn fresh(&self, size: usize) -> (Answer, State) {
         let (answer, mut state) = entry::fresh(size);

@@ -1,0 +1,1 @@
+// What holds over every list of calls of four spindles: laws alone.

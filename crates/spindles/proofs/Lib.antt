@@ -1,0 +1,4 @@
+pub mod OneCall
+pub mod Others
+pub mod Live
+pub mod InParts

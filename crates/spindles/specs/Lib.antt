@@ -1,0 +1,3 @@
+pub mod Spindles
+pub mod Laws
+pub mod Parts

@@ -1,0 +1,114 @@
+// A head that is refused, and a turn on the bytes of the spindle's state: on an image, and live on a prepared table.
+use frames::Answer;
+use frames::refused;
+use image_check::check_image;
+use machine::TickReport;
+use machine::live_tick_bytes;
+use machine::tick_bytes;
+use spindles::SpinReport;
+use spindles::bad_record;
+use spindles::none_left;
+use spindles::turned_back;
+use state_places::depth_of;
+use tables::bad_table;
+ghost use Prim.Native.Nat.{_≤_};
+ghost use Rattle.frames.specs.Verdict.{when};
+ghost use Rattle.image.specs.Check.{imageVerdict};
+ghost use Rattle.tables.specs.Table.{badTable};
+ghost use Rattle.state.specs.Bytes.{stateOf};
+ghost use Rattle.runs.specs.Advance.{advance};
+ghost use Rattle.machine.specs.Live.{liveTick};
+ghost use Rattle.spindles.specs.Parts.{refusedHead, Refuses, turn, TurnsOn};
+ghost use Rattle.turning.specs.Parts.{Settles};
+
+// A bad head: 25, then what the image check tries, then 15.
+pub fn refuse_head(image: &[u8], spindle: usize, taken: usize) -> SpinReport
+    ensures { λ r. ⌜ Refuses (refusedHead (imageVerdict (now (image .entry))) spindle) taken r ⌝ }
+{
+    if 3 < spindle {
+        let answer = refused(25, 0);
+        return turned_back(answer, taken);
+    }
+    let answer = check_image(image);
+    let Answer::Done(_) = answer else {
+        return turned_back(answer, taken);
+    };
+    let unfit = refused(15, 0);
+    turned_back(unfit, taken)
+}
+
+// The same where there is a table: 25, 11, 15.
+pub fn live_refuse_head(table: &[u8], spindle: usize, taken: usize) -> SpinReport
+    ensures { λ r. ⌜ Refuses (refusedHead (when 11 (badTable (now (table .entry)))) spindle) taken r ⌝ }
+{
+    if 3 < spindle {
+        let answer = refused(25, 0);
+        return turned_back(answer, taken);
+    }
+    if bad_table(table) {
+        let answer = refused(11, 0);
+        return turned_back(answer, taken);
+    }
+    let unfit = refused(15, 0);
+    turned_back(unfit, taken)
+}
+
+// After the tick: where it ended deeper than it began and no place is left, it is undone and refused with 26.
+fn settle(old: [u8; 130], bytes: &mut [u8; 130], report: TickReport, taken: usize) -> SpinReport
+    requires { ⌜ stateOf old .depth ≤ taken ⌝ }
+    requires { ⌜ taken ≤ 64 ⌝ }
+    ensures { λ r. ⌜ Settles old (now (bytes .entry)) report taken r (now (bytes .exit)) ⌝ }
+{
+    let before = depth_of(&old) as usize;
+    let after = depth_of(bytes) as usize;
+    if none_left(before, after, taken) {
+        *bytes = old;
+        let full = refused(26, 0);
+        return turned_back(full, taken);
+    }
+    let answer = report.answer;
+    SpinReport {
+        answer,
+        mask: report.mask,
+        code: report.code,
+        taken: taken + after - before,
+    }
+}
+
+// A spindle's turn, with the sum of the four depths: what the image check tries, 15, 17, 26, 18.
+pub fn turn_bytes(
+    image: &[u8],
+    bytes: &mut [u8; 130],
+    sum: usize,
+    taken: usize,
+    word: u16,
+) -> SpinReport
+    requires { ⌜ stateOf (now bytes) .depth ≤ sum ⌝ }
+    ensures { λ r. ⌜ TurnsOn (turn (imageVerdict (now (image .entry))) (stateOf (now (bytes .entry))) sum taken (advance (now (image .entry)) (stateOf (now (bytes .entry))) word)) (now (bytes .entry)) r (now (bytes .exit)) ⌝ }
+{
+    if bad_record(sum, taken) {
+        return refuse_head(image, 0, taken);
+    }
+    let old = *bytes;
+    let report = tick_bytes(image, bytes, word);
+    settle(old, bytes, report, taken)
+}
+
+// The same on a prepared table: 11, 15, 17, 26, 18.
+pub fn live_turn_bytes(
+    table: &[u8],
+    bytes: &mut [u8; 130],
+    sum: usize,
+    taken: usize,
+    word: u16,
+) -> SpinReport
+    requires { ⌜ stateOf (now bytes) .depth ≤ sum ⌝ }
+    ensures { λ r. ⌜ TurnsOn (turn (when 11 (badTable (now (table .entry)))) (stateOf (now (bytes .entry))) sum taken (liveTick (now (table .entry)) (stateOf (now (bytes .entry))) word)) (now (bytes .entry)) r (now (bytes .exit)) ⌝ }
+{
+    if bad_record(sum, taken) {
+        return live_refuse_head(table, 0, taken);
+    }
+    let old = *bytes;
+    let report = live_tick_bytes(table, bytes, word);
+    settle(old, bytes, report, taken)
+}
