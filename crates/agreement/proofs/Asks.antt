@@ -1,5 +1,5 @@
 -- No entry point asks anything of its caller: what the checker has a caller show before a call is nothing, whatever the arguments. (The tick
--- behind a reference has no such module; its source has no `requires`.)
+-- behind a reference and the two calls over a list of states have no such module; their source has no `requires`.)
 use contract.Lifetimes.{Lfts}
 use borrow.Fn.World.{ArgsD}
 use Rattle.chart_text.proofs.read_chart as read-chart
@@ -38,6 +38,10 @@ use Rattle.rebinding.proofs.rebind as rebind
 use Rattle.rebinding.proofs.rebind.Reads as rebind-reads
 use Rattle.rebinding.proofs.live_rebind as live-rebind
 use Rattle.rebinding.proofs.live_rebind.Reads as live-rebind-reads
+use Rattle.spindle_bytes.proofs.spin_bytes as spin-bytes
+use Rattle.spindle_bytes.proofs.spin_bytes.Reads as spin-bytes-reads
+use Rattle.spindle_bytes.proofs.live_spin_bytes as live-spin-bytes
+use Rattle.spindle_bytes.proofs.live_spin_bytes.Reads as live-spin-bytes-reads
 use Rattle.fairleadow.proofs.fairleadow_read_chart as c-read-chart
 use Rattle.fairleadow.proofs.fairleadow_read_chart.Reads as c-read-chart-reads
 use Rattle.fairleadow.proofs.fairleadow_write_chart as c-write-chart
@@ -76,6 +80,10 @@ use Rattle.fairleadow.proofs.fairleadow_rebind as c-rebind
 use Rattle.fairleadow.proofs.fairleadow_rebind.Reads as c-rebind-reads
 use Rattle.fairleadow.proofs.fairleadow_live_rebind as c-live-rebind
 use Rattle.fairleadow.proofs.fairleadow_live_rebind.Reads as c-live-rebind-reads
+use Rattle.fairleadow.proofs.fairleadow_spin as c-spin
+use Rattle.fairleadow.proofs.fairleadow_spin.Reads as c-spin-reads
+use Rattle.fairleadow.proofs.fairleadow_live_spin as c-live-spin
+use Rattle.fairleadow.proofs.fairleadow_live_spin.Reads as c-live-spin-reads
 
 pub read-chart-asks-nothing : (κs : Lfts 2) (a : ArgsD read-chart.signature κs) → read-chart-reads.Asked κs a
 read-chart-asks-nothing κs a = tt
@@ -130,6 +138,12 @@ little-chart-asks-nothing κs a = tt
 
 pub cause-of-asks-nothing : (κs : Lfts 1) (a : ArgsD cause-of.signature κs) → cause-of-reads.Asked κs a
 cause-of-asks-nothing κs a = tt
+
+pub spin-bytes-asks-nothing : (κs : Lfts 2) (a : ArgsD spin-bytes.signature κs) → spin-bytes-reads.Asked κs a
+spin-bytes-asks-nothing κs a = tt
+
+pub live-spin-bytes-asks-nothing : (κs : Lfts 2) (a : ArgsD live-spin-bytes.signature κs) → live-spin-bytes-reads.Asked κs a
+live-spin-bytes-asks-nothing κs a = tt
 
 -- ---- the functions for C
 pub c-read-chart-asks-nothing : (κs : Lfts 4) (a : ArgsD c-read-chart.signature κs) → c-read-chart-reads.Asked κs a
@@ -188,3 +202,9 @@ c-little-chart-asks-nothing κs a = tt
 
 pub c-cause-asks-nothing : (κs : Lfts 7) (a : ArgsD c-cause.signature κs) → c-cause-reads.Asked κs a
 c-cause-asks-nothing κs a = tt
+
+pub c-spin-asks-nothing : (κs : Lfts 7) (a : ArgsD c-spin.signature κs) → c-spin-reads.Asked κs a
+c-spin-asks-nothing κs a = tt
+
+pub c-live-spin-asks-nothing : (κs : Lfts 7) (a : ArgsD c-live-spin.signature κs) → c-live-spin-reads.Asked κs a
+c-live-spin-asks-nothing κs a = tt

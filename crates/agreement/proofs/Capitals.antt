@@ -1,8 +1,14 @@
 -- Small letters are read as capitals at every entry point, each by the one law of the reader.
 use Prim.Native.Nat.{ℕ}
+use mathlib.Core.Path.{_≡_, ap₂}
 use mathlib.Core.List.{List, map}
 use Rattle.digits.specs.Digit.{capital}
+use Rattle.frames.specs.Verdict.{Verdict}
 use Rattle.frames.proofs.Capitals.{capitals-alike}
+use Rattle.image.specs.Check.{imageVerdict}
+use Rattle.state.specs.declared.State.{State}
+use Rattle.runs.specs.Advance.{Advance, advance}
+use Rattle.spindles.specs.Spindles.{stateAt, headVerdict, spunOn, spin}
 use Rattle.charts.proofs.Alike as chart
 use Rattle.image.proofs.Alike as image
 use Rattle.tables.proofs.Alike as table
@@ -15,6 +21,13 @@ use Rattle.priced_runs.proofs.Alike as pricing
 use Rattle.rebinding.proofs.Alike as rebinding
 use Rattle.runs.proofs.Alike as running
 use Rattle.agreement.specs.Capitals.{AsInCapitals}
+
+-- a call of a spindle by what the image check tries and the tick
+spins-alike : (t u : List ℕ) → imageVerdict t ≡ imageVerdict u → ((s : State) (w : ℕ) → advance t s w ≡ advance u s w)
+    → (states : List State) (taken k w : ℕ) → spin t states taken k w ≡ spin u states taken k w
+unfolding spin
+spins-alike t u e f states taken k w =
+    ap₂ (λ (v : Verdict) (x : Advance). spunOn (headVerdict v states taken k) states taken k (λ _. x)) e (f (stateAt states k) w)
 
 pub as-in-capitals : (t : List ℕ) → AsInCapitals t
 as-in-capitals t = record {
@@ -30,4 +43,5 @@ as-in-capitals t = record {
   ticks = running.advances (map capital t) t (capitals-alike t);
   explains = cause.explains (map capital t) t (capitals-alike t);
   rebinds = rebinding.rebinds (map capital t) t (capitals-alike t);
+  spins = spins-alike (map capital t) t (image.image-verdict (map capital t) t (capitals-alike t)) (running.advances (map capital t) t (capitals-alike t));
 }

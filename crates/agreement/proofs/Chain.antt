@@ -90,22 +90,22 @@ fresh-is n l h =
     (record { reply = success 0; state = fresh n }) .state)
     (size-good n l h)
 
-home-is : (c : Chart) → Facts c → (n : ℕ) → fresh n ≡ stateOf c n ownBinding (atHome c noResults)
+pub home-is : (c : Chart) → Facts c → (n : ℕ) → fresh n ≡ stateOf c n ownBinding (atHome c noResults)
 unfolding below
 home-is c facts n = let e = facts .ends 1 (omega arith) (facts .first) in
     ap (λ (k : ℕ). holding n 1 ownBinding noResults (k ∷ replicate 31 0) (only 1) (only 1)) (sym (label-home c (end c 1) (e .1) (e .2)))
 
 module _ (c : Chart) (facts : Facts c) (tableFacts : TableFacts c) (text : List ℕ) (passes : imageVerdict text ≡ fine)
     (decodes : decoded (contents text) ≡ table c) (n : ℕ) (n≤ : n ≤ 32) where
-  sound : Sound (table c)
+  pub sound : Sound (table c)
   sound = subst Sound decodes (image-sound text passes)
 
   -- the table has the chart's schemes and its handler
-  serves : (s : Binding) (x : Position) → Fits (table c) (stateOf c n s x) → Serves c s
+  pub serves : (s : Binding) (x : Position) → Fits (table c) (stateOf c n s x) → Serves c s
   serves s x f h low high = let l = fits-serves (table c) (sound .most) (stateOf c n s x) f h low (omega (arith, length-entries c)) in
       (l .0, omega (arith, l .1, length-entries c))
 
-  same-bar : (h k : ℕ) → badRebinding (length (table c .entries)) (table c .handler) h k ≡ barred c h k
+  pub same-bar : (h k : ℕ) → badRebinding (length (table c .entries)) (table c .handler) h k ≡ barred c h k
   unfolding table
   same-bar h k = ap (λ (m : ℕ). badRebinding m (handler c) h k) (length-entries c)
 

@@ -43,6 +43,7 @@ use Rattle.rebinding.proofs.live_rebind.Reads as rebinding-live-rebind-reads
 use Rattle.state.specs.Bytes.{stateOf}
 use Rattle.telling.specs.Told.{Told}
 use Rattle.fairleadow.specs.Calls.{LendsC, MakesC, runFor, RunsC, pricedRunFor, PricedC, tickFor, AdvancesC, rebindFor, RebindsC}
+use Rattle.fairleadow.specs.Calls.{spinFor, liveSpinFor, SpinsC}
 use Rattle.fairleadow.proofs.fairleadow_translate as c-translate
 use Rattle.fairleadow.proofs.fairleadow_translate.Reads as c-translate-reads
 use Rattle.places.proofs.places_needed as places-needed
@@ -71,6 +72,10 @@ use Rattle.fairleadow.proofs.fairleadow_rebind as c-rebind
 use Rattle.fairleadow.proofs.fairleadow_rebind.Reads as c-rebind-reads
 use Rattle.fairleadow.proofs.fairleadow_live_rebind as c-live-rebind
 use Rattle.fairleadow.proofs.fairleadow_live_rebind.Reads as c-live-rebind-reads
+use Rattle.fairleadow.proofs.fairleadow_spin as c-spin
+use Rattle.fairleadow.proofs.fairleadow_spin.Reads as c-spin-reads
+use Rattle.fairleadow.proofs.fairleadow_live_spin as c-live-spin
+use Rattle.fairleadow.proofs.fairleadow_live_spin.Reads as c-live-spin-reads
 
 -- ---- translator::translate, preparing::prepare, minimising::minimise, fetching::little_chart, state::State::fresh, of machine run,
 -- tick_image, live_run and live_tick, priced_runs::priced_run, and of rebinding rebind and live_rebind
@@ -213,3 +218,17 @@ pub live-rebind-rebinds-c : (κs : Lfts 4) (a : ArgsD c-live-rebind.signature κ
     → RebindsC (liveRebind (a .0 .now) (stateOf (a .1 .0 .now)) (a .1 .1 .0) (a .1 .1 .1 .0)) (a .1 .0 .now)
     r (s .1 .1 .1 .1 .0 .now) (s .1 .1 .1 .1 .1 .0 .now) (s .1 .0 .now)
 live-rebind-rebinds-c κs a r s e = e
+
+pub spin-spins-c : (κs : Lfts 7) (a : ArgsD c-spin.signature κs) (r : ResD c-spin.signature κs) (s : AtExit c-spin.ended κs)
+    → c-spin-reads.Learnt κs a r s
+    → SpinsC (spinFor (a .1 .1 .1 .0 .now) (a .0 .now) (a .1 .0 .now) (a .1 .1 .0) (a .1 .1 .1 .1 .0)) (a .0 .now) (a .1 .1 .0)
+    (a .1 .1 .1 .1 .1 .0 .now) (a .1 .1 .1 .1 .1 .1 .0 .now) r (s .1 .1 .1 .1 .1 .1 .1 .0 .now) (s .1 .1 .1 .1 .1 .1 .1 .1 .0 .now)
+    (s .0 .now) (s .1 .0 .now) (s .1 .1 .1 .1 .1 .0 .now) (s .1 .1 .1 .1 .1 .1 .0 .now)
+spin-spins-c κs a r s e = e
+
+pub live-spin-spins-c : (κs : Lfts 7) (a : ArgsD c-live-spin.signature κs) (r : ResD c-live-spin.signature κs) (s : AtExit c-live-spin.ended κs)
+    → c-live-spin-reads.Learnt κs a r s
+    → SpinsC (liveSpinFor (a .1 .1 .1 .0 .now) (a .0 .now) (a .1 .0 .now) (a .1 .1 .0) (a .1 .1 .1 .1 .0)) (a .0 .now) (a .1 .1 .0)
+    (a .1 .1 .1 .1 .1 .0 .now) (a .1 .1 .1 .1 .1 .1 .0 .now) r (s .1 .1 .1 .1 .1 .1 .1 .0 .now) (s .1 .1 .1 .1 .1 .1 .1 .1 .0 .now)
+    (s .0 .now) (s .1 .0 .now) (s .1 .1 .1 .1 .1 .0 .now) (s .1 .1 .1 .1 .1 .1 .0 .now)
+live-spin-spins-c κs a r s e = e

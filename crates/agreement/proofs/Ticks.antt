@@ -114,7 +114,7 @@ module _ (c : Chart) (n : ℕ) (s : Binding) where
       ∙ ap (λ (k : ℕ). ranBy c n s k (t ∷ ts) (stand c n (signal w ∷ signals s ws) x) (suc (length ws))) (sym (bound-go n t ts e))
 
   module _ (facts : Facts c) (serves : Serves c s) where
-    moves-on : (w : ℕ) (x : Position) → Stands c n x → isFullCall n (tickAt n c x) ≡ false → Stands c n (next w x)
+    pub moves-on : (w : ℕ) (x : Position) → Stands c n x → isFullCall n (tickAt n c x) ≡ false → Stands c n (next w x)
     moves-on w x z e = record {
       low = deep-by facts (x .now) (x .callers) (x .results) (x .first) (signal w) (z .good .top .inside) (z .low) (dropsAt n c x)
           (view-of c facts x (z .good)) e;

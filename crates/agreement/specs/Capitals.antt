@@ -17,6 +17,7 @@ use Rattle.rebinding.specs.Rebind.{rebind}
 use Rattle.priced_runs.specs.PricedRun.{pricedRun}
 use Rattle.runs.specs.Run.{run}
 use Rattle.runs.specs.Advance.{advance}
+use Rattle.spindles.specs.Spindles.{spin}
 
 pub record AsInCapitals (t : List ℕ) : Type 0 where
   pub reads : (records : List ℕ) → readChart (map capital t) records ≡ readChart t records
@@ -32,3 +33,4 @@ pub record AsInCapitals (t : List ℕ) : Type 0 where
   pub ticks : (s : State) (word : ℕ) → advance (map capital t) s word ≡ advance t s word
   pub explains : (s : State) (word : ℕ) → explain (map capital t) s word ≡ explain t s word
   pub rebinds : (s : State) (number scheme : ℕ) → rebind (map capital t) s number scheme ≡ rebind t s number scheme
+  pub spins : (states : List State) (taken spindle word : ℕ) → spin (map capital t) states taken spindle word ≡ spin t states taken spindle word

@@ -1,0 +1,1 @@
+// Each spindle makes the ticks of its own walk: laws alone.
