@@ -21,4 +21,5 @@ pub mod Live
 pub mod Functions
 pub mod Listing
 pub mod Minimise
+pub mod Little
 pub mod Prices

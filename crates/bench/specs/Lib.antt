@@ -9,4 +9,5 @@ pub mod Outputs
 pub mod Live
 pub mod Listing
 pub mod Minimise
+pub mod Little
 pub mod Prices
