@@ -1,7 +1,5 @@
 // A head that is refused, and a turn on the bytes of the spindle's state: on an image, and live on a prepared table.
-use frames::Answer;
 use frames::refused;
-use image_check::check_image;
 use machine::TickReport;
 use machine::live_tick_bytes;
 use machine::tick_bytes;
@@ -21,7 +19,8 @@ ghost use Rattle.machine.specs.Live.{liveTick};
 ghost use Rattle.spindles.specs.Parts.{refusedHead, Refuses, turn, TurnsOn};
 ghost use Rattle.turning.specs.Parts.{Settles};
 
-// A bad head: 25, then what the image check tries, then 15.
+// A bad head: 25, then what the image check tries, then 15, by the tick of a state of zeros, which fits no image: so the table is in one
+// frame of the stack alone.
 pub fn refuse_head(image: &[u8], spindle: usize, taken: usize) -> SpinReport
     ensures { λ r. ⌜ Refuses (refusedHead (imageVerdict (now (image .entry))) spindle) taken r ⌝ }
 {
@@ -29,11 +28,9 @@ pub fn refuse_head(image: &[u8], spindle: usize, taken: usize) -> SpinReport
         let answer = refused(25, 0);
         return turned_back(answer, taken);
     }
-    let answer = check_image(image);
-    let Answer::Done(_) = answer else {
-        return turned_back(answer, taken);
-    };
-    let unfit = refused(15, 0);
+    let mut zeros = [0u8; 130];
+    let report = tick_bytes(image, &mut zeros, 0);
+    let unfit = report.answer;
     turned_back(unfit, taken)
 }
 
