@@ -22,4 +22,5 @@ pub mod Functions
 pub mod Listing
 pub mod Minimise
 pub mod Little
+pub mod Spindles
 pub mod Prices

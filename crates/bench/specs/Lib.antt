@@ -10,4 +10,5 @@ pub mod Live
 pub mod Listing
 pub mod Minimise
 pub mod Little
+pub mod Spindles
 pub mod Prices
