@@ -18,6 +18,8 @@ use Rattle.listing.proofs.list_rows as list-rows
 use Rattle.listing.proofs.list_rows.Reads as list-rows-reads
 use Rattle.minimising.proofs.minimise as minimise
 use Rattle.minimising.proofs.minimise.Reads as minimise-reads
+use Rattle.fetching.proofs.little_chart as little-chart
+use Rattle.fetching.proofs.little_chart.Reads as little-chart-reads
 use Rattle.cause.proofs.cause_of as cause-of
 use Rattle.cause.proofs.cause_of.Reads as cause-of-reads
 use Rattle.state.proofs.State.fresh as fresh
@@ -56,6 +58,8 @@ use Rattle.fairleadow.proofs.fairleadow_list_rows as c-list-rows
 use Rattle.fairleadow.proofs.fairleadow_list_rows.Reads as c-list-rows-reads
 use Rattle.fairleadow.proofs.fairleadow_minimise as c-minimise
 use Rattle.fairleadow.proofs.fairleadow_minimise.Reads as c-minimise-reads
+use Rattle.fairleadow.proofs.fairleadow_little_chart as c-little-chart
+use Rattle.fairleadow.proofs.fairleadow_little_chart.Reads as c-little-chart-reads
 use Rattle.fairleadow.proofs.fairleadow_meaning as c-meaning
 use Rattle.fairleadow.proofs.fairleadow_meaning.Reads as c-meaning-reads
 use Rattle.fairleadow.proofs.fairleadow_prepare as c-prepare
@@ -114,6 +118,9 @@ list-rows-asks-nothing κs a = tt
 pub minimise-asks-nothing : (κs : Lfts 2) (a : ArgsD minimise.signature κs) → minimise-reads.Asked κs a
 minimise-asks-nothing κs a = tt
 
+pub little-chart-asks-nothing : (κs : Lfts 1) (a : ArgsD little-chart.signature κs) → little-chart-reads.Asked κs a
+little-chart-asks-nothing κs a = tt
+
 pub cause-of-asks-nothing : (κs : Lfts 1) (a : ArgsD cause-of.signature κs) → cause-of-reads.Asked κs a
 cause-of-asks-nothing κs a = tt
 
@@ -165,6 +172,9 @@ c-list-rows-asks-nothing κs a = tt
 
 pub c-minimise-asks-nothing : (κs : Lfts 4) (a : ArgsD c-minimise.signature κs) → c-minimise-reads.Asked κs a
 c-minimise-asks-nothing κs a = tt
+
+pub c-little-chart-asks-nothing : (κs : Lfts 3) (a : ArgsD c-little-chart.signature κs) → c-little-chart-reads.Asked κs a
+c-little-chart-asks-nothing κs a = tt
 
 pub c-cause-asks-nothing : (κs : Lfts 7) (a : ArgsD c-cause.signature κs) → c-cause-reads.Asked κs a
 c-cause-asks-nothing κs a = tt

@@ -15,6 +15,9 @@ use Rattle.preparing.proofs.prepare.Reads as tables-prepare-reads
 use Rattle.minimising.specs.Entry.{minimise}
 use Rattle.minimising.proofs.minimise as minimising-minimise
 use Rattle.minimising.proofs.minimise.Reads as minimising-minimise-reads
+use Rattle.little_charts.specs.Little.{littleChart}
+use Rattle.fetching.proofs.little_chart as fetching-little-chart
+use Rattle.fetching.proofs.little_chart.Reads as fetching-little-chart-reads
 use Rattle.state.specs.State.{freshState, Makes}
 use Rattle.runs.specs.Run.{run, Runs}
 use Rattle.runs.specs.Advance.{advance, Advances}
@@ -53,6 +56,8 @@ use Rattle.fairleadow.proofs.fairleadow_prepare as c-prepare
 use Rattle.fairleadow.proofs.fairleadow_prepare.Reads as c-prepare-reads
 use Rattle.fairleadow.proofs.fairleadow_minimise as c-minimise
 use Rattle.fairleadow.proofs.fairleadow_minimise.Reads as c-minimise-reads
+use Rattle.fairleadow.proofs.fairleadow_little_chart as c-little-chart
+use Rattle.fairleadow.proofs.fairleadow_little_chart.Reads as c-little-chart-reads
 use Rattle.fairleadow.proofs.fairleadow_live_run as c-live-run
 use Rattle.fairleadow.proofs.fairleadow_live_run.Reads as c-live-run-reads
 use Rattle.fairleadow.proofs.fairleadow_live_tick as c-live-tick
@@ -62,7 +67,7 @@ use Rattle.fairleadow.proofs.fairleadow_rebind.Reads as c-rebind-reads
 use Rattle.fairleadow.proofs.fairleadow_live_rebind as c-live-rebind
 use Rattle.fairleadow.proofs.fairleadow_live_rebind.Reads as c-live-rebind-reads
 
--- ---- translator::translate, preparing::prepare, minimising::minimise, state::State::fresh, of machine run, tick_image, live_run and live_tick, and of rebinding rebind
+-- ---- translator::translate, preparing::prepare, minimising::minimise, fetching::little_chart, state::State::fresh, of machine run, tick_image, live_run and live_tick, and of rebinding rebind
 -- and live_rebind
 pub translate-lends : (κs : Lfts 2) (a : ArgsD translator-translate.signature κs) (r : ResD translator-translate.signature κs)
     (s : AtExit translator-translate.ended κs)
@@ -82,6 +87,11 @@ pub minimise-lends : (κs : Lfts 2) (a : ArgsD minimising-minimise.signature κs
     (s : AtExit minimising-minimise.ended κs)
     → minimising-minimise-reads.Learnt κs a r s → Lends (minimise (a .0 .now) (a .1 .0 .now)) r (s .1 .0 .now)
 minimise-lends κs a r s e = e
+
+pub little-chart-lends : (κs : Lfts 1) (a : ArgsD fetching-little-chart.signature κs) (r : ResD fetching-little-chart.signature κs)
+    (s : AtExit fetching-little-chart.ended κs)
+    → fetching-little-chart-reads.Learnt κs a r s → Lends (littleChart (a .0) (a .1 .0) (a .1 .1 .0 .now)) r (s .1 .1 .0 .now)
+little-chart-lends κs a r s e = e
 
 pub fresh-makes : (κs : Lfts 0) (a : ArgsD state-fresh.signature κs) (r : ResD state-fresh.signature κs) (s : AtExit state-fresh.ended κs)
     → state-fresh-reads.Learnt κs a r s → Makes (freshState (a .0)) r
@@ -117,7 +127,7 @@ pub live-rebind-makes : (κs : Lfts 1) (a : ArgsD rebinding-live-rebind.signatur
     → rebinding-live-rebind-reads.Learnt κs a r s → Makes (liveRebind (a .0 .now) (a .1 .0) (a .1 .1 .0) (a .1 .1 .1 .0)) r
 live-rebind-makes κs a r s e = e
 
--- ---- for C: translate, fresh, run and tick, then prepare, minimise, live_run and live_tick, and the two rebindings
+-- ---- for C: translate, fresh, run and tick, then prepare, minimise, little_chart, live_run and live_tick, and the two rebindings
 pub translate-lends-c : (κs : Lfts 4) (a : ArgsD c-translate.signature κs) (r : ResD c-translate.signature κs) (s : AtExit c-translate.ended κs)
     → c-translate-reads.Learnt κs a r s
     → LendsC (translate (a .0 .now) (a .1 .0 .now)) r (s .1 .1 .0 .now) (s .1 .1 .1 .0 .now) (s .1 .0 .now)
@@ -152,6 +162,11 @@ pub minimise-lends-c : (κs : Lfts 4) (a : ArgsD c-minimise.signature κs) (r : 
     → c-minimise-reads.Learnt κs a r s
     → LendsC (minimise (a .0 .now) (a .1 .0 .now)) r (s .1 .1 .0 .now) (s .1 .1 .1 .0 .now) (s .1 .0 .now)
 minimise-lends-c κs a r s e = e
+
+pub little-chart-lends-c : (κs : Lfts 3) (a : ArgsD c-little-chart.signature κs) (r : ResD c-little-chart.signature κs) (s : AtExit c-little-chart.ended κs)
+    → c-little-chart-reads.Learnt κs a r s
+    → LendsC (littleChart (a .0) (a .1 .0) (a .1 .1 .0 .now)) r (s .1 .1 .1 .0 .now) (s .1 .1 .1 .1 .0 .now) (s .1 .1 .0 .now)
+little-chart-lends-c κs a r s e = e
 
 pub live-run-runs-c : (κs : Lfts 7) (a : ArgsD c-live-run.signature κs) (r : ResD c-live-run.signature κs) (s : AtExit c-live-run.ended κs)
     → c-live-run-reads.Learnt κs a r s

@@ -1,10 +1,10 @@
--- No refusal of the translator, of prepare, of minimise, of a listing or of a cause has the number 0, so that a caller from C can tell success by it.
+-- No refusal of the translator, of prepare, of minimise, of a little chart, of a listing or of a cause has the number 0, so that a caller from C can tell success by it.
 use Prim.Native.Nat.{ℕ, _+_, _/_, _≤_}
 use mathlib.Core.Path.{_≡_, refl}
-use mathlib.Core.Bool.{Bool, true, false}
+use mathlib.Core.Bool.{Bool, true, false, _||_}
 use mathlib.Core.List.{List}
 use native.Mathlib.Omega.{arith}
-use lib.Dec.{ltb}
+use lib.Dec.{leb, ltb}
 use lib.ListN.{length}
 use Rattle.lists.specs.Pick.{pick}
 use Rattle.lists.specs.Sequences.{over}
@@ -20,6 +20,7 @@ use Rattle.tables.specs.Prepare.{noted, prepare}
 use Rattle.covering.specs.Matched.{uneven}
 use Rattle.group_numbers.specs.Smaller.{smaller}
 use Rattle.minimising.specs.Entry.{minimiseVerdict, minimise}
+use Rattle.little_charts.specs.Little.{littleCharts, littleText, littleVerdict, littleChart}
 use Rattle.translator.specs.Table.{table}
 use Rattle.translator.specs.Entry.{translateVerdict, translate}
 use Rattle.translator.proofs.Refuses.{OfChart, translate-refuses}
@@ -73,6 +74,11 @@ minimise-success t old =
     let uncovered : Bool = uneven (decoded (contents t)) in
     lent-success (minimiseVerdict t) 1 (λ _. imageText (smaller (decoded (contents t)))) old
     (next-refuses Positive (imageVerdict t) _ (image-positive t) (when-refuses Positive 23 uncovered (omega arith)))
+
+pub little-chart-success : (n k : ℕ) (old : List ℕ) → let x = littleChart n k old in number (x .reply) ≡ 0 → x .reply ≡ success (count (x .reply))
+unfolding littleChart littleVerdict
+little-chart-success n k old = lent-success (littleVerdict n k) 1 (λ _. littleText n k) old
+    (when-refuses Positive 24 (ltb n 2 || ltb 4 n || leb (length (littleCharts n)) k) (omega arith))
 
 -- ---- a listing
 listed-success : (v : Verdict) (go : Unit {0} → Image) (xs ys : List ℕ) → Refuses Positive v

@@ -1,7 +1,7 @@
 -- What is answered for a frame count and a number, case by case.
-use Prim.Native.Nat.{ℕ, _+_, _*_, _-_, _/_, _≤_, _<_}
+use Prim.Native.Nat.{ℕ, _*_, _-_, _/_, _≤_, _<_}
 use mathlib.Core.Bool.{Bool, true, false, _||_}
-use mathlib.Core.Path.{_≡_, refl, sym, _∙_, ap, ap₂, subst}
+use mathlib.Core.Path.{_≡_, sym, _∙_, ap, ap₂, subst}
 use mathlib.Core.List.{List, []}
 use native.Mathlib.Omega.{arith}
 use lib.Dec.{leb, ltb}
@@ -12,7 +12,7 @@ use Rattle.lists.specs.Sequences.{written, over}
 use Rattle.lists.proofs.Tests.{or-none, or-true-l, or-true-r}
 use Rattle.lists.proofs.Written.{written-front}
 use Rattle.frames.specs.Frame.{size, textOf}
-use Rattle.frames.specs.Verdict.{fine, refused, when}
+use Rattle.frames.specs.Verdict.{fine, when}
 use Rattle.frames.specs.Answer.{reply, Lends}
 use Rattle.frames.specs.declared.Answer.{Answer}
 use Rattle.frames.specs.declared.Answer.the-variants.{Done, Refused}
@@ -79,9 +79,11 @@ module _ (rs₀ rs : List ℕ) (k : ℕ) (s : Sought) (few : Few rs₀) (long : 
       too-short l a e = subst (λ (b : Answer). Lends (littleChart (size rs₀) k old) b old) (sym e)
           (lent-short (littleVerdict (size rs₀) k) 1 (λ _. littleText (size rs₀) k) old accepted (omega (arith, text-long)))
 
-      pub fetched : count ≤ length old → (out : List ℕ) → out ≡ written old 0 (textOf rs) → Lends (littleChart (size rs₀) k old) (Done count) out
+      pub fetched : count ≤ length old → (out : List ℕ) → out ≡ written old 0 (textOf rs)
+          → Lends (littleChart (size rs₀) k old) (Done count) out
       unfolding littleChart
-      fetched l out w = lent-done (littleVerdict (size rs₀) k) 1 (λ _. littleText (size rs₀) k) old accepted (omega (arith, text-long)) count
+      fetched l out w = lent-done (littleVerdict (size rs₀) k) 1 (λ _. littleText (size rs₀) k) old accepted
+          (omega (arith, text-long)) count
           (omega (arith, text-long)) out (w ∙ written-front old (textOf rs) ∙ ap (λ (xs : List ℕ). over xs old) text-is)
 
 -- ---- the records that the search is lent
@@ -95,5 +97,7 @@ module _ (xs : List ℕ) (n : ℕ) (a : 2 ≤ n) (b : n ≤ 4) (long : length xs
   pub lent-few : Few (take (10 * n) xs)
   lent-few = record { whole = omega (arith, lent-long); some = omega (arith, lent-size); few = omega (arith, lent-size) }
 
-  pub lent-fetched : (k : ℕ) (old out : List ℕ) (r : Answer) → Lends (littleChart (size (take (10 * n) xs)) k old) r out → Lends (littleChart n k old) r out
-  lent-fetched k old out r = subst (λ (m : ℕ). Lends (littleChart m k old) r out → Lends (littleChart n k old) r out) (sym lent-size) (λ x. x)
+  pub lent-fetched : (k : ℕ) (old out : List ℕ) (r : Answer) → Lends (littleChart (size (take (10 * n) xs)) k old) r out
+      → Lends (littleChart n k old) r out
+  lent-fetched k old out r = subst (λ (m : ℕ). Lends (littleChart m k old) r out → Lends (littleChart n k old) r out) (sym lent-size)
+      (λ x. x)

@@ -16,7 +16,7 @@ use Rattle.frames.specs.Verdict.{Verdict, fine, refused, next}
 use Rattle.frames.specs.Check.{textVerdict}
 use Rattle.frames.proofs.Frames.{Frame, frame-length}
 use Rattle.frames.proofs.Texts.{text-count, text-fine, text-contents, contents-length, contents-at}
-use Rattle.frames.proofs.Contents.{text-told, text-back, any-contents-length, ten-frames, textOf-contents}
+use Rattle.frames.proofs.Contents.{text-back, any-contents-length, ten-frames, textOf-contents}
 use Rattle.charts.specs.Chart.{Chart}
 use Rattle.charts.specs.Check.{chartVerdict}
 use Rattle.charts.specs.Entry.{readVerdict}
@@ -99,8 +99,10 @@ module _ (n : ℕ) (a : 2 ≤ n) (b : n ≤ 4) where
   charts-up = ascends-filter textOf (λ c. passes (chartVerdict c)) (map chartOf (listsOf (nodes n) n))
       (ascends-map chartOf textOf (listsOf (nodes n) n)
       (ascends-as framesText (λ fs. textOf (chartOf fs)) (listsOf (nodes n) n)
-      (all-of (Made (nodes n) n) (λ fs. framesText fs ≡ textOf (chartOf fs)) (λ fs d. sym (made-text fs d)) (listsOf (nodes n) n) (lists-made (nodes n) n))
-      (lists-up (nodes n) (all-of Fine (λ r. length (frameText r) ≡ 23) (λ r q. frame-length r (q .frame)) (nodes n) (fine-nodes .each)) (fine-nodes .up) n)))
+      (all-of (Made (nodes n) n) (λ fs. framesText fs ≡ textOf (chartOf fs)) (λ fs d. sym (made-text fs d)) (listsOf (nodes n) n)
+      (lists-made (nodes n) n))
+      (lists-up (nodes n) (all-of Fine (λ r. length (frameText r) ≡ 23) (λ r q. frame-length r (q .frame)) (nodes n) (fine-nodes .each))
+      (fine-nodes .up) n)))
 
   order : (i j : ℕ) → i < j → j < total n → before (littleText n i) (littleText n j) ≡ true
   order i j l m = ascends-at textOf [] (littleCharts n) charts-up i j l m
@@ -127,7 +129,8 @@ module _ (n : ℕ) (a : 2 ≤ n) (b : n ≤ 4) where
   unfolding littleCharts
   all-kept = all-filter Kept (λ c. passes (chartVerdict c)) (map chartOf (listsOf (nodes n) n))
       (all-map Kept chartOf (listsOf (nodes n) n)
-      (all-of (Made (nodes n) n) (λ fs. Kept (chartOf fs)) (λ fs d. record { frames = fs; made = d; is = refl }) (listsOf (nodes n) n) (lists-made (nodes n) n)))
+      (all-of (Made (nodes n) n) (λ fs. Kept (chartOf fs)) (λ fs d. record { frames = fs; made = d; is = refl }) (listsOf (nodes n) n)
+      (lists-made (nodes n) n)))
 
   -- every node is of the form
   pub made-formed : (fs : List (List ℕ)) → Made (nodes n) n fs → (v : ℕ) → v < n → littleNode (chartOf fs) v ≡ true
@@ -142,7 +145,8 @@ module _ (n : ℕ) (a : 2 ≤ n) (b : n ≤ 4) where
       let c : Chart = contents (framesText fs) in
       let e : c ≡ chartOf fs = chart-contents fs F in
       record {
-        accepted = ap (λ (w : Verdict). next w λ _. chartVerdict c) (text-fine fs F 5888 (omega (arith, d .count)) (omega (arith, d .count))) ∙ ap chartVerdict e ∙ v;
+        accepted = ap (λ (w : Verdict). next w λ _. chartVerdict c)
+            (text-fine fs F 5888 (omega (arith, d .count)) (omega (arith, d .count))) ∙ ap chartVerdict e ∙ v;
         frames = text-count fs F ∙ d .count;
         formed = ap not (any-none (λ v. not (littleNode c v)) 0 (size c) (λ v l. ap (λ (x : Chart). not (littleNode x (0 + v))) e
             ∙ ap not (made-formed fs d (0 + v) (omega (arith, contents-length fs F, d .count)))));
@@ -166,12 +170,15 @@ module _ (n : ℕ) (a : 2 ≤ n) (b : n ≤ 4) where
       let A : Accepted c = accepted t (w .accepted) in
       let s : size c ≡ n = omega (arith, any-contents-length t, w .frames) in
       let formed : (v : ℕ) → v < size c → littleNode c v ≡ true = λ v l.
-      not-false (littleNode c v) (any-false (λ v. not (littleNode c v)) 0 (size c) (not-true (any (λ v. not (littleNode c v)) 0 (size c)) (w .formed)) v (omega arith) (omega arith)) in
+      not-false (littleNode c v)
+      (any-false (λ v. not (littleNode c v)) 0 (size c) (not-true (any (λ v. not (littleNode c v)) 0 (size c)) (w .formed)) v
+      (omega arith) (omega arith)) in
       let fs : List (List ℕ) = map (tenAt c) (range 0 (size c)) in
       let each : All (λ r. In r (nodes (size c))) fs = all-map (λ r. In r (nodes (size c))) (tenAt c) (range 0 (size c))
       (all-range (λ v. In (tenAt c v) (nodes (size c))) 0 (size c) (λ v l. record-in c (A .sound) formed (0 + v) (omega arith))) in
       let m : length fs ≡ size c = length-map-range (tenAt c) 0 (size c) in
-      let i : In fs (listsOf (nodes n) n) = subst (λ (k : ℕ). In fs (listsOf (nodes k) k)) s (subst (λ (k : ℕ). In fs (listsOf (nodes (size c)) k)) m (made-listed (nodes (size c)) fs each)) in
+      let i : In fs (listsOf (nodes n) n) = subst (λ (k : ℕ). In fs (listsOf (nodes k) k)) s
+      (subst (λ (k : ℕ). In fs (listsOf (nodes (size c)) k)) m (made-listed (nodes (size c)) fs each)) in
       let is : chartOf fs ≡ c = whole c (accepted-bytes t (w .accepted)) (A .whole) in
       let p : passes (chartVerdict c) ≡ true = ap passes (next-rest (textVerdict 5888 t) (λ _. chartVerdict c) (w .accepted)) in
       let j : In c (littleCharts n) = in-filter (λ c. passes (chartVerdict c)) c (map chartOf (listsOf (nodes n) n)) p

@@ -45,7 +45,8 @@ unfolding rising
 rising-up [] e = tt
 rising-up (x ∷ xs) e =
     let bad : List ℕ → Bool = λ y. not (before (frameText x) (frameText y)) in (
-      all-of (λ y. bad y ≡ false) (λ y. before (frameText x) (frameText y) ≡ true) (λ y q. not-false (before (frameText x) (frameText y)) q) xs
+      all-of (λ y. bad y ≡ false) (λ y. before (frameText x) (frameText y) ≡ true)
+          (λ y q. not-false (before (frameText x) (frameText y)) q) xs
           (none-all bad xs (not-true (some bad xs) (and-l (not (some bad xs)) (rising xs) e))),
       rising-up xs (and-r (not (some bad xs)) (rising xs) e),
     )
@@ -62,7 +63,8 @@ good-fine r e =
     let q : (a && b) ≡ true = and-l (a && b) d e in
     record {
       frame = frame-by r (eqb-true (length r) 10 (and-l a b q))
-          (all-of (λ x. leb 256 x ≡ false) (λ x. x < 256) (λ x z. leb-false 256 x z) r (none-all (leb 256) r (not-true (some (leb 256) r) (and-r a b q))));
+          (all-of (λ x. leb 256 x ≡ false) (λ x. x < 256) (λ x z. leb-false 256 x z) r
+          (none-all (leb 256) r (not-true (some (leb 256) r) (and-r a b q))));
       formed = and-r (a && b) d e;
     }
 
@@ -72,7 +74,8 @@ pub record NodesFine (n : ℕ) : Type 0 where
 
 nodes-by : (n : ℕ) → some (λ r. not (goodRecord r)) (nodes n) ≡ false → rising (nodes n) ≡ true → NodesFine n
 nodes-by n e q = record {
-  each = all-of (λ r. not (goodRecord r) ≡ false) Fine (λ r z. good-fine r (not-false (goodRecord r) z)) (nodes n) (none-all (λ r. not (goodRecord r)) (nodes n) e);
+  each = all-of (λ r. not (goodRecord r) ≡ false) Fine (λ r z. good-fine r (not-false (goodRecord r) z)) (nodes n)
+      (none-all (λ r. not (goodRecord r)) (nodes n) e);
   up = rising-up (nodes n) q;
 }
 
@@ -98,7 +101,8 @@ module _ (n : ℕ) where
 
   in-begins : (u : ℕ) → u < n → In (beginNode u) (nodes n)
   unfolding nodes
-  in-begins u l = in-left (beginNode u) begins (endNode ∷ ops ++ tests) (in-map beginNode u (range 0 n) (in-range u 0 n (omega arith) (omega arith)))
+  in-begins u l = in-left (beginNode u) begins (endNode ∷ ops ++ tests)
+      (in-map beginNode u (range 0 n) (in-range u 0 n (omega arith) (omega arith)))
 
   in-ends : In endNode (nodes n)
   unfolding nodes
@@ -116,7 +120,8 @@ module _ (n : ℕ) where
       (in-concat (λ u. map (conditionNode u) (range 0 n)) u (range 0 n) (conditionNode u w) (in-range u 0 n (omega arith) (omega arith))
       (in-map (conditionNode u) w (range 0 n) (in-range w 0 n (omega arith) (omega arith))))))
 
-ten : (a b c d e f g h i j a′ b′ c′ d′ e′ f′ g′ h′ i′ j′ : ℕ) → a ≡ a′ → b ≡ b′ → c ≡ c′ → d ≡ d′ → e ≡ e′ → f ≡ f′ → g ≡ g′ → h ≡ h′ → i ≡ i′ → j ≡ j′
+ten : (a b c d e f g h i j a′ b′ c′ d′ e′ f′ g′ h′ i′ j′ : ℕ) → a ≡ a′ → b ≡ b′ → c ≡ c′ → d ≡ d′ → e ≡ e′ → f ≡ f′ → g ≡ g′ → h ≡ h′
+    → i ≡ i′ → j ≡ j′
     → _≡_ {A = List ℕ} (a ∷ b ∷ c ∷ d ∷ e ∷ f ∷ g ∷ h ∷ i ∷ j ∷ []) (a′ ∷ b′ ∷ c′ ∷ d′ ∷ e′ ∷ f′ ∷ g′ ∷ h′ ∷ i′ ∷ j′ ∷ [])
 ten a b c d e f g h i j a′ b′ c′ d′ e′ f′ g′ h′ i′ j′ p q r s t u v w x y = cc
 
@@ -131,7 +136,8 @@ module _ (c : Chart) (s : Sound c) (formed : (v : ℕ) → v < size c → little
           eqb-true (scheme c v) 1 (and-l x y (and-l (x && y) z (and-l (x && y && z) w (formed v l))))
 
   module _ (v : ℕ) (l : v < size c) where
-    parts : (scheme c v ≡ 1) × (kind c v ≤ 3) × ((is c 2 v || eqb (argument c v) 0) ≡ true) × ((not (is c 2 v) || (eqb (result c v) 0 && leb (mask c v) 1)) ≡ true)
+    parts : (scheme c v ≡ 1) × (kind c v ≤ 3) × ((is c 2 v || eqb (argument c v) 0) ≡ true) ×
+        ((not (is c 2 v) || (eqb (result c v) 0 && leb (mask c v) 1)) ≡ true)
     parts = let x : Bool = eqb (scheme c v) 1 in let y : Bool = leb (kind c v) 3 in
         let z : Bool = is c 2 v || eqb (argument c v) 0 in let w : Bool = not (is c 2 v) || (eqb (result c v) 0 && leb (mask c v) 1) in
         let e = formed v l in (
@@ -151,7 +157,8 @@ module _ (c : Chart) (s : Sound c) (formed : (v : ℕ) → v < size c → little
         (or-r (eqb (scheme c v) 0 || ltb 16 (scheme c v)) (badUse c v (kind c v)) (s .goodField v l))
 
     zeros : (i : ℕ) → i ≤ 10 → filledFrom c v i ≡ false → (k : ℕ) → i ≤ k → k < 10 → field c v k ≡ 0
-    zeros i m e k a b = eqb-true (field c v k) 0 (not-false (eqb (field c v k) 0) (any-false (λ k. not (eqb (field c v k) 0)) i (10 - i) e k a (omega arith)))
+    zeros i m e k a b = eqb-true (field c v k) 0
+        (not-false (eqb (field c v k) 0) (any-false (λ k. not (eqb (field c v k) 0)) i (10 - i) e k a (omega arith)))
 
     abbrev Here : Type 0
     Here = In (tenAt c v) (nodes (size c))
@@ -170,8 +177,10 @@ module _ (c : Chart) (s : Sound c) (formed : (v : ℕ) → v < size c → little
         let a : argument c v ≡ 0 = no-argument (λ q. omega arith) in
         let t = arc0 c s v l (λ q. omega arith) in
         subst (λ (r : List ℕ). In r (nodes (size c)))
-        (sym (ten _ _ _ _ _ _ _ _ _ _ 0 1 0 (next0 c v) 0 0 0 0 0 0 k (parts .0) a refl (z 4 (omega arith) (omega arith)) (z 5 (omega arith) (omega arith))
-        (z 6 (omega arith) (omega arith)) (z 7 (omega arith) (omega arith)) (z 8 (omega arith) (omega arith)) (z 9 (omega arith) (omega arith))))
+        (sym (ten _ _ _ _ _ _ _ _ _ _ 0 1 0 (next0 c v) 0 0 0 0 0 0 k (parts .0) a refl (z 4 (omega arith) (omega arith))
+        (z 5 (omega arith) (omega arith))
+        (z 6 (omega arith) (omega arith)) (z 7 (omega arith) (omega arith)) (z 8 (omega arith) (omega arith))
+        (z 9 (omega arith) (omega arith))))
         (in-begins (size c) (next0 c v) (t .inside))
 
     as-end : kind c v ≡ 1 → Here
@@ -180,7 +189,8 @@ module _ (c : Chart) (s : Sound c) (formed : (v : ℕ) → v < size c → little
         subst (λ (r : List ℕ). In r (nodes (size c)))
         (sym (ten _ _ _ _ _ _ _ _ _ _ 1 1 0 0 0 0 0 0 0 0 k (parts .0) (z 2 (omega arith) (omega arith)) (z 3 (omega arith) (omega arith))
         (z 4 (omega arith) (omega arith)) (z 5 (omega arith) (omega arith))
-        (z 6 (omega arith) (omega arith)) (z 7 (omega arith) (omega arith)) (z 8 (omega arith) (omega arith)) (z 9 (omega arith) (omega arith))))
+        (z 6 (omega arith) (omega arith)) (z 7 (omega arith) (omega arith)) (z 8 (omega arith) (omega arith))
+        (z 9 (omega arith) (omega arith))))
         (in-ends (size c))
 
     no-call : kind c v ≡ 2 → argument c v ≡ 0
@@ -192,24 +202,29 @@ module _ (c : Chart) (s : Sound c) (formed : (v : ℕ) → v < size c → little
 
     as-operation : kind c v ≡ 2 → Here
     as-operation k =
-        let f : (eqb (result c v) 0 && leb (mask c v) 1) ≡ true = implied (is c 2 v) (eqb (result c v) 0 && leb (mask c v) 1) (parts .3) (eq-eqb (kind c v) 2 k) in
+        let f : (eqb (result c v) 0 && leb (mask c v) 1) ≡ true = implied (is c 2 v) (eqb (result c v) 0 && leb (mask c v) 1) (parts .3)
+        (eq-eqb (kind c v) 2 k) in
         let r : result c v ≡ 0 = eqb-true (result c v) 0 (and-l (eqb (result c v) 0) (leb (mask c v) 1) f) in
         let m : mask c v ≤ 1 = leb-true (mask c v) 1 (and-r (eqb (result c v) 0) (leb (mask c v) 1) f) in
-        let n : next1 c v ≡ 0 = eqb-true (next1 c v) 0 (not-false (eqb (next1 c v) 0) (or-l (not (eqb (next1 c v) 0)) (ltb 2 (result c v)) (used 2 k))) in
+        let n : next1 c v ≡ 0 = eqb-true (next1 c v) 0
+        (not-false (eqb (next1 c v) 0) (or-l (not (eqb (next1 c v) 0)) (ltb 2 (result c v)) (used 2 k))) in
         let t = arc0 c s v l (λ q. omega arith) in
         subst (λ (r : List ℕ). In r (nodes (size c)))
-        (sym (ten _ _ _ _ _ _ _ _ _ _ 2 1 0 (next0 c v) 0 0 0 0 0 (field c v 9) k (parts .0) (no-call k) refl n r (omega arith) (omega arith) (omega arith) refl))
+        (sym (ten _ _ _ _ _ _ _ _ _ _ 2 1 0 (next0 c v) 0 0 0 0 0 (field c v 9) k (parts .0) (no-call k) refl n r (omega arith)
+        (omega arith) (omega arith) refl))
         (in-operations (size c) (next0 c v) (field c v 9) (t .inside) (omega arith))
 
     as-condition : kind c v ≡ 3 → Here
     as-condition k =
-        let z : (j : ℕ) → 5 ≤ j → j < 10 → field c v j ≡ 0 = zeros 5 (omega arith) (or-r (ltb 15 (argument c v)) (filledFrom c v 5) (used 3 k)) in
+        let z : (j : ℕ) → 5 ≤ j → j < 10
+        → field c v j ≡ 0 = zeros 5 (omega arith) (or-r (ltb 15 (argument c v)) (filledFrom c v 5) (used 3 k)) in
         let a : argument c v ≡ 0 = no-argument (λ q. omega arith) in
         let t = arc0 c s v l (λ q. omega arith) in
         let u = arc1 c s v l (omega arith) in
         subst (λ (r : List ℕ). In r (nodes (size c)))
         (sym (ten _ _ _ _ _ _ _ _ _ _ 3 1 0 (next0 c v) (next1 c v) 0 0 0 0 0 k (parts .0) a refl refl (z 5 (omega arith) (omega arith))
-        (z 6 (omega arith) (omega arith)) (z 7 (omega arith) (omega arith)) (z 8 (omega arith) (omega arith)) (z 9 (omega arith) (omega arith))))
+        (z 6 (omega arith) (omega arith)) (z 7 (omega arith) (omega arith)) (z 8 (omega arith) (omega arith))
+        (z 9 (omega arith) (omega arith))))
         (in-conditions (size c) (next0 c v) (next1 c v) (t .inside) (u .inside))
 
     pub record-in : In (tenAt c v) (nodes (size c))

@@ -25,7 +25,8 @@ before-self (a ∷ x) = or-none (ltb a a) (eqb a a && before x x) (le-ltb a a (o
 pub before-after : (x a b : List ℕ) → before a b ≡ true → before (x ++ a) (x ++ b) ≡ true
 unfolding before
 before-after [] a b e = e
-before-after (c ∷ x) a b e = or-true-r (ltb c c) (eqb c c && before (x ++ a) (x ++ b)) (and-true (eqb c c) (before (x ++ a) (x ++ b)) (eq-eqb c c refl) (before-after x a b e))
+before-after (c ∷ x) a b e = or-true-r (ltb c c) (eqb c c && before (x ++ a) (x ++ b))
+    (and-true (eqb c c) (before (x ++ a) (x ++ b)) (eq-eqb c c refl) (before-after x a b e))
 
 pub before-front : (x y a b : List ℕ) → length x ≡ length y → before x y ≡ true → before (x ++ a) (y ++ b) ≡ true
 unfolding before
@@ -49,7 +50,8 @@ module _ {A : Type 0} (f : A → List ℕ) where
   Ascends [] = Unit {0}
   Ascends (x ∷ xs) = All (Below x) xs × Ascends xs
 
-  pub ascends-at : (d : A) (xs : List A) → Ascends xs → (i j : ℕ) → i < j → j < length xs → before (f (getD xs i d)) (f (getD xs j d)) ≡ true
+  pub ascends-at : (d : A) (xs : List A) → Ascends xs → (i j : ℕ) → i < j → j < length xs
+      → before (f (getD xs i d)) (f (getD xs j d)) ≡ true
   ascends-at d [] a i j l m = absurd (omega arith)
   ascends-at d (x ∷ xs) a zero zero l m = absurd (omega arith)
   ascends-at d (x ∷ xs) a zero (suc j) l m = all-at (Below x) d xs (a .0) j (omega arith)
@@ -111,7 +113,8 @@ module _ (rs : List (List ℕ)) (lined : All Lined rs) (up : Ascends frameText r
     -- lists that begin with r come before those that begin with a later record
     led-before : (r : List ℕ) → Lined r → (qs : List (List ℕ)) → All Lined qs → All (λ q. before (frameText r) (frameText q) ≡ true) qs
         → All (λ x. All (λ y. before (framesText x) (framesText y) ≡ true) (concatMap led qs)) (led r)
-    led-before r l qs ls bs = all-map _ (λ fs. r ∷ fs) (listsOf rs m) (all-every _ (λ fs. all-concat _ led qs (each fs qs ls bs)) (listsOf rs m))
+    led-before r l qs ls bs = all-map _ (λ fs. r ∷ fs) (listsOf rs m)
+        (all-every _ (λ fs. all-concat _ led qs (each fs qs ls bs)) (listsOf rs m))
       where
         each : (fs : List (List ℕ)) (ps : List (List ℕ)) → All Lined ps → All (λ q. before (frameText r) (frameText q) ≡ true) ps
             → All (λ q. All (λ y. before (framesText (r ∷ fs)) (framesText y) ≡ true) (led q)) ps
@@ -119,15 +122,18 @@ module _ (rs : List (List ℕ)) (lined : All Lined rs) (up : Ascends frameText r
         each fs (q ∷ ps) a b = (
           all-map (λ y. before (framesText (r ∷ fs)) (framesText y) ≡ true) (λ gs. q ∷ gs) (listsOf rs m)
               (all-every (λ gs. before (framesText (r ∷ fs)) (framesText (q ∷ gs)) ≡ true)
-              (λ gs. rw (frames-cons r fs, frames-cons q gs) (before-front (frameText r) (frameText q) (framesText fs) (framesText gs) (l ∙ sym (a .0)) (b .0)))
+              (λ gs. rw (frames-cons r fs, frames-cons q gs)
+              (before-front (frameText r) (frameText q) (framesText fs) (framesText gs) (l ∙ sym (a .0)) (b .0)))
               (listsOf rs m)),
           each fs ps (a .1) (b .1),
         )
 
-    more-up : Ascends framesText (listsOf rs m) → (qs : List (List ℕ)) → All Lined qs → Ascends frameText qs → Ascends framesText (concatMap led qs)
+    more-up : Ascends framesText (listsOf rs m) → (qs : List (List ℕ)) → All Lined qs → Ascends frameText qs
+        → Ascends framesText (concatMap led qs)
     unfolding concatMap
     more-up a [] l u = tt
-    more-up a (q ∷ qs) l u = ascends-append framesText (led q) (concatMap led qs) (led-up q a) (more-up a qs (l .1) (u .1)) (led-before q (l .0) qs (l .1) (u .0))
+    more-up a (q ∷ qs) l u = ascends-append framesText (led q) (concatMap led qs) (led-up q a) (more-up a qs (l .1) (u .1))
+        (led-before q (l .0) qs (l .1) (u .0))
 
   pub lists-up : (m : ℕ) → Ascends framesText (listsOf rs m)
   unfolding listsOf

@@ -1,7 +1,7 @@
 -- Node records by number, and the numbers to try, by the tests that the code makes.
 use Prim.Native.Nat.{ℕ, zero, suc, _+_, _*_, _-_, _/_, _%_, _≤_, _<_}
 use mathlib.Core.Bool.{Bool, true, false}
-use mathlib.Core.Path.{_≡_, refl, sym, _∙_, ap, ap₂}
+use mathlib.Core.Path.{_≡_, sym, _∙_}
 use mathlib.Core.List.{List, [], _∷_}
 use native.Mathlib.Omega.{arith}
 use lib.Dec.{leb, ltb, eqb}
@@ -32,12 +32,14 @@ module _ (n i : ℕ) where
     pub at-operation : i < 3 * n + 1 → let j = i - (n + 1) in
         _≡_ {A = List ℕ} (2 ∷ 1 ∷ 0 ∷ j / 2 ∷ 0 ∷ 0 ∷ 0 ∷ 0 ∷ 0 ∷ j % 2 ∷ []) (nodeAt n i)
     unfolding nodeAt
-    at-operation m = sym (no-pick (ltb i n) _ _ (le-ltb i n l) ∙ no-pick (eqb i n) _ _ (ne-eqb i n d) ∙ yes-pick (ltb i (3 * n + 1)) _ _ (lt-ltb i (3 * n + 1) m))
+    at-operation m = sym (no-pick (ltb i n) _ _ (le-ltb i n l) ∙ no-pick (eqb i n) _ _ (ne-eqb i n d)
+        ∙ yes-pick (ltb i (3 * n + 1)) _ _ (lt-ltb i (3 * n + 1) m))
 
     pub at-condition : 3 * n + 1 ≤ i → let j = i - (3 * n + 1) in
         _≡_ {A = List ℕ} (3 ∷ 1 ∷ 0 ∷ j / n ∷ j % n ∷ 0 ∷ 0 ∷ 0 ∷ 0 ∷ 0 ∷ []) (nodeAt n i)
     unfolding nodeAt
-    at-condition m = sym (no-pick (ltb i n) _ _ (le-ltb i n l) ∙ no-pick (eqb i n) _ _ (ne-eqb i n d) ∙ no-pick (ltb i (3 * n + 1)) _ _ (le-ltb i (3 * n + 1) m))
+    at-condition m = sym (no-pick (ltb i n) _ _ (le-ltb i n l) ∙ no-pick (eqb i n) _ _ (ne-eqb i n d)
+        ∙ no-pick (ltb i (3 * n + 1)) _ _ (le-ltb i (3 * n + 1) m))
 
 -- ---- choices by a test that a call made
 pub chosen : {A : Type 0} (r t : Bool) (a b : A) → r ≡ t → r ≡ true → a ≡ pick t a b

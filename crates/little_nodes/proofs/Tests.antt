@@ -1,6 +1,6 @@
 -- What is tried of records, by the tests that the code makes.
 use Prim.Native.Nat.{ℕ, _+_, _-_}
-use mathlib.Core.Bool.{Bool, true, false, _&&_, _||_, not}
+use mathlib.Core.Bool.{Bool, true, false, _||_, not}
 use mathlib.Core.Path.{_≡_, refl, sym, _∙_, ap}
 use native.Mathlib.Omega.{arith}
 use lib.Dec.{eqb}
@@ -8,7 +8,7 @@ use borrow.Author.Tests.{eq-eqb, ne-eqb}
 use Rattle.lists.specs.Numbers.{any}
 use Rattle.frames.specs.Frame.{size}
 use Rattle.lists.proofs.Tests.{or-true-l, or-true-r, or-none}
-use Rattle.charts.specs.Chart.{Chart, kind, next0, next1, is}
+use Rattle.charts.specs.Chart.{Chart, kind, next0, next1}
 use Rattle.little_search.specs.Search.{has, leads, enters, clashes, repeats, barred, leadsOther, lonely}
 
 or-no : (b : Bool) → (b || false) ≡ b
@@ -28,7 +28,8 @@ module _ (c : Chart) (u t k : ℕ) (q : k ≡ kind c u) where
       leads-only e = rw (ne-eqb (kind c u) 1 (λ z. n (q ∙ z)), ne-eqb (next0 c u) t (λ z. d (f ∙ z)), ne-eqb (kind c u) 3 (λ z. e (q ∙ z)))
 
       pub leads-second : (y : ℕ) → k ≡ 3 → y ≡ next1 c u → eqb y t ≡ leads c u t
-      leads-second y e g = rw (ne-eqb (kind c u) 1 (λ z. n (q ∙ z)), ne-eqb (next0 c u) t (λ z. d (f ∙ z)), eq-eqb (kind c u) 3 (sym q ∙ e), g)
+      leads-second y e g = rw
+          (ne-eqb (kind c u) 1 (λ z. n (q ∙ z)), ne-eqb (next0 c u) t (λ z. d (f ∙ z)), eq-eqb (kind c u) 3 (sym q ∙ e), g)
 
 pub any-start : (p : ℕ → Bool) (n : ℕ) → any p 0 (n - 0) ≡ any p 0 n
 any-start p n = ap (any p 0) (omega arith)

@@ -1,6 +1,6 @@
 -- Joined and filtered lists, element by element and by ranges of numbers.
 use Prim.Native.Nat.{ℕ, zero, suc, _+_, _-_, _≤_, _<_}
-use mathlib.Core.Bool.{Bool, true, false}
+use mathlib.Core.Bool.{Bool, false}
 use mathlib.Core.Path.{_≡_, refl, sym, _∙_, ap, ap₂}
 use mathlib.Core.List.{List, [], _∷_, _++_, map, append-assoc, append-nil}
 use native.Mathlib.Omega.{arith}
@@ -36,15 +36,18 @@ concat-each f g e [] = refl
 concat-each f g e (x ∷ xs) = ap₂ (λ a b. a ++ b) (e x) (concat-each f g e xs)
 
 module _ {B : Type 0} (f : ℕ → List B) where
-  pub concat-range : (g : ℕ → List B) (i n : ℕ) → ((k : ℕ) → i ≤ k → k < i + n → f k ≡ g k) → concatMap f (range i n) ≡ concatMap g (range i n)
+  pub concat-range : (g : ℕ → List B) (i n : ℕ) → ((k : ℕ) → i ≤ k → k < i + n → f k ≡ g k)
+      → concatMap f (range i n) ≡ concatMap g (range i n)
   unfolding concatMap
   concat-range g i zero e = refl
-  concat-range g i (suc n) e = ap₂ (λ a b. a ++ b) (e i (omega arith) (omega arith)) (concat-range g (suc i) n (λ k a b. e k (omega arith) (omega arith)))
+  concat-range g i (suc n) e = ap₂ (λ a b. a ++ b) (e i (omega arith) (omega arith))
+      (concat-range g (suc i) n (λ k a b. e k (omega arith) (omega arith)))
 
   pub concat-empty : (i n : ℕ) → ((k : ℕ) → i ≤ k → k < i + n → f k ≡ []) → concatMap f (range i n) ≡ []
   unfolding concatMap
   concat-empty i zero e = refl
-  concat-empty i (suc n) e = ap₂ (λ a b. a ++ b) (e i (omega arith) (omega arith)) (concat-empty (suc i) n (λ k a b. e k (omega arith) (omega arith)))
+  concat-empty i (suc n) e = ap₂ (λ a b. a ++ b) (e i (omega arith) (omega arith))
+      (concat-empty (suc i) n (λ k a b. e k (omega arith) (omega arith)))
 
   pub concat-split : (i m k : ℕ) → concatMap f (range i (m + k)) ≡ concatMap f (range i m) ++ concatMap f (range (i + m) k)
   unfolding concatMap
@@ -67,7 +70,8 @@ module _ {B : Type 0} (f : ℕ → List B) where
       let e : n ≡ a + (b - a) + (n - b) = omega arith in
       let g : ℕ → ℕ → List B = λ i k. concatMap f (range i k) in
       ap (g 0) e ∙ concat-split 0 (a + (b - a)) (n - b)
-      ∙ ap₂ (λ x y. x ++ y) (concat-split 0 a (b - a)) (concat-empty (0 + (a + (b - a))) (n - b) (λ k x y. high k (omega arith) (omega arith)))
+      ∙ ap₂ (λ x y. x ++ y) (concat-split 0 a (b - a))
+      (concat-empty (0 + (a + (b - a))) (n - b) (λ k x y. high k (omega arith) (omega arith)))
       ∙ append-nil (g 0 a ++ g (0 + a) (b - a))
       ∙ ap (λ x. x ++ g (0 + a) (b - a)) (concat-empty 0 a (λ k x y. low k (omega arith)))
       ∙ ap (λ (i : ℕ). g i (b - a)) (omega arith)

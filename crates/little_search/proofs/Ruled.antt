@@ -1,6 +1,6 @@
 -- What is left out is in no accepted chart: a second Begin or End, an arc to a Begin, a condition's arc to itself, a node that no other
 -- leads to.
-use Prim.Native.Nat.{ℕ, zero, suc, _+_, _-_, _≤_, _<_}
+use Prim.Native.Nat.{ℕ, _+_, _-_, _≤_, _<_}
 use mathlib.Core.Bool.{Bool, true, false, _&&_, _||_, not}
 use mathlib.Core.Path.{_≡_, refl, sym, _∙_, ap, subst}
 use mathlib.Core.List.{[], _∷_}
@@ -17,11 +17,11 @@ use Rattle.lists.specs.Sequences.{some}
 use Rattle.graph.specs.Reach.{member}
 use Rattle.graph.proofs.Paths.{Arc, Path, here, on}
 use Rattle.frames.specs.Frame.{size}
-use Rattle.charts.specs.Chart.{Chart, kind, scheme, next0, next1, is, schemes, begin, end}
+use Rattle.charts.specs.Chart.{Chart, kind, scheme, next0, next1, is, begin, end}
 use Rattle.charts.specs.Check.{arcs, onCircle}
 use Rattle.charts.proofs.Accepted.{Sound}
 use Rattle.charts.proofs.Nodes.{TheNode, arc-end, begins, ends, arcs-end, arcs-one, arcs-condition, in-arcs0, in-arcs1, schemes-first}
-use Rattle.charts.proofs.Meaning.{member-only, Circle, circle-found, condition-arc, Joined, found-joined}
+use Rattle.charts.proofs.Meaning.{member-only, Circle, circle-found, condition-arc, found-joined}
 use Rattle.little_search.specs.Search.{has, leads, clashes, barred, lonely, missing}
 
 some-none : (f : ℕ → Bool) → some f [] ≡ false
@@ -130,7 +130,8 @@ module _ (c : Chart) (p : Plain c) where
   unfolding barred
   not-barred v l = or-none (is c 1 v && has c 1 v || is c 3 v && leads c v v) (any (clashes c v) 0 (v + 1))
       (or-none (is c 1 v && has c 1 v) (is c 3 v && leads c v v)
-      (refuted (is c 1 v && has c 1 v) (λ e. second (and-l (is c 1 v) (has c 1 v) e) (any-some (is c 1) 0 v (and-r (is c 1 v) (has c 1 v) e))))
+      (refuted (is c 1 v && has c 1 v)
+      (λ e. second (and-l (is c 1 v) (has c 1 v) e) (any-some (is c 1) 0 v (and-r (is c 1 v) (has c 1 v) e))))
       (refuted (is c 3 v && leads c v v) (λ e. no-circle v l (and-l (is c 3 v) (leads c v v) e) (and-r (is c 3 v) (leads c v v) e))))
       (refuted (any (clashes c v) 0 (v + 1)) (λ e. clash (any-some (clashes c v) 0 (v + 1) e)))
     where
@@ -151,7 +152,8 @@ module _ (c : Chart) (p : Plain c) where
 
   -- a kind that no node below v has stands at v or above
   above : (k v u : ℕ) → has c k v ≡ false → kind c u ≡ k → v ≤ u
-  above k v u h e = ⊎-elim (λ (l : u < v). no-both (is c k u) (eq-eqb (kind c u) k e) (any-false (is c k) 0 v h u (omega arith) (omega arith)))
+  above k v u h e = ⊎-elim
+      (λ (l : u < v). no-both (is c k u) (eq-eqb (kind c u) k e) (any-false (is c k) 0 v h u (omega arith) (omega arith)))
       (λ (l : v ≤ u). l) (split u v)
 
   pub needed : (v : ℕ) → v < size c → size c - v ≤ missing c v → 2 ≤ kind c v → ⊥

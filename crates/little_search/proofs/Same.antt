@@ -1,32 +1,31 @@
 -- The search finds just the little charts, in their order.
 use Prim.Native.Nat.{ℕ, zero, suc, _+_, _*_, _-_, _≤_, _<_}
-use mathlib.Core.Bool.{Bool, true, false, _&&_, not}
+use mathlib.Core.Bool.{Bool, true, false, _&&_}
 use mathlib.Core.Path.{_≡_, refl, sym, _∙_, ap, ap₂, subst}
-use mathlib.Core.Logic.{_⊎_, inl, inr, ⊎-elim}
 use mathlib.Core.List.{List, [], _∷_, _++_, map, append-assoc, append-nil}
 use native.Mathlib.Omega.{arith}
 use lib.Dec.{leb, ltb, eqb}
-use lib.ListN.{length, getD, length-append, List·getD-append}
+use lib.ListN.{length, getD, length-append}
 use lib.Seq.{getD-append-add}
-use borrow.Author.Tests.{eqb-true, leb-true, leb-false, le-leb, lt-ltb, le-ltb, ne-eqb}
+use borrow.Author.Tests.{eqb-true, leb-true, lt-ltb, le-ltb, ne-eqb}
 use Rattle.lists.specs.Pick.{pick}
 use Rattle.lists.specs.Numbers.{range, any}
 use Rattle.lists.specs.Sequences.{filter, concatMap}
-use Rattle.lists.proofs.Tests.{no-both, and-l, and-r, cases, split, yes-pick, no-pick}
+use Rattle.lists.proofs.Tests.{no-both, and-l, and-r, yes-pick, no-pick}
 use Rattle.lists.proofs.Searches.{any-none}
 use Rattle.lists.proofs.Ranges.{filter-yes, filter-no}
-use Rattle.lists.proofs.Joins.{All, all-of, all-append, all-map, all-at, length-concat, concat-append, concat-cons, concat-map}
+use Rattle.lists.proofs.Joins.{All, all-of, all-append, all-map, length-concat, concat-append, concat-map}
 use Rattle.lists.proofs.Filters.{filter-none}
 use Rattle.frames.specs.Frame.{size}
-use Rattle.frames.specs.Verdict.{Verdict, fine, refused}
+use Rattle.frames.specs.Verdict.{fine}
 use Rattle.frames.proofs.Frames.{Frame}
-use Rattle.charts.specs.Chart.{Chart, kind, scheme, is, argument, result, mask}
+use Rattle.charts.specs.Chart.{Chart, kind, scheme}
 use Rattle.charts.specs.Check.{chartVerdict}
 use Rattle.charts.proofs.Accepted.{sound}
 use Rattle.little_charts.specs.Little.{littleNode, nodes, listsOf, chartOf, passes, littleCharts}
-use Rattle.little_charts.proofs.Members.{In, all-in, in-map, in-range, in-all}
+use Rattle.little_charts.proofs.Members.{In, in-map, in-range, in-all}
 use Rattle.little_charts.proofs.Nodes.{Fine, nodes-fine}
-use Rattle.little_charts.proofs.Listing.{Made, lists-made, made-fine, made-formed, made-frames, chart-size, passes-fine}
+use Rattle.little_charts.proofs.Listing.{Made, lists-made, made-formed, made-frames, chart-size, passes-fine}
 use Rattle.little_search.specs.Search.{nodeCount, operationAt, conditionAt, nodeAt, has, barred, lonely, missing, first, past, searched}
 use Rattle.little_search.proofs.Ruled.{Plain, not-lonely, not-barred, no-second, needed}
 use Rattle.little_search.proofs.Alike.{Alike, front-alike, barred-alike, has-alike, missing-alike}
@@ -126,7 +125,8 @@ module _ (n : ℕ) (a : 2 ≤ n) (b : n ≤ 4) where
       → ((fs : List (List ℕ)) → size (chartOf (gs ++ fs)) ≡ n → Plain (chartOf (gs ++ fs)) → ⊥) → Rest gs m ≡ []
   refused-all gs k m e d f = filter-nothing ok (map (λ fs. chartOf (gs ++ fs)) (listsOf rs m))
       (all-map (λ c. ok c ≡ false) (λ fs. chartOf (gs ++ fs)) (listsOf rs m)
-      (all-of (Made rs m) (λ fs. ok (chartOf (gs ++ fs)) ≡ false) (λ fs q. go fs q (ok (chartOf (gs ++ fs))) refl) (listsOf rs m) (lists-made rs m)))
+      (all-of (Made rs m) (λ fs. ok (chartOf (gs ++ fs)) ≡ false) (λ fs q. go fs q (ok (chartOf (gs ++ fs))) refl) (listsOf rs m)
+      (lists-made rs m)))
     where
       go : (fs : List (List ℕ)) → Made rs m fs → (t : Bool) → ok (chartOf (gs ++ fs)) ≡ t → ok (chartOf (gs ++ fs)) ≡ false
       go fs q true h =
@@ -160,7 +160,8 @@ module _ (n : ℕ) (a : 2 ≤ n) (b : n ≤ 4) where
       more = gs ++ (r ∷ [])
 
       r-in : In r rs
-      r-in = subst (In r) (sym (nodes-at n a b)) (in-map (nodeAt n) i (range 0 (nodeCount n)) (in-range i 0 (nodeCount n) (omega arith) (omega arith)))
+      r-in = subst (In r) (sym (nodes-at n a b))
+          (in-map (nodeAt n) i (range 0 (nodeCount n)) (in-range i 0 (nodeCount n) (omega arith) (omega arith)))
 
       more-made : Made rs (v + 1) more
       more-made = made-join rs gs (r ∷ []) v 1 d (record { each = (r-in, tt); count = refl })
@@ -176,10 +177,12 @@ module _ (n : ℕ) (a : 2 ≤ n) (b : n ≤ 4) where
         whole-is = concat-append (λ x. x) more fs ∙ ap (λ (x : Chart). x ++ chartOf fs) (chart-snoc gs r)
 
         more-alike : Alike (c ++ r) whole (v + 1)
-        more-alike = subst (λ (x : Chart). Alike (c ++ r) x (v + 1)) (sym whole-is) (front-alike (c ++ r) (chartOf fs) (v + 1) (omega (arith, more-long)))
+        more-alike = subst (λ (x : Chart). Alike (c ++ r) x (v + 1)) (sym whole-is)
+            (front-alike (c ++ r) (chartOf fs) (v + 1) (omega (arith, more-long)))
 
         first-alikes : Alike c whole v
-        first-alikes = subst (λ (x : Chart). Alike c x v) (sym (whole-is ∙ append-assoc c r (chartOf fs))) (front-alike c (r ++ chartOf fs) v (omega (arith, c-long)))
+        first-alikes = subst (λ (x : Chart). Alike c x v) (sym (whole-is ∙ append-assoc c r (chartOf fs)))
+            (front-alike c (r ++ chartOf fs) v (omega (arith, c-long)))
 
         kind-is : kind whole v ≡ getD r 0 0
         kind-is = sym (more-alike .same v 0 (omega arith) (omega arith))
@@ -201,12 +204,15 @@ module _ (n : ℕ) (a : 2 ≤ n) (b : n ≤ 4) where
         where
           go : (t : Bool) → leb (n - v) (missing c v) ≡ t → pick t (n + 1) (nodeCount n) ≤ i → Rest more m ≡ []
           go true q k = no-more (λ fs s p. needed (whole fs) p v (omega arith)
-              (let x : n - v ≤ missing c v = leb-true (n - v) (missing c v) q in omega (arith, missing-alike c (whole fs) v (first-alikes fs)))
+              (let x : n - v ≤ missing c v = leb-true (n - v) (missing c v) q in omega
+              (arith, missing-alike c (whole fs) v (first-alikes fs)))
               (subst (λ (j : ℕ). 2 ≤ j) (sym (kind-is fs)) (high-kind n i k)))
           go false q k = absurd (omega arith)
 
       barred-empty : barred (c ++ r) v ≡ true → Rest more m ≡ []
-      barred-empty q = no-more (λ fs s p. no-both (barred (c ++ r) v) q (barred-alike (c ++ r) (whole fs) v (more-alike fs) ∙ not-barred (whole fs) p v (omega arith)))
+      barred-empty q = no-more
+          (λ fs s p. no-both (barred (c ++ r) v) q
+          (barred-alike (c ++ r) (whole fs) v (more-alike fs) ∙ not-barred (whole fs) p v (omega arith)))
 
     abbrev tried : ℕ → ℕ → List Chart
     tried w i = let x = c ++ nodeAt n i in elim (barred x w) [ true ↦ [] | false ↦ searched n m x ]
@@ -214,20 +220,23 @@ module _ (n : ℕ) (a : 2 ≤ n) (b : n ≤ 4) where
     abbrev rest : ℕ → List Chart
     rest i = Rest (gs ++ (nodeAt n i ∷ [])) m
 
-    tried-rest : ((i : ℕ) → i < nodeCount n → searched n m (chartOf (gs ++ (nodeAt n i ∷ []))) ≡ rest i) → (i : ℕ) → i < nodeCount n → tried v i ≡ rest i
+    tried-rest : ((i : ℕ) → i < nodeCount n → searched n m (chartOf (gs ++ (nodeAt n i ∷ []))) ≡ rest i) → (i : ℕ) → i < nodeCount n
+        → tried v i ≡ rest i
     tried-rest ih i l = go (barred (c ++ nodeAt n i) v) refl
       where
         go : (t : Bool) → barred (c ++ nodeAt n i) v ≡ t → elim t [ true ↦ [] | false ↦ searched n m (c ++ nodeAt n i) ] ≡ rest i
         go true q = sym (barred-empty i l q)
         go false q = ap (searched n m) (sym (chart-snoc gs (nodeAt n i))) ∙ ih i l
 
-    searched-rest : ((i : ℕ) → i < nodeCount n → searched n m (chartOf (gs ++ (nodeAt n i ∷ []))) ≡ rest i) → searched n (suc m) c ≡ Rest gs (suc m)
+    searched-rest : ((i : ℕ) → i < nodeCount n → searched n m (chartOf (gs ++ (nodeAt n i ∷ []))) ≡ rest i)
+        → searched n (suc m) c ≡ Rest gs (suc m)
     unfolding searched
     searched-rest ih =
         let low : first n c v ≤ n = first-low n c v in
         let high : (n + 1 ≤ past n c v) × (past n c v ≤ nodeCount n) = past-within n c v in
         ap (λ (w : ℕ). concatMap (tried w) (range (first n c w) (past n c w - first n c w))) c-size
-        ∙ concat-range (tried v) rest (first n c v) (past n c v - first n c v) (λ i x y. tried-rest ih i (omega (arith, low, high .0, high .1)))
+        ∙ concat-range (tried v) rest (first n c v) (past n c v - first n c v)
+        (λ i x y. tried-rest ih i (omega (arith, low, high .0, high .1)))
         ∙ sym (concat-within rest (first n c v) (past n c v) (nodeCount n) (omega (arith, low, high .0)) (high .1)
         (λ i x. low-empty i (omega (arith, low, high .0, high .1)) x) (λ i x y. high-empty i y x))
         ∙ sym (concat-map (λ r. Rest (gs ++ (r ∷ [])) m) (nodeAt n) (range 0 (nodeCount n)))

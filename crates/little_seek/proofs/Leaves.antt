@@ -1,19 +1,19 @@
 -- All records stand: what is found then; and a record put in its place.
-use Prim.Native.Nat.{ℕ, zero, suc, _+_, _*_, _-_, _≤_, _<_}
+use Prim.Native.Nat.{ℕ, zero, suc, _+_, _*_, _-_, _<_}
 use mathlib.Core.Bool.{Bool, true, false, _&&_, not}
 use mathlib.Core.Path.{_≡_, refl, sym, _∙_, ap, ap₂, subst}
-use mathlib.Core.List.{List, [], _∷_, _++_}
+use mathlib.Core.List.{List, [], _∷_}
 use native.Mathlib.Omega.{arith}
 use lib.Dec.{ltb, eqb}
-use lib.ListN.{length, getD, take, length-take}
-use lib.Seq.{take-all, take-length, length-take-le}
+use lib.ListN.{length, getD, take}
+use lib.Seq.{take-all, take-length}
 use borrow.Author.Tests.{lt-ltb, le-ltb}
 use Rattle.lists.specs.Pick.{pick}
 use Rattle.lists.specs.Numbers.{any}
 use Rattle.lists.specs.Sequences.{written}
-use Rattle.lists.proofs.Written.{written-take, written-length}
+use Rattle.lists.proofs.Written.{written-take}
 use Rattle.frames.specs.Frame.{size}
-use Rattle.frames.specs.Verdict.{Verdict, fine, refused}
+use Rattle.frames.specs.Verdict.{Verdict}
 use Rattle.frames.specs.Answer.{reply, judged}
 use Rattle.frames.proofs.Chains.{done-fine, refused-verdict}
 use Rattle.frames.specs.declared.Answer.{Answer}
@@ -29,9 +29,11 @@ use Rattle.little_seek.specs.Parts.{Few, Placed, Counted, Seeks, accepts
 pub lonely-out : (c : Chart) (t : Bool) → t ≡ any (lonely c) 0 (size c) → t ≡ true → false ≡ accepts c
 lonely-out c t e q = ap (λ (b : Bool). not b && passes (chartVerdict c)) (sym q ∙ e)
 
-module _ (c : Chart) (t : Bool) (e : t ≡ any (lonely c) 0 (size c)) (q : t ≡ false) (a : Answer) (f : reply a ≡ judged (chartVerdict c) 0) where
+module _ (c : Chart) (t : Bool) (e : t ≡ any (lonely c) 0 (size c)) (q : t ≡ false) (a : Answer)
+    (f : reply a ≡ judged (chartVerdict c) 0) where
   pub refused-out : (k i n : ℕ) → a ≡ Refused k i n → false ≡ accepts c
-  refused-out k i n h = ap₂ (λ (b : Bool) (v : Verdict). not b && passes v) (sym q ∙ e) (sym (refused-verdict a (chartVerdict c) 0 f k i n h .0))
+  refused-out k i n h = ap₂ (λ (b : Bool) (v : Verdict). not b && passes v) (sym q ∙ e)
+      (sym (refused-verdict a (chartVerdict c) 0 f k i n h .0))
 
   pub done-in : (k : ℕ) → a ≡ Done k → true ≡ accepts c
   done-in k h = ap₂ (λ (b : Bool) (v : Verdict). not b && passes v) (sym q ∙ e) (sym (done-fine a (chartVerdict c) 0 f k h .0))
@@ -41,7 +43,8 @@ searched-leaf : (n : ℕ) (c : Chart) → searched n 0 c ≡ pick (accepts c) (c
 unfolding searched
 searched-leaf n c = go (any (lonely c) 0 (size c)) (passes (chartVerdict c))
   where
-    go : (t s : Bool) → _≡_ {A = List Chart} (elim t [ true ↦ [] | false ↦ elim s [ true ↦ c ∷ [] | false ↦ [] ] ]) (pick (not t && s) (c ∷ []) [])
+    go : (t s : Bool) → _≡_ {A = List Chart} (elim t [ true ↦ [] | false ↦ elim s [ true ↦ c ∷ [] | false ↦ [] ] ])
+        (pick (not t && s) (c ∷ []) [])
     go true true = refl
     go true false = refl
     go false true = refl
@@ -90,13 +93,15 @@ pub node-ten : (n i : ℕ) → length (nodeAt n i) ≡ 10
 unfolding nodeAt
 node-ten n i = go (ltb i n) (eqb i n) (ltb i (3 * n + 1))
   where
-    go : (s t u : Bool) → length (pick s (beginNode i) (pick t endNode (pick u (operationAt (i - (n + 1))) (conditionAt n (i - (3 * n + 1)))))) ≡ 10
+    go : (s t u : Bool) → length
+        (pick s (beginNode i) (pick t endNode (pick u (operationAt (i - (n + 1))) (conditionAt n (i - (3 * n + 1)))))) ≡ 10
     go true t u = refl
     go false true u = refl
     go false false true = refl
     go false false false = refl
 
-pub placed : (rs out : List ℕ) (v : ℕ) (r : List ℕ) → Few rs → v < size rs → length r ≡ 10 → length out ≡ length rs → out ≡ written rs (10 * v) r → Placed rs v r out
+pub placed : (rs out : List ℕ) (v : ℕ) (r : List ℕ) → Few rs → v < size rs → length r ≡ 10 → length out ≡ length rs
+    → out ≡ written rs (10 * v) r → Placed rs v r out
 placed rs out v r f l t n e =
     let w : length rs ≡ 10 * size rs = f .whole in
     let q : 10 * v + 10 ≡ 10 * v + length r = omega arith in

@@ -1,10 +1,9 @@
 -- The turns of the search: the numbers tried before found as many charts as were passed over, and the records below place v stand.
-use Prim.Native.Nat.{ℕ, zero, suc, _+_, _*_, _-_, _≤_, _<_}
+use Prim.Native.Nat.{ℕ, suc, _+_, _*_, _-_, _≤_, _<_}
 use mathlib.Core.Bool.{Bool, true, false}
 use mathlib.Core.Path.{_≡_, refl, sym, _∙_, ap, ap₂, subst}
-use mathlib.Core.List.{List, [], _∷_, _++_}
+use mathlib.Core.List.{List, [], _++_}
 use native.Mathlib.Omega.{arith}
-use lib.Dec.{ltb}
 use lib.ListN.{length, getD, take, drop, length-append, take-append-drop, List·getD-append}
 use lib.Seq.{length-take-le, take-take, take-at, getD-append-add}
 use borrow.Author.Tests.{lt-ltb, le-ltb, ltb-true, ltb-false}
@@ -18,7 +17,7 @@ use Rattle.little_search.proofs.Alike.{Alike, front-alike, barred-alike, first-
 use Rattle.little_search.proofs.Lists.{concat-split}
 use Rattle.little_search.proofs.Same.{first-low, past-within}
 use Rattle.little_seek.specs.declared.Sought.{Sought}
-use Rattle.little_seek.specs.Parts.{Few, Placed, Counted, Seeks}
+use Rattle.little_seek.specs.Parts.{Few, Placed, Seeks}
 
 -- the charts that begin with the records below place v and have record i there
 abbrev pub tried : List ℕ → ℕ → ℕ → List Chart
@@ -68,12 +67,15 @@ module _ (rs : List ℕ) (v : ℕ) (few : Few rs) (inside : v < size rs) where
       let c : List ℕ = take (10 * v) rs in
       let m : n - v ≡ suc (n - (v + 1)) = omega arith in
       let a : Alike c rs v = taken-alike rs v room in
-      let g : ℕ → ℕ → ℕ → List Chart = λ w from end. concatMap (λ i. let x = c ++ nodeAt n i in elim (barred x w) [ true ↦ [] | false ↦ searched n (n - (v + 1)) x ]) (range from (end - from)) in
+      let g : ℕ → ℕ → ℕ → List Chart = λ w from end. concatMap
+      (λ i. let x = c ++ nodeAt n i in elim (barred x w) [ true ↦ [] | false ↦ searched n (n - (v + 1)) x ])
+      (range from (end - from)) in
       ap (λ (k : ℕ). searched n k c) m
       ∙ ap (λ (w : ℕ). g w (first n c w) (past n c w)) front-size
       ∙ ap₂ (λ (x y : ℕ). g v x y) (first-alike c rs n v a) (past-alike c rs n v a)
 
-  pub seeking-first : (left n end from : ℕ) → n ≡ size rs → end ≡ past (size rs) rs v → from ≡ first (size rs) rs v → Seeking rs v left n end from rs from left
+  pub seeking-first : (left n end from : ℕ) → n ≡ size rs → end ≡ past (size rs) rs v → from ≡ first (size rs) rs v
+      → Seeking rs v left n end from rs from left
   unfolding concatMap
   seeking-first left n end from e f g =
       let z : from - from ≡ 0 = omega arith in
@@ -104,7 +106,8 @@ module _ (rs₀ : List ℕ) (v left n end from : ℕ) (rs : List ℕ) (i rest : 
   pub seeking-done : end ≤ i → Seeks (all rs₀ v) (take (10 * v) rs₀) left (record { found = false; left = rest }) rs
   seeking-done h =
       let e : i ≡ end = omega (arith, k .high) in
-      let d : done rs₀ v from i ≡ all rs₀ v = ap₂ (λ (x y : ℕ). done rs₀ v x y) (k .first) (e ∙ k .past) ∙ sym (all-is rs₀ v (k .few) (k .inside)) in
+      let d : done rs₀ v from i ≡ all rs₀ v = ap₂ (λ (x y : ℕ). done rs₀ v x y) (k .first) (e ∙ k .past)
+      ∙ sym (all-is rs₀ v (k .few) (k .inside)) in
       let p : length (all rs₀ v) ≤ left = omega (arith, ap length d, k .passed) in
       record {
         counted = record { told = sym (le-ltb left (length (all rs₀ v)) p); passed = omega (arith, ap length d, k .counted) };
@@ -166,17 +169,24 @@ module _ (rs₀ : List ℕ) (v left n end from : ℕ) (rs : List ℕ) (i rest : 
           (taken-alike rs′ (v + 1) (omega (arith, placed-long, k .few .whole, k .inside)))
 
       tried-by : (t : Bool) → t ≡ barred rs′ v → tried rs₀ v i ≡ elim t [ true ↦ [] | false ↦ searched (size rs₀) (size rs₀ - (v + 1)) x ]
-      tried-by t e = ap (λ (b : Bool). elim b [ true ↦ [] | false ↦ searched (size rs₀) (size rs₀ - (v + 1)) x ]) (barred-alike x rs′ v x-alike ∙ sym e)
+      tried-by t e = ap (λ (b : Bool). elim b [ true ↦ [] | false ↦ searched (size rs₀) (size rs₀ - (v + 1)) x ])
+          (barred-alike x rs′ v x-alike ∙ sym e)
 
       -- no chart begins so
       pub seeking-barred : (t : Bool) → t ≡ barred rs′ v → t ≡ true → Seeking rs₀ v left n end from rs′ (i + 1) rest
       seeking-barred t e q =
-          let z : tried rs₀ v i ≡ [] = tried-by t e ∙ ap (λ (b : Bool). elim b [ true ↦ [] | false ↦ searched (size rs₀) (size rs₀ - (v + 1)) x ]) q in
+          let z : tried rs₀ v i ≡ [] = tried-by t e
+          ∙ ap (λ (b : Bool). elim b [ true ↦ [] | false ↦ searched (size rs₀) (size rs₀ - (v + 1)) x ]) q in
           seeking-next rs′ rest (p .long) placed-front (omega (arith, ap length z)) (omega (arith, ap length z))
 
       pub placed-few : Few rs′
       placed-few = let f : Few rs₀ = k .few in
-          record { whole = omega (arith, placed-long, f .whole); some = omega (arith, placed-long, f .some); few = omega (arith, placed-long, f .few) }
+          record {
+            whole = omega (arith, placed-long, f .whole);
+            some = omega (arith, placed-long, f .some);
+            few = omega
+                (arith, placed-long, f .few);
+          }
 
       pub placed-inside : v + 1 ≤ size rs′
       placed-inside = omega (arith, placed-long, k .inside)
@@ -193,10 +203,12 @@ module _ (rs₀ : List ℕ) (v left n end from : ℕ) (rs : List ℕ) (i rest : 
         pub seeking-on : s .found ≡ false → Seeking rs₀ v left n end from rs″ (i + 1) (s .left)
         seeking-on f =
             let b : length (all rs′ (v + 1)) ≤ rest = ltb-false rest (length (all rs′ (v + 1))) (sym (o .counted .told) ∙ f) in
-            let w : length (take (10 * (v + 1)) rs′) ≡ 10 * (v + 1) = length-take-le (10 * (v + 1)) rs′ (omega (arith, placed-long, k .few .whole, k .inside)) in
+            let w : length (take (10 * (v + 1)) rs′) ≡ 10 * (v + 1) = length-take-le (10 * (v + 1)) rs′
+            (omega (arith, placed-long, k .few .whole, k .inside)) in
             let y : take (10 * (v + 1)) rs″ ≡ take (10 * (v + 1)) rs′ = ap (λ (j : ℕ). take j rs″) (sym w) ∙ o .kept b in
             seeking-next rs″ (s .left) (h ∙ p .long)
-            (sym (take-take (10 * v) (10 * (v + 1)) rs″ (omega arith)) ∙ ap (take (10 * v)) y ∙ take-take (10 * v) (10 * (v + 1)) rs′ (omega arith) ∙ placed-front)
+            (sym (take-take (10 * v) (10 * (v + 1)) rs″ (omega arith)) ∙ ap (take (10 * v)) y
+            ∙ take-take (10 * v) (10 * (v + 1)) rs′ (omega arith) ∙ placed-front)
             (omega (arith, ap length tried-is)) (omega (arith, ap length tried-is, o .counted .passed))
 
         later : List Chart

@@ -1,50 +1,37 @@
+-- `fetching::little_chart` meets its contract: the frame count is outside, or the chart is fetched.
 use mathlib.Core.Path.{refl, sym}
 use Rattle.fetching.proofs.Cases.{too-few, too-many, lent-long, lent-few, lent-fetched}
 use borrow.Author.Needs.{needs}
 use Rattle.fetching.proofs.little_chart.Statement.{statement}
 use Rattle.fetching.proofs.little_chart.Tie as tie
-use Rattle.fetching.proofs.little_chart.Reads as reads
-use Rattle.fetching.proofs.little_chart.Lts as lts
-use Rattle.fetching.proofs.fetch.Reads as fetch-reads
-use Rattle.frames.proofs.refused.Reads as refused-reads
 
--- src/lib.rt:33:9
 refused-requires : tie.Need-refused-requires
 refused-requires c κs = search needs
 
--- src/lib.rt:33:9
 returns : tie.Need-returns
 returns c = too-few _ _ _ _ (c .refused .ensures) (c .before .if1 .taken)
 
--- src/lib.rt:36:9
 refused-requires-2 : tie.Need-refused-requires-2
 refused-requires-2 c κs = search needs
 
--- src/lib.rt:36:9
 returns-2 : tie.Need-returns-2
 returns-2 c = too-many _ _ _ _ (c .refused2 .ensures) (c .before .if2 .taken)
 
--- src/lib.rt:39:15
 mul-end : tie.Need-mul-end
 mul-end c = search needs
 
--- src/lib.rt:40:11
 array-borrow-prefix-records : tie.Need-array-borrow-prefix-records
 array-borrow-prefix-records c = search needs
 
--- src/lib.rt:40:11
 slice-aggregate-fetch : tie.Need-slice-aggregate-fetch
 slice-aggregate-fetch c = sym (lent-long _ _ (c .before .before .if1 .left) (c .before .if2 .left) refl)
 
--- src/lib.rt:40:5
 fetch-requires : tie.Need-fetch-requires
 fetch-requires c κs = lent-few _ _ (c .before .before .before .if1 .left) (c .before .before .if2 .left) refl
 
--- src/lib.rt:29:1
 same-length : tie.Need-same-length
 same-length c = search needs
 
--- src/lib.rt:29:1
 returns-3 : tie.Need-returns-3
 returns-3 c =
     let done = c .before .before .before in

@@ -1,7 +1,7 @@
 -- `little_seek::seek`: in the loop the numbers tried before found as many charts as were passed over. The measure is the number of
 -- places from v on.
 use Prim.Native.Nat.{ℕ, _-_, _<_}
-use mathlib.Core.Path.{_≡_, refl, sym, _∙_, ap}
+use mathlib.Core.Path.{refl, _∙_}
 use Rattle.lists.proofs.Tests.{not-true, not-false}
 use native.Mathlib.Omega.{arith}
 use borrow.Author.Needs.{needs}
@@ -64,20 +64,24 @@ module _ (t : ℕ) where
   same-length c = search needs
 
   returns : At lts.Need-returns
-  returns c = let s = c .before .before .before .before in leaf-seeks _ _ _ _ (s .pre .1 .0) (c .before .before .if1 .taken) (c .count-chart .ensures)
+  returns c = let s = c .before .before .before .before in leaf-seeks _ _ _ _ (s .pre .1 .0) (c .before .before .if1 .taken)
+      (c .count-chart .ensures)
 
   past-number-requires : At lts.Need-past-number-requires
-  past-number-requires c κs = let s = c .before .before .before in let few = s .pre .1 .0 in (omega (arith, few .whole, s .pre .1 .1), few .few)
+  past-number-requires c κs = let s = c .before .before .before in let few = s .pre .1 .0 in
+      (omega (arith, few .whole, s .pre .1 .1), few .few)
 
   first-number-requires : At lts.Need-first-number-requires
-  first-number-requires c κs = let s = c .before .before .before .before .before in let few = s .pre .1 .0 in omega (arith, few .whole, s .pre .1 .1)
+  first-number-requires c κs = let s = c .before .before .before .before .before in let few = s .pre .1 .0 in omega
+      (arith, few .whole, s .pre .1 .1)
 
   loop-holds : At lts.Need-loop-holds
   loop-holds c =
       let s = c .before .before .before .before .before .before in
       let asked = s .pre .1 in
       let inside = c .before .before .before .before .if1 .left in
-      seeking-first _ _ (asked .0) (omega (arith, asked .1, inside)) _ _ _ _ refl (c .before .before .past-number .ensures) (c .first-number .ensures)
+      seeking-first _ _ (asked .0) (omega (arith, asked .1, inside)) _ _ _ _ refl (c .before .before .past-number .ensures)
+      (c .first-number .ensures)
 
   place-requires : At lts.Need-place-requires
   place-requires c κs =
@@ -122,7 +126,8 @@ module _ (t : ℕ) where
       let put = sought .before .before .before .before .before .before .before in
       let on = sought .before .before in
       let inv = put .before .before .before .loop .inv in
-      seeking-found _ _ _ _ _ _ _ _ _ inv (search needs) _ (put .place .ensures) _ (on .before .is-barred .ensures) (not-true _ (on .if2 .taken)) _ _
+      seeking-found _ _ _ _ _ _ _ _ _ inv (search needs) _ (put .place .ensures) _ (on .before .is-barred .ensures)
+      (not-true _ (on .if2 .taken)) _ _
       (sought .seek .kept .0) (sought .seek .ensures) (c .if3 .taken)
 
   loop-less : At lts.Need-loop-less
@@ -134,7 +139,8 @@ module _ (t : ℕ) where
       let put = sought .before .before .before .before .before .before .before in
       let on = sought .before .before in
       let inv = put .before .before .before .loop .inv in
-      seeking-on _ _ _ _ _ _ _ _ _ inv (search needs) _ (put .place .ensures) _ (on .before .is-barred .ensures) (not-true _ (on .if2 .taken)) _ _
+      seeking-on _ _ _ _ _ _ _ _ _ inv (search needs) _ (put .place .ensures) _ (on .before .is-barred .ensures)
+      (not-true _ (on .if2 .taken)) _ _
       (sought .seek .kept .0) (sought .seek .ensures) (c .if3 .left)
 
   loop-less-2 : At lts.Need-loop-less-2
@@ -144,7 +150,8 @@ module _ (t : ℕ) where
   loop-again-2 c =
       let put = c .before .before .before .before .before in
       let inv = put .before .before .before .loop .inv in
-      seeking-barred _ _ _ _ _ _ _ _ _ inv (search needs) _ (put .place .ensures) _ (c .before .is-barred .ensures) (not-false _ (c .if2 .left))
+      seeking-barred _ _ _ _ _ _ _ _ _ inv (search needs) _ (put .place .ensures) _ (c .before .is-barred .ensures)
+      (not-false _ (c .if2 .left))
 
   same-length-3 : At lts.Need-same-length-3
   same-length-3 c = c .before .loop .inv .long

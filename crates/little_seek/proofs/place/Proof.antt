@@ -1,35 +1,26 @@
+-- `little_seek::place` meets its contract: what was put stands after the records below it.
 use Rattle.little_seek.proofs.Leaves.{node-ten, placed}
 use mathlib.Core.Path.{_∙_, ap}
 use Rattle.lists.specs.Sequences.{written}
 use borrow.Author.Needs.{needs}
 use Rattle.little_seek.proofs.place.Statement.{statement}
 use Rattle.little_seek.proofs.place.Tie as tie
-use Rattle.little_seek.proofs.place.Reads as reads
-use Rattle.little_seek.proofs.place.Lts as lts
-use Rattle.frames.proofs.put_bytes.Reads as put-bytes-reads
-use Rattle.little_nodes.proofs.node.Reads as node-reads
 
--- src/lib.rt:58:15
 node-requires : tie.Need-node-requires
 node-requires c κs = search needs
 
--- src/lib.rt:59:24
 mul-put-bytes : tie.Need-mul-put-bytes
 mul-put-bytes c = search needs
 
--- src/lib.rt:59:32
 slice-aggregate-put-bytes : tie.Need-slice-aggregate-put-bytes
 slice-aggregate-put-bytes c = search needs
 
--- src/lib.rt:59:5
 put-bytes-requires : tie.Need-put-bytes-requires
 put-bytes-requires c κs = search needs
 
--- src/lib.rt:54:1
 same-length : tie.Need-same-length
 same-length c = search needs
 
--- src/lib.rt:54:1
 returns : tie.Need-returns
 returns c =
     let put = c .before .before in

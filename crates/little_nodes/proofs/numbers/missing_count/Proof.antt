@@ -1,27 +1,22 @@
+-- `little_nodes::numbers::missing_count` meets its contract: two counts of 1 at most, added.
 use Rattle.little_nodes.proofs.Records.{both-small}
 use Rattle.little_search.specs.Search.{has}
 use borrow.Author.Needs.{needs}
 use Rattle.little_nodes.proofs.numbers.missing_count.Statement.{statement}
 use Rattle.little_nodes.proofs.numbers.missing_count.Tie as tie
-use Rattle.little_nodes.proofs.numbers.missing_count.Reads as reads
-use Rattle.little_nodes.proofs.numbers.missing_count.Lts as lts
-use Rattle.little_nodes.proofs.numbers.absent.Reads as absent-reads
 
--- src/numbers.rt:55:9
 absent-requires : tie.Need-absent-requires
 absent-requires c κs = search needs
 
--- src/numbers.rt:56:9
 absent-requires-2 : tie.Need-absent-requires-2
 absent-requires-2 c κs = search needs
 
--- src/numbers.rt:57:5
 add-result : tie.Need-add-result
 add-result c =
     let a = c .before .before .before .args in
-    let l = both-small (has (a .records .now) 0 (a .v)) (has (a .records .now) 1 (a .v)) _ _ (c .before .absent .ensures) (c .absent2 .ensures) in search needs
+    let l = both-small (has (a .records .now) 0 (a .v)) (has (a .records .now) 1 (a .v)) _ _ (c .before .absent .ensures)
+    (c .absent2 .ensures) in search needs
 
--- src/numbers.rt:51:1
 returns : tie.Need-returns
 returns c = search needs
 

@@ -1,44 +1,33 @@
+-- `little_nodes::numbers::past_number` meets its contract: by whether all places are needed for Begin and End.
 use Rattle.little_nodes.proofs.Records.{square-small, past-few, past-all}
 use borrow.Author.Needs.{needs}
 use Rattle.little_nodes.proofs.numbers.past_number.Statement.{statement}
 use Rattle.little_nodes.proofs.numbers.past_number.Tie as tie
-use Rattle.little_nodes.proofs.numbers.past_number.Reads as reads
-use Rattle.little_nodes.proofs.numbers.past_number.Lts as lts
-use Rattle.little_nodes.proofs.numbers.missing_count.Reads as missing-count-reads
 
--- src/numbers.rt:66:16
 sub-left : tie.Need-sub-left
 sub-left c = search needs
 
--- src/numbers.rt:67:16
 missing-count-requires : tie.Need-missing-count-requires
 missing-count-requires c κs = search needs
 
--- src/numbers.rt:68:16
 add-result : tie.Need-add-result
 add-result c = search needs
 
--- src/numbers.rt:68:9
 returns : tie.Need-returns
 returns c = let a = c .before .before .before .args in past-few _ (a .v) _ _ (c .before .missing-count .ensures) (c .if1 .taken)
 
--- src/numbers.rt:70:5
 mul-result : tie.Need-mul-result
 mul-result c = let s = square-small _ (c .before .before .before .pre .1) in search needs
 
--- src/numbers.rt:70:13
 mul-result-2 : tie.Need-mul-result-2
 mul-result-2 c = search needs
 
--- src/numbers.rt:70:5
 add-result-2 : tie.Need-add-result-2
 add-result-2 c = let s = square-small _ (c .before .before .before .pre .1) in search needs
 
--- src/numbers.rt:70:5
 add-result-3 : tie.Need-add-result-3
 add-result-3 c = let s = square-small _ (c .before .before .before .pre .1) in search needs
 
--- src/numbers.rt:61:1
 returns-2 : tie.Need-returns-2
 returns-2 c = let a = c .before .before .before .args in past-all _ (a .v) _ _ (c .before .missing-count .ensures) (c .if1 .left)
 

@@ -1,3 +1,4 @@
+-- `little_nodes::tried::has_kind` meets its contract: the loop keeps what is left to look at.
 use Prim.Native.Nat.{_-_, _≤_}
 use mathlib.Core.Path.{_≡_, sym, _∙_, ap}
 use lib.Dec.{eqb}
@@ -10,9 +11,6 @@ use Rattle.little_nodes.proofs.Tests.{any-start}
 use borrow.Author.Needs.{needs}
 use Rattle.little_nodes.proofs.tried.has_kind.Statement.{statement}
 use Rattle.little_nodes.proofs.tried.has_kind.Tie as tie
-use Rattle.little_nodes.proofs.tried.has_kind.Reads as reads
-use Rattle.little_nodes.proofs.tried.has_kind.Lts as lts
-use Rattle.charts.proofs.field.Reads as field-reads
 
 abbrev Inv-loop : tie.InvT-loop
 Inv-loop records kind v u₀ u = (u ≤ v) × (any (is records kind) u (v - u) ≡ has records kind v)
@@ -20,37 +18,34 @@ Inv-loop records kind v u₀ u = (u ≤ v) × (any (is records kind) u (v - u) �
 abbrev μ-loop : tie.MeasureT-loop
 μ-loop records kind v u₀ u = v - u
 
--- src/tests.rt:16:5
 loop-holds : tie.Need-loop-holds Inv-loop μ-loop
 loop-holds c = (search needs, any-start _ _)
 
--- src/tests.rt:17:12
 field-requires : tie.Need-field-requires Inv-loop μ-loop
 field-requires c κs = search needs
 
--- src/tests.rt:18:13
 returns : tie.Need-returns Inv-loop μ-loop
 returns c =
-    sym (any-here _ _ _ (search needs) (ap (λ x. eqb x (c .before .before .before .before .before .args .kind)) (sym (c .before .field .ensures)) ∙ eq-eqb _ _ (c .if1 .taken)))
+    sym (any-here _ _ _ (search needs)
+    (ap (λ x. eqb x (c .before .before .before .before .before .args .kind)) (sym (c .before .field .ensures))
+    ∙ eq-eqb _ _ (c .if1 .taken)))
     ∙ c .before .before .before .loop .inv .1
 
--- src/tests.rt:20:9
 add-u : tie.Need-add-u Inv-loop μ-loop
 add-u c = search needs
 
--- src/tests.rt:16:5
 loop-less : tie.Need-loop-less Inv-loop μ-loop
 loop-less c = search needs
 
--- src/tests.rt:16:5
 loop-again : tie.Need-loop-again Inv-loop μ-loop
 loop-again c = (
   search needs,
-  sym (any-on _ _ _ (search needs) (ap (λ x. eqb x (c .before .before .before .before .before .args .kind)) (sym (c .before .field .ensures)) ∙ ne-eqb _ _ (c .if1 .left)))
+  sym (any-on _ _ _ (search needs)
+      (ap (λ x. eqb x (c .before .before .before .before .before .args .kind)) (sym (c .before .field .ensures))
+      ∙ ne-eqb _ _ (c .if1 .left)))
       ∙ c .before .before .before .loop .inv .1,
 )
 
--- src/tests.rt:11:1
 returns-2 : tie.Need-returns-2 Inv-loop μ-loop
 returns-2 c = sym (any-over _ _ _ (search needs)) ∙ c .before .loop .inv .1
 

@@ -1,6 +1,7 @@
+-- `little_nodes::tried::is_lonely` meets its contract: the loop keeps what is left to look at.
 use Prim.Native.Nat.{_-_, _≤_}
 use mathlib.Core.Bool.{true, false}
-use mathlib.Core.Path.{_≡_, refl, sym, _∙_, ap}
+use mathlib.Core.Path.{_≡_, refl, sym, _∙_}
 use Rattle.lists.specs.Numbers.{any}
 use Rattle.lists.proofs.Searches.{any-here, any-on, any-over}
 use Rattle.frames.specs.Frame.{size}
@@ -9,34 +10,26 @@ use Rattle.little_nodes.proofs.Tests.{any-start, lonely-begin, lonely-b
 use borrow.Author.Needs.{needs}
 use Rattle.little_nodes.proofs.tried.is_lonely.Statement.{statement}
 use Rattle.little_nodes.proofs.tried.is_lonely.Tie as tie
-use Rattle.little_nodes.proofs.tried.is_lonely.Reads as reads
-use Rattle.little_nodes.proofs.tried.is_lonely.Lts as lts
-use Rattle.charts.proofs.field.Reads as field-reads
-use Rattle.little_nodes.proofs.tried.leads_other.Reads as leads-other-reads
 
 abbrev Inv-loop : tie.InvT-loop
-Inv-loop records v n u₀ u = (u ≤ n) × (n ≡ size records) × (any (leadsOther records v) u (n - u) ≡ any (leadsOther records v) 0 (size records))
+Inv-loop records v n u₀ u = (u ≤ n) × (n ≡ size records) ×
+    (any (leadsOther records v) u (n - u) ≡ any (leadsOther records v) 0 (size records))
 
 abbrev μ-loop : tie.MeasureT-loop
 μ-loop records v n u₀ u = n - u
 
--- src/tried.rt:112:8
 field-requires : tie.Need-field-requires Inv-loop μ-loop
 field-requires c κs = search needs
 
--- src/tried.rt:113:9
 returns : tie.Need-returns Inv-loop μ-loop
 returns c = let a = c .before .before .before .args in lonely-begin (a .records .now) (a .v) _ (c .before .field .ensures) (c .if1 .taken)
 
--- src/tried.rt:117:5
 loop-holds : tie.Need-loop-holds Inv-loop μ-loop
 loop-holds c = (search needs, refl, any-start _ _)
 
--- src/tried.rt:118:12
 leads-other-requires : tie.Need-leads-other-requires Inv-loop μ-loop
 leads-other-requires c κs = search needs
 
--- src/tried.rt:119:13
 returns-2 : tie.Need-returns-2 Inv-loop μ-loop
 returns-2 c =
     let turn = c .before .before .before in
@@ -44,15 +37,12 @@ returns-2 c =
     lonely-by (a .records .now) (a .v) _ (turn .before .before .field .ensures) true (turn .before .if1 .left)
     (sym (any-here _ _ _ (search needs) (sym (c .before .leads-other .ensures) ∙ c .if2 .taken)) ∙ turn .loop .inv .2)
 
--- src/tried.rt:121:9
 add-u : tie.Need-add-u Inv-loop μ-loop
 add-u c = search needs
 
--- src/tried.rt:117:5
 loop-less : tie.Need-loop-less Inv-loop μ-loop
 loop-less c = search needs
 
--- src/tried.rt:117:5
 loop-again : tie.Need-loop-again Inv-loop μ-loop
 loop-again c = (
   search needs,
@@ -60,7 +50,6 @@ loop-again c = (
   sym (any-on _ _ _ (search needs) (sym (c .before .leads-other .ensures) ∙ c .if2 .left)) ∙ c .before .before .before .loop .inv .2,
 )
 
--- src/tried.rt:108:1
 returns-3 : tie.Need-returns-3 Inv-loop μ-loop
 returns-3 c =
     let a = c .before .before .before .before .before .args in

@@ -1,57 +1,50 @@
+-- `little_nodes::tried::leads_to` meets its contract: each return is a case of the definition.
 use Rattle.little_nodes.proofs.Tests.{leads-end, leads-first, leads-only, leads-second}
 use borrow.Author.Needs.{needs}
 use Rattle.little_nodes.proofs.tried.leads_to.Statement.{statement}
 use Rattle.little_nodes.proofs.tried.leads_to.Tie as tie
-use Rattle.little_nodes.proofs.tried.leads_to.Reads as reads
-use Rattle.little_nodes.proofs.tried.leads_to.Lts as lts
-use Rattle.charts.proofs.field.Reads as field-reads
 
--- src/tests.rt:30:9
 field-requires : tie.Need-field-requires
 field-requires c κs = search needs
 
--- src/tests.rt:32:9
 returns : tie.Need-returns
-returns c = let a = c .before .before .before .args in leads-end (a .records .now) (a .u) (a .t) _ (c .before .field .ensures) (c .if1 .taken)
+returns c = let a = c .before .before .before .args in leads-end (a .records .now) (a .u) (a .t) _ (c .before .field .ensures)
+    (c .if1 .taken)
 
--- src/tests.rt:34:8
 field-requires-2 : tie.Need-field-requires-2
 field-requires-2 c κs = search needs
 
--- src/tests.rt:34:8
 cast-if2 : tie.Need-cast-if2
 cast-if2 c = search needs
 
--- src/tests.rt:35:9
 returns-2 : tie.Need-returns-2
 returns-2 c =
     let a = c .before .before .before .before .before .args in
     let kind = c .before .before in
-    leads-first (a .records .now) (a .u) (a .t) _ (kind .before .field .ensures) (kind .if1 .left) _ (c .before .field2 .ensures) (c .if2 .taken)
+    leads-first (a .records .now) (a .u) (a .t) _ (kind .before .field .ensures) (kind .if1 .left) _ (c .before .field2 .ensures)
+    (c .if2 .taken)
 
--- src/tests.rt:38:9
 returns-3 : tie.Need-returns-3
 returns-3 c =
     let a = c .before .before .before .before .before .before .args in
     let next = c .before in
     let kind = next .before .before in
-    leads-only (a .records .now) (a .u) (a .t) _ (kind .before .field .ensures) (kind .if1 .left) _ (next .before .field2 .ensures) (next .if2 .left) (c .if3 .taken)
+    leads-only (a .records .now) (a .u) (a .t) _ (kind .before .field .ensures) (kind .if1 .left) _ (next .before .field2 .ensures)
+    (next .if2 .left) (c .if3 .taken)
 
--- src/tests.rt:40:5
 field-requires-3 : tie.Need-field-requires-3
 field-requires-3 c κs = search needs
 
--- src/tests.rt:40:5
 cast-result : tie.Need-cast-result
 cast-result c = search needs
 
--- src/tests.rt:26:1
 returns-4 : tie.Need-returns-4
 returns-4 c =
     let a = c .before .before .before .before .before .before .before .args in
     let next = c .before .before in
     let kind = next .before .before in
-    leads-second (a .records .now) (a .u) (a .t) _ (kind .before .field .ensures) (kind .if1 .left) _ (next .before .field2 .ensures) (next .if2 .left) _
+    leads-second (a .records .now) (a .u) (a .t) _ (kind .before .field .ensures) (kind .if1 .left) _ (next .before .field2 .ensures)
+    (next .if2 .left) _
     (c .before .if3 .left) (c .field3 .ensures)
 
 pub leads-to-spec : {M : Type 1} → statement M
