@@ -24,7 +24,7 @@ const STACK: [(Call, usize); 18] = [
     (Call::Cause, 14_336),
     (Call::ListRows, 14_336),
     (Call::Minimise, 15_360),
-    (Call::LittleChart, 4_608),
+    (Call::LittleChart, 3_072),
     (Call::Rebind, 14_336),
     (Call::Prepare, 14_336),
     (Call::LiveRun, 1_024),

@@ -1,6 +1,7 @@
 //! The library against plain Rust written for speed, on the same inputs in one run. `cargo bench --offline` prints four
-//! tables, of calls on texts, of little charts, of long runs by the rows that a tick looks at, and of live calls; a ratio below 1 means that the
-//! library takes less. Where valgrind is at hand, instructions are counted too. A word after `--` picks the lines that have it.
+//! tables, of calls on texts, of little charts, of long runs by the rows that a tick looks at, and of live calls; a ratio below 1
+//! means that the library takes less. Where valgrind is at hand, instructions are counted too. A word after `--` picks the lines
+//! that have it.
 
 mod little;
 mod live;
@@ -14,9 +15,9 @@ fn main() {
     let words: Vec<String> = env::args().skip(1).collect();
     if let [first, line, side] = &words[..] {
         if first == measure::ONE_CALL {
-            let lines = [texts::lines(), little::lines(), rows::lines(), live::lines()];
-            let lines = lines.into_iter().flatten().collect();
-            return measure::make_one_call(lines, line, side);
+            // a table is made only where the line was not found before, the longest last
+            let tables = [little::lines, rows::lines, live::lines, texts::lines];
+            return measure::make_one_call(tables.into_iter().flat_map(|lines| lines()), line, side);
         }
     }
     let wanted = |line: &str| words.iter().all(|word| word.starts_with("--") || line.contains(word));
