@@ -1,6 +1,6 @@
 /* How the functions of fairleadow.h reach the archive; to be included by that file alone. Whatever the processor, the archive takes
- * lengths, numbers to rebind and numbers of little charts, and writes index and count as 64 bits, and of what it returns only the low eight bits have a meaning.
- * The functions below have the types of fairleadow.h, and from there on its names stand for them. */
+ * lengths, numbers to rebind and numbers of little charts as 64 bits, writes index and count as such, and of what it returns only the low
+ * eight bits have a meaning. The functions below have the types of fairleadow.h, and from there on its names stand for them. */
 #ifndef FAIRLEADOW_CALLS_H
 #define FAIRLEADOW_CALLS_H
 
