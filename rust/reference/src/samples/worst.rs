@@ -84,7 +84,7 @@ fn values(name: &str, all: std::ops::RangeInclusive<usize>) -> Vec<Candidate> {
     [first].into_iter().chain(rest).collect()
 }
 
-/// Every little chart, the first of 2 frames in chart P's place, and one of each count that there is not.
+/// Every little chart, the first of 2 frames in chart P's place, and a number past the last, also of two frame counts that have none.
 fn little_charts() -> Vec<Candidate> {
     let candidate = |origin, value, chart| {
         let input = Input { value, chart, ..Input::of(Vec::new()) };
