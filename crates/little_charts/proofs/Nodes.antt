@@ -131,15 +131,19 @@ module _ (c : Chart) (s : Sound c) (formed : (v : ℕ) → v < size c → little
   one-scheme = highest-le (scheme c) 1 0 (size c) (λ v a b. let e : scheme c v ≡ 1 = scheme-one v (omega arith) in omega arith)
     where
       scheme-one : (v : ℕ) → v < size c → scheme c v ≡ 1
-      scheme-one v l = let x : Bool = eqb (scheme c v) 1 in let y : Bool = leb (kind c v) 3 in
-          let z : Bool = is c 2 v || eqb (argument c v) 0 in let w : Bool = not (is c 2 v) || (eqb (result c v) 0 && leb (mask c v) 1) in
-          eqb-true (scheme c v) 1 (and-l x y (and-l (x && y) z (and-l (x && y && z) w (formed v l))))
+      scheme-one v l =
+          let x : Bool = eqb (scheme c v) 1 in
+          let y : Bool = leb (kind c v) 3 in
+          eqb-true (scheme c v) 1 (and-l x y (and-l (x && y) _ (and-l _ _ (formed v l))))
 
   module _ (v : ℕ) (l : v < size c) where
     parts : (scheme c v ≡ 1) × (kind c v ≤ 3) × ((is c 2 v || eqb (argument c v) 0) ≡ true) ×
         ((not (is c 2 v) || (eqb (result c v) 0 && leb (mask c v) 1)) ≡ true)
-    parts = let x : Bool = eqb (scheme c v) 1 in let y : Bool = leb (kind c v) 3 in
-        let z : Bool = is c 2 v || eqb (argument c v) 0 in let w : Bool = not (is c 2 v) || (eqb (result c v) 0 && leb (mask c v) 1) in
+    parts =
+        let x : Bool = eqb (scheme c v) 1 in
+        let y : Bool = leb (kind c v) 3 in
+        let z : Bool = is c 2 v || eqb (argument c v) 0 in
+        let w : Bool = not (is c 2 v) || (eqb (result c v) 0 && leb (mask c v) 1) in
         let e = formed v l in (
           eqb-true (scheme c v) 1 (and-l x y (and-l (x && y) z (and-l (x && y && z) w e))),
           leb-true (kind c v) 3 (and-r x y (and-l (x && y) z (and-l (x && y && z) w e))),

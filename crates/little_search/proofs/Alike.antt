@@ -1,16 +1,15 @@
 -- What is tried of the first records is read from them alone.
-use Prim.Native.Nat.{ℕ, zero, suc, _+_, _*_, _-_, _≤_, _<_}
+use Prim.Native.Nat.{ℕ, zero, suc, _+_, _*_, _≤_, _<_}
 use mathlib.Core.Bool.{Bool}
-use mathlib.Core.Path.{_≡_, refl, sym, ap, ap₂}
+use mathlib.Core.Path.{_≡_, refl, sym, ap}
 use mathlib.Core.List.{List, _++_}
 use native.Mathlib.Omega.{arith}
-use lib.Dec.{leb, eqb}
+use lib.Dec.{eqb}
 use lib.ListN.{length, List·getD-append}
-use Rattle.lists.specs.Pick.{pick}
 use Rattle.lists.specs.Numbers.{any}
 use Rattle.frames.specs.Frame.{field}
 use Rattle.charts.specs.Chart.{Chart, is}
-use Rattle.little_search.specs.Search.{nodeCount, has, leads, clashes, barred, missing, first, past}
+use Rattle.little_search.specs.Search.{has, leads, clashes, barred, missing, first, past}
 
 pub any-alike : (p q : ℕ → Bool) (i n : ℕ) → ((j : ℕ) → i ≤ j → j < i + n → p j ≡ q j) → any p i n ≡ any q i n
 unfolding any
@@ -46,13 +45,19 @@ module _ (c d : Chart) where
       cc
 
   pub missing-alike : (v : ℕ) → Alike c d v → missing c v ≡ missing d v
-  missing-alike v a = ap₂ (λ (x y : Bool). pick x 0 1 + pick y 0 1) (has-alike 0 v a) (has-alike 1 v a)
+  missing-alike v a =
+      let b : has c 0 v ≡ has d 0 v = has-alike 0 v a in
+      let e : has c 1 v ≡ has d 1 v = has-alike 1 v a in
+      cc
 
   pub first-alike : (n v : ℕ) → Alike c d v → first n c v ≡ first n d v
-  first-alike n v a = ap (λ (x : Bool). pick x n 0) (has-alike 0 v a)
+  first-alike n v a =
+      let b : has c 0 v ≡ has d 0 v = has-alike 0 v a in
+      let e : has c 1 v ≡ has d 1 v = has-alike 1 v a in
+      cc
 
   pub past-alike : (n v : ℕ) → Alike c d v → past n c v ≡ past n d v
-  past-alike n v a = ap (λ (m : ℕ). pick (leb (n - v) m) (n + 1) (nodeCount n)) (missing-alike v a)
+  past-alike n v a = let m : missing c v ≡ missing d v = missing-alike v a in cc
 
 -- a list's front and the whole
 pub front-alike : (xs ys : List ℕ) (v : ℕ) → 10 * v ≤ length xs → Alike xs (xs ++ ys) v
