@@ -27,7 +27,7 @@ const STACK: [(Call, usize); 21] = [
     (Call::Cause, 14_336),
     (Call::ListRows, 14_336),
     (Call::Minimise, 15_360),
-    (Call::LittleChart, 4_608),
+    (Call::LittleChart, 3_072),
     (Call::Rebind, 14_336),
     (Call::Spin, 15_360),
     (Call::Prepare, 14_336),

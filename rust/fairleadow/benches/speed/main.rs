@@ -16,9 +16,9 @@ fn main() {
     let words: Vec<String> = env::args().skip(1).collect();
     if let [first, line, side] = &words[..] {
         if first == measure::ONE_CALL {
-            let lines = [texts::lines(), little::lines(), rows::lines(), prices::lines(), live::lines()];
-            let lines = lines.into_iter().flatten().collect();
-            return measure::make_one_call(lines, line, side);
+            // a table is made only where the line was not found before, the longest last
+            let tables = [little::lines, rows::lines, prices::lines, live::lines, texts::lines];
+            return measure::make_one_call(tables.into_iter().flat_map(|lines| lines()), line, side);
         }
     }
     let wanted = |line: &str| words.iter().all(|word| word.starts_with("--") || line.contains(word));

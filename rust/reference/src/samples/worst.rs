@@ -91,14 +91,14 @@ fn values(name: &str, all: std::ops::RangeInclusive<usize>) -> Vec<Candidate> {
     [first].into_iter().chain(rest).collect()
 }
 
-/// Every little chart, the first of 2 frames in chart P's place, and one of each count that there is not.
+/// Every little chart, the first of 2 frames in chart P's place, and a number past the last, also of two frame counts that have none.
 fn little_charts() -> Vec<Candidate> {
     let candidate = |origin, value, chart| {
         let input = Input { value, chart, ..Input::of(Vec::new()) };
         Candidate::new(&format!("{value} frames, number {chart}"), origin, input)
     };
     let mut all = vec![candidate(Origin::ChartP, 2, 0)];
-    for frames in 1..=5 {
+    for frames in [0, 2, 3, 4, 5] {
         let numbers = 0..=little::texts(frames).len();
         all.extend(numbers.map(|number| candidate(Origin::Construction, frames, number)));
     }
