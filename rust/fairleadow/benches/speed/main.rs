@@ -10,21 +10,31 @@ mod texts;
 
 use std::env;
 
+use measure::Line;
+
+/// The names of a table's sides, and its lines.
+type Table = (&'static [&'static str], fn() -> Vec<Line>);
+
+const TABLES: [Table; 4] = [
+    (&["Library", "Plain Rust"], texts::lines),
+    (&rows::SIDES, rows::lines),
+    (&prices::SIDES, prices::lines),
+    (&["Library", "Plain Rust, kept", "Plain Rust on the table"], live::lines),
+];
+
 fn main() {
     let words: Vec<String> = env::args().skip(1).collect();
     if let [first, line, side] = &words[..] {
         if first == measure::ONE_CALL {
-            let [texts, rows, live] = [texts::lines(), rows::lines(), live::lines()];
-            let lines = texts.into_iter().chain(rows).chain(prices::lines()).chain(live).collect();
-            return measure::make_one_call(lines, line, side);
+            // the first table takes longest to make, and is made last
+            return measure::make_one_call(TABLES.iter().rev().flat_map(|(_, lines)| lines()), line, side);
         }
     }
     let wanted = |line: &str| words.iter().all(|word| word.starts_with("--") || line.contains(word));
-    measure::print_table(&["Library", "Plain Rust"], texts::lines(), wanted);
-    println!();
-    measure::print_table(&rows::SIDES, rows::lines(), wanted);
-    println!();
-    measure::print_table(&prices::SIDES, prices::lines(), wanted);
-    println!();
-    measure::print_table(&["Library", "Plain Rust, kept", "Plain Rust on the table"], live::lines(), wanted);
+    for (number, (sides, lines)) in TABLES.iter().enumerate() {
+        if number > 0 {
+            println!();
+        }
+        measure::print_table(sides, lines(), wanted);
+    }
 }

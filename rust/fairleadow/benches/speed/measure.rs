@@ -26,9 +26,9 @@ fn counted_call(call: &mut dyn FnMut()) {
     call();
 }
 
-pub fn make_one_call(mut lines: Vec<Line>, name: &str, side: &str) {
+pub fn make_one_call(mut lines: impl Iterator<Item = Line>, name: &str, side: &str) {
     let side: usize = side.parse().expect("a side's number");
-    let line = lines.iter_mut().find(|line| line.name == name).expect("a line");
+    let mut line = lines.find(|line| line.name == name).expect("a line");
     counted_call(&mut line.sides[side]);
 }
 
