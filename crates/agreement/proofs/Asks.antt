@@ -30,6 +30,8 @@ use Rattle.machine.proofs.live_run as live-run
 use Rattle.machine.proofs.live_run.Reads as live-run-reads
 use Rattle.machine.proofs.live_tick as live-tick
 use Rattle.machine.proofs.live_tick.Reads as live-tick-reads
+use Rattle.priced_runs.proofs.priced_run as priced-run
+use Rattle.priced_runs.proofs.priced_run.Reads as priced-run-reads
 use Rattle.rebinding.proofs.rebind as rebind
 use Rattle.rebinding.proofs.rebind.Reads as rebind-reads
 use Rattle.rebinding.proofs.live_rebind as live-rebind
@@ -48,6 +50,8 @@ use Rattle.fairleadow.proofs.fairleadow_fresh as c-fresh
 use Rattle.fairleadow.proofs.fairleadow_fresh.Reads as c-fresh-reads
 use Rattle.fairleadow.proofs.fairleadow_run as c-run
 use Rattle.fairleadow.proofs.fairleadow_run.Reads as c-run-reads
+use Rattle.fairleadow.proofs.fairleadow_priced_run as c-priced-run
+use Rattle.fairleadow.proofs.fairleadow_priced_run.Reads as c-priced-run-reads
 use Rattle.fairleadow.proofs.fairleadow_tick as c-tick
 use Rattle.fairleadow.proofs.fairleadow_tick.Reads as c-tick-reads
 use Rattle.fairleadow.proofs.fairleadow_cause as c-cause
@@ -92,6 +96,9 @@ fresh-asks-nothing κs a = tt
 
 pub run-asks-nothing : (κs : Lfts 4) (a : ArgsD run.signature κs) → run-reads.Asked κs a
 run-asks-nothing κs a = tt
+
+pub priced-run-asks-nothing : (κs : Lfts 5) (a : ArgsD priced-run.signature κs) → priced-run-reads.Asked κs a
+priced-run-asks-nothing κs a = tt
 
 pub tick-image-asks-nothing : (κs : Lfts 1) (a : ArgsD tick-image.signature κs) → tick-image-reads.Asked κs a
 tick-image-asks-nothing κs a = tt
@@ -138,6 +145,9 @@ c-fresh-asks-nothing κs a = tt
 
 pub c-run-asks-nothing : (κs : Lfts 7) (a : ArgsD c-run.signature κs) → c-run-reads.Asked κs a
 c-run-asks-nothing κs a = tt
+
+pub c-priced-run-asks-nothing : (κs : Lfts 9) (a : ArgsD c-priced-run.signature κs) → c-priced-run-reads.Asked κs a
+c-priced-run-asks-nothing κs a = tt
 
 pub c-tick-asks-nothing : (κs : Lfts 6) (a : ArgsD c-tick.signature κs) → c-tick-reads.Asked κs a
 c-tick-asks-nothing κs a = tt

@@ -11,6 +11,7 @@ use Rattle.minimising.proofs.Alike as minimising
 use Rattle.translator.proofs.Alike as translation
 use Rattle.places.proofs.Alike as needed
 use Rattle.cause.proofs.Alike as cause
+use Rattle.priced_runs.proofs.Alike as pricing
 use Rattle.rebinding.proofs.Alike as rebinding
 use Rattle.runs.proofs.Alike as running
 use Rattle.agreement.specs.Capitals.{AsInCapitals}
@@ -25,6 +26,7 @@ as-in-capitals t = record {
   prepares = table.prepares (map capital t) t (capitals-alike t);
   minimises = minimising.minimises (map capital t) t (capitals-alike t);
   runs = running.runs (map capital t) t (capitals-alike t);
+  prices = pricing.prices-runs (map capital t) t (capitals-alike t);
   ticks = running.advances (map capital t) t (capitals-alike t);
   explains = cause.explains (map capital t) t (capitals-alike t);
   rebinds = rebinding.rebinds (map capital t) t (capitals-alike t);

@@ -29,6 +29,9 @@ use Rattle.machine.proofs.live_run as machine-live-run
 use Rattle.machine.proofs.live_run.Reads as machine-live-run-reads
 use Rattle.machine.proofs.live_tick as machine-live-tick
 use Rattle.machine.proofs.live_tick.Reads as machine-live-tick-reads
+use Rattle.priced_runs.specs.PricedRun.{pricedRun, PricedRuns}
+use Rattle.priced_runs.proofs.priced_run as priced-run
+use Rattle.priced_runs.proofs.priced_run.Reads as priced-run-reads
 use Rattle.rebinding.specs.Rebind.{rebind, liveRebind}
 use Rattle.rebinding.proofs.rebind as rebinding-rebind
 use Rattle.rebinding.proofs.rebind.Reads as rebinding-rebind-reads
@@ -36,7 +39,7 @@ use Rattle.rebinding.proofs.live_rebind as rebinding-live-rebind
 use Rattle.rebinding.proofs.live_rebind.Reads as rebinding-live-rebind-reads
 use Rattle.state.specs.Bytes.{stateOf}
 use Rattle.telling.specs.Told.{Told}
-use Rattle.fairleadow.specs.Calls.{LendsC, MakesC, runFor, RunsC, tickFor, AdvancesC, rebindFor, RebindsC}
+use Rattle.fairleadow.specs.Calls.{LendsC, MakesC, runFor, RunsC, pricedRunFor, PricedC, tickFor, AdvancesC, rebindFor, RebindsC}
 use Rattle.fairleadow.proofs.fairleadow_translate as c-translate
 use Rattle.fairleadow.proofs.fairleadow_translate.Reads as c-translate-reads
 use Rattle.places.proofs.places_needed as places-needed
@@ -47,6 +50,8 @@ use Rattle.fairleadow.proofs.fairleadow_fresh as c-fresh
 use Rattle.fairleadow.proofs.fairleadow_fresh.Reads as c-fresh-reads
 use Rattle.fairleadow.proofs.fairleadow_run as c-run
 use Rattle.fairleadow.proofs.fairleadow_run.Reads as c-run-reads
+use Rattle.fairleadow.proofs.fairleadow_priced_run as c-priced-run
+use Rattle.fairleadow.proofs.fairleadow_priced_run.Reads as c-priced-run-reads
 use Rattle.fairleadow.proofs.fairleadow_tick as c-tick
 use Rattle.fairleadow.proofs.fairleadow_tick.Reads as c-tick-reads
 use Rattle.fairleadow.proofs.fairleadow_prepare as c-prepare
@@ -62,8 +67,8 @@ use Rattle.fairleadow.proofs.fairleadow_rebind.Reads as c-rebind-reads
 use Rattle.fairleadow.proofs.fairleadow_live_rebind as c-live-rebind
 use Rattle.fairleadow.proofs.fairleadow_live_rebind.Reads as c-live-rebind-reads
 
--- ---- translator::translate, preparing::prepare, minimising::minimise, state::State::fresh, of machine run, tick_image, live_run and live_tick, and of rebinding rebind
--- and live_rebind
+-- ---- translator::translate, preparing::prepare, minimising::minimise, state::State::fresh, of machine run, tick_image, live_run and live_tick,
+-- priced_runs::priced_run, and of rebinding rebind and live_rebind
 pub translate-lends : (κs : Lfts 2) (a : ArgsD translator-translate.signature κs) (r : ResD translator-translate.signature κs)
     (s : AtExit translator-translate.ended κs)
     → translator-translate-reads.Learnt κs a r s → Lends (translate (a .0 .now) (a .1 .0 .now)) r (s .1 .0 .now)
@@ -92,6 +97,12 @@ pub run-runs : (κs : Lfts 4) (a : ArgsD machine-run.signature κs) (r : ResD ma
     → Runs (run (a .0 .now) (a .1 .0) (a .1 .1 .0 .now) (a .1 .1 .1 .0 .now) (a .1 .1 .1 .1 .0 .now)) r (s .1 .1 .1 .0 .now) (s .1 .1 .1 .1 .0 .now)
 run-runs κs a r s e = e
 
+pub priced-run-prices : (κs : Lfts 5) (a : ArgsD priced-run.signature κs) (r : ResD priced-run.signature κs) (s : AtExit priced-run.ended κs)
+    → priced-run-reads.Learnt κs a r s
+    → PricedRuns (pricedRun (a .0 .now) (a .1 .0) (a .1 .1 .0 .now) (a .1 .1 .1 .0 .now) (a .1 .1 .1 .1 .0 .now) (a .1 .1 .1 .1 .1 .0 .now))
+    r (s .1 .1 .1 .1 .0 .now) (s .1 .1 .1 .1 .1 .0 .now)
+priced-run-prices κs a r s e = e
+
 pub tick-advances : (κs : Lfts 1) (a : ArgsD machine-tick.signature κs) (r : ResD machine-tick.signature κs) (s : AtExit machine-tick.ended κs)
     → machine-tick-reads.Learnt κs a r s → Advances (advance (a .0 .now) (a .1 .0) (a .1 .1 .0)) (r .report) (r .state)
 tick-advances κs a r s e = e
@@ -117,7 +128,7 @@ pub live-rebind-makes : (κs : Lfts 1) (a : ArgsD rebinding-live-rebind.signatur
     → rebinding-live-rebind-reads.Learnt κs a r s → Makes (liveRebind (a .0 .now) (a .1 .0) (a .1 .1 .0) (a .1 .1 .1 .0)) r
 live-rebind-makes κs a r s e = e
 
--- ---- for C: translate, fresh, run and tick, then prepare, minimise, live_run and live_tick, and the two rebindings
+-- ---- for C: translate, fresh, run, priced_run and tick, then prepare, minimise, live_run and live_tick, and the two rebindings
 pub translate-lends-c : (κs : Lfts 4) (a : ArgsD c-translate.signature κs) (r : ResD c-translate.signature κs) (s : AtExit c-translate.ended κs)
     → c-translate-reads.Learnt κs a r s
     → LendsC (translate (a .0 .now) (a .1 .0 .now)) r (s .1 .1 .0 .now) (s .1 .1 .1 .0 .now) (s .1 .0 .now)
@@ -132,6 +143,16 @@ pub run-runs-c : (κs : Lfts 7) (a : ArgsD c-run.signature κs) (r : ResD c-run.
     → RunsC (runFor (a .0 .now) (a .1 .0 .now) (a .1 .1 .0 .now) (a .1 .1 .1 .0 .now) (a .1 .1 .1 .1 .0 .now)) (a .1 .0 .now)
     r (s .1 .1 .1 .1 .1 .0 .now) (s .1 .1 .1 .1 .1 .1 .0 .now) (s .1 .0 .now) (s .1 .1 .1 .0 .now) (s .1 .1 .1 .1 .0 .now)
 run-runs-c κs a r s e = e
+
+pub priced-run-prices-c : (κs : Lfts 9) (a : ArgsD c-priced-run.signature κs) (r : ResD c-priced-run.signature κs)
+    (s : AtExit c-priced-run.ended κs)
+    → c-priced-run-reads.Learnt κs a r s
+    → PricedC
+    (pricedRunFor (a .0 .now) (a .1 .0 .now) (a .1 .1 .0 .now) (a .1 .1 .1 .0 .now) (a .1 .1 .1 .1 .0 .now) (a .1 .1 .1 .1 .1 .0 .now))
+    (a .1 .1 .1 .0 .now) (a .1 .0 .now)
+    r (s .1 .1 .1 .1 .1 .1 .1 .0 .now) (s .1 .1 .1 .1 .1 .1 .1 .1 .0 .now) (s .1 .0 .now) (s .1 .1 .1 .1 .0 .now) (s .1 .1 .1 .1 .1 .0 .now)
+    (s .1 .1 .1 .1 .1 .1 .0 .now)
+priced-run-prices-c κs a r s e = e
 
 pub tick-advances-c : (κs : Lfts 6) (a : ArgsD c-tick.signature κs) (r : ResD c-tick.signature κs) (s : AtExit c-tick.ended κs)
     → c-tick-reads.Learnt κs a r s

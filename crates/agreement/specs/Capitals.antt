@@ -14,6 +14,7 @@ use Rattle.places.specs.Entry.{placesNeeded}
 use Rattle.state.specs.declared.State.{State}
 use Rattle.cause.specs.Cause.{explain}
 use Rattle.rebinding.specs.Rebind.{rebind}
+use Rattle.priced_runs.specs.PricedRun.{pricedRun}
 use Rattle.runs.specs.Run.{run}
 use Rattle.runs.specs.Advance.{advance}
 
@@ -26,6 +27,8 @@ pub record AsInCapitals (t : List ℕ) : Type 0 where
   pub prepares : (table : List ℕ) → prepare (map capital t) table ≡ prepare t table
   pub minimises : (smaller : List ℕ) → minimise (map capital t) smaller ≡ minimise t smaller
   pub runs : (s : State) (words masks codes : List ℕ) → run (map capital t) s words masks codes ≡ run t s words masks codes
+  pub prices : (s : State) (list words masks codes : List ℕ)
+      → pricedRun (map capital t) s list words masks codes ≡ pricedRun t s list words masks codes
   pub ticks : (s : State) (word : ℕ) → advance (map capital t) s word ≡ advance t s word
   pub explains : (s : State) (word : ℕ) → explain (map capital t) s word ≡ explain t s word
   pub rebinds : (s : State) (number scheme : ℕ) → rebind (map capital t) s number scheme ≡ rebind t s number scheme

@@ -21,3 +21,4 @@ pub mod Live
 pub mod Functions
 pub mod Listing
 pub mod Minimise
+pub mod Prices

@@ -9,3 +9,4 @@ pub mod Outputs
 pub mod Live
 pub mod Listing
 pub mod Minimise
+pub mod Prices

@@ -3,19 +3,22 @@ use Prim.Native.Nat.{ℕ, _≤_, _<_}
 use mathlib.Core.Bool.{Bool, true, false}
 use mathlib.Core.Path.{_≡_, refl, sym, _∙_, ap, ap₂, subst}
 use mathlib.Core.Logic.{_⊎_, inl, inr}
-use mathlib.Core.List.{List, [], _∷_}
+use mathlib.Core.List.{List, []}
 use native.Mathlib.Omega.{arith}
+use lib.Dec.{ltb}
 use lib.ListN.{length, take}
 use borrow.Author.Tests.{lt-ltb, le-ltb}
 use Rattle.lists.specs.Pick.{pick}
-use Rattle.lists.proofs.Tests.{yes-pick, no-pick, split}
+use Rattle.lists.proofs.Tests.{or-none, yes-pick, no-pick, split}
 use Rattle.frames.specs.Frame.{contents}
 use Rattle.frames.specs.Verdict.{Verdict, fine, refused, next, when}
-use Rattle.frames.specs.Answer.{refusal, reply, judged, count}
+use Rattle.frames.specs.Answer.{refusal, number, reply, judged, count}
 use Rattle.frames.specs.declared.Answer.{Answer}
 use Rattle.frames.specs.declared.Answer.the-variants.{Done, Refused}
+use Rattle.frames.proofs.Refuses.{Refuses}
 use Rattle.image.specs.Decode.{decoded}
 use Rattle.image.specs.Check.{imageVerdict}
+use Rattle.image.proofs.Refuses.{Early, early-image}
 use Rattle.state.specs.declared.State.{State}
 use Rattle.state.specs.State.{Sized}
 use Rattle.state.specs.Bytes.{stateOf, bytesOf}
@@ -23,10 +26,11 @@ use Rattle.state.proofs.ResultBytes.{state-back}
 use Rattle.fitness.specs.Fitness.{unfit}
 use Rattle.runs.specs.Run.{Ran, ticks, Run, noRoom, runVerdict, runOn, run}
 use Rattle.runs.specs.InPlace.{bytesAfter, RunsOn}
+use Rattle.runs.proofs.RunCases.{keptBy}
 use Rattle.machine.proofs.Held.{run-held}
 use Rattle.prices.specs.Prices.{price}
 use Rattle.priced_runs.specs.declared.Priced.{Priced}
-use Rattle.priced_runs.specs.PricedRun.{tooMany, pricedVerdict, manyVerdict, PricedRun, priceOn, pricedRun, PricedRuns}
+use Rattle.priced_runs.specs.PricedRun.{tooMany, inTurn, pricedVerdict, manyVerdict, PricedRun, priceOn, pricedRun, PricedRuns}
 use Rattle.priced_runs.specs.InPlace.{bytesPriced, PricedOn}
 use Rattle.priced_runs.proofs.Pricing.{does-all, run-count, by-the-masks}
 
@@ -38,19 +42,61 @@ tried v b = next v λ _. when 15 b
 abbrev many : Verdict → Bool → Verdict
 many v b = next v λ _. next (when 15 b) λ _. refused 27 0
 
-module _ (t : List ℕ) (s : State) where
+-- whether or not there is room
+many-turn : (v : Verdict) (b r : Bool) → inTurn v b true r ≡ many v b
+many-turn (refused k i) b r = refl
+many-turn fine true r = refl
+many-turn fine false true = refl
+many-turn fine false false = refl
+
+module _ (t : List ℕ) (s : State) (ms ks : List ℕ) where
+  none-short : noRoom [] ms ks ≡ false
+  none-short = or-none (ltb (length ms) 0) (ltb (length ks) 0) (le-ltb (length ms) 0 (omega arith)) (le-ltb (length ks) 0 (omega arith))
+
+  abbrev noTicks : Verdict → Run
+  noTicks v = runOn v (λ _. ticks (decoded (contents t)) s []) s ms ks
+
   -- a run of no words is refused by what is tried before 27
-  none-answer : run t s [] (0 ∷ []) (0 ∷ []) .reply ≡ judged (tried (imageVerdict t) (unfit (decoded (contents t)) s)) 0
-  unfolding run runVerdict ticks
-  none-answer = go (imageVerdict t) (unfit (decoded (contents t)) s)
+  none-is : run t s [] ms ks ≡ noTicks (tried (imageVerdict t) (unfit (decoded (contents t)) s))
+  unfolding run runVerdict
+  none-is =
+      ap (λ (b : Bool). noTicks (next (imageVerdict t) λ _. next (when 15 (unfit (decoded (contents t)) s)) λ _. when 16 b)) none-short
+      ∙ go (imageVerdict t) (unfit (decoded (contents t)) s)
     where
-      go : (v : Verdict) (b : Bool)
-          → runOn (next v λ _. next (when 15 b) λ _. fine) (λ _. ticks (decoded (contents t)) s []) s (0 ∷ []) (0 ∷ []) .reply ≡ judged (tried v b) 0
+      go : (v : Verdict) (b : Bool) → noTicks (next v λ _. next (when 15 b) λ _. fine) ≡ noTicks (tried v b)
       go (refused k i) b = refl
       go fine true = refl
       go fine false = refl
 
-  module _ (a : Answer) (gives : reply a ≡ run t s [] (0 ∷ []) (0 ∷ []) .reply) where
+  none-answer : run t s [] ms ks .reply ≡ judged (tried (imageVerdict t) (unfit (decoded (contents t)) s)) 0
+  unfolding ticks
+  none-answer = ap (λ (r : Run). r .reply) none-is ∙ go (tried (imageVerdict t) (unfit (decoded (contents t)) s))
+    where
+      go : (v : Verdict) → noTicks v .reply ≡ judged v 0
+      go (refused k i) = refl
+      go fine = refl
+
+  -- and leaves the state
+  pub none-state : run t s [] ms ks .state ≡ s
+  unfolding ticks
+  none-state = ap (λ (r : Run). r .state) none-is ∙ go (tried (imageVerdict t) (unfit (decoded (contents t)) s))
+    where
+      go : (v : Verdict) → noTicks v .state ≡ s
+      go (refused k i) = refl
+      go fine = refl
+
+  -- where it is not refused, more words get 27
+  many-27 : number (run t s [] ms ks .reply) ≡ 0 → manyVerdict t s ≡ refused 27 0
+  unfolding manyVerdict
+  many-27 e =
+      go (imageVerdict t) (unfit (decoded (contents t)) s) (early-image t) (sym (ap number none-answer) ∙ e)
+    where
+      go : (v : Verdict) (b : Bool) → Refuses Early v → number (judged (tried v b) 0) ≡ 0 → many v b ≡ refused 27 0
+      go (refused k i) b p q = absurd (omega (arith, p .0))
+      go fine true p q = absurd (omega arith)
+      go fine false p q = refl
+
+  module _ (a : Answer) (gives : reply a ≡ run t s [] ms ks .reply) where
     pub many-before : (k i n : ℕ) → a ≡ Refused k i n → reply a ≡ judged (manyVerdict t s) 0
     unfolding manyVerdict
     many-before k i n e = go (imageVerdict t) (unfit (decoded (contents t)) s) (gives ∙ none-answer)
@@ -100,9 +146,8 @@ module _ (t before prices ws ms ks : List ℕ) where
     many-is : whole ≡ pricedBy (manyVerdict t s₀)
     unfolding pricedRun pricedVerdict manyVerdict
     many-is =
-        ap (λ (b : Bool). pricedBy
-        (next (imageVerdict t) λ _. next (when 15 (unfit (decoded (contents t)) s₀)) λ _. next (when 27 b) λ _. when 16 (noRoom ws ms ks)))
-        (lt-ltb 65536 (length ws) more)
+        ap (λ (b : Bool). pricedBy (inTurn (imageVerdict t) (unfit (decoded (contents t)) s₀) b (noRoom ws ms ks))) (lt-ltb 65536 (length ws) more)
+        ∙ ap pricedBy (many-turn (imageVerdict t) (unfit (decoded (contents t)) s₀) (noRoom ws ms ks))
 
     pub many-priced : (a : Answer) → reply a ≡ judged (manyVerdict t s₀) 0 → PricedOn whole ws before (record { answer = a; price = 0 }) before ms ks
     unfolding bytesPriced manyVerdict
@@ -137,7 +182,7 @@ module _ (t before prices ws ms ks : List ℕ) where
         }
 
   -- what the bytes then hold is the state that it hands back
-  priced-held : stateOf (bytesPriced ws before (whole .run)) ≡ whole .run .state
+  pub priced-held : stateOf (bytesPriced ws before (whole .run)) ≡ whole .run .state
   unfolding bytesPriced pricedRun manyVerdict
   priced-held = go (split 65536 (length ws))
     where
@@ -155,6 +200,17 @@ module _ (t before prices ws ms ks : List ℕ) where
       go (inr few) =
           ap stateOf (no-pick (tooMany ws) before (old (whole .run)) (le-ltb 65536 (length ws) few))
           ∙ run-held before (decoded (contents t)) ws ms ks (pricedVerdict t s₀ ws ms ks)
+
+-- ---- more words than are priced, where a run of none succeeds
+pub many-refused : (t : List ℕ) (s : State) (prices ws ms ks : List ℕ) → 65536 < length ws → number (run t s [] ms ks .reply) ≡ 0
+    → pricedRun t s prices ws ms ks ≡ record { run = keptBy 27 0 s ms ks; price = 0 }
+unfolding pricedRun pricedVerdict manyVerdict
+many-refused t s prices ws ms ks more e =
+    let u : Bool = unfit (decoded (contents t)) s in
+    let ran : Unit {0} → Ran = λ _. ticks (decoded (contents t)) s ws in
+    let by : Verdict → PricedRun = λ v. record { run = runOn v ran s ms ks; price = priceOn prices v ran } in
+    ap (λ (b : Bool). by (inTurn (imageVerdict t) u b (noRoom ws ms ks))) (lt-ltb 65536 (length ws) more)
+    ∙ ap by (many-turn (imageVerdict t) u (noRoom ws ms ks) ∙ many-27 t s ms ks e)
 
 -- ---- by value: the bytes are those of the state, and what they then hold is handed back
 module _ (state : State) (sized : Sized state) (bits : length (state .bits) ≡ 16) (bytes : List ℕ) (e : bytes ≡ bytesOf state) where

@@ -1,6 +1,6 @@
 -- A priced run is a run; its price is that of the masks written.
 use Prim.Native.Nat.{ℕ, suc, _≤_}
-use mathlib.Core.Bool.{Bool}
+use mathlib.Core.Bool.{Bool, true, false}
 use mathlib.Core.Path.{_≡_, refl, sym, _∙_, ap}
 use mathlib.Core.List.{List, [], _∷_}
 use native.Mathlib.Omega.{arith}
@@ -16,18 +16,26 @@ use Rattle.image.specs.Check.{imageVerdict}
 use Rattle.state.specs.declared.State.{State}
 use Rattle.fitness.specs.Fitness.{unfit}
 use Rattle.ticks.specs.Tick.{Ticked, ticked, stopped, tick}
-use Rattle.runs.specs.Run.{Ran, then, ticks, noRoom, runOn, runVerdict, run}
+use Rattle.runs.specs.Run.{Ran, then, ticks, Run, noRoom, runOn, runVerdict, run}
 use Rattle.prices.specs.Prices.{hundredths, price}
-use Rattle.priced_runs.specs.PricedRun.{pricedVerdict, priceOn, pricedRun}
+use Rattle.priced_runs.specs.PricedRun.{inTurn, pricedVerdict, priceOn, pricedRun}
 
 -- of at most 65,536 words it does all that a run does
 pub does-all : (t : List ℕ) (s : State) (prices words masks codes : List ℕ) → length words ≤ 65536
     → pricedRun t s prices words masks codes .run ≡ run t s words masks codes
 unfolding pricedRun pricedVerdict run runVerdict
 does-all t s prices words masks codes l =
-    ap (λ (b : Bool). runOn
-    (next (imageVerdict t) λ _. next (when 15 (unfit (decoded (contents t)) s)) λ _. next (when 27 b) λ _. when 16 (noRoom words masks codes))
-    (λ _. ticks (decoded (contents t)) s words) s masks codes) (le-ltb 65536 (length words) l)
+    ap (λ (b : Bool). made (inTurn (imageVerdict t) (unfit (decoded (contents t)) s) b (noRoom words masks codes))) (le-ltb 65536 (length words) l)
+    ∙ go (imageVerdict t) (unfit (decoded (contents t)) s) (noRoom words masks codes)
+  where
+    made : Verdict → Run
+    made v = runOn v (λ _. ticks (decoded (contents t)) s words) s masks codes
+
+    go : (v : Verdict) (u r : Bool) → made (inTurn v u false r) ≡ made (next v λ _. next (when 15 u) λ _. when 16 r)
+    go (refused k i) u r = refl
+    go fine true r = refl
+    go fine false true = refl
+    go fine false false = refl
 
 -- ---- a run has as many masks as codes, and counts them
 pub same-count : (i : Image) (ws : List ℕ) (s : State) → length (ticks i s ws .masks) ≡ length (ticks i s ws .codes)

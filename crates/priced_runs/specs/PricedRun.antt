@@ -21,12 +21,15 @@ abbrev pub tooMany : List ℕ → Bool
 tooMany words = ltb 65536 (length words)
 
 -- what a run tries before 16, then 27, then 16
+abbrev pub inTurn : Verdict → Bool → Bool → Bool → Verdict
+inTurn first unfit many short =
+    next first λ _.
+    next (when 15 unfit) λ _.
+    next (when 27 many) λ _.
+    when 16 short
+
 unfoldable pub pricedVerdict : List ℕ → State → List ℕ → List ℕ → List ℕ → Verdict
-pricedVerdict t s words masks codes =
-    next (imageVerdict t) λ _.
-    next (when 15 (unfit (decoded (contents t)) s)) λ _.
-    next (when 27 (tooMany words)) λ _.
-    when 16 (noRoom words masks codes)
+pricedVerdict t s words masks codes = inTurn (imageVerdict t) (unfit (decoded (contents t)) s) (tooMany words) (noRoom words masks codes)
 
 -- the same where there are more words than are priced: 27 ends it
 unfoldable pub manyVerdict : List ℕ → State → Verdict

@@ -26,7 +26,7 @@ enum-told-2 : tie.Need-enum-told-2
 enum-told-2 c = search needs
 
 returns : tie.Need-returns
-returns c = let made = c .before .before .before .before .run-bytes in many-before _ _ _ (made .ensures .answered) _ _ _ (c .enum-told2 .given .1)
+returns c = let made = c .before .before .before .before .run-bytes in many-before _ _ _ _ _ (made .ensures .answered) _ _ _ (c .enum-told2 .given .1)
 
 refused-requires : tie.Need-refused-requires
 refused-requires c κs = search needs
@@ -35,7 +35,7 @@ returns-2 : tie.Need-returns-2
 returns-2 c =
     let told = c .before in
     let made = told .before .before .before .before .run-bytes in
-    many-itself _ _ _ (made .ensures .answered) _ (told .enum-told .given .1) _ (c .refused .ensures)
+    many-itself _ _ _ _ _ (made .ensures .answered) _ (told .enum-told .given .1) _ (c .refused .ensures)
 
 pub refuse-many-spec : {M : Type 1} → statement M
 refuse-many-spec =
