@@ -22,7 +22,7 @@ const STACK: [(Call, usize); 21] = [
     (Call::CheckImage, 14_336),
     (Call::Fresh, 512),
     (Call::Run, 14_336),
-    (Call::PricedRun, 14_336),
+    (Call::PricedRun, 15_360),
     (Call::Tick, 14_336),
     (Call::Cause, 14_336),
     (Call::ListRows, 14_336),
