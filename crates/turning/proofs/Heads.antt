@@ -35,17 +35,20 @@ module _ (v : Verdict) (k taken : ℕ) where
     unfolding refusedHead
     named = ap (λ (t : Bool). next (when 25 t) λ _. next v λ _. refused 15 0) (le-ltb 3 k l)
 
-    pub bad-image : (n i : ℕ) → v ≡ refused n i → (a : Answer) → reply a ≡ refusal n i 0 → (r : SpinReport) → Told a r → Refuses (refusedHead v k) taken r
+    pub bad-image : (n i : ℕ) → v ≡ refused n i → (a : Answer) → reply a ≡ refusal n i 0 → (r : SpinReport) → Told a r
+        → Refuses (refusedHead v k) taken r
     bad-image n i e = refuses (refusedHead v k) taken n i (named ∙ ap (λ (u : Verdict). next u λ _. refused 15 0) e)
 
     pub bad-list : v ≡ fine → (a : Answer) → a ≡ Refused 15 0 0 → (r : SpinReport) → Told a r → Refuses (refusedHead v k) taken r
     bad-list e a f = refuses (refusedHead v k) taken 15 0 (named ∙ ap (λ (u : Verdict). next u λ _. refused 15 0) e) a (ap reply f)
 
     -- by what the image check answers
-    pub check-refused : (a : Answer) → reply a ≡ judged v 0 → (n i m : ℕ) → a ≡ Refused n i m → (r : SpinReport) → Told a r → Refuses (refusedHead v k) taken r
+    pub check-refused : (a : Answer) → reply a ≡ judged v 0 → (n i m : ℕ) → a ≡ Refused n i m → (r : SpinReport) → Told a r
+        → Refuses (refusedHead v k) taken r
     check-refused a gives n i m e =
         let q : v ≡ refused n i = refused-verdict a v 0 gives n i m e .0 in bad-image n i q a (gives ∙ ap (λ (u : Verdict). judged u 0) q)
 
-    pub check-passed : (a : Answer) → reply a ≡ judged v 0 → (m : ℕ) → a ≡ Done m → (b : Answer) → b ≡ Refused 15 0 0 → (r : SpinReport) → Told b r
+    pub check-passed : (a : Answer) → reply a ≡ judged v 0 → (m : ℕ) → a ≡ Done m → (b : Answer) → b ≡ Refused 15 0 0 → (r : SpinReport)
+        → Told b r
         → Refuses (refusedHead v k) taken r
     check-passed a gives m e = bad-list (done-fine a v 0 gives m e .0)

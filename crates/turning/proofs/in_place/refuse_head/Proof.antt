@@ -28,7 +28,8 @@ turned-back-requires-2 c κs = search needs
 returns-2 : tie.Need-returns-2
 returns-2 c =
     let checked = c .before .before .before in
-    check-refused _ _ _ (checked .before .if1 .left) _ (checked .check-image .ensures) _ _ _ (c .before .enum-told2 .given .1) _ (c .turned-back2 .ensures)
+    check-refused _ _ _ (checked .before .if1 .left) _ (checked .check-image .ensures) _ _ _ (c .before .enum-told2 .given .1) _
+    (c .turned-back2 .ensures)
 
 refused-requires-2 : tie.Need-refused-requires-2
 refused-requires-2 c κs = search needs
