@@ -49,7 +49,8 @@ module _ (b : List ℕ) (n k : ℕ) (counted : n ≡ stateCount (length b)) (t :
       omega (arith, ap (λ (s : State). s .depth) (state-is b bytes-long k bytes-named), depths-are b bytes-long)
 
 -- a turn leaves as many bytes
-pub part-full : (b : List ℕ) → length b ≡ 520 → (k : ℕ) → k < 4 → (y : Turn) (part part′ : List ℕ) (r : SpinReport) → part ≡ partOf b k → TurnsOn y part r part′
+pub part-full : (b : List ℕ) → length b ≡ 520 → (k : ℕ) → k < 4 → (y : Turn) (part part′ : List ℕ) (r : SpinReport) → part ≡ partOf b k
+    → TurnsOn y part r part′
     → 130 ≡ length part′
 unfolding bytesOf
 part-full b long k l y part part′ r e z = sym (ap length (z .bytes) ∙ go (eqb (number (y .reply)) 0))
@@ -82,7 +83,8 @@ module _ (b : List ℕ) (taken k : ℕ) (r : SpinReport) where
     test-is : badCall (length (statesOf b)) k ≡ t
     test-is = ap (λ (m : ℕ). badCall m k) (count-is b ∙ sym counted) ∙ sym tested
 
-    head-by : t ≡ true → (v : Verdict) → Numbered v → (x : Advance) → Refuses (refusedHead v k) taken r → SpinsOn (inParts v (statesOf b) taken k x) b k r b
+    head-by : t ≡ true → (v : Verdict) → Numbered v → (x : Advance) → Refuses (refusedHead v k) taken r
+        → SpinsOn (inParts v (statesOf b) taken k x) b k r b
     head-by bad v l x z =
         subst (λ (y : Spun). SpinsOn y b k r b)
         (sym (yes-pick (badCall (length (statesOf b)) k) (headSpun (refusedHead v k) (statesOf b) taken)
@@ -133,7 +135,8 @@ module _ (b : List ℕ) (taken k : ℕ) (r : SpinReport) where
         code = z .code;
         taken = z .taken;
         bytes = put-by y (z .bytes) ∙ ap (λ (u : State). pick (eqb (number (y .reply)) 0) (written b (130 * k) (bytesOf u)) b)
-            (sym (getD-set-same (statesOf b) k (y .state) noState (omega (arith, count-is b, counted, call-four n k (sym tested ∙ good), low))));
+            (sym (getD-set-same (statesOf b) k (y .state) noState
+            (omega (arith, count-is b, counted, call-four n k (sym tested ∙ good), low))));
       }
 
       turn-by : (v : Verdict) (go : State → Advance) → TurnsOn (turn v (stateOf part) sum taken (go (stateOf part))) part r part′
@@ -145,10 +148,12 @@ module _ (b : List ℕ) (taken k : ℕ) (r : SpinReport) where
           (turnSpun (statesOf b) k (turn v s (fourDepths (statesOf b)) taken (go s))) (test-is ∙ good)))
           (turn-spins (turn v (stateOf part) sum taken (go (stateOf part))) z)
 
-      pub image-spins : (image : List ℕ) (w : ℕ) → TurnsOn (turn (imageVerdict image) (stateOf part) sum taken (advance image (stateOf part) w)) part r part′
+      pub image-spins : (image : List ℕ) (w : ℕ)
+          → TurnsOn (turn (imageVerdict image) (stateOf part) sum taken (advance image (stateOf part) w)) part r part′
           → SpinsOn (spin image (statesOf b) taken k w) b k r after
       image-spins image w z =
-          subst (λ (y : Spun). SpinsOn y b k r after) (sym (spin-parts image (statesOf b) taken k w)) (turn-by (imageVerdict image) (λ u. advance image u w) z)
+          subst (λ (y : Spun). SpinsOn y b k r after) (sym (spin-parts image (statesOf b) taken k w))
+          (turn-by (imageVerdict image) (λ u. advance image u w) z)
 
       pub table-spins : (table : List ℕ) (w : ℕ)
           → TurnsOn (turn (when 11 (badTable table)) (stateOf part) sum taken (liveTick table (stateOf part) w)) part r part′

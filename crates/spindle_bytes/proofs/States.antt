@@ -55,7 +55,8 @@ module _ (b : List ℕ) (long : length b ≡ 520) where
   -- the bytes, one by one
   pub part-is : (k : ℕ) → k < 4 → map (λ (j : ℕ). getD b (130 * k + j) 0) (range 0 130) ≡ partOf b k
   part-is k l = map-count (λ (j : ℕ). getD b (130 * k + j) 0) 0 (partOf b k) 0 130 (sym (part-length k l))
-      (λ j m. ap (λ (i : ℕ). getD b (130 * k + i) 0) (let e : 0 + j ≡ j = omega arith in e) ∙ sym (part-at k j (omega (arith, part-length k l))))
+      (λ j m. ap (λ (i : ℕ). getD b (130 * k + i) 0) (let e : 0 + j ≡ j = omega arith in e)
+      ∙ sym (part-at k j (omega (arith, part-length k l))))
 
   depth-is : (k : ℕ) → stateOf (partOf b k) .depth ≡ getD b (130 * k + 1) 0
   unfolding stateOf

@@ -22,34 +22,42 @@ module _ (ys : List State) (taken k : ℕ) (r : SpinReport) where
   head-spins fine told z = absurd (told refl)
   head-spins (refused n i) told z = record { answered = z .answered; mask = z .mask; code = z .code; taken = z .taken; states = refl }
 
-  bad-by : (v : Verdict) (x : Advance) → badCall (length ys) k ≡ true → Refuses (refusedHead v k) taken r → Spins (inParts v ys taken k x) r ys
+  bad-by : (v : Verdict) (x : Advance) → badCall (length ys) k ≡ true → Refuses (refusedHead v k) taken r
+      → Spins (inParts v ys taken k x) r ys
   bad-by v x e z =
       subst (λ (y : Spun). Spins y r ys)
-      (sym (yes-pick (badCall (length ys) k) (headSpun (refusedHead v k) ys taken) (turnSpun ys k (turn v (stateAt ys k) (fourDepths ys) taken x)) e))
+      (sym (yes-pick (badCall (length ys) k) (headSpun (refusedHead v k) ys taken)
+      (turnSpun ys k (turn v (stateAt ys k) (fourDepths ys) taken x)) e))
       (head-spins (refusedHead v k) (head-refused v k) z)
 
-  good-by : (v : Verdict) (x : Advance) (s : State) → badCall (length ys) k ≡ false → Turns (turn v (stateAt ys k) (fourDepths ys) taken x) r s
+  good-by : (v : Verdict) (x : Advance) (s : State) → badCall (length ys) k ≡ false
+      → Turns (turn v (stateAt ys k) (fourDepths ys) taken x) r s
       → Spins (inParts v ys taken k x) r (set ys k s)
   good-by v x s e z =
       subst (λ (y : Spun). Spins y r (set ys k s))
-      (sym (no-pick (badCall (length ys) k) (headSpun (refusedHead v k) ys taken) (turnSpun ys k (turn v (stateAt ys k) (fourDepths ys) taken x)) e))
+      (sym (no-pick (badCall (length ys) k) (headSpun (refusedHead v k) ys taken)
+      (turnSpun ys k (turn v (stateAt ys k) (fourDepths ys) taken x)) e))
       (record { answered = z .answered; mask = z .mask; code = z .code; taken = z .taken; states = ap (set ys k) (z .state) })
 
   -- on an image
-  pub image-bad : (t : List ℕ) (w : ℕ) → badCall (length ys) k ≡ true → Refuses (refusedHead (imageVerdict t) k) taken r → Spins (spin t ys taken k w) r ys
+  pub image-bad : (t : List ℕ) (w : ℕ) → badCall (length ys) k ≡ true → Refuses (refusedHead (imageVerdict t) k) taken r
+      → Spins (spin t ys taken k w) r ys
   image-bad t w e z =
       subst (λ (y : Spun). Spins y r ys) (sym (spin-parts t ys taken k w)) (bad-by (imageVerdict t) (advance t (stateAt ys k) w) e z)
 
   pub image-good : (t : List ℕ) (w : ℕ) (s : State) → badCall (length ys) k ≡ false
-      → Turns (turn (imageVerdict t) (stateAt ys k) (fourDepths ys) taken (advance t (stateAt ys k) w)) r s → Spins (spin t ys taken k w) r (set ys k s)
+      → Turns (turn (imageVerdict t) (stateAt ys k) (fourDepths ys) taken (advance t (stateAt ys k) w)) r s
+      → Spins (spin t ys taken k w) r (set ys k s)
   image-good t w s e z =
-      subst (λ (y : Spun). Spins y r (set ys k s)) (sym (spin-parts t ys taken k w)) (good-by (imageVerdict t) (advance t (stateAt ys k) w) s e z)
+      subst (λ (y : Spun). Spins y r (set ys k s)) (sym (spin-parts t ys taken k w))
+      (good-by (imageVerdict t) (advance t (stateAt ys k) w) s e z)
 
   -- on a table
   pub table-bad : (b : List ℕ) (w : ℕ) → badCall (length ys) k ≡ true → Refuses (refusedHead (when 11 (badTable b)) k) taken r
       → Spins (liveSpin b ys taken k w) r ys
   table-bad b w e z =
-      subst (λ (y : Spun). Spins y r ys) (sym (live-spin-parts b ys taken k w)) (bad-by (when 11 (badTable b)) (liveTick b (stateAt ys k) w) e z)
+      subst (λ (y : Spun). Spins y r ys) (sym (live-spin-parts b ys taken k w))
+      (bad-by (when 11 (badTable b)) (liveTick b (stateAt ys k) w) e z)
 
   pub table-good : (b : List ℕ) (w : ℕ) (s : State) → badCall (length ys) k ≡ false
       → Turns (turn (when 11 (badTable b)) (stateAt ys k) (fourDepths ys) taken (liveTick b (stateAt ys k) w)) r s

@@ -1,4 +1,5 @@
--- After every list of calls the depths sum to 4 and the finished calls, less the returns above depth 1 and what drops gave back, and do not pass 64.
+-- After every list of calls the depths sum to 4 and the finished calls, less the returns above depth 1 and what drops gave back, and do
+-- not pass 64.
 use Prim.Native.Nat.{ℕ, zero, suc, _+_, _-_, _≤_, _<_}
 use mathlib.Core.Bool.{Bool, true, false, _&&_, not}
 use mathlib.Core.Path.{_≡_, refl, sym, _∙_, ap, subst}
@@ -78,9 +79,11 @@ module _ (h : Head) (q : Kept h) (k : ℕ) (l : k < 4) where
           (and-true (ltb (s .depth) (t .depth)) (leb 64 (h .taken)) (lt-ltb (s .depth) (t .depth) z) e) free
       go false e (inl z) = omega (arith, leb-false 64 (h .taken) e, one (leb 16 code && not (eqb code 96)), d)
 
-  put-kept : (m code : ℕ) (t : State) → Sized t → Deepens (s .depth) (ticked m code t) → noneLeft (s .depth) (t .depth) (h .taken) ≡ false → Kept (put t)
+  put-kept : (m code : ℕ) (t : State) → Sized t → Deepens (s .depth) (ticked m code t) → noneLeft (s .depth) (t .depth) (h .taken) ≡ false
+      → Kept (put t)
   put-kept m code t w d free =
-      let sum : depths (set (h .states) k t) + s .depth ≡ depths (h .states) + t .depth = depths-set (h .states) k t (omega (arith, q .four)) in
+      let sum : depths (set (h .states) k t) + s .depth ≡ depths (h .states) + t .depth =
+      depths-set (h .states) k t (omega (arith, q .four)) in
       let low : s .depth ≤ depths (h .states) = depth-most (h .states) k (omega (arith, q .four)) in
       record {
         four = length-set (h .states) k t ∙ q .four;
@@ -129,9 +132,15 @@ module _ (t : List ℕ) (k w : ℕ) (h : Head) (q : Kept h) where
 -- ---- a rebinding
 rebind-step : (t : List ℕ) (k n g : ℕ) (h : Head) → Kept h → Step h (rebinds t k n g)
 unfolding rebind
-rebind-step t k n g h q = record { kept = go (next (imageVerdict t) λ _. rebindVerdict (decoded (contents t)) (stateAt (h .states) k) n g); adds = none (h .taken) }
+rebind-step t k n g h q =
+    record {
+      kept = go (next (imageVerdict t) λ _. rebindVerdict (decoded (contents t)) (stateAt (h .states) k) n g);
+      adds = none
+          (h .taken);
+    }
   where
-    put : (u : State) → u .depth ≡ stateAt (h .states) k .depth → (k < 4 → Sized u) → Kept (record { states = set (h .states) k u; taken = h .taken })
+    put : (u : State) → u .depth ≡ stateAt (h .states) k .depth → (k < 4 → Sized u)
+        → Kept (record { states = set (h .states) k u; taken = h .taken })
     put u e w = record {
       four = length-set (h .states) k u ∙ q .four;
       whole = λ j m. whole j m (ℕ-discrete j k);
@@ -166,7 +175,8 @@ calls-count (a ∷ rest) h q =
 
 pub places-counted : PlacesCounted
 unfolding PlacesCounted depths
-places-counted a b c d calls = calls-count calls (newHead a b c d) (record { four = refl; whole = whole; summed = refl; room = omega arith })
+places-counted a b c d calls =
+    calls-count calls (newHead a b c d) (record { four = refl; whole = whole; summed = refl; room = omega arith })
   where
     whole : (k : ℕ) → k < 4 → Sized (stateAt (newHead a b c d .states) k)
     whole zero l = fresh-sized a

@@ -27,14 +27,16 @@ abbrev pub Deepens : ℕ → Ticked → Type 0
 Deepens d (ticked m code t) = t .depth + returned code d + givenBack code d ≡ d + called code d
 Deepens d (stopped n) = Unit {0}
 
-moved-deepens : (m code d : ℕ) (t : State) (k : ℕ) (f : Found) → t .depth + returned code d + givenBack code d ≡ d + called code d → Deepens d (moved m code t k f)
+moved-deepens : (m code d : ℕ) (t : State) (k : ℕ) (f : Found) → t .depth + returned code d + givenBack code d ≡ d + called code d
+    → Deepens d (moved m code t k f)
 moved-deepens m code d t k (found l) e = e
 moved-deepens m code d t k missing e = tt
 
 full-deepens : (i : Image) (s : State) (m : ℕ) (b : Results) → 1 ≤ s .depth → Deepens (s .depth) (full i s m b)
 full-deepens i s m b l = go (keepsFull i s)
   where
-    go : (t : Bool) → Deepens (s .depth) (pick t (stopped 17) (ticked m 96 (alone s (entryAt i (i .handler)) (i .handler) (cleared (i .handler) b))))
+    go : (t : Bool)
+        → Deepens (s .depth) (pick t (stopped 17) (ticked m 96 (alone s (entryAt i (i .handler)) (i .handler) (cleared (i .handler) b))))
     go true = tt
     go false = omega arith
 
@@ -43,11 +45,13 @@ pushed-deepens : (i : Image) (s : State) (m code h k : ℕ) (b : Results) (t : B
 pushed-deepens i s m code h k b true d l n = full-deepens i s m b d
 pushed-deepens i s m code h k b false d l n = rw (le-leb 16 code l, ne-eqb code 3 (λ q. omega arith), ne-eqb code 96 n) (omega arith)
 
-popped-deepens : (i : Image) (s : State) (w m : ℕ) (b : Results) (t : Bool) → leb (s .depth) 1 ≡ t → 1 ≤ s .depth → Deepens (s .depth) (popped i s w m b t)
+popped-deepens : (i : Image) (s : State) (w m : ℕ) (b : Results) (t : Bool) → leb (s .depth) 1 ≡ t → 1 ≤ s .depth
+    → Deepens (s .depth) (popped i s w m b t)
 popped-deepens i s w m b true e l = let q : s .depth ≤ 1 = leb-true (s .depth) 1 e in rw (le-ltb 1 (s .depth) q) (omega arith)
 popped-deepens i s w m b false e l =
     let q : 1 < s .depth = leb-false (s .depth) 1 e in
-    moved-deepens m 3 (s .depth) (dropping s b) (s .depth - 2) (rowOf i b (placeAt s (s .depth - 2)) w) (rw (lt-ltb 1 (s .depth) q) (omega arith))
+    moved-deepens m 3 (s .depth) (dropping s b) (s .depth - 2) (rowOf i b (placeAt s (s .depth - 2)) w)
+    (rw (lt-ltb 1 (s .depth) q) (omega arith))
 
 -- no call has the code of a drop: a scheme's number is at most 16
 pub called-few : (i : Image) → Sound i → (l : ℕ) → l < length (i .labels) → labelAt i l .called ≤ 16
@@ -55,11 +59,13 @@ called-few i sound zero m = let q : labelAt i 0 .called ≡ 0 = ap (λ (x : Labe
 called-few i sound (suc zero) m = let q : labelAt i 1 .called ≡ 0 = ap (λ (x : Label). x .called) (sound .back) in omega arith
 called-few i sound (suc (suc l)) m = go (ℕ-discrete (labelAt i (suc (suc l)) .kind) 0) (sound .others (suc (suc l)) (omega arith) m)
   where
-    go : Dec (labelAt i (suc (suc l)) .kind ≡ 0) → SoundLabel (length (i .entries)) (labelAt i (suc (suc l))) → labelAt i (suc (suc l)) .called ≤ 16
+    go : Dec (labelAt i (suc (suc l)) .kind ≡ 0) → SoundLabel (length (i .entries)) (labelAt i (suc (suc l)))
+        → labelAt i (suc (suc l)) .called ≤ 16
     go (yes e) q = omega (arith, q .plain e)
     go (no e) q = omega (arith, q .calls e, sound .most)
 
-pub tick-deepens : (i : Image) (s : State) (w : ℕ) → 1 ≤ s .depth → labelAt i (placeAt s (s .depth - 1)) .called ≤ 16 → Deepens (s .depth) (tick i s w)
+pub tick-deepens : (i : Image) (s : State) (w : ℕ) → 1 ≤ s .depth → labelAt i (placeAt s (s .depth - 1)) .called ≤ 16
+    → Deepens (s .depth) (tick i s w)
 unfolding tick
 tick-deepens i s w l few = go (labelAt i (placeAt s (s .depth - 1)) .kind)
   where
@@ -72,8 +78,12 @@ tick-deepens i s w l few = go (labelAt i (placeAt s (s .depth - 1)) .kind)
     go : (k : ℕ) → Deepens (s .depth) (tickBy i s w (placeAt s (s .depth - 1)) (labelAt i (placeAt s (s .depth - 1)))
         (withResult (labelAt i (placeAt s (s .depth - 1)) .result) (numberAt s (s .depth - 1)) (s .bits)) k)
     go zero = moved-deepens (x .mask) 0 (s .depth) (withBits s b) (s .depth - 1) (rowOf i b (placeAt s (s .depth - 1)) w) (omega arith)
-    go (suc zero) = pushed-deepens i s (x .mask) (16 + x .called) (x .called) (served (s .serving) (x .called)) b (leb (s .size) (s .depth)) l (omega arith) (λ q. omega arith)
-    go (suc (suc zero)) = pushed-deepens i s (x .mask) (64 + x .called) (x .called) (served (s .serving) (x .called)) b (leb (s .size) (s .depth)) l (omega arith) (λ q. omega arith)
+    go (suc zero) =
+        pushed-deepens i s (x .mask) (16 + x .called) (x .called) (served (s .serving) (x .called)) b (leb (s .size) (s .depth)) l
+        (omega arith) (λ q. omega arith)
+    go (suc (suc zero)) =
+        pushed-deepens i s (x .mask) (64 + x .called) (x .called) (served (s .serving) (x .called)) b (leb (s .size) (s .depth)) l
+        (omega arith) (λ q. omega arith)
     go (suc (suc (suc zero))) = popped-deepens i s w (x .mask) b (leb (s .depth) 1) refl l
     go (suc (suc (suc (suc n)))) = moved-deepens (x .mask) 4 (s .depth) (withBits s b) (s .depth - 1) (found (entryAt i 1)) (omega arith)
 

@@ -8,8 +8,8 @@ use Rattle.lists.specs.Pick.{pick}
 use Rattle.spindles.specs.Spindles.{stateAt, depths}
 use Rattle.spindle_places.specs.Calls.{Head, newHead, Call, spins, rebinds, spun, left, leaves}
 
--- the places that a tick takes or gives back, by its code and the depth before it: a finished call (code 60 hexadecimal is none), a return above
--- depth 1, a drop; a refused call hands back code 0
+-- the places that a tick takes or gives back, by its code and the depth before it: a finished call (code 60 hexadecimal is none), a
+-- return above depth 1, a drop; a refused call hands back code 0
 abbrev pub called : ℕ → ℕ → ℕ
 called code d = pick (leb 16 code && not (eqb code 96)) 1 0
 

@@ -16,7 +16,8 @@ use Rattle.state.specs.declared.State.{State}
 use Rattle.runs.specs.Advance.{Advance, advance}
 use Rattle.machine.specs.Live.{liveTick}
 use Rattle.spindles.specs.Spindles.{stateAt, depths, headVerdict, turnedBack, findsNone, spunOn, spin, liveSpin}
-use Rattle.spindles.specs.Parts.{badCall, badRecord, refusedHead, stayed, turnBy, turnOn, turn, depthAt, fourDepths, headSpun, turnSpun, inParts}
+use Rattle.spindles.specs.Parts.{badCall, badRecord, refusedHead, stayed, turnBy, turnOn}
+use Rattle.spindles.specs.Parts.{turn, depthAt, fourDepths, headSpun, turnSpun, inParts}
 use Rattle.spindles.proofs.OneCall.{set-same}
 
 pub four-depths : (states : List State) → length states ≡ 4 → depths states ≡ fourDepths states
@@ -70,18 +71,26 @@ module _ (v : Verdict) (states : List State) (taken k : ℕ) (x : Advance) where
     where
       go : (b : Bool)
           → pick b (turnedBack 26 0 states taken)
-          (record { reply = x .reply; mask = x .mask; code = x .code; states = set states k (x .state); taken = taken + x .state .depth - stateAt states k .depth })
+          (record {
+            reply = x .reply;
+            mask = x .mask;
+            code = x .code;
+            states = set states k (x .state);
+            taken = taken + x .state .depth - stateAt states k .depth;
+          })
           ≡ turnSpun states k (pick b (stayed 26 0 (stateAt states k) taken)
           (record { reply = x .reply; mask = x .mask; code = x .code; taken = taken + x .state .depth - stateAt states k .depth; state = x .state }))
       go true = ap (λ (ss : List State). turnedBack 26 0 ss taken) (sym (set-same states k))
       go false = refl
 
   turn-is : badCall (length states) k ≡ false
-      → spunOn (headVerdict v states taken k) states taken k (λ _. x) ≡ turnSpun states k (turn v (stateAt states k) (fourDepths states) taken x)
+      → spunOn (headVerdict v states taken k) states taken k (λ _. x) ≡ turnSpun states k
+      (turn v (stateAt states k) (fourDepths states) taken x)
   unfolding turn
   turn-is e =
       let n : length states ≡ 4 = call-four (length states) k e in
-      ap₂ (λ (a b : Bool). spunOn (next (when 25 b) λ _. next v λ _. when 15 (not a || not (eqb (depths states) taken) || ltb 64 taken)) states taken k (λ _. x))
+      ap₂ (λ (a b : Bool). spunOn
+      (next (when 25 b) λ _. next v λ _. when 15 (not a || not (eqb (depths states) taken) || ltb 64 taken)) states taken k (λ _. x))
       (eq-eqb (length states) 4 n) (or-r (not (eqb (length states) 4)) (ltb 3 k) e)
       ∙ ap (λ (s : ℕ). spunOn (next v λ _. when 15 (badRecord s taken)) states taken k (λ _. x)) (four-depths states n)
       ∙ turn-by (next v λ _. when 15 (badRecord (fourDepths states) taken))
@@ -90,7 +99,8 @@ module _ (v : Verdict) (states : List State) (taken k : ℕ) (x : Advance) where
   unfolding refusedHead
   in-parts = go (badCall (length states) k) refl
     where
-      go : (b : Bool) → badCall (length states) k ≡ b → spunOn (headVerdict v states taken k) states taken k (λ _. x) ≡ inParts v states taken k x
+      go : (b : Bool) → badCall (length states) k ≡ b
+          → spunOn (headVerdict v states taken k) states taken k (λ _. x) ≡ inParts v states taken k x
       go true e =
           head-by (eqb (length states) 4) (ltb 3 k) v (not (eqb (depths states) taken)) (ltb 64 taken) e
           ∙ sym (yes-pick (badCall (length states) k) _ (turnSpun states k (turn v (stateAt states k) (fourDepths states) taken x)) e)

@@ -13,5 +13,6 @@ module _ {t b : List ℕ} (p : Prepared t b) where
   pub live-spin-is : (states : List State) (taken k w : ℕ) → liveSpin b states taken k w ≡ spin t states taken k w
   unfolding liveSpin spin
   live-spin-is states taken k w =
-      ap₂ (λ (x : Bool) (a : Advance). spunOn (headVerdict (when 11 x) states taken k) states taken k (λ _. a)) (p .header) (live-tick-is p (stateAt states k) w)
+      ap₂ (λ (x : Bool) (a : Advance). spunOn (headVerdict (when 11 x) states taken k) states taken k (λ _. a)) (p .header)
+      (live-tick-is p (stateAt states k) w)
       ∙ sym (ap (λ (v : Verdict). spunOn (headVerdict v states taken k) states taken k (λ _. advance t (stateAt states k) w)) (p .accepted))

@@ -49,7 +49,8 @@ ticksBy v i s w = advanceBy s (tickTried v i s) (tick i s w)
 abbrev pub spinBy : Verdict → Image → List State → ℕ → ℕ → ℕ → Spun
 spinBy v i states taken k w = spunOn (headVerdict v states taken k) states taken k (λ _. ticksBy v i (stateAt states k) w)
 
-pub spin-by : (t : List ℕ) (states : List State) (taken k w : ℕ) → spin t states taken k w ≡ spinBy (imageVerdict t) (decoded (contents t)) states taken k w
+pub spin-by : (t : List ℕ) (states : List State) (taken k w : ℕ)
+    → spin t states taken k w ≡ spinBy (imageVerdict t) (decoded (contents t)) states taken k w
 unfolding spin
 spin-by t states taken k w =
     ap (λ (x : Advance). spunOn (headVerdict (imageVerdict t) states taken k) states taken k (λ _. x)) (advance-by t (stateAt states k) w)
@@ -58,7 +59,8 @@ pub live-spin-by : (b : List ℕ) (states : List State) (taken k w : ℕ)
     → liveSpin b states taken k w ≡ spinBy (when 11 (badTable b)) (tableImage b) states taken k w
 unfolding liveSpin
 live-spin-by b states taken k w =
-    ap (λ (x : Advance). spunOn (headVerdict (when 11 (badTable b)) states taken k) states taken k (λ _. x)) (live-tick-by b (stateAt states k) w)
+    ap (λ (x : Advance). spunOn (headVerdict (when 11 (badTable b)) states taken k) states taken k (λ _. x))
+    (live-tick-by b (stateAt states k) w)
 
 -- ---- a state put back where it was
 pub set-same : (states : List State) (k : ℕ) → set states k (stateAt states k) ≡ states
@@ -75,7 +77,8 @@ kept-by states taken k n i =
     ap (λ (t : Bool). pick (t && leb 64 taken) (turnedBack 26 0 states taken)
     (record { reply = refusal n i 0; mask = 0; code = 0; states = set states k s; taken = taken + s .depth - s .depth }))
     (le-ltb (s .depth) (s .depth) (omega arith))
-    ∙ ap (λ (ss : List State). record { reply = refusal n i 0; mask = 0; code = 0; states = ss; taken = taken + s .depth - s .depth }) (set-same states k)
+    ∙ ap (λ (ss : List State). record { reply = refusal n i 0; mask = 0; code = 0; states = ss; taken = taken + s .depth - s .depth })
+    (set-same states k)
     ∙ ap (turnedBack n i states) (let e : taken + s .depth - s .depth ≡ taken = omega arith in e)
 
 -- what a call comes to: it is refused, or all that is tried before the tick is passed, and the tick is finished and finds its place
@@ -124,7 +127,8 @@ module _ (v : Verdict) (i : Image) (states : List State) (taken k w : ℕ) where
       → spunOn (headVerdict v states taken k) states taken k (λ _. advanceBy s u d) .reply ≡ refusal 17 0 0
   full-by h u d e = ap (λ (q : Verdict). spunOn q states taken k (λ _. advanceBy s u d) .reply) h ∙ go u d e
     where
-      go : (u : Verdict) (d : Ticked) → advanceBy s u d .reply ≡ refusal 17 0 0 → spunBy states taken k (advanceBy s u d) .reply ≡ refusal 17 0 0
+      go : (u : Verdict) (d : Ticked) → advanceBy s u d .reply ≡ refusal 17 0 0
+          → spunBy states taken k (advanceBy s u d) .reply ≡ refusal 17 0 0
       go (refused n j) d e = ap (λ (q : Spun). q .reply) (kept-by states taken k n j) ∙ e
       go fine (stopped n) e = ap (λ (q : Spun). q .reply) (kept-by states taken k n 0) ∙ e
       go fine (ticked m code t) e = absurd (let q : _≡_ {A = ℕ} 0 17 = ap number e in omega arith)
@@ -134,7 +138,13 @@ module _ (v : Verdict) (i : Image) (states : List State) (taken k w : ℕ) where
   level-by h x l =
       ap (λ (q : Verdict). spunOn q states taken k (λ _. x) .reply) h
       ∙ ap (λ (b : Bool). pick (b && leb 64 taken) (turnedBack 26 0 states taken)
-      (record { reply = x .reply; mask = x .mask; code = x .code; states = set states k (x .state); taken = taken + x .state .depth - s .depth }) .reply)
+      (record {
+        reply = x .reply;
+        mask = x .mask;
+        code = x .code;
+        states = set states k (x .state);
+        taken = taken + x .state .depth - s .depth;
+      }) .reply)
       (le-ltb (s .depth) (x .state .depth) l)
 
 pub full-first : FullFirst
@@ -142,8 +152,10 @@ unfolding FullFirst spin
 full-first t states taken k w h e =
     let s : State = stateAt states k in
     let i : Image = decoded (contents t) in
-    subst (λ (x : Advance). spunOn (headVerdict (imageVerdict t) states taken k) states taken k (λ _. x) .reply ≡ refusal 17 0 0) (sym (advance-by t s w))
-    (full-by (imageVerdict t) i states taken k w h (tickTried (imageVerdict t) i s) (tick i s w) (ap (λ (x : Advance). x .reply) (sym (advance-by t s w)) ∙ e))
+    subst (λ (x : Advance). spunOn (headVerdict (imageVerdict t) states taken k) states taken k (λ _. x) .reply ≡ refusal 17 0 0)
+    (sym (advance-by t s w))
+    (full-by (imageVerdict t) i states taken k w h (tickTried (imageVerdict t) i s) (tick i s w)
+    (ap (λ (x : Advance). x .reply) (sym (advance-by t s w)) ∙ e))
 
 pub level-goes : LevelGoes
 unfolding LevelGoes spin
@@ -161,4 +173,5 @@ unfolding RefusedLeaves
 live-refused-leaves b states taken k w =
     let i : Image = tableImage b in
     leaves (when 11 (badTable b)) i states taken k w
-    (subst (Comes (when 11 (badTable b)) i states taken k w) (sym (live-spin-by b states taken k w)) (comes (when 11 (badTable b)) i states taken k w))
+    (subst (Comes (when 11 (badTable b)) i states taken k w) (sym (live-spin-by b states taken k w))
+    (comes (when 11 (badTable b)) i states taken k w))

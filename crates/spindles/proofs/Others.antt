@@ -67,30 +67,48 @@ module _ (k : ℕ) (states : List State) (taken j : ℕ) (ne : k ≡ j → ⊥) 
 
 pub others-left : OthersLeft spin
 unfolding OthersLeft spin
-others-left t states taken k w j ne = other-on j states taken k ne (headVerdict (imageVerdict t) states taken k) (advance t (stateAt states k) w)
+others-left t states taken k w j ne =
+    other-on j states taken k ne (headVerdict (imageVerdict t) states taken k) (advance t (stateAt states k) w)
 
 pub live-others-left : OthersLeft liveSpin
 unfolding OthersLeft liveSpin
-live-others-left b states taken k w j ne = other-on j states taken k ne (headVerdict (when 11 (badTable b)) states taken k) (liveTick b (stateAt states k) w)
+live-others-left b states taken k w j ne =
+    other-on j states taken k ne (headVerdict (when 11 (badTable b)) states taken k) (liveTick b (stateAt states k) w)
 
 -- ---- two lists that differ in other states alone, but for their depths
 module _ (v : Verdict) (go : State → Advance) (states states′ : List State) (taken k : ℕ) (l : length states ≡ length states′)
     (d : depths states ≡ depths states′) (s : stateAt states k ≡ stateAt states′ k) where
   same-verdict : headVerdict v states taken k ≡ headVerdict v states′ taken k
-  same-verdict = ap₂ (λ (n m : ℕ). next (when 25 (ltb 3 k)) λ _. next v λ _. when 15 (not (eqb n 4) || not (eqb m taken) || ltb 64 taken)) l d
+  same-verdict =
+      ap₂ (λ (n m : ℕ). next (when 25 (ltb 3 k)) λ _. next v λ _. when 15 (not (eqb n 4) || not (eqb m taken) || ltb 64 taken)) l d
 
   alike-by : k < length states → (x : Advance) → Alike k (spunBy states taken k x) (spunBy states′ taken k x)
-  alike-by m x = subst (λ (y : State). Alike k (spunBy states taken k x) (pick (findsNone taken y x) (turnedBack 26 0 states′ taken) (record {
-    reply = x .reply;
-    mask = x .mask;
-    code = x .code;
-    states = set states′ k (x .state);
-    taken = taken + x .state .depth - y .depth;
-  }))) s (both (findsNone taken (stateAt states k) x))
+  alike-by m x =
+      subst (λ (y : State). Alike k (spunBy states taken k x) (pick (findsNone taken y x) (turnedBack 26 0 states′ taken) (record {
+        reply = x .reply;
+        mask = x .mask;
+        code = x .code;
+        states = set states′ k (x .state);
+        taken = taken + x .state .depth - y .depth;
+      }))) s (both (findsNone taken (stateAt states k) x))
     where
       both : (b : Bool) → Alike k
-          (pick b (turnedBack 26 0 states taken) (record { reply = x .reply; mask = x .mask; code = x .code; states = set states k (x .state); taken = taken + x .state .depth - stateAt states k .depth }))
-          (pick b (turnedBack 26 0 states′ taken) (record { reply = x .reply; mask = x .mask; code = x .code; states = set states′ k (x .state); taken = taken + x .state .depth - stateAt states k .depth }))
+          (pick b (turnedBack 26 0 states taken)
+          (record {
+            reply = x .reply;
+            mask = x .mask;
+            code = x .code;
+            states = set states k (x .state);
+            taken = taken + x .state .depth - stateAt states k .depth;
+          }))
+          (pick b (turnedBack 26 0 states′ taken)
+          (record {
+            reply = x .reply;
+            mask = x .mask;
+            code = x .code;
+            states = set states′ k (x .state);
+            taken = taken + x .state .depth - stateAt states k .depth;
+          }))
       both true = record { reply = refl; mask = refl; code = refl; taken = refl; state = s }
       both false = record {
         reply = refl;
@@ -102,14 +120,19 @@ module _ (v : Verdict) (go : State → Advance) (states states′ : List State) 
 
   alike : Alike k (spunOn (headVerdict v states taken k) states taken k (λ _. go (stateAt states k)))
       (spunOn (headVerdict v states′ taken k) states′ taken k (λ _. go (stateAt states′ k)))
-  alike = subst (λ (u : Verdict). Alike k (spunOn (headVerdict v states taken k) states taken k (λ _. go (stateAt states k))) (spunOn u states′ taken k (λ _. go (stateAt states′ k))))
-      same-verdict (subst (λ (z : State). Alike k (spunOn (headVerdict v states taken k) states taken k (λ _. go (stateAt states k))) (spunOn (headVerdict v states taken k) states′ taken k (λ _. go z)))
+  alike =
+      subst (λ (u : Verdict). Alike k (spunOn (headVerdict v states taken k) states taken k (λ _. go (stateAt states k)))
+      (spunOn u states′ taken k (λ _. go (stateAt states′ k))))
+      same-verdict
+      (subst (λ (z : State). Alike k (spunOn (headVerdict v states taken k) states taken k (λ _. go (stateAt states k)))
+      (spunOn (headVerdict v states taken k) states′ taken k (λ _. go z)))
       s (by (headVerdict v states taken k) refl))
     where
       by : (u : Verdict) → headVerdict v states taken k ≡ u
           → Alike k (spunOn u states taken k (λ _. go (stateAt states k))) (spunOn u states′ taken k (λ _. go (stateAt states k)))
       by (refused n i) e = record { reply = refl; mask = refl; code = refl; taken = refl; state = s }
-      by fine e = let q : Tried v states taken k = tried v states taken k e in alike-by (omega (arith, q .named, q .four)) (go (stateAt states k))
+      by fine e =
+          let q : Tried v states taken k = tried v states taken k e in alike-by (omega (arith, q .named, q .four)) (go (stateAt states k))
 
 pub only-depths : OnlyDepths spin
 unfolding OnlyDepths spin

@@ -26,8 +26,8 @@ RefusedLeaves f =
     (t : List ℕ) (states : List State) (taken k w n : ℕ) → number (f t states taken k w .reply) ≡ suc n
     → Unchanged states taken (f t states taken k w)
 
--- where all that is tried before the tick is passed: a call that gets 17 gets it whatever is recorded as taken, and a tick that ends no deeper
--- than it began, a drop or a return among them, needs no place and goes ahead
+-- where all that is tried before the tick is passed: a call that gets 17 gets it whatever is recorded as taken, and a tick that ends no
+-- deeper than it began, a drop or a return among them, needs no place and goes ahead
 unfoldable pub FullFirst : Type 0
 FullFirst =
     (t : List ℕ) (states : List State) (taken k w : ℕ) → headVerdict (imageVerdict t) states taken k ≡ fine

@@ -46,8 +46,8 @@ pub record Spun : Type 0 where
 abbrev pub turnedBack : ℕ → ℕ → List State → ℕ → Spun
 turnedBack n i states taken = record { reply = refusal n i 0; mask = 0; code = 0; states = states; taken = taken }
 
--- 26, by the depths before and after the tick: it ends deeper than it began, which of all ticks a call alone does, and no place is left; such a
--- call got no 17, and none gets 18
+-- 26, by the depths before and after the tick: it ends deeper than it began, which of all ticks a call alone does, and no place is left;
+-- such a call got no 17, and none gets 18
 abbrev pub noneLeft : ℕ → ℕ → ℕ → Bool
 noneLeft before after taken = ltb before after && leb 64 taken
 
@@ -58,7 +58,13 @@ findsNone taken s x = noneLeft (s .depth) (x .state .depth) taken
 abbrev pub spunBy : List State → ℕ → ℕ → Advance → Spun
 spunBy states taken k x = let s = stateAt states k in pick (findsNone taken s x)
     (turnedBack 26 0 states taken)
-    (record { reply = x .reply; mask = x .mask; code = x .code; states = set states k (x .state); taken = taken + x .state .depth - s .depth })
+    (record {
+      reply = x .reply;
+      mask = x .mask;
+      code = x .code;
+      states = set states k (x .state);
+      taken = taken + x .state .depth - s .depth;
+    })
 
 abbrev pub spunOn : Verdict → List State → ℕ → ℕ → (Unit {0} → Advance) → Spun
 spunOn (refused n i) states taken k go = turnedBack n i states taken
@@ -70,7 +76,8 @@ spin t states taken k w = spunOn (headVerdict (imageVerdict t) states taken k) s
 
 -- the same on a prepared table, whatever its bytes are
 unfoldable pub liveSpin : List ℕ → List State → ℕ → ℕ → ℕ → Spun
-liveSpin b states taken k w = spunOn (headVerdict (when 11 (badTable b)) states taken k) states taken k (λ _. liveTick b (stateAt states k) w)
+liveSpin b states taken k w =
+    spunOn (headVerdict (when 11 (badTable b)) states taken k) states taken k (λ _. liveTick b (stateAt states k) w)
 
 -- what a function over the list of states promises: its report, and the list after it
 pub record Spins (x : Spun) (r : SpinReport) (after : List State) : Type 0 where

@@ -46,14 +46,16 @@ module _ (v : Verdict) (k taken : ℕ) where
     unfolding refusedHead
     named = ap (λ (t : Bool). next (when 25 t) λ _. next v λ _. refused 15 0) (le-ltb 3 k l)
 
-    pub bad-image : (n i : ℕ) → v ≡ refused n i → (a : Answer) → reply a ≡ refusal n i 0 → (r : SpinReport) → Told a r → Refuses (refusedHead v k) taken r
+    pub bad-image : (n i : ℕ) → v ≡ refused n i → (a : Answer) → reply a ≡ refusal n i 0 → (r : SpinReport) → Told a r
+        → Refuses (refusedHead v k) taken r
     bad-image n i e = refuses (refusedHead v k) taken n i (named ∙ ap (λ (u : Verdict). next u λ _. refused 15 0) e)
 
     pub bad-list : v ≡ fine → (a : Answer) → a ≡ Refused 15 0 0 → (r : SpinReport) → Told a r → Refuses (refusedHead v k) taken r
     bad-list e a f = refuses (refusedHead v k) taken 15 0 (named ∙ ap (λ (u : Verdict). next u λ _. refused 15 0) e) a (ap reply f)
 
     -- by what a tick answers that is refused with what the image is, or 15
-    pub tick-refused : (a : Answer) → reply a ≡ judged (next v λ _. refused 15 0) 0 → (r : SpinReport) → Told a r → Refuses (refusedHead v k) taken r
+    pub tick-refused : (a : Answer) → reply a ≡ judged (next v λ _. refused 15 0) 0 → (r : SpinReport) → Told a r
+        → Refuses (refusedHead v k) taken r
     tick-refused a f r g = record {
       answered = ap (λ (x : SpinReport). reply (x .answer)) g ∙ f ∙ sym (ap (λ (u : Verdict). judged u 0) named);
       mask = ap (λ (x : SpinReport). x .mask) g;

@@ -54,7 +54,8 @@ table-held t b w = tick-held b (tableImage t) w (liveVerdict t (stateOf b) (w �
 module _ (s : State) (sum taken : ℕ) (e : badRecord sum taken ≡ false) where
   stayed-by : (n i : ℕ) → stayed n i s taken ≡ turnBy s taken (record { reply = refusal n i 0; mask = 0; code = 0; state = s })
   stayed-by n i = sym (
-      ap (λ (t : Bool). pick (t && leb 64 taken) (stayed 26 0 s taken) (record { reply = refusal n i 0; mask = 0; code = 0; taken = taken + s .depth - s .depth; state = s }))
+      ap (λ (t : Bool). pick (t && leb 64 taken) (stayed 26 0 s taken)
+      (record { reply = refusal n i 0; mask = 0; code = 0; taken = taken + s .depth - s .depth; state = s }))
       (le-ltb (s .depth) (s .depth) (omega arith))
       ∙ ap (stayed n i s) (let q : taken + s .depth - s .depth ≡ taken = omega arith in q))
 
@@ -85,7 +86,8 @@ module _ (before new : List ℕ) (ticked : TickReport) (taken d₀ d₁ : ℕ) (
   test-is : noneLeft (depthIn before) (depthIn new) taken ≡ b
   test-is = ap₂ (λ (x y : ℕ). noneLeft x y taken) (sym e₀) (sym e₁) ∙ sym tested
 
-  pub settles-none : b ≡ true → (a : Answer) → a ≡ Refused 26 0 0 → (r : SpinReport) → r ≡ record { answer = a; mask = 0; code = 0; taken = taken }
+  pub settles-none : b ≡ true → (a : Answer) → a ≡ Refused 26 0 0 → (r : SpinReport)
+      → r ≡ record { answer = a; mask = 0; code = 0; taken = taken }
       → Settles before new ticked taken r before
   settles-none l a f r e = record {
     report = e ∙ ap (λ (x : Answer). record { answer = x; mask = 0; code = 0; taken = taken }) f
@@ -94,7 +96,8 @@ module _ (before new : List ℕ) (ticked : TickReport) (taken d₀ d₁ : ℕ) (
   }
 
   pub settles-free : b ≡ false
-      → Settles before new ticked taken (record { answer = ticked .answer; mask = ticked .mask; code = ticked .code; taken = taken + d₁ - d₀ }) new
+      → Settles before new ticked taken
+      (record { answer = ticked .answer; mask = ticked .mask; code = ticked .code; taken = taken + d₁ - d₀ }) new
   settles-free l = record {
     report = ap₂ (λ (x y : ℕ). record { answer = ticked .answer; mask = ticked .mask; code = ticked .code; taken = taken + y - x }) e₀ e₁
         ∙ sym (no-pick (noneLeft (depthIn before) (depthIn new) taken) _ _ (test-is ∙ l));
@@ -131,7 +134,9 @@ module _ (before new after : List ℕ) (ticked : TickReport) (taken : ℕ) (r : 
     settled-turns : Settles before new ticked taken r after → TurnsOn (turnBy (stateOf before) taken x) before r after
     settled-turns z =
         turned (findsNone taken (stateOf before) x)
-        (z .report ∙ ap (λ (d : ℕ). pick (ltb (depthIn before) d && leb 64 taken) (record { answer = Refused 26 0 0; mask = 0; code = 0; taken = taken })
+        (z .report ∙ ap
+        (λ (d : ℕ). pick (ltb (depthIn before) d && leb 64 taken)
+        (record { answer = Refused 26 0 0; mask = 0; code = 0; taken = taken })
         (record { answer = ticked .answer; mask = ticked .mask; code = ticked .code; taken = taken + d - depthIn before })) deep)
         (z .bytes ∙ ap (λ (d : ℕ). pick (ltb (depthIn before) d && leb 64 taken) before new) deep)
 
@@ -164,11 +169,13 @@ image-numbered t = go (imageVerdict t) (early-image t)
 pub table-numbered : (b : List ℕ) → Numbered (when 11 (badTable b))
 table-numbered b = when-refuses (λ n. 1 ≤ n) 11 (badTable b) (omega arith)
 
-pub record-refused : (v : Verdict) → Numbered v → (before : List ℕ) (sum taken : ℕ) (x : Advance) (r : SpinReport) → badRecord sum taken ≡ true
+pub record-refused : (v : Verdict) → Numbered v → (before : List ℕ) (sum taken : ℕ) (x : Advance) (r : SpinReport)
+    → badRecord sum taken ≡ true
     → parts.Refuses (refusedHead v 0) taken r → TurnsOn (turn v (stateOf before) sum taken x) before r before
 unfolding turn refusedHead
 record-refused v numbered before sum taken x r e z =
-    subst (λ (t : Bool). TurnsOn (turnOn (next v λ _. when 15 t) (stateOf before) taken x) before r before) (sym e) (go v numbered (z .answered))
+    subst (λ (t : Bool). TurnsOn (turnOn (next v λ _. when 15 t) (stateOf before) taken x) before r before) (sym e)
+    (go v numbered (z .answered))
   where
     go : (u : Verdict) → Numbered u → reply (r .answer) ≡ judged (next u λ _. refused 15 0) 0
         → TurnsOn (turnOn (next u λ _. when 15 true) (stateOf before) taken x) before r before
@@ -200,7 +207,8 @@ module _ (b : List ℕ) (v : Verdict) (sum taken : ℕ) (x : Advance) (held : He
       by true = refl
       by false = held
 
-      go : (u : Verdict) → let y = turnOn u (stateOf b) taken x in stateOf (pick (eqb (number (y .reply)) 0) (bytesOf (y .state)) b) ≡ y .state
+      go : (u : Verdict)
+          → let y = turnOn u (stateOf b) taken x in stateOf (pick (eqb (number (y .reply)) 0) (bytesOf (y .state)) b) ≡ y .state
       go (refused n i) = left n
       go fine = by (findsNone taken (stateOf b) x)
 
@@ -211,8 +219,10 @@ module _ (state : State) (sized : Sized state) (bits : length (state .bits) ≡ 
   pub start-depth : stateOf bytes .depth ≡ state .depth
   start-depth = ap (λ (s : State). s .depth) holds
 
-  value-turn : (v : Verdict) (go : State → Advance) → Held bytes (go (stateOf bytes)) → (sum taken : ℕ) (r : SpinReport) (after : List ℕ) (u : State)
-      → u ≡ stateOf after → TurnsOn (turn v (stateOf bytes) sum taken (go (stateOf bytes))) bytes r after → Turns (turn v state sum taken (go state)) r u
+  value-turn : (v : Verdict) (go : State → Advance) → Held bytes (go (stateOf bytes))
+      → (sum taken : ℕ) (r : SpinReport) (after : List ℕ) (u : State)
+      → u ≡ stateOf after → TurnsOn (turn v (stateOf bytes) sum taken (go (stateOf bytes))) bytes r after
+      → Turns (turn v state sum taken (go state)) r u
   value-turn v go held sum taken r after u q z =
       subst (λ (s : State). Turns (turn v s sum taken (go s)) r u) holds
       (record {

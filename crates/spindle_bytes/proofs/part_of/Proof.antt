@@ -40,7 +40,9 @@ loop-again : tie.Need-loop-again Inv-loop μ-loop
 loop-again c = filled-turn _ _ _ _ _ _ (c .before .before .loop .inv) (search needs) refl
 
 returns : tie.Need-returns Inv-loop μ-loop
-returns c = filled-all _ _ _ _ _ (c .before .loop .inv) (search needs) ∙ part-is (c .before .before .args .states .now) (search needs) (c .before .before .args .spindle) (search needs)
+returns c =
+    filled-all _ _ _ _ _ (c .before .loop .inv) (search needs)
+    ∙ part-is (c .before .before .args .states .now) (search needs) (c .before .before .args .spindle) (search needs)
 
 pub part-of-spec : {M : Type 1} → statement M
 part-of-spec =

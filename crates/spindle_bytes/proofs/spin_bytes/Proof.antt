@@ -13,11 +13,14 @@ abbrev start : tie.After-bad-call → tie.Start
 start c = c .before .before .before .before .before
 
 long : (c : tie.Else1) → length (start (c .before) .args .states .now) ≡ 520
-long c = bytes-long (start (c .before) .args .states .now) (c .before .before .state-count .result) (start (c .before) .args .spindle) (c .before .before .state-count .ensures) _ (c .before .bad-call .ensures) (c .if1 .left)
+long c =
+    bytes-long (start (c .before) .args .states .now) (c .before .before .state-count .result) (start (c .before) .args .spindle)
+    (c .before .before .state-count .ensures) _ (c .before .bad-call .ensures) (c .if1 .left)
 
 low : (c : tie.Else1) → start (c .before) .args .spindle < 4
 low c =
-    bytes-named (start (c .before) .args .states .now) _ _ (c .before .before .state-count .ensures) _ (c .before .bad-call .ensures) (c .if1 .left)
+    bytes-named (start (c .before) .args .states .now) _ _ (c .before .before .state-count .ensures) _ (c .before .bad-call .ensures)
+    (c .if1 .left)
 
 full : (c : tie.After-turn-bytes) → 130 ≡ length (c .turn-bytes .last .1 .0)
 full c =
@@ -55,7 +58,8 @@ turn-bytes-requires c κs =
     let parted = c .before in
     let summed = parted .before .before in
     let known = summed .before .before in
-    turn-deep (start (known .before) .args .states .now) (known .before .before .state-count .result) (start (known .before) .args .spindle) (known .before .before .state-count .ensures) _ (known .before .bad-call .ensures)
+    turn-deep (start (known .before) .args .states .now) (known .before .before .state-count .result)
+    (start (known .before) .args .spindle) (known .before .before .state-count .ensures) _ (known .before .bad-call .ensures)
     (known .if1 .left) _ _ (summed .depth-sum .ensures) (parted .part-of .ensures)
 
 mul-put-bytes : tie.Need-mul-put-bytes
@@ -81,7 +85,8 @@ returns-2 c =
     let summed = parted .before .before in
     let known = summed .before .before in
     let begun = start (known .before) in
-    image-spins _ _ _ _ (known .before .before .state-count .result) (known .before .before .state-count .ensures) _ (known .before .bad-call .ensures)
+    image-spins _ _ _ _ (known .before .before .state-count .result) (known .before .before .state-count .ensures) _
+    (known .before .bad-call .ensures)
     (known .if1 .left) _ (summed .depth-sum .ensures) _ _ _ (parted .part-of .ensures) (put .put-bytes .ensures)
     (begun .args .image .now) _ (turned .turn-bytes .ensures)
 

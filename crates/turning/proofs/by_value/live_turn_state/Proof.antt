@@ -40,7 +40,8 @@ returns c =
     let done = c .before in
     let made = done .before .before in
     let start = made .before .before in
-    table-value _ (sized start) (all-bits start) _ (made .bytes-of .ensures) (start .args .table .now) _ _ _ _ _ _ (c .state-of .ensures) (done .live-turn-bytes .ensures)
+    table-value _ (sized start) (all-bits start) _ (made .bytes-of .ensures) (start .args .table .now) _ _ _ _ _ _ (c .state-of .ensures)
+    (done .live-turn-bytes .ensures)
 
 pub live-turn-state-spec : {M : Type 1} → statement M
 live-turn-state-spec =

@@ -40,7 +40,8 @@ returns c =
     let done = c .before in
     let made = done .before .before in
     let start = made .before .before in
-    image-value _ (sized start) (all-bits start) _ (made .bytes-of .ensures) _ _ _ _ _ _ _ (c .state-of .ensures) (done .turn-bytes .ensures)
+    image-value _ (sized start) (all-bits start) _ (made .bytes-of .ensures) _ _ _ _ _ _ _ (c .state-of .ensures)
+    (done .turn-bytes .ensures)
 
 pub turn-state-spec : {M : Type 1} → statement M
 turn-state-spec =

@@ -29,7 +29,8 @@ returns-2 : tie.Need-returns-2
 returns-2 c =
     let tested = c .before .before .before in
     let bad = sym (tested .bad-table .ensures) ∙ c .before .before .if2 .taken in
-    bad-image _ _ _ (tested .before .if1 .left) 11 0 (when-holds 11 _ bad) _ (ap reply (c .before .refused2 .ensures)) _ (c .turned-back2 .ensures)
+    bad-image _ _ _ (tested .before .if1 .left) 11 0 (when-holds 11 _ bad) _ (ap reply (c .before .refused2 .ensures)) _
+    (c .turned-back2 .ensures)
 
 refused-requires-3 : tie.Need-refused-requires-3
 refused-requires-3 c κs = search needs

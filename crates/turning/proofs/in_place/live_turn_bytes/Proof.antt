@@ -16,7 +16,8 @@ returns : tie.Need-returns
 returns c =
     let tested = c .before .before in
     let start = tested .before .before in
-    record-refused _ (table-numbered (start .args .table .now)) _ _ _ _ _ (sym (tested .bad-record .ensures) ∙ c .before .if1 .taken) (c .live-refuse-head .ensures)
+    record-refused _ (table-numbered (start .args .table .now)) _ _ _ _ _ (sym (tested .bad-record .ensures)
+    ∙ c .before .if1 .taken) (c .live-refuse-head .ensures)
 
 live-tick-bytes-requires : tie.Need-live-tick-bytes-requires
 live-tick-bytes-requires c κs = search needs
@@ -26,8 +27,11 @@ settle-requires c κs =
     let ticked = c .before in
     let tested = ticked .before .before .before .before in
     let start = tested .before .before in
-    let good = sym (tested .bad-record .ensures) ∙ ticked .before .before .before .if1 .left in
-    (omega (arith, start .pre, record-sum (start .args .sum) (start .args .taken) good), record-low (start .args .sum) (start .args .taken) good)
+    let good = sym (tested .bad-record .ensures) ∙ ticked .before .before .before .if1 .left in (
+      omega (arith, start .pre, record-sum (start .args .sum) (start .args .taken) good),
+      record-low (start .args .sum)
+          (start .args .taken) good,
+    )
 
 returns-2 : tie.Need-returns-2
 returns-2 c =

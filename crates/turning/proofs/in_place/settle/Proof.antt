@@ -42,7 +42,8 @@ returns-2 : tie.Need-returns-2
 returns-2 c =
     let tested = c .before in
     let after = tested .before in
-    settles-free _ _ _ _ _ _ (after .before .before .depth-of .ensures) (after .depth-of2 .ensures) _ (tested .none-left .ensures) (c .if1 .left)
+    settles-free _ _ _ _ _ _ (after .before .before .depth-of .ensures) (after .depth-of2 .ensures) _ (tested .none-left .ensures)
+    (c .if1 .left)
 
 pub settle-spec : {M : Type 1} → statement M
 settle-spec =

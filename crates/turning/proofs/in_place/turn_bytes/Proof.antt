@@ -25,8 +25,11 @@ settle-requires c κs =
     let ticked = c .before in
     let tested = ticked .before .before .before .before in
     let start = tested .before .before in
-    let good = sym (tested .bad-record .ensures) ∙ ticked .before .before .before .if1 .left in
-    (omega (arith, start .pre, record-sum (start .args .sum) (start .args .taken) good), record-low (start .args .sum) (start .args .taken) good)
+    let good = sym (tested .bad-record .ensures) ∙ ticked .before .before .before .if1 .left in (
+      omega (arith, start .pre, record-sum (start .args .sum) (start .args .taken) good),
+      record-low (start .args .sum)
+          (start .args .taken) good,
+    )
 
 returns-2 : tie.Need-returns-2
 returns-2 c =
