@@ -1,6 +1,7 @@
 //! The library against plain Rust written for speed, on the same inputs in one run. `cargo bench --offline` prints four
 //! tables, of calls on texts, of long runs by the rows that a tick looks at, of long runs with prices, and of live calls; a ratio
-//! below 1 means that the library takes less, or that a priced run takes less than one without prices. Where valgrind is at hand, instructions are counted too. A word after `--` picks the lines that have it.
+//! below 1 means that the library takes less, or that a priced run takes less than one without prices. Where valgrind is at
+//! hand, instructions are counted too. A word after `--` picks the lines that have it.
 
 mod live;
 mod measure;

@@ -1,4 +1,5 @@
-//! Random inputs from a seed: charts, images, tables, states, words, buffers, lists of runs and of prices, sizes of letters, and damage to each.
+//! Random inputs from a seed: charts, images, tables, states, words, buffers, lists of runs and of prices, sizes of letters, and damage
+//! to each.
 
 pub mod alike;
 pub mod chains;

@@ -61,8 +61,8 @@ pub fn rebinding(random: &mut Random, schemes: usize) -> (usize, usize) {
     (number(), number())
 }
 
-/// A list of runs, some with no words, some with too little room, some of one word, some priced, of these a few with too many words; in most lists there are rebindings among them, more
-/// of them in front.
+/// A list of runs, some with no words, some with too little room, some of one word, some priced, of these a few with too many words; in
+/// most lists there are rebindings among them, more of them in front.
 pub fn list(random: &mut Random, schemes: usize) -> Vec<Step> {
     let most = random.pick(&[1, 3, 20, 80]);
     let count = random.within(0, 12);
