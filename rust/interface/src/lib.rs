@@ -42,7 +42,7 @@ pub struct Ticked {
     pub code: u8,
 }
 
-/// The price of each micro operation, that of mask bit 0 first, in hundredths of a cent a tick.
+/// A price list: the price of each micro operation, that of mask bit 0 first, in hundredths of a cent a tick.
 pub type Prices = [u16; OPERATIONS];
 
 /// What a priced run hands back: what the run does, and the price of its finished ticks in cents, 0 with a refusal other than 17 and 18.

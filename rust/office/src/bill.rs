@@ -1,4 +1,4 @@
-//! What a dry run costs: the ticks of each micro operation by a list of prices, and the library's price of the whole run.
+//! What a dry run costs: the ticks of each micro operation by a price list, and the library's price of the whole run.
 
 pub mod prices;
 

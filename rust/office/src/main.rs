@@ -41,7 +41,8 @@ fn help() -> String {
         let gap = if call.len() > 16 { format!("\n{:19}", "") } else { " ".repeat(17 - call.len()) };
         text.push_str(&format!("  {call}{gap}{}\n", command.help));
     }
-    text.push_str("\nA FILE or CHART holds chart lines or the readable notation, for check, why, bill and minimise also an image; - is standard input.\n");
+    text.push_str("\nA FILE or CHART holds chart lines or the readable notation, for check, why, bill and minimise also an image; ");
+    text.push_str("- is standard input.\n");
     text.push_str(
         "`fairleadow COMMAND --help` tells of one command. Status 1 means refused, 2 a wrong call.\n",
     );

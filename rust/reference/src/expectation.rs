@@ -2,7 +2,7 @@
 
 use crate::answer::Answer;
 use crate::chart::Chart;
-use crate::price::{price, Prices};
+use crate::price::{price, Prices, PRICED_WORDS};
 use crate::state::{can_rebind, OWN};
 use crate::walk::{walk_told, Signal, Tick};
 
@@ -16,9 +16,18 @@ pub struct Run {
 }
 
 impl Run {
-    /// Whether both buffers have room for all words; only then do the words join.
+    /// What refuses it before its first tick: 27, where it is priced and has too many words, or 16, where a buffer has no room for
+    /// all of them.
+    fn refused(&self) -> Option<u8> {
+        let words = self.words.len();
+        let many = self.prices.is_some() && words > PRICED_WORDS;
+        let short = self.masks.len() < words || self.codes.len() < words;
+        many.then_some(27).or(short.then_some(16))
+    }
+
+    /// Whether its words join those of the list: only where it is not refused so.
     pub fn joins(&self) -> bool {
-        self.masks.len() >= self.words.len() && self.codes.len() >= self.words.len()
+        self.refused().is_none()
     }
 }
 
@@ -94,12 +103,10 @@ pub fn expected(chart: &Chart, size: usize, steps: &[Step]) -> Vec<Outcome> {
 fn outcome(run: &Run, ticks: &[Tick], passed: bool) -> Outcome {
     let count = ticks.len();
     let refused = |number| Answer::Refused { number, index: 0, count };
-    let answer = if !run.joins() {
-        refused(16)
-    } else if passed && !run.words.is_empty() {
-        refused(17)
-    } else {
-        Answer::Done(count)
+    let answer = match run.refused() {
+        Some(number) => refused(number),
+        None if passed && !run.words.is_empty() => refused(17),
+        None => Answer::Done(count),
     };
     let mut masks = run.masks.clone();
     let mut codes = run.codes.clone();

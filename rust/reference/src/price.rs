@@ -1,4 +1,4 @@
-//! The price of a run: every set bit of every mask that its finished ticks put out, by the list of prices.
+//! The price of a run: every set bit of every mask that its finished ticks put out, by a price list.
 
 pub use interface::{Prices, PRICED_WORDS};
 

@@ -1,4 +1,4 @@
-//! A list of prices as a person writes it: a line for each micro operation, its name and its price in hundredths of a cent a tick. What
+//! A price list as a person writes it: a line for each micro operation, its name and its price in hundredths of a cent a tick. What
 //! has no line costs nothing.
 
 use fairleadow::{Prices, OPERATIONS};

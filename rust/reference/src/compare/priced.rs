@@ -1,4 +1,4 @@
-//! Cases of priced runs: of some words or of as many as there may be, and of too many; with lists of prices that make sums of halves.
+//! Cases of priced runs: of some words or of as many as there may be, and of too many; with price lists that make sums of halves.
 
 use super::ticks::Ground;
 use super::{Case, Compared, Summary};

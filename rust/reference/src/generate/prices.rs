@@ -1,9 +1,9 @@
-//! Lists of prices, and lists that make the sum of given masks end as it is wanted.
+//! Price lists, and such that make the sum of given masks end as it is wanted.
 
 use super::Random;
 use crate::price::{hundredths, Prices};
 
-/// Any list of prices: random ones, few or small ones, all the same, all the largest or all 0, each by turns.
+/// Any price list: random prices, few or small ones, all the same, all the largest or all 0, each by turns.
 pub fn list(random: &mut Random) -> Prices {
     let manner = random.below(8);
     let one = random.number() as u16;

@@ -2,6 +2,7 @@
 
 use super::{prices, Random};
 use crate::expectation::{Run, Step};
+use interface::PRICED_WORDS;
 
 /// So many words: any, of few conditions, or the same again and again.
 pub fn words(random: &mut Random, count: usize) -> Vec<u16> {
@@ -60,8 +61,8 @@ pub fn rebinding(random: &mut Random, schemes: usize) -> (usize, usize) {
     (number(), number())
 }
 
-/// A list of runs, some with no words, some with too little room, some of one word, some priced; in most lists there are rebindings among them, more
-/// of them in front.
+/// A list of runs, some with no words, some with too little room, some of one word, some priced, of these a few with too many words; in
+/// most lists there are rebindings among them, more of them in front.
 pub fn list(random: &mut Random, schemes: usize) -> Vec<Step> {
     let most = random.pick(&[1, 3, 20, 80]);
     let count = random.within(0, 12);
@@ -74,7 +75,11 @@ pub fn list(random: &mut Random, schemes: usize) -> Vec<Step> {
             }
             let words = if random.once_in(8) { 0 } else { random.within(0, most) };
             let prices = random.once_in(3).then(|| prices::list(random));
-            Step::Run(Run { prices, ..run(random, words) })
+            let run = run(random, words);
+            if prices.is_some() && random.once_in(40) {
+                return Step::Run(Run { words: vec![0; PRICED_WORDS + 1], prices, ..run });
+            }
+            Step::Run(Run { prices, ..run })
         })
         .collect()
 }
