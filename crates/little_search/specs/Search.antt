@@ -34,10 +34,11 @@ has c k v = any (is c k) 0 v
 abbrev pub leads : Chart → ℕ → ℕ → Bool
 leads c u t = not (is c 1 u) && (eqb (next0 c u) t || (is c 3 u && eqb (next1 c u) t))
 
--- node v is a Begin that an arc of node u leads to; or the other way round
+-- node v is a Begin that an arc of node u leads to
 abbrev pub enters : Chart → ℕ → ℕ → Bool
 enters c u v = is c 0 v && leads c u v
 
+-- one of v and u is a Begin that an arc of the other leads to
 abbrev pub clashes : Chart → ℕ → ℕ → Bool
 clashes c v u = enters c u v || enters c v u
 
@@ -49,17 +50,19 @@ repeats c v = (is c 1 v && has c 1 v) || (is c 3 v && leads c v v)
 unfoldable pub barred : Chart → ℕ → Bool
 barred c v = repeats c v || any (clashes c v) 0 (v + 1)
 
--- node v is no Begin, and no arc of another node leads to it
+-- node u is another one than v, and an arc of it leads there
 abbrev pub leadsOther : Chart → ℕ → ℕ → Bool
 leadsOther c v u = not (eqb u v) && leads c u v
 
+-- node v is no Begin, and no arc of another node leads to it
 abbrev pub lonely : Chart → ℕ → Bool
 lonely c v = not (is c 0 v) && not (any (leadsOther c v) 0 (size c))
 
--- how many of Begin and End are still to come
+-- 1 where no node below v is of kind k
 abbrev pub absent : Chart → ℕ → ℕ → ℕ
 absent c k v = pick (has c k v) 0 1
 
+-- how many of Begin and End are still to come
 abbrev pub missing : Chart → ℕ → ℕ
 missing c v = absent c 0 v + absent c 1 v
 

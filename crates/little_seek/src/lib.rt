@@ -8,7 +8,6 @@ use little_nodes::is_barred;
 use little_nodes::node;
 use little_nodes::past_number;
 ghost use mathlib.Core.Path.{_≡_};
-ghost use mathlib.Core.List.{_++_};
 ghost use Prim.Native.Nat.{_*_, _-_, _≤_, _<_};
 ghost use lib.ListN.{take};
 ghost use Rattle.frames.specs.Frame.{size};
