@@ -70,7 +70,8 @@ spin-length t states taken k w =
     go (back n j) = refl
     go (on m code u passed fit e free) = length-set states k u
 
-left-alone : (t : List ℕ) (states : List State) (taken j w k : ℕ) → (k ≡ j → ⊥) → stateAt (spin t states taken j w .states) k ≡ stateAt states k
+left-alone : (t : List ℕ) (states : List State) (taken j w k : ℕ) → (k ≡ j → ⊥)
+    → stateAt (spin t states taken j w .states) k ≡ stateAt states k
 unfolding OthersLeft
 left-alone = others-left
 
@@ -112,7 +113,8 @@ module _ (c : Chart) (facts : Facts c) (tableFacts : TableFacts c) (image : List
     turned-by (on m code t passed fit e free) = go (isFullCall n (tickAt n c x)) refl (sym tick-at ∙ e)
       where
         go : (b : Bool) → isFullCall n (tickAt n c x) ≡ b
-            → pick (isFullCall n (tickAt n c x)) (stopped 17) (ticked (tickAt n c x .mask) (tickAt n c x .code) (stateOf c n s y)) ≡ ticked m code t
+            → pick (isFullCall n (tickAt n c x)) (stopped 17)
+            (ticked (tickAt n c x .mask) (tickAt n c x .code) (stateOf c n s y)) ≡ ticked m code t
             → Turned h s x w (record {
               reply = success 1;
               mask = m;
@@ -121,7 +123,9 @@ module _ (c : Chart) (facts : Facts c) (tableFacts : TableFacts c) (image : List
               taken = h .taken + t .depth - stateAt (h .states) k .depth;
             })
         go true f q = absurd (
-            let o : _≡_ {A = ℕ} 0 1 = ap isTicked (sym (ap (λ (b : Bool). pick b (stopped 17) (ticked (tickAt n c x .mask) (tickAt n c x .code) (stateOf c n s y))) f) ∙ q) in
+            let o : _≡_ {A = ℕ} 0 1 =
+            ap isTicked
+            (sym (ap (λ (b : Bool). pick b (stopped 17) (ticked (tickAt n c x .mask) (tickAt n c x .code) (stateOf c n s y))) f) ∙ q) in
             omega arith)
         go false f q =
             let o : ticked (tickAt n c x .mask) (tickAt n c x .code) (stateOf c n s y) ≡ ticked m code t =
@@ -136,13 +140,15 @@ module _ (c : Chart) (facts : Facts c) (tableFacts : TableFacts c) (image : List
             })
 
     pub turned : Turned h s x w (spun h image k w)
-    turned = turned-by (subst (Comes (imageVerdict image) (table c) (h .states) (h .taken) k w) (sym (spin-by image (h .states) (h .taken) k w))
+    turned =
+        turned-by (subst (Comes (imageVerdict image) (table c) (h .states) (h .taken) k w) (sym (spin-by image (h .states) (h .taken) k w))
         (subst (λ (i : Image). Comes (imageVerdict image) i (h .states) (h .taken) k w
         (spinBy (imageVerdict image) (decoded (contents image)) (h .states) (h .taken) k w)) decodes
         (comes (imageVerdict image) (decoded (contents image)) (h .states) (h .taken) k w)))
 
   -- ---- a call of another
-  pub passed-over : (h : Head) (s : Binding) (x : Position) → At h s x → (t : List ℕ) (j w : ℕ) → (k ≡ j → ⊥) → At (left h (spins t j w)) s x
+  pub passed-over : (h : Head) (s : Binding) (x : Position) → At h s x → (t : List ℕ) (j w : ℕ) → (k ≡ j → ⊥)
+      → At (left h (spins t j w)) s x
   passed-over h s x z t j w other = record {
     inside = subst (λ (l : ℕ). k < l) (sym (spin-length t (h .states) (h .taken) j w)) (z .inside);
     at = left-alone t (h .states) (h .taken) j w k other ∙ z .at;
@@ -151,7 +157,8 @@ module _ (c : Chart) (facts : Facts c) (tableFacts : TableFacts c) (image : List
   }
 
   -- ---- rebindings
-  pub bound-over : (h : Head) (s : Binding) (x : Position) → At h s x → (t : List ℕ) (j m g : ℕ) → (k ≡ j → ⊥) → At (left h (rebinds t j m g)) s x
+  pub bound-over : (h : Head) (s : Binding) (x : Position) → At h s x → (t : List ℕ) (j m g : ℕ) → (k ≡ j → ⊥)
+      → At (left h (rebinds t j m g)) s x
   bound-over h s x z t j m g other =
       let u : State = rebind t (stateAt (h .states) j) m g .state in
       record {

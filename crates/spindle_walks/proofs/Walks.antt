@@ -119,7 +119,8 @@ module _ (c : Chart) (facts : Facts c) (tableFacts : TableFacts c) (image : List
   own-walk (rebinds t j m g ∷ rest) hands s h x z =
       after-rebinding t j m g rest (hands .0) s h (λ u. own-walk rest (hands .1) u (left h (rebinds t j m g))) x z
 
-  pub walk-own : 1 ≤ n → (h : Head) → k < length (h .states) → stateAt (h .states) k ≡ freshState n .state → (calls : List Call) → All (Handed k image) calls
+  pub walk-own : 1 ≤ n → (h : Head) → k < length (h .states) → stateAt (h .states) k ≡ freshState n .state → (calls : List Call)
+      → All (Handed k image) calls
       → Walked n c (madeBy c k ownBinding h calls)
   walk-own low h inside at calls hands =
       let made : List Made = madeBy c k ownBinding h calls in

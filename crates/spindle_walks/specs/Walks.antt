@@ -1,4 +1,5 @@
--- The finished ticks of a spindle are those of its own walk over the words of just these ticks, whatever the other spindles are handed meanwhile.
+-- The finished ticks of a spindle are those of its own walk over the words of just these ticks, whatever the other spindles are handed
+-- meanwhile.
 use Prim.Native.Nat.{ℕ, _≤_, _<_}
 use mathlib.Core.Bool.{Bool, true, false, _&&_}
 use mathlib.Core.Path.{_≡_}
@@ -46,8 +47,8 @@ pub record Walked (n : ℕ) (c : Chart) (made : List Made) : Type 0 where
   pub masks : map (λ (m : Made). m .mask) made ≡ map (λ (t : Tick). t .mask) (walk n c (map (λ (m : Made). m .signal) made))
   pub codes : map (λ (m : Made). m .code) made ≡ map (λ (t : Tick). t .code) (walk n c (map (λ (m : Made). m .signal) made))
 
--- where a text translates, with n characters written, and every call of spindle k is handed these, its state being a fresh one at first; the
--- others may have any images and states
+-- where a text translates, with n characters written, and every call of spindle k is handed these, its state being a fresh one at first;
+-- the others may have any images and states
 unfoldable pub OwnWalk : Type 0
 OwnWalk =
     (text out : List ℕ) (n : ℕ) → translate text out .reply ≡ success n
