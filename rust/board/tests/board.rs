@@ -30,7 +30,7 @@ const STACK: [(Call, usize); 19] = [
     (Call::LiveRun, 1_024),
     (Call::LiveTick, 768),
     (Call::LiveRebind, 512),
-    (Call::LiveSpin, 1_536),
+    (Call::LiveSpin, 1_024),
     (Call::Meaning, 256),
 ];
 
