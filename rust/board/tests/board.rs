@@ -34,7 +34,7 @@ const STACK: [(Call, usize); 21] = [
     (Call::LiveRun, 1_024),
     (Call::LiveTick, 768),
     (Call::LiveRebind, 512),
-    (Call::LiveSpin, 1_536),
+    (Call::LiveSpin, 1_024),
     (Call::Meaning, 256),
 ];
 
