@@ -1,0 +1,5 @@
+pub mod Parts
+pub mod Held
+pub mod NoPlace
+pub mod OneCallC
+pub mod ForC
