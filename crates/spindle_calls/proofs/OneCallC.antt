@@ -31,8 +31,9 @@ use Rattle.spindles.proofs.Live.{live-spin-is}
 use Rattle.spindle_bytes.specs.Bytes.{partOf, statesOf, ifSpun, bytesSpun}
 use Rattle.spindle_bytes.proofs.States.{part-length, state-is}
 use Rattle.spindle_places.specs.Calls.{Head, left}
-use Rattle.spindle_walks.specs.Walks.{done}
-use Rattle.spindle_calls.specs.ForC.{HeardC, SaidC, spun, rebound, callOf, heard}
+use Rattle.spindle_calls.specs.Said.{Said, spun, rebound, callOf}
+use Rattle.spindle_calls.specs.ForC.{heardC}
+use Rattle.spindle_calls.proofs.Row.{Hears, hearsNo, hearsTick}
 use Rattle.spindle_calls.proofs.Parts.{put-states, put-long}
 use Rattle.spindle_calls.proofs.Held.{Ends, refuses, finishes, spin-ends, bytes-length, bytes-held}
 
@@ -40,12 +41,7 @@ use Rattle.spindle_calls.proofs.Held.{Ends, refuses, finishes, spin-end
 abbrev pub headOf : List ℕ → ℕ → Head
 headOf bytes taken = record { states = statesOf bytes; taken = taken }
 
--- ---- what C has of a tick, by what the call over the states is
-pub data Hears (depth : ℕ) (r : Spun) (y : HeardC) : Type 0 where
-  hearsNo : done (r .reply) ≡ false → r .code ≡ 0 → eqb (y .number) 0 ≡ false → Hears depth r y
-  hearsTick : done (r .reply) ≡ true → y .number ≡ 0 → y .mask ≡ r .mask → y .code ≡ r .code → y .depth ≡ depth → Hears depth r y
-
-pub record LikeC (bytes : List ℕ) (taken : ℕ) (x : SaidC) (after : List ℕ) (recorded : ℕ) : Type 0 where
+pub record LikeC (bytes : List ℕ) (taken : ℕ) (x : Said) (after : List ℕ) (recorded : ℕ) : Type 0 where
   pub left-is : left (headOf bytes taken) (callOf x) ≡ headOf after recorded
   pub long : length after ≡ 520
 
@@ -77,7 +73,7 @@ module _ (bytes : List ℕ) (long : length bytes ≡ 520) (taken : ℕ) where
     spun-long (finishes m code t low length-is same) =
         put-long bytes (bytesOf (stateAt (set (statesOf bytes) k t) k)) long k low (bytes-length (stateAt (set (statesOf bytes) k t) k))
 
-    pub tick-like : LikeC bytes taken (spun image k w (heard bytes k returned m code)) after recorded
+    pub tick-like : LikeC bytes taken (spun image k w (heardC bytes k returned m code)) after recorded
     tick-like =
         let states-are : statesOf after ≡ x .states =
         ap statesOf (z .bytes) ∙ bytes-held bytes taken k (spin-ends image (statesOf bytes) taken k w) in
@@ -87,11 +83,11 @@ module _ (bytes : List ℕ) (long : length bytes ≡ 520) (taken : ℕ) where
         }
 
     hears-by : (r : Spun) → Ends (statesOf bytes) taken k r → returned ≡ number (r .reply) → m ≡ ifSpun r (r .mask) m₀
-        → code ≡ ifSpun r (r .code) k₀ → Hears (stateAt (statesOf bytes) k .depth) r (heard bytes k returned m code)
+        → code ≡ ifSpun r (r .code) k₀ → Hears (stateAt (statesOf bytes) k .depth) r (heardC bytes k returned m code)
     hears-by _ (refuses n j l) e f g = hearsNo refl refl (ap (λ (a : ℕ). eqb a 0) e ∙ ne-eqb n 0 (λ q. omega arith))
     hears-by _ (finishes m′ code′ t low length-is same) e f g = hearsTick refl e f g (depth-byte k low)
 
-    pub tick-hears : Hears (stateAt (statesOf bytes) k .depth) x (heard bytes k returned m code)
+    pub tick-hears : Hears (stateAt (statesOf bytes) k .depth) x (heardC bytes k returned m code)
     tick-hears = hears-by x (spin-ends image (statesOf bytes) taken k w) (z .told .number-is) (z .mask) (z .code)
 
   -- ---- a rebinding

@@ -2,56 +2,35 @@
 -- that the call before left, fairleadow_rebind and fairleadow_live_rebind on the 130 bytes of one spindle. Each call is known by its
 -- contract alone, which is the record that the function's `ensures` cites.
 use Prim.Native.Nat.{ℕ, _+_, _*_, _≤_, _<_}
-use mathlib.Core.Bool.{_&&_}
 use mathlib.Core.Path.{_≡_}
 use mathlib.Core.List.{List, [], _∷_, _++_, map}
-use lib.Dec.{eqb}
 use lib.ListN.{length, getD, take}
-use Rattle.lists.specs.Pick.{pick}
 use Rattle.lists.specs.Sequences.{written}
 use Rattle.lists.proofs.Joins.{All}
-use Rattle.bits.specs.Binding.{Binding, ownBinding}
+use Rattle.bits.specs.Binding.{ownBinding}
 use Rattle.frames.specs.Frame.{contents}
-use Rattle.charts.specs.Chart.{Chart}
 use Rattle.translator.specs.Entry.{translate}
 use Rattle.state.specs.State.{freshState}
 use Rattle.fairleadow.specs.Calls.{LendsC, MakesC, rebindFor, liveRebindFor, RebindsC, spinFor, liveSpinFor, SpinsC}
-use Rattle.agreement.specs.Agreement.{bindingAfter}
 use Rattle.agreement.specs.ForC.{TableOfC}
 use Rattle.spindle_bytes.specs.Bytes.{partOf}
 use Rattle.spindle_bytes.specs.Parts.{depthsIn}
-use Rattle.spindle_places.specs.Calls.{Call, spins, rebinds}
-use Rattle.spindle_places.specs.Counted.{called, returned, givenBack}
-use Rattle.spindle_walks.specs.Walks.{Made, Handed, Walked}
+use Rattle.spindle_walks.specs.Walks.{Handed, Walked}
+use Rattle.spindle_calls.specs.Said.{Heard, Said, spun, rebound, callOf, Counted, madeIn}
 
--- what C has of a tick: the depth of the spindle before it, which is a byte of its state, the number returned, and mask and code after it
-pub record HeardC : Type 0 where
-  pub depth : ℕ
-  pub number : ℕ
-  pub mask : ℕ
-  pub code : ℕ
-
--- a call with what it was given: the image, the spindle, the word; or the image, the spindle, the number and its scheme
-pub data SaidC : Type 0 where
-  spun : List ℕ → ℕ → ℕ → HeardC → SaidC
-  rebound : List ℕ → ℕ → ℕ → ℕ → SaidC
-
-abbrev pub callOf : SaidC → Call
-callOf (spun t k w y) = spins t k w
-callOf (rebound t k n g) = rebinds t k n g
-
-abbrev pub heard : List ℕ → ℕ → ℕ → ℕ → ℕ → HeardC
-heard bytes k returned m code = record { depth = getD bytes (130 * k + 1) 0; number = returned; mask = m; code = code }
+-- the depth before a tick is a byte of the spindle's state
+abbrev pub heardC : List ℕ → ℕ → ℕ → ℕ → ℕ → Heard
+heardC bytes k returned m code = record { depth = getD bytes (130 * k + 1) 0; number = returned; mask = m; code = code }
 
 -- one call on these bytes and this record, and what both are after it; a live one is handed a table that fairleadow_prepare made of the
 -- image; a rebinding is handed the bytes of one spindle where they stand, and the record stays
-pub data CallC (bytes : List ℕ) (taken : ℕ) : SaidC → List ℕ → ℕ → Type 0 where
+pub data CallC (bytes : List ℕ) (taken : ℕ) : Said → List ℕ → ℕ → Type 0 where
   ticked : {image after : List ℕ} {k w m₀ k₀ returned at made recorded m code : ℕ}
       → SpinsC (spinFor image bytes taken k w) bytes k m₀ k₀ returned at made after recorded m code
-      → CallC bytes taken (spun image k w (heard bytes k returned m code)) after recorded
+      → CallC bytes taken (spun image k w (heardC bytes k returned m code)) after recorded
   tickedLive : {image table after : List ℕ} {k w m₀ k₀ returned at made recorded m code : ℕ} → TableOfC image table
       → SpinsC (liveSpinFor table bytes taken k w) bytes k m₀ k₀ returned at made after recorded m code
-      → CallC bytes taken (spun image k w (heard bytes k returned m code)) after recorded
+      → CallC bytes taken (spun image k w (heardC bytes k returned m code)) after recorded
   bound : {image part : List ℕ} {k n g returned at made : ℕ} → k < 4
       → RebindsC (rebindFor image (partOf bytes k) n g) (partOf bytes k) returned at made part
       → CallC bytes taken (rebound image k n g) (written bytes (130 * k) part) taken
@@ -60,9 +39,9 @@ pub data CallC (bytes : List ℕ) (taken : ℕ) : SaidC → List ℕ → ℕ →
       → CallC bytes taken (rebound image k n g) (written bytes (130 * k) part) taken
 
 -- calls in a row, and the bytes and the record after the last of them
-pub data CallsC : List ℕ → ℕ → List SaidC → List ℕ → ℕ → Type 0 where
+pub data CallsC : List ℕ → ℕ → List Said → List ℕ → ℕ → Type 0 where
   none : {bytes : List ℕ} {taken : ℕ} → CallsC bytes taken [] bytes taken
-  more : {bytes after last : List ℕ} {taken recorded final : ℕ} {x : SaidC} {rest : List SaidC} → CallC bytes taken x after recorded
+  more : {bytes after last : List ℕ} {taken recorded final : ℕ} {x : Said} {rest : List Said} → CallC bytes taken x after recorded
       → CallsC after recorded rest last final → CallsC bytes taken (x ∷ rest) last final
 
 -- four states that fairleadow_fresh made, one after the other
@@ -71,34 +50,11 @@ pub data FourC (a b c d : ℕ) : List ℕ → Type 0 where
       → MakesC (freshState b) 0 at₁ made₁ y → MakesC (freshState c) 0 at₂ made₂ z → MakesC (freshState d) 0 at₃ made₃ u
       → FourC a b c d (x ++ (y ++ (z ++ u)))
 
--- ---- places
--- those that ticks take or give back, by the codes that were handed over with a return of 0
-abbrev pub countsC : (ℕ → ℕ → ℕ) → SaidC → ℕ
-countsC f (spun t k w y) = pick (eqb (y .number) 0) (f (y .code) (y .depth)) 0
-countsC f (rebound t k n g) = 0
-
-unfoldable pub tallyC : (ℕ → ℕ → ℕ) → List SaidC → ℕ
-tallyC f [] = 0
-tallyC f (x ∷ rest) = countsC f x + tallyC f rest
-
-pub record CountsC (said : List SaidC) (last : List ℕ) (final : ℕ) : Type 0 where
-  pub sum : depthsIn last + tallyC returned said + tallyC givenBack said ≡ 4 + tallyC called said
-  pub recorded : final ≡ depthsIn last
-  pub room : depthsIn last ≤ 64
-
+-- from four fresh states and a record of 4, whatever images and spindles the calls name; the depths are read from the bytes
 unfoldable pub PlacesCountedC : Type 0
 PlacesCountedC =
-    (a b c d : ℕ) (bytes : List ℕ) → FourC a b c d bytes → (said : List SaidC) (last : List ℕ) (final : ℕ) → CallsC bytes 4 said last final
-    → CountsC said last final
-
--- ---- walks
--- the finished ticks of spindle k, with mask and code as C has them; its rebindings, less those that 22 refuses, make the binding of s
-unfoldable pub madeC : Chart → ℕ → Binding → List SaidC → List Made
-madeC c k s [] = []
-madeC c k s (spun t j w y ∷ rest) =
-    let more = madeC c k s rest in
-    pick (eqb j k && eqb (y .number) 0) (record { signal = record { word = w; binding = s }; mask = y .mask; code = y .code } ∷ more) more
-madeC c k s (rebound t j n g ∷ rest) = madeC c k (pick (eqb j k) (bindingAfter c n g s) s) rest
+    (a b c d : ℕ) (bytes : List ℕ) → FourC a b c d bytes → (said : List Said) (last : List ℕ) (final : ℕ) → CallsC bytes 4 said last final
+    → Counted said (depthsIn last) final
 
 -- where fairleadow_translate returned 0 with n characters, and all calls of spindle k are handed these, or a table of them; its bytes are
 -- at first those that fairleadow_fresh made; the others may have any images and states
@@ -107,6 +63,6 @@ OwnWalkC =
     (text before after : List ℕ) (at n : ℕ) → LendsC (translate text before) 0 at n after
     → (size : ℕ) → 1 ≤ size → size ≤ 32 → (k : ℕ) → k < 4 → (bytes : List ℕ) → length bytes ≡ 520
     → (returned at made : ℕ) → MakesC (freshState size) returned at made (partOf bytes k)
-    → (taken : ℕ) (said : List SaidC) (last : List ℕ) (final : ℕ) → CallsC bytes taken said last final
+    → (taken : ℕ) (said : List Said) (last : List ℕ) (final : ℕ) → CallsC bytes taken said last final
     → All (Handed k (take n after)) (map callOf said)
-    → Walked size (contents text) (madeC (contents text) k ownBinding said)
+    → Walked size (contents text) (madeIn (contents text) k ownBinding said)
