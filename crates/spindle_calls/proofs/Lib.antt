@@ -1,0 +1,7 @@
+pub mod Parts
+pub mod Held
+pub mod NoPlace
+pub mod Row
+pub mod Delivered
+pub mod OneCallC
+pub mod ForC

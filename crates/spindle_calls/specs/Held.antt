@@ -1,0 +1,17 @@
+-- After a call from C the 520 bytes hold the states after it, whatever they held before it.
+use Prim.Native.Nat.{ℕ}
+use mathlib.Core.Path.{_≡_}
+use mathlib.Core.List.{List}
+use Rattle.spindles.specs.Spindles.{Spun}
+use Rattle.spindle_bytes.specs.Bytes.{statesOf}
+use Rattle.fairleadow.specs.Calls.{SpinsC}
+
+-- a call on an image, and one on a prepared table
+abbrev pub SpinnerC : Type 0
+SpinnerC = List ℕ → List ℕ → ℕ → ℕ → ℕ → Spun
+
+unfoldable pub BytesHold : SpinnerC → Type 0
+BytesHold f =
+    (t bytes : List ℕ) (taken k w m₀ k₀ returned at made : ℕ) (after : List ℕ) (recorded m code : ℕ)
+    → SpinsC (f t bytes taken k w) bytes k m₀ k₀ returned at made after recorded m code
+    → statesOf after ≡ f t bytes taken k w .states
