@@ -16,6 +16,7 @@ typedef uint8_t (*tells)(const uint8_t *, size_t, const fairleadow_state *, uint
                          size_t *);
 typedef uint8_t (*lists)(const uint8_t *, size_t, uint16_t *, size_t, uint16_t *, size_t, size_t *, size_t *);
 typedef uint8_t (*fetches)(size_t, size_t, uint8_t *, size_t, size_t *, size_t *);
+typedef uint8_t (*counts)(const uint8_t *, size_t, size_t, size_t, size_t, uint32_t *, uint32_t *, uint32_t *, size_t *, size_t *);
 typedef uint8_t (*means)(uint8_t, uint8_t *);
 
 struct every_function {
@@ -30,6 +31,7 @@ struct every_function {
     tells cause;
     lists list_rows;
     fetches little_chart;
+    counts count_fillings;
     means meaning;
 };
 
@@ -41,7 +43,7 @@ struct every_function every_function(void) {
         fairleadow_places,     fairleadow_check_image, fairleadow_fresh,     fairleadow_run,       fairleadow_live_run,
         fairleadow_priced_run, fairleadow_tick,        fairleadow_live_tick, fairleadow_rebind,    fairleadow_live_rebind,
         fairleadow_spin,       fairleadow_live_spin,   fairleadow_cause,     fairleadow_list_rows, fairleadow_little_chart,
-        fairleadow_meaning,
+        fairleadow_count_fillings, fairleadow_meaning,
     };
     return all;
 }

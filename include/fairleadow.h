@@ -2,20 +2,21 @@
  *
  * Every function answers for everything that it is handed. All but fairleadow_meaning return 0, or the number of a refusal, and write
  *   *index   the frame (a line or a record) that the refusal names, from 0; only 2, 3, 4, 6 to 9, 12 and 13 name one, else it is 0
- *   *count   records, characters, labels, bytes of a table or ticks written, or places needed; with refusals 1 to 16 and 19 to 27
+ *   *count   records, characters, labels, bytes of a table or ticks written, or places needed; with refusals 1 to 16 and 19 to 28
  *            it is 0, with 17 and 18 the ticks finished before
- * With refusals 1 to 16 and 19 to 27 no buffer and no state is changed; only 14 writes a state, of zeros. With success, and with
+ * With refusals 1 to 16 and 19 to 28 no buffer and no state is changed; only 14 writes a state, of zeros. With success, and with
  * 17 and 18, nothing past the count is changed.
  * A buffer is a pointer and how many elements it has. No pointer is null, and nothing that a call writes may overlap anything
  * else that the call is given. Nothing is allocated and nothing is kept between calls. The archive of `rt staticlib` is code for
  * x86-64 and calls memcpy and memset and nothing else; there a translation takes 7,290 bytes of stack, a count of places 7,090, a run, a
- * tick, a preparation, a cause, a list of rows or a rebinding 13,680, a priced run 13,920, a spindle's tick 13,960, the joining of labels
- * 14,880, a little chart 1,960, a live run 520, a live tick 440, a live rebinding 240, a spindle's live tick 670.
+ * tick, a preparation, a cause, a list of rows or a rebinding 13,680, a priced run 13,920, a spindle's tick 14,000, the joining of labels
+ * 14,880, a little chart 1,960, a count of fillings 18,880, a live run 520, a live tick 480, a live rebinding 240, a spindle's live tick
+ * 700.
  * controller/README.md tells of archives for ARM. This file is for both, and for C and C++: lengths are of type size_t, and
  * fairleadow_calls.h, which lies beside it, makes of them what the archive takes.
  *
  * The refusals, tried in this order, but 19 directly after 5, 21 before 18, 22 and 27 after 15, 23 after 13, 24 before 16, 25 first of
- * all and 26 after 17 (docs/REFUSALS.md tells what to look for; H is how many schemes there are):
+ * all, 26 after 17 and 28 after 14 (docs/REFUSALS.md tells what to look for; H is how many schemes there are):
  *    1  the length of the text or of the records           10  more than 1,024 rows
  *    2  a character other than 0-9, A-F, a-f, line feed    11  the image's header
  *    3  the sum of a frame                                 12  an image frame that stands in a wrong place
@@ -37,6 +38,8 @@
  *                                                          25  a spindle's number above 3
  *                                                          26  a call while all 64 places of the spindles are taken
  *                                                          27  more than 65,536 words in a priced run
+ *                                                          28  lists of more than 16 ticks times conditions, 16
+ *                                                              conditions or 65,536 ticks
  */
 #ifndef FAIRLEADOW_H
 #define FAIRLEADOW_H
@@ -65,6 +68,11 @@ extern "C" {
 /* The micro operations of a mask, each of which has a price, and the most words of a priced run. */
 #define FAIRLEADOW_OPERATIONS 32
 #define FAIRLEADOW_PRICED_WORDS 65536
+
+/* The most ticks times conditions, the most conditions and the most ticks of lists of words that are counted. */
+#define FAIRLEADOW_COUNTED_BITS 16
+#define FAIRLEADOW_CONDITIONS 16
+#define FAIRLEADOW_COUNTED_TICKS 65536
 
 /* The machine's state, 130 bytes. Only fairleadow_fresh makes one; the controller keeps it and hands it to each run, tick or rebinding.
  * A call names a number, and the scheme that serves the number then is opened: its own, unless fairleadow_rebind gave it another.
@@ -181,6 +189,15 @@ uint8_t fairleadow_minimise(const uint8_t *image, size_t image_len, uint8_t *sma
  * writes them, each once. Both are as wide as a length, so that none is cut off before it is tried. Tries 24, then 16; counts
  * characters, 23 a frame. */
 uint8_t fairleadow_little_chart(size_t frames, size_t number, uint8_t *text, size_t text_len, size_t *index, size_t *count);
+
+/* How often the stack fills. Of all lists of `ticks` words, in which conditions 0 to `conditions` - 1 are 0 or 1 and the others 0: how
+ * many run to their end, how many get 17 and how many get 18, each from a fresh state of `size` places. No ticks is one empty list, which
+ * ends, and no conditions one list of zeros; the three sum to 2 to the power of ticks times conditions. A drop stops no list. On an image
+ * that the translator wrote *unmatched is 0. All three are written in every case, as 0 with a refusal. Size, ticks and conditions are as
+ * wide as a length, so that none is cut off before it is tried. It is a call for the office: with 16 ticks times conditions there are
+ * 65,536 lists. Tries what the image check tries, then 14 and 28; counts 0. */
+uint8_t fairleadow_count_fillings(const uint8_t *image, size_t image_len, size_t size, size_t ticks, size_t conditions,
+                                  uint32_t *ended, uint32_t *full, uint32_t *unmatched, size_t *index, size_t *count);
 
 /* An image's lines to a table, ten bytes a line, for live runs, ticks and rebindings: the image is checked here and not again, and its
  * lines are not needed afterwards. Tries what the image check tries, then 16; counts bytes. */

@@ -1,7 +1,7 @@
 /* How the functions of fairleadow.h reach the archive; to be included by that file alone. Whatever the processor, the archive takes
- * lengths, numbers to rebind, numbers of little charts and spindles' numbers, and writes index, count and the places taken as 64 bits, and
- * of what it returns only the low eight bits have a meaning. The functions below have the types of fairleadow.h, and from there on its
- * names stand for them. */
+ * lengths, numbers to rebind, numbers of little charts, spindles' numbers and the size, ticks and conditions of a count, and writes index,
+ * count and the places taken as 64 bits, and of what it returns only the low eight bits have a meaning. The functions below have the types
+ * of fairleadow.h, and from there on its names stand for them. */
 #ifndef FAIRLEADOW_CALLS_H
 #define FAIRLEADOW_CALLS_H
 
@@ -34,6 +34,8 @@ uint32_t fairleadow_minimise(const uint8_t *image, uint64_t image_len, uint8_t *
                              uint64_t *index, uint64_t *count);
 uint32_t fairleadow_little_chart(uint64_t frames, uint64_t number, uint8_t *text, uint64_t text_len,
                                  uint64_t *index, uint64_t *count);
+uint32_t fairleadow_count_fillings(const uint8_t *image, uint64_t image_len, uint64_t size, uint64_t ticks, uint64_t conditions,
+                                   uint32_t *ended, uint32_t *full, uint32_t *unmatched, uint64_t *index, uint64_t *count);
 uint32_t fairleadow_prepare(const uint8_t *image, uint64_t image_len, uint8_t *table, uint64_t table_len,
                             uint64_t *index, uint64_t *count);
 uint32_t fairleadow_live_run(const uint8_t *table, uint64_t table_len, fairleadow_state *state, const uint16_t *words,
@@ -176,6 +178,15 @@ static inline uint8_t fairleadow_c_little_chart(size_t frames, size_t number, ui
     return fairleadow_tell(refusal, &told, index, count);
 }
 
+static inline uint8_t fairleadow_c_count_fillings(const uint8_t *image, size_t image_len, size_t size, size_t ticks, size_t conditions,
+                                                  uint32_t *ended, uint32_t *full, uint32_t *unmatched, size_t *index,
+                                                  size_t *count) {
+    fairleadow_told told;
+    uint32_t number = fairleadow_count_fillings(image, image_len, size, ticks, conditions, ended, full, unmatched, &told.index,
+                                                &told.count);
+    return fairleadow_tell(number, &told, index, count);
+}
+
 static inline uint8_t fairleadow_c_prepare(const uint8_t *image, size_t image_len, uint8_t *table, size_t table_len,
                                            size_t *index, size_t *count) {
     fairleadow_told told;
@@ -236,6 +247,7 @@ static inline uint8_t fairleadow_c_meaning(uint8_t code, uint8_t *called) {
 #define fairleadow_list_rows fairleadow_c_list_rows
 #define fairleadow_minimise fairleadow_c_minimise
 #define fairleadow_little_chart fairleadow_c_little_chart
+#define fairleadow_count_fillings fairleadow_c_count_fillings
 #define fairleadow_prepare fairleadow_c_prepare
 #define fairleadow_live_run fairleadow_c_live_run
 #define fairleadow_live_tick fairleadow_c_live_tick

@@ -4,7 +4,8 @@
 #include "host.h"
 #include "stack.h"
 
-/* All buffers of a call lie here one after the other: masks, words, codes, output, input. */
+/* All buffers of a call lie one after the other where the program's own variables end: masks, words, codes, output, input. What lies
+ * above them is left for the stack. */
 #define BUFFERS 47104
 
 enum {
@@ -21,6 +22,7 @@ enum {
     LIST_ROWS,
     MINIMISE,
     LITTLE_CHART,
+    COUNT_FILLINGS,
     REBIND,
     SPIN,
     PREPARE,
@@ -38,8 +40,9 @@ typedef struct {
     uint32_t masks, words, codes, output, input; /* how many of each */
     uint32_t value;                              /* a stack's size, a code, how many firsts a list has, a number to rebind, how many
                                                   * words of the flash are run, a little chart's number, or a spindle */
-    uint32_t scheme;                             /* the scheme that is to serve it, or how many frames a little chart has */
-    uint32_t taken;                              /* the places that the spindles have taken */
+    uint32_t scheme;                             /* the scheme that is to serve it, how many frames a little chart has, or how many
+                                                  * ticks the lists have that are counted */
+    uint32_t taken;                              /* the places that the spindles have taken, or how many conditions the lists have */
     uint32_t number, index, count;               /* the answer */
     uint32_t stack;                              /* the bytes of stack that the call took */
     uint32_t code;                               /* the bytes of the library's code */
@@ -48,10 +51,7 @@ typedef struct {
 } message;
 
 static message head;
-static union {
-    uint8_t bytes[BUFFERS];
-    uint32_t aligned;
-} buffers;
+extern uint32_t bss_end[];
 
 extern const uint8_t library_start[], library_end[];
 
@@ -96,6 +96,12 @@ __attribute__((noinline)) static uint8_t priced_run(const uint8_t *image, const 
     return number;
 }
 
+/* How often the stack fills: the three counts go to the first three masks. */
+static uint8_t count_fillings(const uint8_t *image, uint32_t *masks, size_t *index, size_t *count) {
+    return fairleadow_count_fillings(image, head.input, head.value, head.scheme, head.taken, &masks[0], &masks[1], &masks[2], index,
+                                     count);
+}
+
 /* The tick of a spindle, by an image or by a table: the output is the states, which lie anywhere. */
 typedef uint8_t (*spinning)(fairleadow_state *, size_t, size_t *, size_t, const uint8_t *, size_t, uint16_t, uint32_t *, uint8_t *,
                             size_t *, size_t *);
@@ -111,7 +117,7 @@ static uint8_t spin(spinning call, uint8_t *output, const uint8_t *input, uint16
 
 /* One call, on the buffers as they lie. A function of its own: its frame is that of a caller, and counted. */
 __attribute__((noinline)) static void make_call(void) {
-    uint32_t *masks = (uint32_t *)buffers.bytes;
+    uint32_t *masks = bss_end;
     uint16_t *words = (uint16_t *)(masks + head.masks);
     uint8_t *codes = (uint8_t *)(words + head.words);
     uint8_t *output = codes + head.codes;
@@ -159,6 +165,9 @@ __attribute__((noinline)) static void make_call(void) {
     case LITTLE_CHART:
         number = fairleadow_little_chart(head.scheme, head.value, output, head.output, &index, &count);
         break;
+    case COUNT_FILLINGS:
+        number = count_fillings(input, masks, &index, &count);
+        break;
     case REBIND:
         number = fairleadow_rebind(input, head.input, &head.state, head.value, head.scheme, &index, &count);
         break;
@@ -193,11 +202,11 @@ __attribute__((noinline)) static void make_call(void) {
     head.count = count;
 }
 
-__attribute__((noinline)) static void measure_call(void) {
-    uint32_t *from = stack_here();
-    stack_paint();
+__attribute__((noinline)) static void measure_call(uint32_t length) {
+    uint32_t *from = stack_here(), *lowest = bss_end + (length + 3) / 4;
+    stack_paint(lowest);
     make_call();
-    head.stack = stack_used(from);
+    head.stack = stack_used(from, lowest);
 }
 
 void fault(void) {
@@ -212,10 +221,10 @@ int main(void) {
         uint32_t length = 4 * head.masks + 2 * head.words + head.codes + head.output + head.input;
         if (length > BUFFERS)
             return 1;
-        host_read(buffers.bytes, length);
-        measure_call();
+        host_read(bss_end, length);
+        measure_call(length);
         head.code = (uint32_t)(library_end - library_start);
         host_write(&head, sizeof head);
-        host_write(buffers.bytes, length);
+        host_write(bss_end, length);
     }
 }

@@ -2,16 +2,14 @@
 
 #define PAINT 0xA5A5A5A5u
 
-extern uint32_t bss_end[];
-
-__attribute__((noinline)) void stack_paint(void) {
+__attribute__((noinline)) void stack_paint(uint32_t *lowest) {
     uint32_t *end = stack_here();
-    for (uint32_t *word = bss_end; word < end; word++)
+    for (uint32_t *word = lowest; word < end; word++)
         *word = PAINT;
 }
 
-__attribute__((noinline)) uint32_t stack_used(const uint32_t *from) {
-    const uint32_t *word = bss_end;
+__attribute__((noinline)) uint32_t stack_used(const uint32_t *from, const uint32_t *lowest) {
+    const uint32_t *word = lowest;
     while (word < from && *word == PAINT)
         word++;
     return (uint32_t)((const uint8_t *)from - (const uint8_t *)word);

@@ -11,9 +11,10 @@ static inline uint32_t *stack_here(void) {
     return here;
 }
 
-void stack_paint(void);
+/* The stack may go down to `lowest`. */
+void stack_paint(uint32_t *lowest);
 
 /* The bytes below `from` that were written since. */
-uint32_t stack_used(const uint32_t *from);
+uint32_t stack_used(const uint32_t *from, const uint32_t *lowest);
 
 #endif

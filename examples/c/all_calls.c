@@ -2,7 +2,8 @@
  * checks the image, runs eight words from a fresh state of three places, makes the same ticks one by one, both on the image and on
  * the table prepared from it, runs them with prices, rebinds each number up to 3 to its own scheme, makes the ticks on each of four
  * spindles, and tells what each code stands for, which signals made each tick go on and which rows each label has, and joins the labels
- * that act alike. Then it fetches every little chart. Prints what came of each. */
+ * that act alike, and counts how often stacks of one to three places fill. Then it fetches every little chart. Prints what came of
+ * each. */
 #include <stdio.h>
 #include <string.h>
 
@@ -98,6 +99,22 @@ static int tell_smaller(size_t length) {
     if (number)
         return refused(number, index);
     printf("characters with alike labels joined: %zu\n", count);
+    return 0;
+}
+
+/* Of all lists of eight words with condition 0 at 0 or 1, how many fill stacks of one to three places; then one tick too many. */
+static int tell_fillings(size_t length) {
+    uint32_t ended, full, unmatched;
+    size_t index, count;
+    uint8_t number;
+    for (size_t places = 1; places <= 3; places++) {
+        if ((number = fairleadow_count_fillings(image, length, places, WORDS, 1, &ended, &full, &unmatched, &index, &count)))
+            return refused(number, index);
+        printf("lists of %d words on %zu places: %lu run to their end, %lu fill the stack, %lu find no row\n", WORDS, places,
+               (unsigned long)ended, (unsigned long)full, (unsigned long)unmatched);
+    }
+    number = fairleadow_count_fillings(image, length, 3, FAIRLEADOW_COUNTED_BITS + 1, 1, &ended, &full, &unmatched, &index, &count);
+    printf("lists of 17 words: %u\n", number);
     return 0;
 }
 
@@ -270,5 +287,5 @@ int main(void) {
         || spin(count, prepared))
         return 1;
     tell_codes(all.codes, WORDS);
-    return tell_causes(count) || tell_rows(count) || tell_smaller(count) || tell_little_charts();
+    return tell_causes(count) || tell_rows(count) || tell_smaller(count) || tell_fillings(count) || tell_little_charts();
 }

@@ -20,6 +20,8 @@ use Rattle.minimising.proofs.minimise as minimise
 use Rattle.minimising.proofs.minimise.Reads as minimise-reads
 use Rattle.fetching.proofs.little_chart as little-chart
 use Rattle.fetching.proofs.little_chart.Reads as little-chart-reads
+use Rattle.counting.proofs.count_fillings as count-fillings
+use Rattle.counting.proofs.count_fillings.Reads as count-fillings-reads
 use Rattle.cause.proofs.cause_of as cause-of
 use Rattle.cause.proofs.cause_of.Reads as cause-of-reads
 use Rattle.state.proofs.State.fresh as fresh
@@ -60,6 +62,8 @@ use Rattle.fairleadow.proofs.fairleadow_priced_run as c-priced-run
 use Rattle.fairleadow.proofs.fairleadow_priced_run.Reads as c-priced-run-reads
 use Rattle.fairleadow.proofs.fairleadow_tick as c-tick
 use Rattle.fairleadow.proofs.fairleadow_tick.Reads as c-tick-reads
+use Rattle.fairleadow.proofs.fairleadow_count_fillings as c-count-fillings
+use Rattle.fairleadow.proofs.fairleadow_count_fillings.Reads as c-count-fillings-reads
 use Rattle.fairleadow.proofs.fairleadow_cause as c-cause
 use Rattle.fairleadow.proofs.fairleadow_cause.Reads as c-cause-reads
 use Rattle.fairleadow.proofs.fairleadow_list_rows as c-list-rows
@@ -139,6 +143,9 @@ little-chart-asks-nothing κs a = tt
 pub cause-of-asks-nothing : (κs : Lfts 1) (a : ArgsD cause-of.signature κs) → cause-of-reads.Asked κs a
 cause-of-asks-nothing κs a = tt
 
+pub count-fillings-asks-nothing : (κs : Lfts 1) (a : ArgsD count-fillings.signature κs) → count-fillings-reads.Asked κs a
+count-fillings-asks-nothing κs a = tt
+
 pub spin-bytes-asks-nothing : (κs : Lfts 2) (a : ArgsD spin-bytes.signature κs) → spin-bytes-reads.Asked κs a
 spin-bytes-asks-nothing κs a = tt
 
@@ -208,3 +215,6 @@ c-spin-asks-nothing κs a = tt
 
 pub c-live-spin-asks-nothing : (κs : Lfts 7) (a : ArgsD c-live-spin.signature κs) → c-live-spin-reads.Asked κs a
 c-live-spin-asks-nothing κs a = tt
+
+pub c-count-fillings-asks-nothing : (κs : Lfts 6) (a : ArgsD c-count-fillings.signature κs) → c-count-fillings-reads.Asked κs a
+c-count-fillings-asks-nothing κs a = tt

@@ -20,6 +20,7 @@ use Rattle.cause.proofs.Alike as cause
 use Rattle.priced_runs.proofs.Alike as pricing
 use Rattle.rebinding.proofs.Alike as rebinding
 use Rattle.runs.proofs.Alike as running
+use Rattle.fillings.proofs.Alike as filling
 use Rattle.agreement.specs.Capitals.{AsInCapitals}
 
 -- a call of a spindle by what the image check tries and the tick
@@ -42,6 +43,7 @@ as-in-capitals t = record {
   prices = pricing.prices-runs (map capital t) t (capitals-alike t);
   ticks = running.advances (map capital t) t (capitals-alike t);
   explains = cause.explains (map capital t) t (capitals-alike t);
+  counts = filling.counts-alike (map capital t) t (capitals-alike t);
   rebinds = rebinding.rebinds (map capital t) t (capitals-alike t);
   spins = spins-alike (map capital t) t (image.image-verdict (map capital t) t (capitals-alike t)) (running.advances (map capital t) t (capitals-alike t));
 }

@@ -40,10 +40,14 @@ use Rattle.rebinding.proofs.rebind as rebinding-rebind
 use Rattle.rebinding.proofs.rebind.Reads as rebinding-rebind-reads
 use Rattle.rebinding.proofs.live_rebind as rebinding-live-rebind
 use Rattle.rebinding.proofs.live_rebind.Reads as rebinding-live-rebind-reads
+use Rattle.fillings.specs.Counts.{counted}
+use Rattle.counting.specs.Tells.{Tells}
+use Rattle.counting.proofs.count_fillings as counting-count-fillings
+use Rattle.counting.proofs.count_fillings.Reads as counting-count-fillings-reads
 use Rattle.state.specs.Bytes.{stateOf}
 use Rattle.telling.specs.Told.{Told}
 use Rattle.fairleadow.specs.Calls.{LendsC, MakesC, runFor, RunsC, pricedRunFor, PricedC, tickFor, AdvancesC, rebindFor, RebindsC}
-use Rattle.fairleadow.specs.Calls.{spinFor, liveSpinFor, SpinsC}
+use Rattle.fairleadow.specs.Calls.{spinFor, liveSpinFor, SpinsC, CountsC}
 use Rattle.fairleadow.proofs.fairleadow_translate as c-translate
 use Rattle.fairleadow.proofs.fairleadow_translate.Reads as c-translate-reads
 use Rattle.places.proofs.places_needed as places-needed
@@ -76,9 +80,11 @@ use Rattle.fairleadow.proofs.fairleadow_spin as c-spin
 use Rattle.fairleadow.proofs.fairleadow_spin.Reads as c-spin-reads
 use Rattle.fairleadow.proofs.fairleadow_live_spin as c-live-spin
 use Rattle.fairleadow.proofs.fairleadow_live_spin.Reads as c-live-spin-reads
+use Rattle.fairleadow.proofs.fairleadow_count_fillings as c-count-fillings
+use Rattle.fairleadow.proofs.fairleadow_count_fillings.Reads as c-count-fillings-reads
 
 -- ---- translator::translate, preparing::prepare, minimising::minimise, fetching::little_chart, state::State::fresh, of machine run,
--- tick_image, live_run and live_tick, priced_runs::priced_run, and of rebinding rebind and live_rebind
+-- tick_image, live_run and live_tick, priced_runs::priced_run, of rebinding rebind and live_rebind, and counting::count_fillings
 pub translate-lends : (κs : Lfts 2) (a : ArgsD translator-translate.signature κs) (r : ResD translator-translate.signature κs)
     (s : AtExit translator-translate.ended κs)
     → translator-translate-reads.Learnt κs a r s → Lends (translate (a .0 .now) (a .1 .0 .now)) r (s .1 .0 .now)
@@ -142,6 +148,11 @@ pub live-rebind-makes : (κs : Lfts 1) (a : ArgsD rebinding-live-rebind.signatur
     (s : AtExit rebinding-live-rebind.ended κs)
     → rebinding-live-rebind-reads.Learnt κs a r s → Makes (liveRebind (a .0 .now) (a .1 .0) (a .1 .1 .0) (a .1 .1 .1 .0)) r
 live-rebind-makes κs a r s e = e
+
+pub count-fillings-tells : (κs : Lfts 1) (a : ArgsD counting-count-fillings.signature κs) (r : ResD counting-count-fillings.signature κs)
+    (s : AtExit counting-count-fillings.ended κs)
+    → counting-count-fillings-reads.Learnt κs a r s → Tells (counted (a .0 .now) (a .1 .0) (a .1 .1 .0) (a .1 .1 .1 .0)) r
+count-fillings-tells κs a r s e = e
 
 -- ---- for C: translate, fresh, run, priced_run and tick, then prepare, minimise, little_chart, live_run and live_tick, and the two rebindings
 pub translate-lends-c : (κs : Lfts 4) (a : ArgsD c-translate.signature κs) (r : ResD c-translate.signature κs) (s : AtExit c-translate.ended κs)
@@ -232,3 +243,10 @@ pub live-spin-spins-c : (κs : Lfts 7) (a : ArgsD c-live-spin.signature κs) (r 
     (a .1 .1 .1 .1 .1 .0 .now) (a .1 .1 .1 .1 .1 .1 .0 .now) r (s .1 .1 .1 .1 .1 .1 .1 .0 .now) (s .1 .1 .1 .1 .1 .1 .1 .1 .0 .now)
     (s .0 .now) (s .1 .0 .now) (s .1 .1 .1 .1 .1 .0 .now) (s .1 .1 .1 .1 .1 .1 .0 .now)
 live-spin-spins-c κs a r s e = e
+
+pub count-fillings-tells-c : (κs : Lfts 6) (a : ArgsD c-count-fillings.signature κs) (r : ResD c-count-fillings.signature κs)
+    (s : AtExit c-count-fillings.ended κs)
+    → c-count-fillings-reads.Learnt κs a r s
+    → CountsC (counted (a .0 .now) (a .1 .0) (a .1 .1 .0) (a .1 .1 .1 .0)) r (s .1 .1 .1 .1 .1 .1 .1 .0 .now)
+    (s .1 .1 .1 .1 .1 .1 .1 .1 .0 .now) (s .1 .1 .1 .1 .0 .now) (s .1 .1 .1 .1 .1 .0 .now) (s .1 .1 .1 .1 .1 .1 .0 .now)
+count-fillings-tells-c κs a r s e = e

@@ -1,4 +1,5 @@
--- No refusal of the translator, of prepare, of minimise, of a little chart, of a listing or of a cause has the number 0, so that a caller from C can tell success by it.
+-- No refusal of the translator, of prepare, of minimise, of a little chart, of a listing, of a cause or of the counts has the number
+-- 0, so that a caller from C can tell success by it.
 use Prim.Native.Nat.{ℕ, _+_, _/_, _≤_}
 use mathlib.Core.Path.{_≡_, refl}
 use mathlib.Core.Bool.{Bool, true, false, _||_}
@@ -28,9 +29,10 @@ use Rattle.listing.specs.Listing.{listedOn, noRoomFor, list}
 use Rattle.bits.specs.Results.{Results}
 use Rattle.rows.specs.Rows.{Choice, row, none}
 use Rattle.state.specs.declared.State.{State}
-use Rattle.state.specs.State.{labelAt}
+use Rattle.state.specs.State.{labelAt, badSize}
 use Rattle.fitness.specs.Fitness.{unfit}
 use Rattle.ticks.specs.Tick.{calledBit, choice}
+use Rattle.fillings.specs.Counts.{tooMany, countVerdict, countedBy, counted}
 use Rattle.cause.specs.Cause.{Leaving, label, nothing, leaving, Caused, because, unexplained, causeBy, causeAt, causeOf, toldOn, explain}
 
 -- 1 or above
@@ -122,3 +124,17 @@ cause-success t s w =
     let i : Image = decoded (contents t) in
     told-success (next (imageVerdict t) λ _. when 15 (unfit i s)) (causeOf i s w)
     (next-refuses Positive (imageVerdict t) _ (image-positive t) (when-refuses Positive 15 (unfit i s) (omega arith))) (cause-high i s w)
+
+-- ---- the counts: 14 and 28 besides
+counted-success : (i : Image) (size n k : ℕ) (v : Verdict) → Refuses Positive v
+    → let x = countedBy i size n k v in number (x .reply) ≡ 0 → x .reply ≡ success 0
+counted-success i size n k (refused m j) p e = absurd (omega arith)
+counted-success i size n k fine p e = refl
+
+pub counts-success : (t : List ℕ) (size n k : ℕ) → let x = counted t size n k in number (x .reply) ≡ 0 → x .reply ≡ success 0
+unfolding counted countVerdict
+counts-success t size n k =
+    counted-success (decoded (contents t)) size n k (countVerdict t size n k)
+    (next-refuses Positive (imageVerdict t) _ (image-positive t)
+    (next-refuses Positive (when 14 (badSize size)) _ (when-refuses Positive 14 (badSize size) (omega arith))
+    (when-refuses Positive 28 (tooMany n k) (omega arith))))

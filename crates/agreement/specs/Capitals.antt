@@ -18,6 +18,7 @@ use Rattle.priced_runs.specs.PricedRun.{pricedRun}
 use Rattle.runs.specs.Run.{run}
 use Rattle.runs.specs.Advance.{advance}
 use Rattle.spindles.specs.Spindles.{spin}
+use Rattle.fillings.specs.Counts.{counted}
 
 pub record AsInCapitals (t : List ℕ) : Type 0 where
   pub reads : (records : List ℕ) → readChart (map capital t) records ≡ readChart t records
@@ -34,3 +35,4 @@ pub record AsInCapitals (t : List ℕ) : Type 0 where
   pub explains : (s : State) (word : ℕ) → explain (map capital t) s word ≡ explain t s word
   pub rebinds : (s : State) (number scheme : ℕ) → rebind (map capital t) s number scheme ≡ rebind t s number scheme
   pub spins : (states : List State) (taken spindle word : ℕ) → spin (map capital t) states taken spindle word ≡ spin t states taken spindle word
+  pub counts : (size ticks conditions : ℕ) → counted (map capital t) size ticks conditions ≡ counted t size ticks conditions

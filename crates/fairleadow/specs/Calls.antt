@@ -1,5 +1,5 @@
 -- What a call from C hands back, and what it leaves in the bytes of a state: for each of Lends, Lists, Makes, Runs, PricedOn, Advances,
--- Tells, RebindsOn and SpinsOn the record for C.
+-- the two Tells, RebindsOn and SpinsOn the record for C.
 use Prim.Native.Nat.{ℕ}
 use mathlib.Core.Path.{_≡_}
 use mathlib.Core.List.{List}
@@ -17,6 +17,7 @@ use Rattle.cause.specs.Cause as cause
 use Rattle.rebinding.specs.Rebind.{rebind, liveRebind}
 use Rattle.runs.specs.InPlace.{bytesAfter, ifTicked}
 use Rattle.state.specs.Bytes.{stateOf, bytesOf}
+use Rattle.fillings.specs.Counts.{Counts}
 use Rattle.spindles.specs.Spindles.{Spun, spin, liveSpin}
 use Rattle.spindle_bytes.specs.Bytes.{statesOf, ifSpun, bytesSpun}
 use Rattle.telling.specs.Told.{Told}
@@ -116,3 +117,10 @@ pub record SpinsC (x : Spun) (before : List ℕ) (spindle m₀ k₀ returned at 
   pub taken : recorded ≡ x .taken
   pub mask : m ≡ ifSpun x (x .mask) m₀
   pub code : k ≡ ifSpun x (x .code) k₀
+
+-- a call that counts how often the stack fills: the three counts are written in every case, each 0 with a refusal
+pub record CountsC (x : Counts) (returned at made e f u : ℕ) : Type 0 where
+  pub told : Told (x .reply) returned at made
+  pub ended : e ≡ x .ended
+  pub full : f ≡ x .full
+  pub unmatched : u ≡ x .unmatched

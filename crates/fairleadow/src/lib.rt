@@ -3,6 +3,7 @@
 use cause::cause_bytes;
 use codes::Meaning;
 use codes::meaning_of;
+use counting::count_fillings;
 use machine::State;
 use machine::TickReport;
 use machine::live_run_bytes;
@@ -26,10 +27,12 @@ ghost use Rattle.minimising.specs.Entry.{minimise};
 ghost use Rattle.little_charts.specs.Little.{littleChart};
 ghost use Rattle.state.specs.State.{freshState};
 ghost use Rattle.tables.specs.Prepare.{prepare};
+ghost use Rattle.fillings.specs.Counts.{counted};
 ghost use Rattle.listing.specs.Listing.{list};
 ghost use Rattle.telling.specs.Told.{Told};
 ghost use Rattle.fairleadow.specs.Calls.{LendsC, ListsC, MakesC, runFor, liveRunFor, RunsC, pricedRunFor, PricedC, tickFor, liveTickFor, AdvancesC};
 ghost use Rattle.fairleadow.specs.Calls.{causeFor, CausesC, rebindFor, liveRebindFor, RebindsC, spinFor, liveSpinFor, SpinsC};
+ghost use Rattle.fairleadow.specs.Calls.{CountsC};
 ghost use Rattle.fairleadow.specs.Meant.{Meant};
 
 #[no_mangle]
@@ -348,6 +351,29 @@ pub extern "C" fn fairleadow_cause(
     *row = found.row;
     *mask = found.mask;
     *bit = found.bit;
+    tell(answer, at, made)
+}
+
+// How often the stack fills: writes how many lists of words run to their end, meet 17 and meet 18, each 0 with a refusal.
+#[no_mangle]
+pub extern "C" fn fairleadow_count_fillings(
+    image: &[u8],
+    size: usize,
+    ticks: usize,
+    conditions: usize,
+    ended: &mut u32,
+    full: &mut u32,
+    unmatched: &mut u32,
+    at: &mut usize,
+    made: &mut usize,
+) -> u8
+    ensures { λ r. ⌜ CountsC (counted (now (image .entry)) size ticks conditions) r (now (at .exit)) (now (made .exit)) (now (ended .exit)) (now (full .exit)) (now (unmatched .exit)) ⌝ }
+{
+    let counted = count_fillings(image, size, ticks, conditions);
+    let answer = counted.answer;
+    *ended = counted.ended;
+    *full = counted.full;
+    *unmatched = counted.unmatched;
     tell(answer, at, made)
 }
 

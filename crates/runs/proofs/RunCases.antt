@@ -22,11 +22,11 @@ use Rattle.ticks.specs.Tick.{Ticked, ticked, stopped, tick}
 use Rattle.runs.specs.Run.{Ran, Run, then, ticks, noRoom, runOn}
 use Rattle.runs.specs.Advance.{Advance, advanced}
 use Rattle.runs.specs.InPlace.{leaves, bytesAfter, RunsOn, AdvancesOn}
-use Rattle.ticks.specs.Parts.{Stands}
+use Rattle.ticks.specs.declared.Stepped.{Stepped}
+use Rattle.ticks.specs.Parts.{Stands, after, stepOf, Steps}
 use Rattle.runs.specs.Parts.{verdictOf, Room, Ends, tableRun}
-use Rattle.ticks.proofs.Normal.{Normal, tick-normal}
 use Rattle.runs.proofs.Normal.{Late, ticks-late}
-use Rattle.runs.proofs.TurnCases.{number-verdict}
+use Rattle.runs.proofs.TurnCases.{number-verdict, went, stood}
 
 -- ---- a buffer has less room than words, or both have enough
 module _ (ws ms ks : List ℕ) where
@@ -141,6 +141,57 @@ done-replied n m e = sym (ap (λ (k : ℕ). replied (verdictOf k) m) e)
 pub stopped-replied : (n m : ℕ) → (n ≡ 0 → ⊥) → refusal n 0 m ≡ replied (verdictOf n) m
 stopped-replied n m h = sym (ap (λ (v : Verdict). replied v m) (number-verdict n h))
 
+-- ---- one tick by the loop over one word
+verdict-number : (k n : ℕ) → verdictOf k ≡ refused n 0 → k ≡ n
+verdict-number zero n v = let d : _≡_ {A = ℕ} 0 1 = cc in absurd (omega arith)
+verdict-number (suc k) n v = cc
+
+verdict-none : (k : ℕ) → verdictOf k ≡ fine → k ≡ 0
+verdict-none zero v = refl
+verdict-none (suc k) v = let d : _≡_ {A = ℕ} 0 1 = cc in absurd (omega arith)
+
+module _ (b before : List ℕ) (w : ℕ) (r : Ended) (mid ms ks : List ℕ) (ends : Ends b before (w ∷ []) (0 ∷ []) (0 ∷ []) r mid ms ks) where
+  abbrev made : Ticked
+  made = tick (tableImage b) (stateOf before) w
+
+  abbrev only : Ticked → Ran
+  only x = then (stateOf before) (λ t. ticks (tableImage b) t []) x
+
+  one-word : ticks (tableImage b) (stateOf before) (w ∷ []) ≡ only made
+  unfolding ticks
+  one-word = refl
+
+  abbrev told : Stepped
+  told = record { number = r .number; mask = getD ms 0 0; code = getD ks 0 0 }
+
+  pub one-steps : Steps b before w told mid
+  unfolding ticks
+  one-steps = go made refl
+    where
+      go : (x : Ticked) → made ≡ x → Steps b before w told mid
+      go x e =
+          let all : ticks (tableImage b) (stateOf before) (w ∷ []) ≡ only x = one-word ∙ ap only e in
+          let v : verdictOf (r .number) ≡ only x .verdict = ends .verdict ∙ ap (λ (y : Ran). y .verdict) all in
+          let p : getD ms 0 0 ≡ getD (over (only x .masks) (0 ∷ [])) 0 0 =
+          ap (λ (l : List ℕ). getD l 0 0) (ends .masks ∙ ap (λ (y : Ran). over (y .masks) (0 ∷ [])) all) in
+          let q : getD ks 0 0 ≡ getD (over (only x .codes) (0 ∷ [])) 0 0 =
+          ap (λ (l : List ℕ). getD l 0 0) (ends .codes ∙ ap (λ (y : Ran). over (y .codes) (0 ∷ [])) all) in
+          let u : stateOf mid ≡ only x .state = ends .state ∙ ap (λ (y : Ran). y .state) all in
+          let c : r .count ≡ length (only x .codes) = ends .count ∙ ap (λ (y : Ran). length (y .codes)) all in
+          by x e v p q u c
+        where
+          by : (x : Ticked) → made ≡ x → verdictOf (r .number) ≡ only x .verdict → getD ms 0 0 ≡ getD (over (only x .masks) (0 ∷ [])) 0 0
+              → getD ks 0 0 ≡ getD (over (only x .codes) (0 ∷ [])) 0 0 → stateOf mid ≡ only x .state → r .count ≡ length (only x .codes)
+              → Steps b before w told mid
+          by (ticked m k t) e v p q u c =
+              let n : r .number ≡ 0 = verdict-none (r .number) v in
+              let is : told ≡ stepOf (ticked m k t) = λ j. record { number = n j; mask = p j; code = q j } in
+              record { step = is ∙ sym (ap stepOf e); state = u ∙ sym (ap (after (stateOf before)) e); kept = λ z. absurd (z n) }
+          by (stopped k) e v p q u c =
+              let n : r .number ≡ k = verdict-number (r .number) k v in
+              let is : told ≡ stepOf (stopped k) = λ j. record { number = n j; mask = p j; code = q j } in
+              record { step = is ∙ sym (ap stepOf e); state = u ∙ sym (ap (after (stateOf before)) e); kept = λ z. ends .kept c }
+
 -- ---- one tick on a table
 module _ (b before : List ℕ) (w : ℕ) where
   abbrev state₀ : State
@@ -183,57 +234,14 @@ module _ (b before : List ℕ) (w : ℕ) where
     pub tick-unfit : t ≡ true → (a : Answer) → a ≡ Refused 15 0 0 → AdvancesOn one before (record { answer = a; mask = 0; code = 0 }) before
     tick-unfit h a q = refused-advances 15 (λ z. omega arith) (one-unfit (sym e ∙ h)) a q
 
-    module _ (h : t ≡ false) (r : Ended) (mid ms ks : List ℕ) (ends : Ends b before (w ∷ []) (0 ∷ []) (0 ∷ []) r mid ms ks) where
-      abbrev made : Ticked
-      made = tick (tableImage b) state₀ w
-
-      abbrev ran₁ : Ticked → Ran
-      ran₁ x = then state₀ (λ t. ticks (tableImage b) t []) x
-
-      one-word : ticks (tableImage b) state₀ (w ∷ []) ≡ ran₁ made
-      unfolding ticks
-      one-word = refl
-
-      -- a number other than 0 stopped the tick, and 0 finished it
-      number-stood : (r .number ≡ 0 → ⊥) → (made ≡ stopped (r .number)) × (r .count ≡ 0)
-      unfolding ticks
-      number-stood z = go made refl
-        where
-          go : (x : Ticked) → made ≡ x → (made ≡ stopped (r .number)) × (r .count ≡ 0)
-          go (ticked m k u) e =
-              let v : verdictOf (r .number) ≡ fine = ends .verdict ∙ ap (λ (y : Ran). y .verdict) (one-word ∙ ap ran₁ e) in
-              let v₂ : refused (r .number) 0 ≡ fine = sym (number-verdict (r .number) z) ∙ v in
-              let q : _≡_ {A = ℕ} 0 1 = cc in absurd (omega arith)
-          go (stopped n) e =
-              let v : refused (r .number) 0 ≡ refused n 0 =
-              sym (number-verdict (r .number) z) ∙ ends .verdict ∙ ap (λ (y : Ran). y .verdict) (one-word ∙ ap ran₁ e) in
-              let q : r .number ≡ n = cc in
-              (e ∙ ap stopped (sym q), ends .count ∙ ap (λ (y : Ran). length (y .codes)) (one-word ∙ ap ran₁ e))
-
-      number-went : r .number ≡ 0 → (m k : ℕ) → m ≡ getD ms 0 0 → k ≡ getD ks 0 0 → made ≡ ticked m k (stateOf mid)
-      unfolding ticks
-      number-went z m k p q = go made refl (tick-normal (tableImage b) state₀ w)
-        where
-          go : (x : Ticked) → made ≡ x → Normal state₀ x → made ≡ ticked m k (stateOf mid)
-          go (ticked m′ k′ u) e n =
-              let all : ticks (tableImage b) state₀ (w ∷ []) ≡ ran₁ (ticked m′ k′ u) = one-word ∙ ap ran₁ e in
-              let p₁ : m′ ≡ m = sym (p ∙ ap (λ (l : List ℕ). getD l 0 0) (ends .masks ∙ ap (λ (y : Ran). over (y .masks) (0 ∷ [])) all)) in
-              let p₂ : k′ ≡ k = sym (q ∙ ap (λ (l : List ℕ). getD l 0 0) (ends .codes ∙ ap (λ (y : Ran). over (y .codes) (0 ∷ [])) all)) in
-              let p₃ : u ≡ stateOf mid = sym (ends .state ∙ ap (λ (y : Ran). y .state) all) in
-              e ∙ (λ j. ticked (p₁ j) (p₂ j) (p₃ j))
-          go (stopped n′) e n =
-              let v : verdictOf 0 ≡ refused n′ 0 =
-              ap verdictOf (sym z) ∙ ends .verdict ∙ ap (λ (y : Ran). y .verdict) (one-word ∙ ap ran₁ e) in
-              let d : _≡_ {A = ℕ} 0 1 = cc in absurd (omega arith)
-
+    module _ (h : t ≡ false) (r : Stepped) (mid : List ℕ) (q : Steps b before w r mid) where
       pub tick-stopped : (z : r .number ≡ 0 → ⊥) (a : Answer) → a ≡ Refused (r .number) 0 0
           → AdvancesOn one before (record { answer = a; mask = 0; code = 0 }) mid
-      tick-stopped z a q =
-          rw (ends .kept (number-stood z .1))
-          (refused-advances (r .number) z (one-stopped (sym e ∙ h) (r .number) (number-stood z .0)) a q)
+      tick-stopped z a p =
+          rw (q .kept z) (refused-advances (r .number) z (one-stopped (sym e ∙ h) (r .number) (stood b before w r mid q z)) a p)
 
-      pub tick-finished : r .number ≡ 0 → (m k : ℕ) → m ≡ getD ms 0 0 → k ≡ getD ks 0 0 → (bytes : List ℕ) → bytes ≡ bytesOf (stateOf mid)
-          → AdvancesOn one before (record { answer = Done 1; mask = m; code = k }) bytes
-      tick-finished z m k p q bytes u =
-          rw (one-ticked (sym e ∙ h) m k (stateOf mid) (number-went z m k p q))
+      pub tick-finished : r .number ≡ 0 → (bytes : List ℕ) → bytes ≡ bytesOf (stateOf mid)
+          → AdvancesOn one before (record { answer = Done 1; mask = r .mask; code = r .code }) bytes
+      tick-finished z bytes u =
+          rw (one-ticked (sym e ∙ h) (r .mask) (r .code) (stateOf mid) (went b before w r mid q z))
           (record { answered = refl; mask = refl; code = refl; bytes = u })

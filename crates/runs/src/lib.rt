@@ -5,6 +5,7 @@ mod runs;
 
 pub use runs::run_table;
 pub use runs::tick_table;
+pub use runs::tick_word;
 
 // What the ticks over the words of a run answer: 0, or the number that stopped one, and the finished ticks.
 pub struct Ended {

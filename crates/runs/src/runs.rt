@@ -8,10 +8,12 @@ use state_results::tidy_results;
 use stepping::tick_on;
 use tables::last_label;
 use tables::scheme_count;
+use ticks::Stepped;
 ghost use mathlib.Core.Path.{_≡_};
 ghost use mathlib.Core.List.{[], _∷_};
 ghost use Rattle.tables.specs.Table.{Whole};
 ghost use Rattle.state.specs.Bytes.{stateOf};
+ghost use Rattle.ticks.specs.Parts.{Stands, Steps};
 ghost use Rattle.runs.specs.Run.{noRoom};
 ghost use Rattle.runs.specs.Advance.{advanced};
 ghost use Rattle.runs.specs.InPlace.{RunsOn, AdvancesOn};
@@ -88,14 +90,27 @@ pub fn run_table(
     }
 }
 
+// One tick by the loop of a run: so the tick stands in that loop alone, and the compiler takes it in. A tick that is stopped writes no mask
+// and no code.
+pub fn tick_word(table: &[u8], bytes: &mut [u8; 130], word: u16) -> Stepped
+    requires { ⌜ Stands (now table) (stateOf (now bytes)) ⌝ }
+    ensures { λ r. ⌜ Steps (now (table .entry)) (now (bytes .entry)) word r (now (bytes .exit)) ⌝ }
+{
+    let words = [word];
+    let mut masks = [0u32; 1];
+    let mut codes = [0u8; 1];
+    let ended = tick_all(table, bytes, &words, &mut masks, &mut codes);
+    let number = ended.number;
+    let mask = masks[0];
+    let code = codes[0];
+    Stepped { number, mask, code }
+}
+
 // One tick: 15, then a tick for one word; a refused one leaves the bytes as they were.
 pub fn tick_table(table: &[u8], bytes: &mut [u8; 130], word: u16) -> TickReport
     requires { ⌜ Whole (now table) ⌝ }
     ensures { λ r. ⌜ AdvancesOn (advanced (tableRun (now (table .entry)) (stateOf (now (bytes .entry))) (word ∷ []) (0 ∷ []) (0 ∷ []))) (now (bytes .entry)) r (now (bytes .exit)) ⌝ }
 {
-    let words = [word];
-    let mut masks = [0u32; 1];
-    let mut codes = [0u8; 1];
     if is_unfit(table, bytes) {
         let answer = refused(15, 0);
         return TickReport {
@@ -104,8 +119,8 @@ pub fn tick_table(table: &[u8], bytes: &mut [u8; 130], word: u16) -> TickReport
             code: 0,
         };
     }
-    let ended = tick_all(table, bytes, &words, &mut masks, &mut codes);
-    let number = ended.number;
+    let done = tick_word(table, bytes, word);
+    let number = done.number;
     if number != 0 {
         let answer = refused(number, 0);
         return TickReport {
@@ -116,7 +131,7 @@ pub fn tick_table(table: &[u8], bytes: &mut [u8; 130], word: u16) -> TickReport
     }
     tidy_results(bytes);
     let answer = Answer::Done(1);
-    let mask = masks[0];
-    let code = codes[0];
+    let mask = done.mask;
+    let code = done.code;
     TickReport { answer, mask, code }
 }

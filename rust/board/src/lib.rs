@@ -10,7 +10,7 @@ use std::io::{Read, Write};
 use std::process::{Child, ChildStdin, ChildStdout, Command, Stdio};
 
 pub use count::{Count, Counting};
-use interface::{Answer, Cause, Library, Meaning, Priced, Prices, State, Ticked, PRICED_WORDS};
+use interface::{Answer, Cause, Fillings, Library, Meaning, Priced, Prices, State, Ticked, PRICED_WORDS};
 pub use message::Call;
 use message::{state_bytes, take_state, Message, Told, HEAD, STATE_BYTES};
 
@@ -207,6 +207,17 @@ impl<'a> Board<'a> {
         self.filled(message, text)
     }
 
+    /// The size goes to the board as the value, ticks and conditions in the places of the scheme and of the places taken; the counts come
+    /// back as its masks.
+    fn counted(&self, image: &[u8], size: usize, ticks: usize, conditions: usize) -> Option<Fillings> {
+        let mut message = Message::new(Call::CountFillings, image);
+        (message.value, message.masks) = (as_wide_as_there(size), vec![u32::MAX; 3]);
+        (message.scheme, message.taken) = (as_wide_as_there(ticks), as_wide_as_there(conditions));
+        let answer = self.made(&mut message)?.answer();
+        let [ended, full, unmatched] = [0, 1, 2].map(|at: usize| message.masks[at]);
+        Some(Fillings { answer, ended, full, unmatched })
+    }
+
     /// The states go to the board and come back as its output; the value is the spindle's number.
     fn spun(
         &self,
@@ -344,6 +355,11 @@ impl Library for Board<'_> {
 
     fn little_chart(&self, frames: usize, number: usize, text: &mut [u8]) -> Answer {
         self.fetched(frames, number, text).unwrap_or_else(|| self.instead.little_chart(frames, number, text))
+    }
+
+    fn count_fillings(&self, image: &[u8], size: usize, ticks: usize, conditions: usize) -> Fillings {
+        self.counted(image, size, ticks, conditions)
+            .unwrap_or_else(|| self.instead.count_fillings(image, size, ticks, conditions))
     }
 
     fn prepare(&self, image: &[u8], table: &mut [u8]) -> Answer {

@@ -19,6 +19,7 @@ pub enum Call {
     ListRows,
     Minimise,
     LittleChart,
+    CountFillings,
     Rebind,
     Spin,
     Prepare,

@@ -14,7 +14,7 @@ use reference::{fresh_state, Reference};
 const CASES: u64 = 20_000;
 
 /// The bytes of stack that each call may take, as controller/README.md states them.
-const STACK: [(Call, usize); 21] = [
+const STACK: [(Call, usize); 22] = [
     (Call::ReadChart, 4_608),
     (Call::WriteChart, 2_048),
     (Call::Translate, 8_192),
@@ -28,6 +28,7 @@ const STACK: [(Call, usize); 21] = [
     (Call::ListRows, 14_336),
     (Call::Minimise, 15_360),
     (Call::LittleChart, 3_072),
+    (Call::CountFillings, 19_456),
     (Call::Rebind, 14_336),
     (Call::Spin, 15_360),
     (Call::Prepare, 14_336),

@@ -229,6 +229,18 @@ extern "C" {
         index: *mut usize,
         count: *mut usize,
     ) -> u8;
+    pub fn fairleadow_count_fillings(
+        image: *const u8,
+        image_len: usize,
+        size: usize,
+        ticks: usize,
+        conditions: usize,
+        ended: *mut u32,
+        full: *mut u32,
+        unmatched: *mut u32,
+        index: *mut usize,
+        count: *mut usize,
+    ) -> u8;
     pub fn fairleadow_prepare(
         image: *const u8,
         image_len: usize,

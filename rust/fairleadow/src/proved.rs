@@ -1,7 +1,7 @@
 //! Safe calls of the C functions. Each borrows its buffers for the call: no reference is null, and what is borrowed for
 //! writing overlaps nothing else, which is all that the header asks.
 
-use interface::{Answer, Cause, Library, Meaning, Priced, Prices, State, Ticked};
+use interface::{Answer, Cause, Fillings, Library, Meaning, Priced, Prices, State, Ticked};
 
 use crate::c;
 
@@ -81,6 +81,23 @@ use crate::c;
 /// let length = Proved.little_chart(2, 1, &mut text).ok()?;
 /// assert_eq!(&text[..length], b"01010000000000000000FE\n00010000000000000000FF\n");
 /// assert_eq!(Proved.little_chart(2, 2, &mut text).ok().unwrap_err().number, 24);
+/// # Ok::<(), fairleadow::Refusal>(())
+/// ```
+///
+/// Before a stack is chosen it can be counted how often it fills. This chart calls at its third tick if condition 0 was 1 at the second,
+/// and one place is not enough for that:
+///
+/// ```
+/// use fairleadow::{Library, Proved, IMAGE_TEXT};
+///
+/// let chart = b"00010001000000000000FE\n03010002030000000000F7\n01010000000000000000FE\n02010202000000000001F8\n\
+///     00020005000000000000F9\n01020000000000000000FD\n";
+/// let mut image = [0; IMAGE_TEXT];
+/// let length = Proved.translate(chart, &mut image).ok()?;
+/// let counted = Proved.count_fillings(&image[..length], 1, 3, 1);
+/// counted.answer.ok()?;
+/// assert_eq!((counted.ended, counted.full, counted.unmatched), (4, 4, 0));
+/// assert_eq!(Proved.count_fillings(&image[..length], 1, 17, 1).answer.number(), 28);
 /// # Ok::<(), fairleadow::Refusal>(())
 /// ```
 ///
@@ -330,6 +347,25 @@ impl Library for Proved {
         answered(|index, count| unsafe {
             c::fairleadow_little_chart(frames, number, text.as_mut_ptr(), text.len(), index, count)
         })
+    }
+
+    fn count_fillings(&self, image: &[u8], size: usize, ticks: usize, conditions: usize) -> Fillings {
+        let (mut ended, mut full, mut unmatched) = (u32::MAX, u32::MAX, u32::MAX);
+        let answer = answered(|index, count| unsafe {
+            c::fairleadow_count_fillings(
+                image.as_ptr(),
+                image.len(),
+                size,
+                ticks,
+                conditions,
+                &mut ended,
+                &mut full,
+                &mut unmatched,
+                index,
+                count,
+            )
+        });
+        Fillings { answer, ended, full, unmatched }
     }
 
     fn prepare(&self, image: &[u8], table: &mut [u8]) -> Answer {

@@ -52,7 +52,7 @@ pub struct Refusal {
 }
 
 /// What each refusal is about, number 1 first, as include/fairleadow.h says it.
-const SENSES: [&str; 27] = [
+const SENSES: [&str; 28] = [
     "the length of the text or of the records",
     "a character other than 0-9, A-F, a-f, line feed",
     "the sum of a frame",
@@ -80,6 +80,7 @@ const SENSES: [&str; 27] = [
     "a spindle's number above 3",
     "a call while all 64 places of the spindles are taken",
     "more than 65,536 words in a priced run",
+    "lists of more than 16 ticks times conditions, 16 conditions or 65,536 ticks",
 ];
 
 impl Refusal {
@@ -125,11 +126,11 @@ mod tests {
     #[test]
     fn every_refusal_has_a_sense_of_its_own() {
         let mut senses: Vec<_> =
-            (1..=27).map(|number| Refusal { number, index: 0, count: 0 }.sense()).collect();
+            (1..=28).map(|number| Refusal { number, index: 0, count: 0 }.sense()).collect();
         senses.sort_unstable();
         senses.dedup();
-        assert_eq!(senses.len(), 27);
-        for number in [0, 28, 255] {
+        assert_eq!(senses.len(), 28);
+        for number in [0, 29, 255] {
             let refusal = Refusal { number, index: 0, count: 0 };
             assert_eq!(refusal.sense(), "a number that is no refusal");
         }
@@ -138,7 +139,7 @@ mod tests {
     #[test]
     fn only_some_numbers_name_a_frame() {
         let named = |number: &u8| Refusal { number: *number, index: 9, count: 0 }.frame() == Some(9);
-        let numbers: Vec<u8> = (0..=28).filter(named).collect();
+        let numbers: Vec<u8> = (0..=29).filter(named).collect();
         assert_eq!(numbers, [2, 3, 4, 6, 7, 8, 9, 12, 13]);
     }
 }

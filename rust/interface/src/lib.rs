@@ -63,6 +63,16 @@ pub struct Cause {
     pub bit: u8,
 }
 
+/// How often the stack fills: of all lists of words that are tried, how many run to their end, how many get 17, and how many get 18.
+/// With a refusal all three are 0.
+#[derive(Clone, Copy, Debug, PartialEq, Eq)]
+pub struct Fillings {
+    pub answer: Answer,
+    pub ended: u32,
+    pub full: u32,
+    pub unmatched: u32,
+}
+
 /// What a tick's code stands for; a call has the number called, a Drop is a call that finds the stack full and starts the
 /// handler instead, and Unknown is a code that no tick has.
 #[derive(Clone, Copy, Debug, PartialEq, Eq)]
@@ -77,7 +87,7 @@ pub enum Meaning {
 }
 
 /// The entry points of papers 01 and 02, and those for a controller that keeps an image prepared. Counts are records, characters,
-/// labels, bytes of a table, ticks and places; an accepted image, a fresh state, a cause and a rebinding count 0.
+/// labels, bytes of a table, ticks and places; an accepted image, a fresh state, a cause, a rebinding and fillings count 0.
 pub trait Library {
     /// Chart lines to node records of ten bytes each. Tries 1 to 9, with 19 after 5, and 16; counts records.
     fn read_chart(&self, text: &[u8], out: &mut [u8]) -> Answer;
@@ -163,6 +173,12 @@ pub trait Library {
     /// These are all accepted charts of 2 to 4 frames with one scheme that have, besides Begin and End, only operations of mask 0 or 1
     /// and no result, and conditions of number 0. Tries 24 and 16; counts characters.
     fn little_chart(&self, frames: usize, number: usize, text: &mut [u8]) -> Answer;
+
+    /// How often the stack fills: of all lists of so many words, in which only conditions from 0 up, so many, are ever 1, how many run to
+    /// their end, how many get 17 and how many get 18, each from a fresh state of so many places. No words is one empty list, and no
+    /// conditions is one list of zeros; the three sum to 2 to the power of ticks times conditions. Tries what the image check tries,
+    /// then 14 and 28: ticks times conditions above 16, or more than 16 conditions, or more than 65,536 ticks; counts 0.
+    fn count_fillings(&self, image: &[u8], size: usize, ticks: usize, conditions: usize) -> Fillings;
 
     /// An image's lines to the table that live runs and live ticks take. Tries what the image check tries, then 16;
     /// counts bytes.

@@ -40,6 +40,10 @@ pub const SPINDLES: usize = 4;
 pub const STORE: usize = 64;
 /// The most words of a priced run.
 pub const PRICED_WORDS: usize = 65_536;
+/// The most ticks times conditions over whose lists of words it is counted how often the stack fills.
+pub const COUNTED_BITS: usize = 16;
+/// The most ticks of such a list.
+pub const COUNTED_TICKS: usize = 65_536;
 
 #[cfg(test)]
 mod tests {

@@ -2,6 +2,7 @@
 
 pub mod bill;
 pub mod draw;
+pub mod fillings;
 pub mod minimise;
 pub mod options;
 pub mod page;

@@ -58,6 +58,12 @@ impl Image {
         self.frames[self.header.first_row()..].iter().map(Row::of).filter(move |row| row.from == label)
     }
 
+    /// The conditions that some row tests, as a mask.
+    pub fn tested(&self) -> u16 {
+        let rows = self.frames[self.header.first_row()..].iter().map(Row::of);
+        rows.fold(0, |tested, row| tested | row.care)
+    }
+
     /// The open labels of a fitting state, the bottom first, each with the scheme that the state remembers for it.
     pub fn open(&self, state: &State) -> Vec<Open> {
         let open = |at: usize| Open { label: state.places[at], scheme: state.servers[at] };

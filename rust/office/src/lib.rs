@@ -1,4 +1,5 @@
-//! The office program: charts composed, shown, checked, traced, drawn, priced and asked about. Every answer comes from the proved library.
+//! The office program: charts composed, shown, checked, traced, drawn, priced and asked about, and stacks compared. Every answer comes
+//! from the proved library.
 
 pub mod bill;
 pub mod calls;
@@ -11,6 +12,7 @@ pub mod compose;
 pub mod draw;
 pub mod escape;
 pub mod explain;
+pub mod fillings;
 pub mod image;
 pub mod kind;
 pub mod marking;

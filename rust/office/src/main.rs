@@ -6,7 +6,7 @@ use std::io::{self, ErrorKind, Write};
 use std::process::ExitCode;
 
 use office::command::{Command, Failure, Run};
-use office::commands::{bill, draw, minimise, page, trace, wall, why};
+use office::commands::{bill, draw, fillings, minimise, page, trace, wall, why};
 use office::{check, compose, places};
 
 const fn command(name: &'static str, arguments: &'static str, help: &'static str, run: Run) -> Command {
@@ -23,6 +23,7 @@ const COMMANDS: &[Command] = &[
     trace::COMMAND,
     why::COMMAND,
     bill::COMMAND,
+    fillings::COMMAND,
     minimise::COMMAND,
     draw::COMMAND,
     page::COMMAND,
@@ -41,8 +42,8 @@ fn help() -> String {
         let gap = if call.len() > 16 { format!("\n{:19}", "") } else { " ".repeat(17 - call.len()) };
         text.push_str(&format!("  {call}{gap}{}\n", command.help));
     }
-    text.push_str("\nA FILE or CHART holds chart lines or the readable notation, for check, why, bill and minimise also an image; ");
-    text.push_str("- is standard input.\n");
+    text.push_str("\nA FILE or CHART holds chart lines or the readable notation, for check, why, bill, fillings and minimise ");
+    text.push_str("also an image; - is standard input.\n");
     text.push_str(
         "`fairleadow COMMAND --help` tells of one command. Status 1 means refused, 2 a wrong call.\n",
     );

@@ -51,7 +51,7 @@ fn help_and_wrong_calls() {
         assert!(help.lines().any(|line| line.trim_start().starts_with(name) && line.len() > 30), "{name}");
     }
     assert!(
-        help.contains("for check, why, bill and minimise also an image; - is standard input.\n"),
+        help.contains("for check, why, bill, fillings and minimise also an image; - is standard input.\n"),
         "{help}"
     );
     assert_eq!(fairleadow(&["-h"], b"").1, help);

@@ -2,6 +2,7 @@
 //! can be made again by its own seed; seeds that lie closer than the number of cases share cases.
 
 mod alike;
+mod fillings;
 mod little;
 mod live;
 mod minimised;
@@ -45,8 +46,8 @@ impl fmt::Display for Difference {
 
 /// How often each call gave each answer (0 for success), how often its ticks dropped the stack and returned at the bottom, how often
 /// they called a number that another scheme served, and how many of its texts had small letters and were refused by none of 1 to 3. And
-/// how many images became smaller when their alike labels were joined, what was met in priced runs, and how many drops were made while all
-/// places of four spindles were taken.
+/// how many images became smaller when their alike labels were joined, what was met in priced runs, how many drops were made while all
+/// places of four spindles were taken, and what was counted of lists of words.
 #[derive(Debug, Default)]
 pub struct Summary {
     pub answers: BTreeMap<(&'static str, u8), usize>,
@@ -56,6 +57,7 @@ pub struct Summary {
     pub joined: usize,
     pub priced: PricedRuns,
     pub full_drops: BTreeMap<&'static str, usize>,
+    pub fillings: Counted,
 }
 
 /// Priced runs with an accepted image and a fitting state: those that have a price above 0 when 17 or 18 ends them, those whose sum ends
@@ -67,6 +69,16 @@ pub struct PricedRuns {
     pub below_halves: usize,
     pub longest: usize,
     pub large: usize,
+}
+
+/// Counts of lists of words of which some end and some get 17, some end and some get 18, and some get either, and those of as many lists
+/// as there may be.
+#[derive(Clone, Copy, Debug, Default)]
+pub struct Counted {
+    pub full: usize,
+    pub unmatched: usize,
+    pub both: usize,
+    pub most: usize,
 }
 
 /// Drops to the handler, and returns at the bottom: the handler's, or those that a damaged table leads to.
@@ -151,7 +163,8 @@ impl fmt::Display for Summary {
             writeln!(f, "{call:>12} {count:>8} texts with small letters")?;
         }
         writeln!(f, "{:>12} {:>8} images became smaller", "minimise", self.joined)?;
-        writeln!(f, "{:>12} {:?}", "priced_run", self.priced)
+        writeln!(f, "{:>12} {:?}", "priced_run", self.priced)?;
+        writeln!(f, "{:>12} {:?}", "count_fillings", self.fillings)
     }
 }
 
@@ -210,12 +223,12 @@ impl<'a> Case<'a> {
             0 => self.read_chart(),
             1 => self.write_chart(),
             2 => self.translate().and_then(|()| self.places()),
-            3 => self.check_image(),
+            3 => self.check_image().and_then(|()| self.count_fillings()),
             4 => self.fresh().and_then(|()| self.little_chart()),
             5 => self.run(),
             6 => self.tick(),
             7 => self.calls("runs", false),
-            8 => self.prepare(),
+            8 => self.prepare().and_then(|()| self.count_fillings()),
             9 | 10 => self.live_run(),
             11 | 12 => self.live_tick(),
             13 => self.calls("live_runs", true),

@@ -4,6 +4,7 @@ use crate::answer::{answered, refuse_if, ticked, Answer, Refusal};
 use crate::cause::{cause_of, Found};
 use crate::chart::Chart;
 use crate::check::chart_of;
+use crate::fillings::{counts, too_many, Counts};
 use crate::frames::{frames_of, text_of, Frame, CHART_TEXT, IMAGE_TEXT, RECORDS};
 use crate::image::{self, Image};
 use crate::little;
@@ -17,7 +18,7 @@ use crate::row_list::row_list;
 use crate::spindles::Head;
 use crate::state::{can_rebind, fresh_state, Shape, State};
 use crate::translator;
-use interface::{Cause, Priced, Ticked, SPINDLES};
+use interface::{Cause, Fillings, Priced, Ticked, SPINDLES};
 
 /// Writes all of it, or refuses with 16 and writes nothing.
 fn put<T: Copy>(all: &[T], out: &mut [T]) -> Result<(), Refusal> {
@@ -243,6 +244,21 @@ pub fn minimise(text: &[u8], out: &mut [u8]) -> Answer {
 /// Refusals 24 and 16; counts characters.
 pub fn little_chart(frames: usize, number: usize, out: &mut [u8]) -> Answer {
     written(little::texts(frames).get(number).ok_or(Refusal { number: 24, index: 0 }), out)
+}
+
+/// Over all lists of words: refusals 1 to 3, 11 to 13, 14 and 28.
+fn counted(image: &[u8], size: usize, ticks: usize, conditions: usize) -> Result<Counts, Refusal> {
+    let image = image_from_text(image)?;
+    let fresh = fresh_state(size).ok_or(Refusal::of(14))?;
+    refuse_if(28, too_many(ticks, conditions))?;
+    Ok(counts(&image, &fresh, ticks, conditions))
+}
+
+/// What the image check tries, then 14 and 28; counts 0.
+pub fn count_fillings(image: &[u8], size: usize, ticks: usize, conditions: usize) -> Fillings {
+    let counted = counted(image, size, ticks, conditions);
+    let Counts { ended, full, unmatched } = counted.unwrap_or_default();
+    Fillings { answer: answered(counted.map(|_| 0)), ended, full, unmatched }
 }
 
 /// The image that a table holds, if the state fits: refusals 11 and 15.

@@ -4,7 +4,7 @@
 use crate::answer::Answer;
 use crate::entry::minimised;
 use crate::frames::{text_of, Frame};
-use crate::library::{Cause, Library, Meaning, Priced, Prices, Ticked};
+use crate::library::{Cause, Fillings, Library, Meaning, Priced, Prices, Ticked};
 use crate::state::State;
 use interface::{CHART_TEXT, IMAGE_TEXT, LABELS, LITTLE_TEXT, OPERATIONS, RECORDS, SPINDLES, TABLE};
 
@@ -23,6 +23,7 @@ pub enum EntryPoint {
     ListRows,
     Minimise,
     LittleChart,
+    CountFillings,
     Rebind,
     Spin,
     LiveTick,
@@ -45,6 +46,8 @@ pub struct Input {
     pub value: usize,
     /// A little chart's number.
     pub chart: usize,
+    /// The ticks and the conditions of the lists that are counted.
+    pub lists: (usize, usize),
     /// A number, and the scheme that is to serve it.
     pub rebinding: (usize, usize),
 }
@@ -54,11 +57,20 @@ impl Input {
     /// allows.
     pub fn of(frames: Vec<Frame>) -> Input {
         let prices = [u16::MAX; OPERATIONS];
-        Input { frames, state: State::NONE, words: vec![0], prices, value: 0, chart: 0, rebinding: (2, 2) }
+        Input {
+            frames,
+            state: State::NONE,
+            words: vec![0],
+            prices,
+            value: 0,
+            chart: 0,
+            lists: (4, 2),
+            rebinding: (2, 2),
+        }
     }
 }
 
-/// What a call answers, and what it leaves in the buffers and the state that it was lent.
+/// What a call answers, and what it leaves in the buffers and the state that it was lent. The three counts of lists go to the masks.
 #[derive(Debug, PartialEq, Eq)]
 pub struct Made {
     pub answer: Answer,
@@ -74,7 +86,7 @@ pub struct Made {
 }
 
 impl EntryPoint {
-    pub const ALL: [EntryPoint; 21] = [
+    pub const ALL: [EntryPoint; 22] = [
         EntryPoint::ReadChart,
         EntryPoint::WriteChart,
         EntryPoint::Translate,
@@ -88,6 +100,7 @@ impl EntryPoint {
         EntryPoint::ListRows,
         EntryPoint::Minimise,
         EntryPoint::LittleChart,
+        EntryPoint::CountFillings,
         EntryPoint::Rebind,
         EntryPoint::Spin,
         EntryPoint::LiveTick,
@@ -113,6 +126,7 @@ impl EntryPoint {
             EntryPoint::ListRows => "list_rows",
             EntryPoint::Minimise => "minimise",
             EntryPoint::LittleChart => "little_chart",
+            EntryPoint::CountFillings => "count_fillings",
             EntryPoint::Rebind => "rebind",
             EntryPoint::Spin => "spin",
             EntryPoint::LiveTick => "live_tick",
@@ -126,7 +140,7 @@ impl EntryPoint {
 
     /// Makes the call, with buffers that are never too short.
     pub fn make(self, library: &dyn Library, input: &Input) -> Made {
-        let Input { frames, state, words, prices, value, chart, rebinding: (number, scheme) } = input;
+        let Input { frames, state, words, prices, value, chart, lists, rebinding: (number, scheme) } = input;
         let (text, bytes) = (|| text_of(frames), || frames.concat());
         match self {
             EntryPoint::ReadChart => written(RECORDS, |out| library.read_chart(&text(), out)),
@@ -165,6 +179,12 @@ impl EntryPoint {
                 written(room, |out| library.minimise(&text(), out))
             }
             EntryPoint::LittleChart => written(LITTLE_TEXT, |out| library.little_chart(*value, *chart, out)),
+            EntryPoint::CountFillings => {
+                let (ticks, conditions) = *lists;
+                let Fillings { answer, ended, full, unmatched } =
+                    library.count_fillings(&text(), *value, ticks, conditions);
+                Made { masks: vec![ended, full, unmatched], ..answered(answer) }
+            }
             EntryPoint::Rebind => rebound(state, |after| library.rebind(&text(), after, *number, *scheme)),
             EntryPoint::LiveRebind => {
                 rebound(state, |after| library.live_rebind(&bytes(), after, *number, *scheme))

@@ -12,6 +12,7 @@ pub mod entry;
 pub mod entry_point;
 pub mod expectation;
 pub mod fast;
+pub mod fillings;
 pub mod frames;
 pub mod generate;
 pub mod image;
@@ -34,5 +35,5 @@ pub mod translator;
 pub mod walk;
 
 pub use answer::Answer;
-pub use library::{Cause, Library, Meaning, Priced, Prices, Reference, Ticked};
+pub use library::{Cause, Fillings, Library, Meaning, Priced, Prices, Reference, Ticked};
 pub use state::{fresh_state, State};

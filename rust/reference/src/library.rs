@@ -1,7 +1,7 @@
 //! The reference as a library.
 
 use crate::{codes, entry};
-pub use interface::{Answer, Cause, Library, Meaning, Priced, Prices, State, Ticked};
+pub use interface::{Answer, Cause, Fillings, Library, Meaning, Priced, Prices, State, Ticked};
 
 /// The reference itself.
 pub struct Reference;
@@ -83,6 +83,10 @@ impl Library for Reference {
 
     fn little_chart(&self, frames: usize, number: usize, text: &mut [u8]) -> Answer {
         entry::little_chart(frames, number, text)
+    }
+
+    fn count_fillings(&self, image: &[u8], size: usize, ticks: usize, conditions: usize) -> Fillings {
+        entry::count_fillings(image, size, ticks, conditions)
     }
 
     fn prepare(&self, image: &[u8], table: &mut [u8]) -> Answer {

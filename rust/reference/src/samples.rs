@@ -10,6 +10,7 @@ mod worst_tables;
 
 use crate::frames::Frame;
 pub use named::{falling_conditions, named_charts};
+pub use worst_images::rows_that_match_from_home;
 
 /// Chart P of the paper.
 pub fn chart_p() -> Vec<Frame> {

@@ -152,6 +152,7 @@ impl Library for Faulty {
         check_image,
         list_rows,
         minimise,
+        count_fillings,
         prepare,
         run_calls,
         rebindings,

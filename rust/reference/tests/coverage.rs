@@ -4,7 +4,7 @@ use std::collections::{BTreeMap, BTreeSet};
 
 use reference::chart::{Chart, Kind};
 use reference::check::chart_of;
-use reference::compare::{compare, Handled, PricedRuns};
+use reference::compare::{compare, Counted, Handled, PricedRuns};
 use reference::generate::{charts, images, little, runs, states, Random};
 use reference::image::{image_of, Image, Row, FUNCTION_CALL, RETURN, ROWS};
 use reference::little::texts;
@@ -13,7 +13,7 @@ use reference::translator;
 use reference::{Reference, State};
 
 /// Which refusals each call may give; 0 is success.
-const TRIED: [(&str, &[u8]); 24] = [
+const TRIED: [(&str, &[u8]); 25] = [
     ("read_chart", &[0, 1, 2, 3, 4, 5, 6, 7, 8, 9, 16, 19]),
     ("write_chart", &[0, 1, 4, 5, 6, 7, 8, 9, 16, 19]),
     ("translate", &[0, 1, 2, 3, 4, 5, 6, 7, 8, 9, 10, 16, 19]),
@@ -29,6 +29,7 @@ const TRIED: [(&str, &[u8]); 24] = [
     ("list_rows", &[0, 1, 2, 3, 11, 12, 13, 16]),
     ("minimise", &[0, 1, 2, 3, 11, 12, 13, 16, 23]),
     ("little_chart", &[0, 16, 24]),
+    ("count_fillings", &[0, 1, 2, 3, 11, 12, 13, 14, 28]),
     ("live_run", &[0, 11, 15, 16, 17, 18]),
     ("live_tick", &[0, 11, 15, 17, 18]),
     ("live_runs", &[0, 16, 17, 22, 27]),
@@ -49,7 +50,7 @@ const TICKS: [&str; 11] = [
 fn every_answer_is_met_and_no_other() {
     let summary = compare(&Reference, 77, 8_000).unwrap_or_else(|difference| panic!("{difference}"));
     for (call, numbers) in TRIED {
-        for number in 0..=27 {
+        for number in 0..=28 {
             let met = summary.count(call, number) > 0;
             assert_eq!(met, numbers.contains(&number), "{call} {number}\n{summary}");
         }
@@ -94,6 +95,15 @@ fn priced_runs_meet_halves_and_long_runs() {
     assert!(stopped > 40 && halves > 40 && below_halves > 40 && longest > 3 && large > 2, "{summary}");
 }
 
+/// Counts of lists of words have some that end beside some that are stopped by 17, by 18 and by either, and some have as many lists as
+/// there may be, each often enough to tell.
+#[test]
+fn counts_of_lists_meet_every_end() {
+    let summary = compare(&Reference, 82, 32_000).unwrap_or_else(|difference| panic!("{difference}"));
+    let Counted { full, unmatched, both, most } = summary.fillings;
+    assert!(full > 150 && unmatched > 80 && both > 10 && most > 10, "{summary}");
+}
+
 /// Each kind of call that takes a text is given enough of them with small letters that are read.
 #[test]
 fn every_call_that_reads_meets_small_letters() {
@@ -110,6 +120,7 @@ fn every_call_that_reads_meets_small_letters() {
         "cause",
         "list_rows",
         "minimise",
+        "count_fillings",
         "runs",
         "live_runs",
         "mixture",

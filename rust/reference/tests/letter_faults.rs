@@ -4,7 +4,7 @@
 mod common;
 
 use common::is_found;
-use reference::{Answer, Cause, Library, Priced, Prices, Reference, State};
+use reference::{Answer, Cause, Fillings, Library, Priced, Prices, Reference, State};
 
 /// Which character is read in the place of each.
 type Reading = fn(u8) -> u8;
@@ -84,6 +84,10 @@ impl Library for Misreading {
 
     fn minimise(&self, image: &[u8], out: &mut [u8]) -> Answer {
         Reference.minimise(&self.read(image), out)
+    }
+
+    fn count_fillings(&self, image: &[u8], size: usize, ticks: usize, conditions: usize) -> Fillings {
+        Reference.count_fillings(&self.read(image), size, ticks, conditions)
     }
 
     fn prepare(&self, image: &[u8], table: &mut [u8]) -> Answer {

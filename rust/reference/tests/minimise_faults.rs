@@ -221,6 +221,7 @@ impl Library for Faulty {
         check_image,
         cause,
         list_rows,
+        count_fillings,
         prepare,
         run_calls,
         rebindings,

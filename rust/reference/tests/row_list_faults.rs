@@ -99,6 +99,7 @@ impl Library for Faulty {
         check_image,
         cause,
         minimise,
+        count_fillings,
         prepare,
         run_calls,
         rebindings,

@@ -92,7 +92,7 @@ fn of_records(records: &[[u8; RECORD]], refusal: &Refusal, voice: Voice) -> Opti
     }
 }
 
-/// Refusals 14 to 18, 21, 22, 24 and 27, which name no line.
+/// Refusals 14 to 18, 21, 22, 24, 27 and 28, which name no line.
 fn of_run(refusal: &Refusal) -> Option<Problem> {
     let ticks = counted(refusal.count, "tick");
     let (words, advice) = match refusal.number {
@@ -123,6 +123,10 @@ fn of_run(refusal: &Refusal) -> Option<Problem> {
         27 => (
             "there are too many words for one price".to_string(),
             "fewer ticks; a longer run is priced in parts, each rounded by itself",
+        ),
+        28 => (
+            "there are too many lists to count, or their words are too many".to_string(),
+            "fewer ticks or fewer conditions: 16 ticks of one condition, 8 of two, 5 of three, 4 of four",
         ),
         _ => return None,
     };

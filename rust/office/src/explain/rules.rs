@@ -2,8 +2,8 @@
 
 use fairleadow::Refusal;
 
-/// The rules of refusals 1 to 27, in that order.
-const RULES: [&str; 27] = [
+/// The rules of refusals 1 to 28, in that order.
+const RULES: [&str; 28] = [
     "a chart has 1 to 256 nodes, each a line of 22 digits and a line feed; an image has at most 1,297 such lines",
     "a line is 22 digits, 0-9 and A-F or a-f, and a line feed",
     "the eleven bytes of a line sum to 0 modulo 256; the last byte is there for that",
@@ -31,6 +31,7 @@ const RULES: [&str; 27] = [
     "spindles are numbered from 0 to 3",
     "the four spindles have 64 places together, and a call takes one",
     "a run that is priced has at most 65,536 words",
+    "lists of words are counted where ticks times conditions are at most 16, conditions at most 16 and ticks at most 65,536",
 ];
 
 /// The rule of a refusal.

@@ -29,7 +29,7 @@ struct Row {
 }
 
 /// Result bits: packed for a run, which reads and writes many, or as a state has them for one tick.
-trait Bits {
+pub(super) trait Bits {
     /// A number's bit; only for number 0, which nothing calls, it may be any.
     fn bit(&self, number: u8) -> u8;
     fn write(&mut self, number: u8, bit: bool);
@@ -56,7 +56,8 @@ impl Bits for [bool; 16] {
 }
 
 /// A fitting state taken apart.
-struct Stack<B> {
+#[derive(Clone, Copy)]
+pub(super) struct Stack<B> {
     places: [u8; 32],
     numbers: [u8; 32],
     servers: [u8; 32],
@@ -64,6 +65,13 @@ struct Stack<B> {
     depth: usize,
     size: usize,
     bits: B,
+}
+
+impl Stack<u32> {
+    pub(super) fn packed(state: &State) -> Stack<u32> {
+        let bits = state.results.iter().rev().fold(0, |bits, bit| bits << 1 | u32::from(*bit)) << 1;
+        Stack::of(state, bits)
+    }
 }
 
 impl<B: Bits> Stack<B> {
@@ -196,8 +204,7 @@ impl<const SCANS: bool> Machine<SCANS> {
         let (Some(masks), Some(codes)) = (masks.get_mut(..count), codes.get_mut(..count)) else {
             return refused(16);
         };
-        let packed = state.results.iter().rev().fold(0, |bits, bit| bits << 1 | u32::from(*bit)) << 1;
-        let mut stack = Stack::of(state, packed);
+        let mut stack = Stack::packed(state);
         let answer = self.ticks(&mut stack, words, masks, codes);
         let results = std::array::from_fn(|k| stack.bits >> (k + 1) & 1 == 1);
         (answer, stack.state(results))
@@ -288,7 +295,7 @@ impl<const SCANS: bool> Machine<SCANS> {
 
     // in a run the stack then stays in registers
     #[inline(always)]
-    fn tick<B: Bits>(&self, stack: &mut Stack<B>, word: u16) -> Result<(u32, u8), u8> {
+    pub(super) fn tick<B: Bits>(&self, stack: &mut Stack<B>, word: u16) -> Result<(u32, u8), u8> {
         let top = stack.depth - 1;
         let label = self.labels[usize::from(stack.places[top])];
         let code = match label.kind {

@@ -2,6 +2,7 @@
 //! the proved library's times are measured against; the comparison holds them to the reference too.
 
 mod chart;
+mod fillings;
 mod frames;
 mod image;
 mod kept;
@@ -15,10 +16,11 @@ mod spindles;
 mod table;
 
 use crate::answer::{answered, ticked, Answer, Refusal};
+use crate::fillings::Counts;
 use crate::frames::{Frame, CHARACTERS, CHART_TEXT, IMAGE_TEXT};
-use crate::library::{Cause, Library, Meaning, Priced, Prices, Ticked};
-use crate::state::{can_rebind, State};
-use interface::SPINDLES;
+use crate::library::{Cause, Fillings, Library, Meaning, Priced, Prices, Ticked};
+use crate::state::{can_rebind, fresh_state, State};
+use interface::{COUNTED_BITS, COUNTED_TICKS, SPINDLES};
 pub use kept::Kept;
 use machine::Machine;
 
@@ -130,6 +132,17 @@ fn put_smaller(text: &[u8], out: &mut [u8]) -> Result<usize, Refusal> {
 
 fn put_little(frames: usize, number: usize, out: &mut [u8]) -> Result<usize, Refusal> {
     put(&little::fill(frames, number)?[..frames], out)
+}
+
+/// Refusals 14 and 28 follow those of the image check.
+fn count(image: &[u8], size: usize, ticks: usize, conditions: usize) -> Result<Counts, Refusal> {
+    let mut frames = [[0; 10]; IMAGE_FRAMES];
+    let (frames, parts) = accepted(image, &mut frames)?;
+    let fresh = fresh_state(size).ok_or(Refusal::of(14))?;
+    if ticks > COUNTED_TICKS || conditions > COUNTED_BITS || ticks * conditions > COUNTED_BITS {
+        return refuse(28, 0);
+    }
+    Ok(Machine::<false>::new(frames, &parts).count(&fresh, ticks, conditions))
 }
 
 /// A run on an image's text. Where it `SCANS`, each tick that takes a row looks through all rows of the image, to compare times.
@@ -292,6 +305,12 @@ impl Library for Fast {
 
     fn little_chart(&self, frames: usize, number: usize, text: &mut [u8]) -> Answer {
         answered(put_little(frames, number, text))
+    }
+
+    fn count_fillings(&self, image: &[u8], size: usize, ticks: usize, conditions: usize) -> Fillings {
+        let counted = count(image, size, ticks, conditions);
+        let Counts { ended, full, unmatched } = counted.unwrap_or_default();
+        Fillings { answer: answered(counted.map(|_| 0)), ended, full, unmatched }
     }
 
     fn prepare(&self, image: &[u8], table: &mut [u8]) -> Answer {

@@ -63,6 +63,13 @@ fn change(random: &mut Random, entry: EntryPoint, input: &mut Input) {
             }
             remember(input);
         }
+        EntryPoint::CountFillings => {
+            match random.below(6) {
+                0 => input.value = random.within(1, 32),
+                1 => input.lists = random.pick(&[(4, 2), (8, 1), (2, 4), (1, 8), (2_000, 0)]),
+                _ => image(random, &mut input.frames),
+            };
+        }
         EntryPoint::LittleChart => input.chart = random.below(648),
         EntryPoint::Fresh | EntryPoint::Meaning => input.value = random.below(256),
     }

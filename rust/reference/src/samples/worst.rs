@@ -2,7 +2,7 @@
 //! search found. controller/count counts what they take; the comparison makes each of these calls too.
 
 use super::worst_charts::worst_charts;
-use super::worst_images::{worst_images, worst_ticks};
+use super::worst_images::{rows_that_match_from_home, worst_images, worst_ticks};
 use super::worst_joined::worst_joined;
 use super::worst_tables::worst_tables;
 use super::{chart_p, found, largest_image, named_charts};
@@ -15,6 +15,7 @@ use crate::little;
 use crate::prepare::table_of;
 use crate::state::{fresh_state, State};
 use crate::{machine, translator};
+use interface::PLACES;
 
 /// How many words a run has here.
 pub const WORDS: usize = 64;
@@ -65,6 +66,7 @@ pub fn known(entry: EntryPoint) -> Vec<Candidate> {
         EntryPoint::CheckImage | EntryPoint::Prepare | EntryPoint::ListRows => images(),
         EntryPoint::Minimise => smaller_images(),
         EntryPoint::LittleChart => little_charts(),
+        EntryPoint::CountFillings => fillings(),
         EntryPoint::Tick
         | EntryPoint::Run
         | EntryPoint::PricedRun
@@ -145,7 +147,21 @@ fn images() -> Vec<Candidate> {
     all
 }
 
-/// The same and images that take long to join, less those that have no room on the board beside what they become.
+/// The same on the largest stack, each with 256 lists of words: few enough for the board. Then all 65,536 lists of 16 words on chart P,
+/// which take most of the stack, and lists whose every tick compares 1,024 rows.
+fn fillings() -> Vec<Candidate> {
+    let mut all = images();
+    let constructed = |name: &str, lists, frames| {
+        Candidate::new(name, Origin::Construction, Input { lists, ..Input::of(frames) })
+    };
+    let longest = all[0].input.frames.clone();
+    all.push(constructed("chart P, 16 words", (16, 1), longest));
+    all.push(constructed("1,024 rows that match, 8 words", (8, 1), rows_that_match_from_home().frames()));
+    all.iter_mut().for_each(|candidate| candidate.input.value = PLACES);
+    all
+}
+
+/// Images and such as take long to join, less those that have no room on the board beside what they become.
 fn smaller_images() -> Vec<Candidate> {
     let mut all = images();
     let constructed = worst_joined().into_iter();

@@ -63,6 +63,13 @@ fn plain_rows_that_match() -> Image {
     filled(PLAIN, 1, |k| Row { care: rising(k), ..any_word(BUSY, 2, BUSY) })
 }
 
+/// The same label, which home leads to.
+pub fn rows_that_match_from_home() -> Image {
+    let mut image = plain_rows_that_match();
+    image.entries[0] = BUSY;
+    image
+}
+
 /// Functions of scheme 2: nearly all rows match words 0 and 1 and a result of 0, none with fewer ones than the row before it. The
 /// last two have most: they lead to the return on word 0, and back to the label on word 1.
 fn function_rows_that_match() -> Image {

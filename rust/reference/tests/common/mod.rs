@@ -25,7 +25,7 @@ macro_rules! faults {
 macro_rules! as_the_reference {
     ($($call:ident),* $(,)?) => { $(as_the_reference!(@$call);)* };
     (@chart_calls) => { as_the_reference!(read_chart, write_chart, translate, places); };
-    (@image_calls) => { as_the_reference!(check_image, cause, list_rows, minimise, prepare); };
+    (@image_calls) => { as_the_reference!(check_image, cause, list_rows, minimise, count_fillings, prepare); };
     (@run_calls) => { as_the_reference!(run, priced_run, live_run); };
     (@rebindings) => { as_the_reference!(rebind, live_rebind); };
     (@spins) => { as_the_reference!(spin, live_spin); };
@@ -54,6 +54,14 @@ macro_rules! as_the_reference {
     (@minimise) => { as_the_reference!(@fn minimise(image: &[u8], out: &mut [u8]) -> reference::Answer); };
     (@little_chart) => {
         as_the_reference!(@fn little_chart(frames: usize, number: usize, text: &mut [u8]) -> reference::Answer);
+    };
+    (@count_fillings) => {
+        as_the_reference!(@fn count_fillings(
+            image: &[u8],
+            size: usize,
+            ticks: usize,
+            conditions: usize
+        ) -> reference::Fillings);
     };
     (@prepare) => { as_the_reference!(@fn prepare(image: &[u8], table: &mut [u8]) -> reference::Answer); };
     (@live_run) => { as_the_reference!(@run live_run); };

@@ -201,6 +201,7 @@ impl Library for Faulty {
         cause,
         list_rows,
         minimise,
+        count_fillings,
         prepare,
         priced_run,
         live_run,

@@ -281,6 +281,7 @@ impl Library for Faulty {
         cause,
         list_rows,
         minimise,
+        count_fillings,
         run,
         priced_run,
         rebindings,

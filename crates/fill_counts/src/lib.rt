@@ -1,0 +1,103 @@
+// How the runs of all lists of words end, counted on a prepared table: lists that share a beginning share its ticks.
+use runs::tick_word;
+ghost use mathlib.Core.Path.{_≡_};
+ghost use Prim.Native.Nat.{_*_, _^_, _≤_};
+ghost use Rattle.lists.specs.Pick.{pick};
+ghost use Rattle.tables.specs.Table.{tableImage};
+ghost use Rattle.state.specs.Bytes.{stateOf};
+ghost use Rattle.ticks.specs.Parts.{Stands};
+ghost use Rattle.fill_counts.specs.Parts.{tallyOf, allMeet, added, Few};
+
+// Of some lists: how many run to their end, meet 17 and meet 18.
+pub struct Tally {
+    pub ended: u32,
+    pub full: u32,
+    pub unmatched: u32,
+}
+
+fn power(k: usize) -> u32
+    requires { ⌜ k ≤ 16 ⌝ }
+    ensures { λ r. ⌜ r ≡ 2 ^ k ⌝ }
+{
+    1 << k
+}
+
+fn only_if(here: bool, lists: u32) -> u32
+    ensures { λ r. ⌜ r ≡ pick here lists 0 ⌝ }
+{
+    if here {
+        return lists;
+    }
+    0
+}
+
+// That many lists, all of which meet one number; 0 stands for their end.
+fn all_meet(number: u8, lists: u32) -> Tally
+    ensures { λ r. ⌜ r ≡ allMeet number lists ⌝ }
+{
+    Tally {
+        ended: only_if(number == 0, lists),
+        full: only_if(number == 17, lists),
+        unmatched: only_if(number == 18, lists),
+    }
+}
+
+fn add(a: Tally, b: Tally) -> Tally
+    requires { ⌜ Few (added a b) ⌝ }
+    ensures { λ r. ⌜ r ≡ added a b ⌝ }
+{
+    Tally {
+        ended: a.ended + b.ended,
+        full: a.full + b.full,
+        unmatched: a.unmatched + b.unmatched,
+    }
+}
+
+// Words that all are 0: one list, tick by tick.
+pub fn tally_one(table: &[u8], bytes: [u8; 130], n: usize) -> Tally
+    requires { ⌜ Stands (now table) (stateOf bytes) ⌝ }
+    ensures { λ r. ⌜ r ≡ tallyOf (tableImage (now (table .entry))) (stateOf bytes) n 0 ⌝ }
+{
+    let mut state = bytes;
+    let mut left = n;
+    while 0 < left {
+        let done = tick_word(table, &mut state, 0);
+        let number = done.number;
+        if number != 0 {
+            return all_meet(number, 1);
+        }
+        left -= 1;
+    }
+    all_meet(0, 1)
+}
+
+// Each first word has its tick once, and then the rest of the words are tallied from there;
+// a word that is stopped stops all lists that begin so.
+pub fn tally_all(table: &[u8], bytes: &[u8; 130], n: usize, k: usize) -> Tally
+    requires { ⌜ Stands (now table) (stateOf (now bytes)) ⌝ }
+    requires { ⌜ n * k ≤ 16 ⌝ }
+    ensures { λ r. ⌜ r ≡ tallyOf (tableImage (now (table .entry))) (stateOf (now (bytes .entry))) n k ⌝ }
+{
+    if n == 0 {
+        return all_meet(0, 1);
+    }
+    let left = n - 1;
+    let lists = power(left * k);
+    let words = power(k);
+    let mut tally = all_meet(0, 0);
+    let mut word: u32 = 0;
+    while word < words {
+        let mut next = *bytes;
+        let done = tick_word(table, &mut next, word as u16);
+        let number = done.number;
+        word += 1;
+        if number == 0 {
+            let more = tally_all(table, &next, left, k);
+            tally = add(tally, more);
+        } else {
+            let stopped = all_meet(number, lists);
+            tally = add(tally, stopped);
+        }
+    }
+    tally
+}

@@ -1,0 +1,1 @@
+// How often the stack fills: definitions and laws of the counts, no function.
