@@ -8,16 +8,17 @@ use lib.Dec.{leb}
 use lib.ListN.{length, getD}
 use borrow.Author.Tests.{leb-false}
 use Rattle.lists.proofs.Tests.{no-both}
-use Rattle.bits.specs.Results.{Results, resultOf, withResult}
+use Rattle.results.specs.Results.{Results, resultOf, withResult}
 use Rattle.frames.specs.Answer.{success}
 use Rattle.frames.specs.Frame.{contents}
-use Rattle.image.specs.Image.{Image, Label, Row}
-use Rattle.image.proofs.Sound.{noRow, Sound}
+use Rattle.image.specs.Image.{Image, Label, Row, noRow}
+use Rattle.image.specs.inner.Sound.{SoundImage}
+use Rattle.image.specs.Layout.{tickKind}
 use Rattle.walk.proofs.FactsHold.{facts}
 use Rattle.translator.specs.Entry.{translate}
 use Rattle.translator.proofs.SoundTable.{table-sound}
 use Rattle.translator.proofs.Translated.{translated-fine, translated-few}
-use Rattle.rows.specs.Rows.{isOwn, Choice, row, none, bestRow, Found, leads}
+use Rattle.rows.specs.Rows.{isCandidate, Choice, row, noChoice, bestRow, Found, leads}
 use Rattle.rows.specs.Choices.{Best}
 use Rattle.rows.proofs.BestRows.{best-is}
 use Rattle.state.specs.declared.State.{State}
@@ -25,9 +26,8 @@ use Rattle.state.specs.State.{labelAt, placeAt, numberAt, serverAt, Sized}
 use Rattle.state.specs.Changes.{withBits}
 use Rattle.fitness.specs.Fitness.{isCall, unfit}
 use Rattle.fitness.proofs.Fitness.{Fits, unfits}
-use Rattle.ticks.specs.Tick.{calledBit, choice, Ticked, moved, dropping, popped, tickBy, tick}
-use Rattle.ticks.specs.Parts.{topOf}
-use Rattle.ticks.proofs.Leads.{Sort, first, second, other, sort, call-kind, carry-told}
+use Rattle.ticks.specs.Tick.{calledBit, choice, MachineTick, moved, dropping, popped, tickBy, tick, topOf}
+use Rattle.ticks.proofs.Leads.{Sort, homeSort, returnSort, numberedSort, sort, call-kind, carry-told}
 use Rattle.agreement.proofs.OnlyRow.{Only, image, read, image-is, only-translated}
 
 -- which of the rows a label takes by a word and a bit
@@ -36,8 +36,8 @@ Rule = ℕ → ℕ → ℕ → List Row → Choice
 
 -- a row that matches, or none where no row does
 abbrev pub Matching : ℕ → ℕ → ℕ → List Row → Choice → Type 0
-Matching l w b rs none = (j : ℕ) → j < length rs → isOwn l w b (getD rs j noRow) ≡ false
-Matching l w b rs (row k r) = (k < length rs) × (getD rs k noRow ≡ r) × (isOwn l w b r ≡ true)
+Matching l w b rs noChoice = (j : ℕ) → j < length rs → isCandidate l w b (getD rs j noRow) ≡ false
+Matching l w b rs (row k r) = (k < length rs) × (getD rs k noRow ≡ r) × (isCandidate l w b r ≡ true)
 
 abbrev pub TakesMatching : Rule → Type 0
 TakesMatching f = (l w b : ℕ) (rs : List Row) → Matching l w b rs (f l w b rs)
@@ -49,27 +49,28 @@ only-taken l w b rs o x m = go x m ∙ sym (o .taken)
     best = best-is l w b rs (o .number) (o .one) (o .taken)
 
     go : (x : Choice) → Matching l w b rs x → x ≡ row (o .number) (o .one)
-    go none m = no-both (isOwn l w b (getD rs (o .number) noRow)) (ap (isOwn l w b) (best .is) ∙ best .matches) (m (o .number) (best .inside))
+    go noChoice m = no-both (isCandidate l w b (getD rs (o .number) noRow))
+        (ap (isCandidate l w b) (best .is) ∙ best .matches) (m (o .number) (best .inside))
     go (row k r) m =
-        let same : k ≡ o .number = o .only k (m .0) (ap (isOwn l w b) (m .1) ∙ m .2) in
+        let same : k ≡ o .number = o .only k (m .0) (ap (isCandidate l w b) (m .1) ∙ m .2) in
         ap₂ row same (sym (m .1) ∙ ap (λ (j : ℕ). getD rs j noRow) same ∙ best .is)
 
 -- ---- the machine's tick, but for the rule
 abbrev rowBy : Rule → Image → Results → ℕ → ℕ → Found
 rowBy f i b l w = leads (f l w (calledBit i b l) (i .rows))
 
-abbrev poppedBy : Rule → Image → State → ℕ → ℕ → Results → Bool → Ticked
+abbrev poppedBy : Rule → Image → State → ℕ → ℕ → Results → Bool → MachineTick
 poppedBy f i s w m b true = popped i s w m b true
 poppedBy f i s w m b false = moved m 3 (dropping s b) (s .depth - 2) (rowBy f i b (placeAt s (s .depth - 2)) w)
 
-abbrev kindBy : Rule → Image → State → ℕ → ℕ → Label → Results → ℕ → Ticked
+abbrev kindBy : Rule → Image → State → ℕ → ℕ → Label → Results → ℕ → MachineTick
 kindBy f i s w l x b zero = moved (x .mask) 0 (withBits s b) (s .depth - 1) (rowBy f i b l w)
-kindBy f i s w l x b (suc zero) = tickBy i s w l x b 1
-kindBy f i s w l x b (suc (suc zero)) = tickBy i s w l x b 2
+kindBy f i s w l x b (suc zero) = tickBy i s w l x b (tickKind 1)
+kindBy f i s w l x b (suc (suc zero)) = tickBy i s w l x b (tickKind 2)
 kindBy f i s w l x b (suc (suc (suc zero))) = poppedBy f i s w (x .mask) b (leb (s .depth) 1)
-kindBy f i s w l x b (suc (suc (suc (suc n)))) = tickBy i s w l x b 4
+kindBy f i s w l x b (suc (suc (suc (suc n)))) = tickBy i s w l x b (tickKind 4)
 
-abbrev pub tickWith : Rule → Image → State → ℕ → Ticked
+abbrev pub tickWith : Rule → Image → State → ℕ → MachineTick
 tickWith f i s w = let l = topOf s in let x = labelAt i l in
     kindBy f i s w l x (withResult (x .result) (numberAt s (s .depth - 1)) (s .bits)) (x .kind)
 
@@ -78,7 +79,8 @@ module _ (f : Rule) (i : Image) (s : State) (w : ℕ) where
   abbrev Same : ℕ → Type 0
   Same l = (b : Results) → f l w (calledBit i b l) (i .rows) ≡ choice i b l w
 
-  same-tick : (labelAt i (topOf s) .kind ≡ 0 → Same (topOf s)) → (1 < s .depth → Same (placeAt s (s .depth - 2))) → tickWith f i s w ≡ tick i s w
+  same-tick : (labelAt i (topOf s) .kind ≡ 0 → Same (topOf s)) → (1 < s .depth → Same (placeAt s (s .depth - 2)))
+      → tickWith f i s w ≡ tick i s w
   unfolding tick
   same-tick top beneath = go (x .kind) refl
     where
@@ -92,7 +94,7 @@ module _ (f : Rule) (i : Image) (s : State) (w : ℕ) where
       back true e = refl
       back false e = ap (λ (c : Choice). moved (x .mask) 3 (dropping s b) (s .depth - 2) (leads c)) (beneath (leb-false (s .depth) 1 e) b)
 
-      go : (k : ℕ) → x .kind ≡ k → kindBy f i s w (topOf s) x b k ≡ tickBy i s w (topOf s) x b k
+      go : (k : ℕ) → x .kind ≡ k → kindBy f i s w (topOf s) x b k ≡ tickBy i s w (topOf s) x b (tickKind k)
       go zero e = ap (λ (c : Choice). moved (x .mask) 0 (withBits s b) (s .depth - 1) (leads c)) (top e b)
       go (suc zero) e = refl
       go (suc (suc zero)) e = refl
@@ -113,8 +115,8 @@ module _ (text out : List ℕ) (n : ℕ) (done : translate text out .reply ≡ s
       only-taken l w (calledBit i b l) (i .rows) (only-translated text out n done l low high w (resultOf (labelAt i l .called) b))
       (f l w (calledBit i b l) (i .rows)) (takes l w (calledBit i b l) (i .rows))
 
-  sound : Sound i
-  sound = subst Sound (sym (image-is text out n done))
+  sound : SoundImage i
+  sound = subst SoundImage (sym (image-is text out n done))
       (table-sound (contents text) (facts text (read text out n done)) (translated-few text (translated-fine text out n done)))
 
   -- a label with rows is 2 or above
@@ -122,9 +124,9 @@ module _ (text out : List ℕ) (n : ℕ) (done : translate text out .reply ≡ s
   numbered l h k = go (sort i sound l h)
     where
       go : Sort i sound l → 2 ≤ l
-      go (first z q o) = absurd (omega arith)
-      go (second z q o) = absurd (omega arith)
-      go (other z q) = z
+      go (homeSort z q o) = absurd (omega arith)
+      go (returnSort z q o) = absurd (omega arith)
+      go (numberedSort z q) = z
 
   -- every tick, of every state that fits
   pub any-tick : (s : State) → Sized s → unfit i s ≡ false → (w : ℕ) → tickWith f i s w ≡ tick i s w

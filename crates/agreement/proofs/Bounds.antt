@@ -7,7 +7,7 @@ use lib.ListN.{length}
 use native.Mathlib.Omega.{arith}
 use Rattle.charts.specs.Chart.{Chart}
 use Rattle.walk.specs.Walk.{Signal, Tick}
-use Rattle.walk.proofs.Trace.{Position, tickAt, move, trace, reached}
+use Rattle.walk.proofs.Trace.{WalkPosition, tickAt, move, trace, positionReached}
 use Rattle.agreement.specs.Agreement.{isFullCall, bound}
 
 module _ (n : ℕ) (t : Tick) (ts : List Tick) where
@@ -49,12 +49,12 @@ bound-part n (t ∷ ts) us h = go (bound-part n ts us) (isFullCall n t) refl
         omega (arith, bound-go n t (ts ++ us) e, bound-go n t ts e, ih q)
 
 -- the position after the words, or the first one on the way that calls at a full stack
-unfoldable pub stand : Chart → ℕ → List Signal → Position → Position
+unfoldable pub stand : Chart → ℕ → List Signal → WalkPosition → WalkPosition
 stand c n [] x = x
 stand c n (w ∷ ws) x = elim (isFullCall n (tickAt n c x)) [ true ↦ x | false ↦ stand c n ws (move n c w x) ]
 
 module _ (c : Chart) (n : ℕ) where
-  module _ (w : Signal) (ws : List Signal) (x : Position) where
+  module _ (w : Signal) (ws : List Signal) (x : WalkPosition) where
     pub stand-stop : isFullCall n (tickAt n c x) ≡ true → stand c n (w ∷ ws) x ≡ x
     unfolding stand
     stand-stop e = rw (e, stand)
@@ -63,29 +63,30 @@ module _ (c : Chart) (n : ℕ) where
     unfolding stand
     stand-go e = rw (e, stand)
 
-  pub stand-full : (ws : List Signal) (x : Position) → bound n (trace n c ws x) ≡ length ws → stand c n ws x ≡ reached n c ws x
-  unfolding trace reached stand
+  pub stand-full : (ws : List Signal) (x : WalkPosition) → bound n (trace n c ws x) ≡ length ws → stand c n ws x ≡ positionReached n c ws x
+  unfolding trace positionReached stand
   stand-full [] x h = refl
   stand-full (w ∷ ws) x h = go (stand-full ws (move n c w x)) (isFullCall n (tickAt n c x)) refl
     where
-      go : (bound n (trace n c ws (move n c w x)) ≡ length ws → stand c n ws (move n c w x) ≡ reached n c ws (move n c w x))
-          → (r : Bool) → isFullCall n (tickAt n c x) ≡ r → stand c n (w ∷ ws) x ≡ reached n c ws (move n c w x)
+      go : (bound n (trace n c ws (move n c w x)) ≡ length ws → stand c n ws (move n c w x) ≡ positionReached n c ws (move n c w x))
+          → (r : Bool) → isFullCall n (tickAt n c x) ≡ r → stand c n (w ∷ ws) x ≡ positionReached n c ws (move n c w x)
       go ih true e = absurd (omega (arith, bound-stop n (tickAt n c x) (trace n c ws (move n c w x)) e))
       go ih false e = stand-go w ws x e ∙ ih (omega (arith, bound-go n (tickAt n c x) (trace n c ws (move n c w x)) e))
 
-  pub stand-part : (ws : List Signal) (x : Position) → bound n (trace n c ws x) < length ws → isFullCall n (tickAt n c (stand c n ws x)) ≡ true
+  pub stand-part : (ws : List Signal) (x : WalkPosition) → bound n (trace n c ws x) < length ws
+      → isFullCall n (tickAt n c (stand c n ws x)) ≡ true
   unfolding trace
   stand-part [] x h = absurd (omega arith)
   stand-part (w ∷ ws) x h = go (stand-part ws (move n c w x)) (isFullCall n (tickAt n c x)) refl
     where
       go : (bound n (trace n c ws (move n c w x)) < length ws → isFullCall n (tickAt n c (stand c n ws (move n c w x))) ≡ true)
           → (r : Bool) → isFullCall n (tickAt n c x) ≡ r → isFullCall n (tickAt n c (stand c n (w ∷ ws) x)) ≡ true
-      go ih true e = ap (λ (y : Position). isFullCall n (tickAt n c y)) (stand-stop w ws x e) ∙ e
-      go ih false e = ap (λ (y : Position). isFullCall n (tickAt n c y)) (stand-go w ws x e)
+      go ih true e = ap (λ (y : WalkPosition). isFullCall n (tickAt n c y)) (stand-stop w ws x e) ∙ e
+      go ih false e = ap (λ (y : WalkPosition). isFullCall n (tickAt n c y)) (stand-go w ws x e)
           ∙ ih (omega (arith, bound-go n (tickAt n c x) (trace n c ws (move n c w x)) e))
 
   -- from there on no tick is made
-  pub bound-here : (ws : List Signal) (x : Position) → isFullCall n (tickAt n c x) ≡ true → bound n (trace n c ws x) ≡ 0
+  pub bound-here : (ws : List Signal) (x : WalkPosition) → isFullCall n (tickAt n c x) ≡ true → bound n (trace n c ws x) ≡ 0
   unfolding trace bound
   bound-here [] x e = refl
   bound-here (w ∷ ws) x e = bound-stop n (tickAt n c x) (trace n c ws (move n c w x)) e

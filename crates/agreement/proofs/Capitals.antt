@@ -7,7 +7,7 @@ use Rattle.frames.specs.Verdict.{Verdict}
 use Rattle.frames.proofs.Capitals.{capitals-alike}
 use Rattle.image.specs.Check.{imageVerdict}
 use Rattle.state.specs.declared.State.{State}
-use Rattle.runs.specs.Advance.{Advance, advance}
+use Rattle.runs.specs.TickOutcome.{TickOutcome, imageTick}
 use Rattle.spindles.specs.Spindles.{stateAt, headVerdict, spunOn, spin}
 use Rattle.charts.proofs.Alike as chart
 use Rattle.image.proofs.Alike as image
@@ -24,11 +24,11 @@ use Rattle.fillings.proofs.Alike as filling
 use Rattle.agreement.specs.Capitals.{AsInCapitals}
 
 -- a call of a spindle by what the image check tries and the tick
-spins-alike : (t u : List ℕ) → imageVerdict t ≡ imageVerdict u → ((s : State) (w : ℕ) → advance t s w ≡ advance u s w)
+spins-alike : (t u : List ℕ) → imageVerdict t ≡ imageVerdict u → ((s : State) (w : ℕ) → imageTick t s w ≡ imageTick u s w)
     → (states : List State) (taken k w : ℕ) → spin t states taken k w ≡ spin u states taken k w
 unfolding spin
 spins-alike t u e f states taken k w =
-    ap₂ (λ (v : Verdict) (x : Advance). spunOn (headVerdict v states taken k) states taken k (λ _. x)) e (f (stateAt states k) w)
+    ap₂ (λ (v : Verdict) (x : TickOutcome). spunOn (headVerdict v states taken k) states taken k (λ _. x)) e (f (stateAt states k) w)
 
 pub as-in-capitals : (t : List ℕ) → AsInCapitals t
 as-in-capitals t = record {
@@ -45,5 +45,6 @@ as-in-capitals t = record {
   explains = cause.explains (map capital t) t (capitals-alike t);
   counts = filling.counts-alike (map capital t) t (capitals-alike t);
   rebinds = rebinding.rebinds (map capital t) t (capitals-alike t);
-  spins = spins-alike (map capital t) t (image.image-verdict (map capital t) t (capitals-alike t)) (running.advances (map capital t) t (capitals-alike t));
+  spins = spins-alike (map capital t) t (image.image-verdict (map capital t) t (capitals-alike t))
+      (running.advances (map capital t) t (capitals-alike t));
 }

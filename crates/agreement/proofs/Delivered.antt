@@ -7,25 +7,25 @@ use Rattle.state.specs.declared.State.{State}
 use Rattle.state.specs.State.{freshState}
 use Rattle.runs.specs.Run.{run}
 use Rattle.rebinding.specs.Rebind.{rebind}
-use Rattle.agreement.specs.Agreement.{Given, Handed, chain, Agreement}
-use Rattle.agreement.specs.Calls.{Calls, none, more, Delivered}
+use Rattle.agreement.specs.Agreement.{CallInput, CallOutput, callOutputs, Agreement}
+use Rattle.agreement.specs.Calls.{CallsInTurn, none, more, Delivered}
 use Rattle.agreement.proofs.Demand.{theorem}
 use Rattle.agreement.proofs.OneCall.{Like, call-like, chain-more}
 
-pub calls-chain : (image : List ℕ) (s : State) (given : List Given) (handed : List Handed) → Calls image s given handed
-    → handed ≡ chain run rebind image s given
-unfolding chain
+pub calls-chain : (image : List ℕ) (s : State) (given : List CallInput) (handed : List CallOutput) → CallsInTurn image s given handed
+    → handed ≡ callOutputs run rebind image s given
+unfolding callOutputs
 calls-chain image s [] [] none = refl
 calls-chain image s (g ∷ rest) (d ∷ handed) (more {after = after} c cs) =
     let like : Like image s g d after = call-like image s c in
-    ap₂ (λ (x : Handed) (l : List Handed). x ∷ l) (like .handed-is)
-    (calls-chain image after rest handed cs ∙ ap (λ (z : State). chain run rebind image z rest) (like .state-is))
+    ap₂ (λ (x : CallOutput) (l : List CallOutput). x ∷ l) (like .handed-is)
+    (calls-chain image after rest handed cs ∙ ap (λ (z : State). callOutputs run rebind image z rest) (like .state-is))
     ∙ sym (chain-more image s g rest)
 
 pub delivered : Delivered
 unfolding Delivered Agreement
 delivered text before after answer c n e size low high made m given handed cs =
     calls-chain (take n after) (made .state) given handed cs
-    ∙ ap (λ (s : State). chain run rebind (take n after) s given) (m .state)
-    ∙ ap (λ (b : List ℕ). chain run rebind (take n b) (freshState size .state) given) (c .written)
+    ∙ ap (λ (s : State). callOutputs run rebind (take n after) s given) (m .state)
+    ∙ ap (λ (b : List ℕ). callOutputs run rebind (take n b) (freshState size .state) given) (c .written)
     ∙ theorem text before n (sym (c .answered) ∙ e) size low high given

@@ -14,7 +14,7 @@ use Rattle.translator.proofs.Translated.{translated-read, translated-fine, tran
 use Rattle.state.specs.State.{freshState}
 use Rattle.runs.specs.Run.{run}
 use Rattle.rebinding.specs.Rebind.{rebind}
-use Rattle.agreement.specs.Agreement.{chain, Agreement}
+use Rattle.agreement.specs.Agreement.{callOutputs, Agreement}
 use Rattle.agreement.proofs.TableFactsHold.{table-facts}
 use Rattle.agreement.proofs.Images.{translated-passes, translated-decoded}
 use Rattle.agreement.proofs.Chain.{calls-agree}
@@ -25,6 +25,6 @@ theorem text out n done size some most given =
     let ok : translateVerdict text ≡ fine = translated-fine text out n done in
     let read : readVerdict text ≡ fine = translated-read text ok in
     let f : Facts (contents text) = facts text read in
-    ap (λ (image : List ℕ). chain run rebind image (freshState size .state) given) (translated-image text out n done)
+    ap (λ (image : List ℕ). callOutputs run rebind image (freshState size .state) given) (translated-image text out n done)
     ∙ calls-agree (contents text) f (table-facts text read) (imageText (table (contents text)))
     (translated-passes text ok f) (translated-decoded text ok f) size most some given

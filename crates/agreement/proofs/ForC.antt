@@ -10,35 +10,36 @@ use Rattle.state.specs.State.{freshState}
 use Rattle.state.specs.Bytes.{stateOf}
 use Rattle.runs.specs.Run.{run}
 use Rattle.rebinding.specs.Rebind.{rebind}
-use Rattle.fairleadow.specs.Calls.{LendsC}
+use Rattle.fairleadow.specs.Calls.{GivesBufferC}
 use Rattle.state.proofs.ResultBytes.{fresh-held}
-use Rattle.agreement.specs.Agreement.{Given, chain, Agreement}
-use Rattle.agreement.specs.ForC.{HandedC, handedC, CallsC, none, more, DeliveredC}
+use Rattle.agreement.specs.Agreement.{CallInput, callOutputs, Agreement}
+use Rattle.agreement.specs.ForC.{CallOutputC, callOutputC, CallsInTurnC, none, more, DeliveredC}
 use Rattle.agreement.proofs.Numbers.{translate-success}
 use Rattle.agreement.proofs.Demand.{theorem}
 use Rattle.agreement.proofs.OneCall.{chain-more}
 use Rattle.agreement.proofs.OneCallC.{LikeC, call-like}
 
 -- a call of fairleadow_translate that returned 0 succeeded with the count that it wrote
-pub returned-0 : (text before after : List ℕ) (at n : ℕ) → LendsC (translate text before) 0 at n after → translate text before .reply ≡ success n
+pub returned-0 : (text before after : List ℕ) (at n : ℕ) → GivesBufferC (translate text before) 0 at n after
+    → translate text before .reply ≡ success n
 returned-0 text before after at n c =
     translate-success text before (sym (c .told .number-is)) ∙ ap success (sym (c .told .count-is))
 
 -- after each call the bytes hold the state that the same call on states hands back
-pub calls-chain : (image bytes : List ℕ) (given : List Given) (handed : List HandedC) → CallsC image bytes given handed
-    → handed ≡ map handedC (chain run rebind image (stateOf bytes) given)
-unfolding chain
+pub calls-chain : (image bytes : List ℕ) (given : List CallInput) (handed : List CallOutputC) → CallsInTurnC image bytes given handed
+    → handed ≡ map callOutputC (callOutputs run rebind image (stateOf bytes) given)
+unfolding callOutputs
 calls-chain image bytes [] [] none = refl
 calls-chain image bytes (g ∷ rest) (d ∷ handed) (more {after = after} c cs) =
     let like : LikeC image bytes g d after = call-like image bytes c in
-    ap₂ (λ (x : HandedC) (l : List HandedC). x ∷ l) (like .handed-is)
-    (calls-chain image after rest handed cs ∙ ap (λ (s : State). map handedC (chain run rebind image s rest)) (like .state-is))
-    ∙ sym (ap (map handedC) (chain-more image (stateOf bytes) g rest))
+    ap₂ (λ (x : CallOutputC) (l : List CallOutputC). x ∷ l) (like .handed-is)
+    (calls-chain image after rest handed cs ∙ ap (λ (s : State). map callOutputC (callOutputs run rebind image s rest)) (like .state-is))
+    ∙ sym (ap (map callOutputC) (chain-more image (stateOf bytes) g rest))
 
 pub delivered-c : DeliveredC
 unfolding DeliveredC Agreement
 delivered-c text before after at n c size low high returned at′ made bytes m given handed cs =
     calls-chain (take n after) bytes given handed cs
-    ∙ ap (λ (s : State). map handedC (chain run rebind (take n after) s given)) (ap stateOf (m .bytes) ∙ fresh-held size)
-    ∙ ap (λ (b : List ℕ). map handedC (chain run rebind (take n b) (freshState size .state) given)) (c .written)
-    ∙ ap (map handedC) (theorem text before n (returned-0 text before after at n c) size low high given)
+    ∙ ap (λ (s : State). map callOutputC (callOutputs run rebind (take n after) s given)) (ap stateOf (m .bytes) ∙ fresh-held size)
+    ∙ ap (λ (b : List ℕ). map callOutputC (callOutputs run rebind (take n b) (freshState size .state) given)) (c .written)
+    ∙ ap (map callOutputC) (theorem text before n (returned-0 text before after at n c) size low high given)

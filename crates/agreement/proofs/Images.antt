@@ -13,16 +13,16 @@ use Rattle.translator.specs.Entry.{translateVerdict}
 use Rattle.translator.proofs.SoundTable.{table-fine, table-decoded}
 use Rattle.translator.proofs.Translated.{translated-few}
 use Rattle.state.specs.declared.State.{State}
-use Rattle.state.specs.State.{Made}
+use Rattle.state.specs.State.{StateOutcome}
 use Rattle.fitness.specs.Fitness.{unfit}
-use Rattle.runs.specs.Run.{Run, noRoom, ticks, runOn, runVerdict, run}
+use Rattle.runs.specs.Run.{RunOutcome, noRoom, ticks, runOn, runVerdict, run}
 use Rattle.rebinding.specs.Rebind.{rebindVerdict, rebindOn, rebind}
 
 -- refusals 15 and 16, and the ticks, on an image that is given as such
 abbrev pub stateVerdict : Image → State → List ℕ → List ℕ → List ℕ → Verdict
 stateVerdict i s words masks codes = next (when 15 (unfit i s)) λ _. when 16 (noRoom words masks codes)
 
-abbrev pub runImage : Image → State → List ℕ → List ℕ → List ℕ → Run
+abbrev pub runImage : Image → State → List ℕ → List ℕ → List ℕ → RunOutcome
 runImage i s words masks codes = runOn (stateVerdict i s words masks codes) (λ _. ticks i s words) s masks codes
 
 pub run-image : (t : List ℕ) (i : Image) → imageVerdict t ≡ fine → decoded (contents t) ≡ i → (s : State) (words masks codes : List ℕ)
@@ -32,7 +32,7 @@ run-image t i ok e s words masks codes =
     ap₂ (λ (v : Verdict) (j : Image). runOn (next v λ _. stateVerdict j s words masks codes) (λ _. ticks j s words) s masks codes) ok e
 
 -- refusals 15 and 22, and the rebinding, likewise
-abbrev pub rebindImage : Image → State → ℕ → ℕ → Made
+abbrev pub rebindImage : Image → State → ℕ → ℕ → StateOutcome
 rebindImage i s h k = rebindOn (rebindVerdict i s h k) s h k
 
 pub rebind-image : (t : List ℕ) (i : Image) → imageVerdict t ≡ fine → decoded (contents t) ≡ i → (s : State) (h k : ℕ)

@@ -1,4 +1,5 @@
--- What a caller learns by the contract of list_rows, and of fairleadow_list_rows from C: with success the two buffers hold the rows of each label.
+-- What a caller learns by the contract of list_rows, and of fairleadow_list_rows from C:
+-- with success the two buffers hold the rows of each label.
 -- `a` has the arguments, `r` the result, and `s` the arguments at exit, as in Contracts.
 use contract.Lifetimes.{Lfts}
 use denote.Triple.Clauses.{AtExit}
@@ -7,17 +8,18 @@ use Prim.Native.Nat.{ℕ}
 use mathlib.Core.Path.{_≡_, sym, _∙_, ap, subst}
 use mathlib.Core.List.{List}
 use Rattle.frames.specs.Answer.{success, reply}
-use Rattle.listing.specs.Listing.{list, Lists}
+use Rattle.listing.specs.Listing.{list, GivesListing}
 use Rattle.listing.specs.Exact.{Held}
 use Rattle.listing.proofs.Answers.{held}
 use Rattle.listing.proofs.list_rows as list-rows
 use Rattle.listing.proofs.list_rows.Reads as list-rows-reads
-use Rattle.fairleadow.specs.Calls.{ListsC}
+use Rattle.fairleadow.specs.Calls.{GivesListingC}
 use Rattle.fairleadow.proofs.fairleadow_list_rows as c-list-rows
 use Rattle.fairleadow.proofs.fairleadow_list_rows.Reads as c-list-rows-reads
 use Rattle.agreement.proofs.Numbers.{list-success}
 
-holding : (t xs ys : List ℕ) (n : ℕ) → list t xs ys .reply ≡ success n → (us vs : List ℕ) → us ≡ list t xs ys .firsts → vs ≡ list t xs ys .counts
+holding : (t xs ys : List ℕ) (n : ℕ) → list t xs ys .reply ≡ success n → (us vs : List ℕ)
+    → us ≡ list t xs ys .firsts → vs ≡ list t xs ys .counts
     → Held t us vs n
 holding t xs ys n e us vs p q =
     subst (λ (u : List ℕ). Held t u vs n) (sym p) (subst (λ (v : List ℕ). Held t (list t xs ys .firsts) v n) (sym q) (held t xs ys n e))
@@ -28,7 +30,7 @@ rows-listed κs a r s e n d =
     let t : List ℕ = a .0 .now in
     let xs : List ℕ = a .1 .0 .now in
     let ys : List ℕ = a .1 .1 .0 .now in
-    let c : Lists (list t xs ys) r (s .1 .0 .now) (s .1 .1 .0 .now) = e in
+    let c : GivesListing (list t xs ys) r (s .1 .0 .now) (s .1 .1 .0 .now) = e in
     holding t xs ys n (sym (c .answered) ∙ d) (s .1 .0 .now) (s .1 .1 .0 .now) (c .firsts) (c .counts)
 
 pub rows-listed-c : (κs : Lfts 5) (a : ArgsD c-list-rows.signature κs) (r : ResD c-list-rows.signature κs) (s : AtExit c-list-rows.ended κs)
@@ -38,6 +40,7 @@ rows-listed-c κs a r s e z =
     let xs : List ℕ = a .1 .0 .now in
     let ys : List ℕ = a .1 .1 .0 .now in
     let n : ℕ = s .1 .1 .1 .1 .0 .now in
-    let c : ListsC (list t xs ys) r (s .1 .1 .1 .0 .now) n (s .1 .0 .now) (s .1 .1 .0 .now) = e in
-    holding t xs ys n (list-success t xs ys (sym (c .told .number-is) ∙ z) ∙ ap success (sym (c .told .count-is))) (s .1 .0 .now) (s .1 .1 .0 .now)
+    let c : GivesListingC (list t xs ys) r (s .1 .1 .1 .0 .now) n (s .1 .0 .now) (s .1 .1 .0 .now) = e in
+    holding t xs ys n (list-success t xs ys (sym (c .told .number-is) ∙ z) ∙ ap success (sym (c .told .count-is)))
+    (s .1 .0 .now) (s .1 .1 .0 .now)
     (c .firsts) (c .counts)

@@ -11,19 +11,18 @@ use Rattle.frames.specs.Verdict.{fine}
 use Rattle.frames.specs.Answer.{success}
 use Rattle.charts.specs.Chart.{Chart}
 use Rattle.charts.specs.Entry.{readVerdict}
-use Rattle.charts.proofs.Accepted.{Sound, accepted}
+use Rattle.charts.proofs.Accepted.{SoundChart, accepted}
 use Rattle.walk.proofs.FactsHold.{facts}
-use Rattle.image.specs.Image.{Image, Row}
+use Rattle.image.specs.Image.{Image, Row, noRow}
 use Rattle.image.specs.Decode.{decoded}
-use Rattle.image.proofs.Sound.{noRow}
-use Rattle.translator.specs.Labels.{numbered, label}
-use Rattle.translator.specs.Rows.{rows}
+use Rattle.chart_labels.specs.Labels.{numbered, label}
+use Rattle.chart_rows.specs.Rows.{rows}
 use Rattle.translator.specs.Table.{table}
 use Rattle.translator.specs.Entry.{translate}
 use Rattle.translator.proofs.LabelLaws.{Bearer, bearer, rows-are}
-use Rattle.translator.proofs.RowLaws.{onward, one-row, same-row}
+use Rattle.translator.proofs.RowLaws.{onwardStop, one-row, same-row}
 use Rattle.translator.proofs.Translated.{translated-read, translated-fine, translated-image}
-use Rattle.rows.specs.Rows.{isOwn, Choice, row, none, bestRow, found, missing, leads}
+use Rattle.rows.specs.Rows.{isCandidate, Choice, row, noChoice, bestRow, found, missing, leads}
 use Rattle.rows.specs.Choices.{Best}
 use Rattle.rows.proofs.BestRows.{best-is}
 use Rattle.agreement.proofs.TableFactsHold.{best-only}
@@ -34,24 +33,27 @@ pub record Only (l w b : ℕ) (rs : List Row) : Type 0 where
   pub number : ℕ
   pub one : Row
   pub taken : bestRow l w b 0 rs ≡ row number one
-  pub only : (j : ℕ) → j < length rs → isOwn l w b (getD rs j noRow) ≡ true → j ≡ number
+  pub only : (j : ℕ) → j < length rs → isCandidate l w b (getD rs j noRow) ≡ true → j ≡ number
 
-pub only-row : (c : Chart) → Sound c → (v w : ℕ) (b : Bool) → v < size c → numbered c v ≡ true → Only (label c v) w (pick b 1 0) (rows c)
+pub only-row : (c : Chart) → SoundChart c → (v w : ℕ) (b : Bool) → v < size c
+    → numbered c v ≡ true → Only (label c v) w (pick b 1 0) (rows c)
 only-row c a v w b l e = go (bestRow (label c v) w (pick b 1 0) 0 (rows c)) refl
   where
-    leading : leads (bestRow (label c v) w (pick b 1 0) 0 (rows c)) ≡ found (label c (onward c w b v))
-    leading = best-only (label c v) w (pick b 1 0) 0 (label c (onward c w b v)) (rows c) (one-row c a v w b l e)
+    leading : leads (bestRow (label c v) w (pick b 1 0) 0 (rows c)) ≡ found (label c (onwardStop c w b v))
+    leading = best-only (label c v) w (pick b 1 0) 0 (label c (onwardStop c w b v)) (rows c) (one-row c a v w b l e)
 
     go : (x : Choice) → bestRow (label c v) w (pick b 1 0) 0 (rows c) ≡ x → Only (label c v) w (pick b 1 0) (rows c)
-    go none q =
-        absurd (let p : missing ≡ found (label c (onward c w b v)) = sym (ap leads q) ∙ leading in let z : _≡_ {A = ℕ} 0 1 = cc in omega arith)
+    go noChoice q =
+        absurd (let p : missing ≡ found (label c (onwardStop c w b v)) = sym (ap leads q)
+        ∙ leading in let z : _≡_ {A = ℕ} 0 1 = cc in omega arith)
     go (row k r) q =
         let best : Best (label c v) w (pick b 1 0) (rows c) k r = best-is (label c v) w (pick b 1 0) (rows c) k r q in
         record {
           number = k;
           one = r;
           taken = q;
-          only = λ j h o. same-row c a v w b l e j k h (best .inside) o (ap (isOwn (label c v) w (pick b 1 0)) (best .is) ∙ best .matches);
+          only = λ j h o. same-row c a v w b l e j k h (best .inside) o
+              (ap (isCandidate (label c v) w (pick b 1 0)) (best .is) ∙ best .matches);
         }
 
 -- ---- the image that the translator wrote

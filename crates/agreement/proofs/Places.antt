@@ -1,15 +1,16 @@
--- The state of the machine at a position of the walk: of each open scheme, the bottom first, the label of its node, the number that it was called by
+-- The state of the machine at a position of the walk:
+-- of each open scheme, the bottom first, the label of its node, the number that it was called by
 -- and the scheme that it is, then zeros.
 use Prim.Native.Nat.{ℕ, suc, _+_, _-_, _<_}
 use mathlib.Core.Path.{_≡_, refl, ap, _∙_, sym}
 use mathlib.Core.List.{List, [], _∷_}
 use lib.ListN.{length, getD, set, replicate}
 use native.Mathlib.Omega.{arith}
-use Rattle.bits.specs.Results.{Results}
-use Rattle.bits.specs.Binding.{Binding}
+use Rattle.results.specs.Results.{Results}
+use Rattle.bindings.specs.Binding.{Binding}
 use Rattle.charts.specs.Chart.{Chart}
-use Rattle.walk.proofs.Trace.{Open, Position}
-use Rattle.translator.specs.Labels.{label}
+use Rattle.walk.proofs.Trace.{Open, WalkPosition}
+use Rattle.chart_labels.specs.Labels.{label}
 use Rattle.state.specs.declared.State.{State}
 
 -- f of the callers, in front of what is given
@@ -28,8 +29,8 @@ stacked f x ks = below f ks (f x ∷ zerosOver ks)
 abbrev pub labelled : Chart → Open → ℕ
 labelled c x = label c (x .node)
 
-abbrev pub numberOf : Open → ℕ
-numberOf x = x .number
+abbrev pub openNumber : Open → ℕ
+openNumber x = x .number
 
 abbrev pub serverOf : Open → ℕ
 serverOf x = x .server
@@ -38,9 +39,9 @@ serverOf x = x .server
 abbrev pub holding : ℕ → ℕ → Binding → Results → List ℕ → List ℕ → List ℕ → State
 holding n o s b ls hs ks = record { size = n; depth = o; places = ls; bits = b; serving = s; numbers = hs; servers = ks }
 
-abbrev pub stateOf : Chart → ℕ → Binding → Position → State
-stateOf c n s x = let here = x .now in let ks = x .callers in
-    holding n (suc (length ks)) s (x .results) (stacked (labelled c) here ks) (stacked numberOf here ks) (stacked serverOf here ks)
+abbrev pub stateOfPosition : Chart → ℕ → Binding → WalkPosition → State
+stateOfPosition c n s x = let here = x .now in let ks = x .callers in
+    holding n (suc (length ks)) s (x .results) (stacked (labelled c) here ks) (stacked openNumber here ks) (stacked serverOf here ks)
 
 -- the scheme at the bottom
 abbrev pub bottomOf : Open → List Open → Open

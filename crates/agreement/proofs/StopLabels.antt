@@ -13,7 +13,7 @@ use Rattle.walk.specs.Stops.{stops, Stop, plain, call, function, test, home, ba
 use Rattle.walk.proofs.Facts.{StopOf}
 use Rattle.walk.proofs.Views.{View, a-plain, a-call, a-function, a-home, a-back, a-begin, a-condition}
 use Rattle.image.specs.Image.{Label}
-use Rattle.translator.specs.Labels.{numbered, label, labelOf, homeLabel, returnLabel}
+use Rattle.chart_labels.specs.Labels.{numbered, label, stopLabel, homeLabel, returnLabel}
 use Rattle.translator.specs.Table.{table}
 use Rattle.state.specs.State.{labelAt}
 use Rattle.agreement.proofs.TableFacts.{TableFacts}
@@ -46,7 +46,7 @@ module _ (c : Chart) (v : ℕ) where
     pub is-numbered : (kind c v ≡ 1 → ⊥) → numbered c v ≡ true
     is-numbered e = rw (stop .stopping, ne-eqb (kind c v) 1 e)
 
-    of-node : (kind c v ≡ 1 → ⊥) → labelAt (table c) (label c v) ≡ labelOf c v
+    of-node : (kind c v ≡ 1 → ⊥) → labelAt (table c) (label c v) ≡ stopLabel c v
     of-node e = facts .numbers v (stop .inside) (is-numbered e) .2
 
     pub held : {s : Stop} → View c v s → labelAt (table c) (label c v) ≡ heldBy c v s

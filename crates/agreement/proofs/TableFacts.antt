@@ -7,8 +7,8 @@ use Rattle.lists.specs.Pick.{pick}
 use Rattle.frames.specs.Frame.{size}
 use Rattle.charts.specs.Chart.{Chart, kind, next0, next1, schemes}
 use Rattle.walk.specs.Stops.{stops, byArc, byWord}
-use Rattle.translator.specs.Labels.{numbered, label, entry, homeLabel, returnLabel, labelOf}
-use Rattle.translator.specs.Rows.{rows}
+use Rattle.chart_labels.specs.Labels.{numbered, label, entry, homeLabel, returnLabel, stopLabel}
+use Rattle.chart_rows.specs.Rows.{rows}
 use Rattle.translator.specs.Table.{table}
 use Rattle.state.specs.State.{labelAt, entryAt}
 use Rattle.rows.specs.Rows.{bestRow, found, leads}
@@ -19,11 +19,12 @@ pub record TableFacts (c : Chart) : Type 0 where
   pub labels0 : labelAt (table c) 0 ≡ homeLabel
   pub labels1 : labelAt (table c) 1 ≡ returnLabel
   pub numbers : (v : ℕ) → v < size c → numbered c v ≡ true
-      → (2 ≤ label c v) × (label c v < length (table c .labels)) × (labelAt (table c) (label c v) ≡ labelOf c v)
+      → (2 ≤ label c v) × (label c v < length (table c .labels)) × (labelAt (table c) (label c v) ≡ stopLabel c v)
   pub apart : (u v : ℕ) → u < size c → v < size c → numbered c u ≡ true → numbered c v ≡ true → label c u ≡ label c v → u ≡ v
   pub entries : (h : ℕ) → 1 ≤ h → h ≤ schemes c → entryAt (table c) h ≡ entry c h
   -- rows: the one taken by word and bit leads to the label of the stop where the walk goes
-  pub rowPlain : (v w b : ℕ) → v < size c → kind c v ≡ 2 → leads (bestRow (label c v) w b 0 (rows c)) ≡ found (label c (byArc c w (next0 c v)))
+  pub rowPlain : (v w b : ℕ) → v < size c → kind c v ≡ 2
+      → leads (bestRow (label c v) w b 0 (rows c)) ≡ found (label c (byArc c w (next0 c v)))
   pub rowBegin : (v w b : ℕ) → v < size c → kind c v ≡ 0 → stops c v ≡ true
       → leads (bestRow (label c v) w b 0 (rows c)) ≡ found (label c (byWord c w (next0 c v)))
   pub rowCondition : (v w b : ℕ) → v < size c → kind c v ≡ 3 → stops c v ≡ true

@@ -1,4 +1,5 @@
--- Small letters: what each entry point that takes a text answers, and leaves in buffers and state, is what it does for the text in capitals.
+-- Small letters: what each entry point that takes a text answers, and leaves in buffers and state,
+-- is what it does for the text in capitals.
 -- No text is left out, be it refused or longer than any that is accepted.
 use Prim.Native.Nat.{ℕ}
 use mathlib.Core.Path.{_≡_}
@@ -16,9 +17,9 @@ use Rattle.cause.specs.Cause.{explain}
 use Rattle.rebinding.specs.Rebind.{rebind}
 use Rattle.priced_runs.specs.PricedRun.{pricedRun}
 use Rattle.runs.specs.Run.{run}
-use Rattle.runs.specs.Advance.{advance}
+use Rattle.runs.specs.TickOutcome.{imageTick}
 use Rattle.spindles.specs.Spindles.{spin}
-use Rattle.fillings.specs.Counts.{counted}
+use Rattle.fillings.specs.Counts.{countFillings}
 
 pub record AsInCapitals (t : List ℕ) : Type 0 where
   pub reads : (records : List ℕ) → readChart (map capital t) records ≡ readChart t records
@@ -31,8 +32,9 @@ pub record AsInCapitals (t : List ℕ) : Type 0 where
   pub runs : (s : State) (words masks codes : List ℕ) → run (map capital t) s words masks codes ≡ run t s words masks codes
   pub prices : (s : State) (list words masks codes : List ℕ)
       → pricedRun (map capital t) s list words masks codes ≡ pricedRun t s list words masks codes
-  pub ticks : (s : State) (word : ℕ) → advance (map capital t) s word ≡ advance t s word
+  pub ticks : (s : State) (word : ℕ) → imageTick (map capital t) s word ≡ imageTick t s word
   pub explains : (s : State) (word : ℕ) → explain (map capital t) s word ≡ explain t s word
   pub rebinds : (s : State) (number scheme : ℕ) → rebind (map capital t) s number scheme ≡ rebind t s number scheme
-  pub spins : (states : List State) (taken spindle word : ℕ) → spin (map capital t) states taken spindle word ≡ spin t states taken spindle word
-  pub counts : (size ticks conditions : ℕ) → counted (map capital t) size ticks conditions ≡ counted t size ticks conditions
+  pub spins : (states : List State) (taken spindle word : ℕ)
+      → spin (map capital t) states taken spindle word ≡ spin t states taken spindle word
+  pub counts : (size ticks conditions : ℕ) → countFillings (map capital t) size ticks conditions ≡ countFillings t size ticks conditions

@@ -13,8 +13,8 @@ use Rattle.walk.specs.Walk.{perform, walkFrom, walk}
 use Rattle.image.specs.Image.{imageFrames, imageText}
 use Rattle.image.specs.Decode.{decoded}
 use Rattle.image.specs.Check.{badHeader, positionOf, stray, badContent, tableVerdict, imageVerdict}
-use Rattle.translator.specs.Labels.{label}
-use Rattle.translator.specs.Rows.{paths, rowsOf, rows}
+use Rattle.chart_labels.specs.Labels.{label}
+use Rattle.chart_rows.specs.Rows.{paths, rowsOf, rows}
 use Rattle.translator.specs.Table.{table}
 use Rattle.translator.specs.Entry.{translateVerdict, translate}
 use Rattle.chains.specs.Calls.{calls, circular, endsOf, places}

@@ -1,14 +1,14 @@
 -- The cases of how often the stack fills hold, computed.
 use mathlib.Core.Path.{refl}
 use Rattle.lists.specs.Numbers.{count}
-use Rattle.fillings.specs.Counts.{wordsOf, meeting, countVerdict, counted}
+use Rattle.fillings.specs.Counts.{wordsOf, meeting, countVerdict, countFillings}
 use Rattle.bench.specs.Bench.{imageP}
 use Rattle.bench.specs.Handler.{imageHandler}
-use Rattle.bench.specs.Fillings.{imageGap, FillingCases}
+use Rattle.bench.specs.Fillings.{imageNoRow, FillingCases}
 use Rattle.bench.proofs.Computing.{running}
 
 pub filling-cases : FillingCases
-unfolding running count wordsOf meeting countVerdict counted imageP imageGap imageHandler
+unfolding running count wordsOf meeting countVerdict countFillings imageP imageNoRow imageHandler
 filling-cases = record {
   filled = refl;
   lacking = refl;

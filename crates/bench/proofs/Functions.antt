@@ -10,33 +10,34 @@ use Rattle.frames.specs.Verdict.{fine}
 use Rattle.charts.specs.Chart.{next0}
 use Rattle.charts.specs.Entry.{readVerdict}
 use Rattle.walk.specs.Stops.{byArc}
-use Rattle.bits.specs.Binding.{ownBinding}
+use Rattle.bindings.specs.Binding.{ownBinding}
 use Rattle.walk.specs.Walk.{signals, Tick, walk}
-use Rattle.walk.specs.Functions.{writesOne, Unwritten, ZeroArc}
+use Rattle.walk.specs.Functions.{walkWritesOne, WalkUnwritten, ZeroArc}
 use Rattle.walk.proofs.Functions.{zero-arc}
 use Rattle.lists.specs.Sequences.{some}
 use Rattle.image.specs.Decode.{decoded}
 use Rattle.state.specs.declared.State.{State}
 use Rattle.state.specs.State.{fresh, Sized}
 use Rattle.fitness.specs.Fitness.{unfit}
-use Rattle.ticks.specs.Tick.{ticked, tick}
-use Rattle.ticks.specs.Functions.{Unwritten as UnwrittenTicks, none, more, ZeroRow}
+use Rattle.ticks.specs.Tick.{finished, tick}
+use Rattle.ticks.specs.Functions.{MachineUnwritten, none, more, ZeroRow}
 use Rattle.ticks.proofs.Functions.{zero-row}
 use Rattle.runs.specs.Run.{ticks}
-use Rattle.bench.specs.Bench.{chartBore, boreWords, one, beside}
+use Rattle.bench.specs.Bench.{chartBore, boreWords, tickOf, beside}
 use Rattle.bench.proofs.Computing.{walking, running}
 use Rattle.bench.proofs.Tables.{imageBore, of-bore}
 
 -- ---- the walk
 abbrev firstBlock : List Tick
-firstBlock = one 4 1 0 4 1 ∷ one 1 1 0 66 1 ∷ one 5 2 0 0 2 ∷ one 7 2 0 0 2 ∷ one 8 2 0 3 2 ∷ one 3 1 1 0 1 ∷ one 4 1 0 4 1 ∷ []
+firstBlock = tickOf 4 1 0 4 1 ∷ tickOf 1 1 0 66 1 ∷ tickOf 5 2 0 0 2 ∷ tickOf 7 2 0 0
+    2 ∷ tickOf 8 2 0 3 2 ∷ tickOf 3 1 1 0 1 ∷ tickOf 4 1 0 4 1 ∷ []
 
 bore-walk : walk 2 (contents chartBore) (signals ownBinding boreWords)
-    ≡ firstBlock ++ (one 1 1 0 66 1 ∷ ((one 5 2 0 0 2 ∷ []) ++ (one 8 2 0 3 2 ∷ (one 2 1 2 0 1 ∷ (one 4 1 0 4 1 ∷ [])))))
+    ≡ firstBlock ++ (tickOf 1 1 0 66 1 ∷ ((tickOf 5 2 0 0 2 ∷ []) ++ (tickOf 8 2 0 3 2 ∷ (tickOf 2 1 2 0 1 ∷ (tickOf 4 1 0 4 1 ∷ [])))))
 unfolding walking chartBore boreWords
 bore-walk = refl
 
-bore-unwritten : Unwritten (contents chartBore) (one 1 1 0 66 1) (one 5 2 0 0 2 ∷ []) (one 8 2 0 3 2)
+bore-unwritten : WalkUnwritten (contents chartBore) (tickOf 1 1 0 66 1) (tickOf 5 2 0 0 2 ∷ []) (tickOf 8 2 0 3 2)
 unfolding walking some chartBore
 bore-unwritten = record { function = refl; made = refl; kept = refl; inside = refl; own = refl; unwritten = refl }
 
@@ -48,11 +49,11 @@ pub bore-says-no : _≡_ {A = ℕ} 2 (byArc (contents chartBore) 0 (next0 (conte
 unfolding ZeroArc boreWords
 bore-says-no =
     zero-arc chartBore bore-read 2 (signals ownBinding boreWords)
-    firstBlock (one 5 2 0 0 2 ∷ []) (one 4 1 0 4 1 ∷ []) (one 1 1 0 66 1) (one 8 2 0 3 2) (one 2 1 2 0 1)
+    firstBlock (tickOf 5 2 0 0 2 ∷ []) (tickOf 4 1 0 4 1 ∷ []) (tickOf 1 1 0 66 1) (tickOf 8 2 0 3 2) (tickOf 2 1 2 0 1)
     bore-walk bore-unwritten
 
 -- in the first block the operation of scheme 2, called by number 2, does write 1
-pub bore-writes : some (writesOne (contents chartBore) 2) firstBlock ≡ true
+pub bore-writes : some (walkWritesOne (contents chartBore) 2) firstBlock ≡ true
 unfolding walking some chartBore
 bore-writes = refl
 
@@ -80,12 +81,13 @@ bore-fits = refl
 bore-sized : Sized (stateAt 1 2 0 true)
 bore-sized = record { places = refl; serving = refl; numbers = refl; servers = refl }
 
-bore-unwritten-ticks : UnwrittenTicks (decoded (contents imageBore)) 2 2 (stateAt 2 2 5 false) (stateAt 2 2 1 false)
+bore-unwritten-ticks : MachineUnwritten (decoded (contents imageBore)) 2 2 (stateAt 2 2 5 false) (stateAt 2 2 1 false)
 unfolding running imageBore
 bore-unwritten-ticks = more 0 refl refl refl refl none
 
-pub bore-takes-zero : tick (decoded (contents imageBore)) (stateAt 2 2 1 false) 0 ≡ ticked 0 3 (stateAt 1 3 0 false)
+pub bore-takes-zero : tick (decoded (contents imageBore)) (stateAt 2 2 1 false) 0 ≡ finished 0 3 (stateAt 1 3 0 false)
 unfolding ZeroRow running imageBore
 bore-takes-zero =
-    zero-row imageBore (of-bore .passes) (stateAt 1 2 0 true) bore-sized bore-fits refl 0 0 66 (stateAt 2 2 5 false) (stateAt 2 2 1 false) refl refl
+    zero-row imageBore (of-bore .passes) (stateAt 1 2 0 true) bore-sized bore-fits refl 0 0
+    66 (stateAt 2 2 5 false) (stateAt 2 2 1 false) refl refl
     bore-unwritten-ticks refl 0

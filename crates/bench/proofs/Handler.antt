@@ -6,10 +6,11 @@ use Prim.Native.Nat.{ℕ, _≤_}
 use native.Mathlib.Omega.{arith}
 use Rattle.frames.specs.Verdict.{fine}
 use Rattle.state.specs.State.{fresh}
-use Rattle.runs.specs.Run.{Run, ticks, runOn}
+use Rattle.runs.specs.Run.{RunOutcome, ticks, runOn}
 use Rattle.agreement.proofs.Images.{runImage, run-image}
 use Rattle.bench.specs.Bench.{freshRun}
-use Rattle.bench.specs.Handler.{chartHandler, imageHandler, dropWords, bottomWords, ordinaryWords, stateAt, oneWord, HandlerCases}
+use Rattle.bench.specs.Handler.{chartHandler, imageHandler, dropWords, bottomWords}
+use Rattle.bench.specs.Handler.{ordinaryWords, handlerState, replyToWord, HandlerCases}
 use Rattle.bench.proofs.Computing.{walking, checking, ticking}
 use Rattle.bench.proofs.Tables.{tableHandler, of-handler}
 use Rattle.bench.proofs.Rounds.{blank, fresh-run}
@@ -24,9 +25,10 @@ two = run-handler 2 (omega arith) (omega arith)
 
 -- a run of one word, tried on the table too
 tried : (d l h above g : ℕ)
-    → oneWord d l h above g ≡ runImage tableHandler (stateAt d l h above g false false) (0 ∷ []) (0 ∷ []) (0 ∷ []) .reply
-tried d l h above g = ap (λ (r : Run). r .reply)
-    (run-image imageHandler tableHandler (of-handler .passes) (of-handler .decodes) (stateAt d l h above g false false) (0 ∷ []) (0 ∷ []) (0 ∷ []))
+    → replyToWord d l h above g ≡ runImage tableHandler (handlerState d l h above g false false) (0 ∷ []) (0 ∷ []) (0 ∷ []) .reply
+tried d l h above g = ap (λ (r : RunOutcome). r .reply)
+    (run-image imageHandler tableHandler (of-handler .passes) (of-handler .decodes)
+    (handlerState d l h above g false false) (0 ∷ []) (0 ∷ []) (0 ∷ []))
 
 pub handler-cases : HandlerCases
 unfolding walking checking ticking tableHandler chartHandler imageHandler dropWords bottomWords ordinaryWords
@@ -37,16 +39,31 @@ handler-cases =
     record {
       translated = of-handler .translated;
       drop-walk = refl;
-      drop-before = ap (λ (r : Run). r .state) (two _);
+      drop-before = ap (λ (r : RunOutcome). r .state) (two _);
       drop-run = two dropWords;
       bottom-walk = refl;
       bottom-run = two bottomWords;
-      ordinary-before = ap (λ (r : Run). r .state) (two _);
-      ordinary-after = ap (λ (r : Run). r .state) (two _);
-      ordinary-run = (ap (λ (r : Run). r .reply) ordinary, ap (λ (r : Run). r .codes) ordinary, ap (λ (r : Run). r .masks) ordinary);
+      ordinary-before = ap (λ (r : RunOutcome). r .state) (two _);
+      ordinary-after = ap (λ (r : RunOutcome). r .state) (two _);
+      ordinary-run = (
+        ap (λ (r : RunOutcome). r .reply) ordinary,
+        ap (λ (r : RunOutcome). r .codes)
+            ordinary,
+        ap (λ (r : RunOutcome). r .masks) ordinary,
+      );
       roomy-walk = refl;
-      roomy-run = (ap (λ (r : Run). r .reply) roomy, ap (λ (r : Run). r .codes) roomy, ap (λ (r : Run). r .masks) roomy);
-      narrow-run = (ap (λ (r : Run). r .reply) narrow, ap (λ (r : Run). r .codes) narrow, ap (λ (r : Run). r .masks) narrow);
+      roomy-run = (
+        ap (λ (r : RunOutcome). r .reply) roomy,
+        ap (λ (r : RunOutcome). r .codes)
+            roomy,
+        ap (λ (r : RunOutcome). r .masks) roomy,
+      );
+      narrow-run = (
+        ap (λ (r : RunOutcome). r .reply) narrow,
+        ap (λ (r : RunOutcome). r .codes)
+            narrow,
+        ap (λ (r : RunOutcome). r .masks) narrow,
+      );
       fits-handler = tried 1 6 3 0 0;
       fits-return = tried 1 1 3 0 0;
       unfit-other = tried 1 4 2 0 0;

@@ -3,7 +3,7 @@ pub mod Tables
 pub mod Rebindings
 pub mod Rounds
 pub mod BenchSheet
-pub mod Cases
+pub mod RefusalCases
 pub mod Handler
 pub mod Swap
 pub mod Patched

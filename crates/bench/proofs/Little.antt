@@ -8,12 +8,13 @@ use lib.Dec.{leb, ltb}
 use lib.ListN.{length, getD, replicate}
 use Rattle.frames.specs.Frame.{textOf}
 use Rattle.frames.specs.Verdict.{when}
-use Rattle.frames.specs.Answer.{Lent, lent}
+use Rattle.frames.specs.Answer.{BufferOutcome, bufferOn}
 use Rattle.charts.specs.Chart.{Chart}
-use Rattle.little_charts.specs.Little.{beginNode, endNode, operationNode, conditionNode, littleCharts, littleText, littleVerdict, littleChart}
-use Rattle.little_search.specs.Search.{nodeAt, barred, searched}
+use Rattle.little_charts.specs.Little.{beginNode, endNode, operationNode, conditionNode, littleCharts}
+use Rattle.little_charts.specs.Little.{littleText, littleVerdict, littleChart}
+use Rattle.little_search.specs.inner.Search.{nodeAt, barredNode, searched}
 use Rattle.little_search.proofs.Same.{search-lists}
-use Rattle.little_totals.specs.Samples.{Samples, samples}
+use Rattle.little_totals.specs.inner.Samples.{Samples, samples}
 use Rattle.little_totals.proofs.Totals.{four, samples-four, total-four}
 use Rattle.bench.specs.Little.{LittleCases, textsTwo, textsThree, firstFour, middleFour, lastFour}
 use Rattle.bench.proofs.Computing.{charting}
@@ -44,16 +45,16 @@ three =
     ∷ []
 
 two-listed : littleCharts 2 ≡ two
-unfolding charting nodeAt barred searched two
+unfolding charting nodeAt barredNode searched two
 two-listed = sym (search-lists 2 (omega arith) (omega arith)) ∙ refl
 
 three-listed : littleCharts 3 ≡ three
-unfolding charting nodeAt barred searched three
+unfolding charting nodeAt barredNode searched three
 three-listed = sym (search-lists 3 (omega arith) (omega arith)) ∙ refl
 
 -- what is lent, by the list of charts
-abbrev given : ℕ → ℕ → List Chart → List ℕ → Lent
-given n k xs out = lent (when 24 (ltb n 2 || ltb 4 n || leb (length xs) k)) 1 (λ _. textOf (getD xs k [])) out
+abbrev given : ℕ → ℕ → List Chart → List ℕ → BufferOutcome
+given n k xs out = bufferOn (when 24 (ltb n 2 || ltb 4 n || leb (length xs) k)) 1 (λ _. textOf (getD xs k [])) out
 
 of-two : (k : ℕ) (out : List ℕ) → littleChart 2 k out ≡ given 2 k two out
 unfolding littleVerdict littleChart
@@ -76,9 +77,9 @@ text-last : littleText 4 647 ≡ lastFour
 unfolding charting samples lastFour
 text-last = ap (λ (s : Samples). textOf (s .last)) samples-four
 
-of-four : (k : ℕ) (t out : List ℕ) → littleText 4 k ≡ t → littleChart 4 k out ≡ lent (when 24 (leb 648 k)) 1 (λ _. t) out
+of-four : (k : ℕ) (t out : List ℕ) → littleText 4 k ≡ t → littleChart 4 k out ≡ bufferOn (when 24 (leb 648 k)) 1 (λ _. t) out
 unfolding littleVerdict littleChart
-of-four k t out e = ap₂ (λ (n : ℕ) (xs : List ℕ). lent (when 24 (leb n k)) 1 (λ _. xs) out) total-four e
+of-four k t out e = ap₂ (λ (n : ℕ) (xs : List ℕ). bufferOn (when 24 (leb n k)) 1 (λ _. xs) out) total-four e
 
 pub little-cases : LittleCases
 unfolding charting littleVerdict littleChart two three textsTwo textsThree

@@ -4,7 +4,7 @@ use Rattle.tables.specs.Prepare.{notedTo, prepare}
 use Rattle.tables.specs.Table.{tableImage}
 use Rattle.machine.specs.Live.{liveVerdict, liveRun, liveTick}
 use Rattle.bench.specs.Bench.{imageP}
-use Rattle.bench.specs.Live.{LiveCases, tableP as bytesP}
+use Rattle.bench.specs.Live.{LiveCases, bytesP}
 use Rattle.bench.proofs.Tables.{tableP, of-P}
 use Rattle.bench.proofs.Computing.{running}
 

@@ -9,35 +9,37 @@ use Rattle.lists.specs.Numbers.{tabulate, lowest, count}
 use Rattle.lists.specs.Sequences.{filter, mapFrom}
 use Rattle.frames.specs.Frame.{contents}
 use Rattle.frames.specs.Verdict.{Verdict, fine, next, when}
-use Rattle.frames.specs.Answer.{Lent, lent}
+use Rattle.frames.specs.Answer.{BufferOutcome, bufferOn}
 use Rattle.image.specs.Image.{imageFrames, imageText}
 use Rattle.image.specs.Decode.{decoded}
 use Rattle.image.specs.Check.{imageVerdict}
 use Rattle.image.proofs.Accepted.{image-sound}
 use Rattle.covering.specs.Matched.{uneven}
-use Rattle.covering.specs.Sizes.{overlaps, covered, unevenBySizes}
+use Rattle.covering.specs.inner.Sizes.{overlaps, covered, unevenBySizes}
 use Rattle.covering.proofs.Covered.{sizes-decide}
 use Rattle.grouping.specs.Classes.{parted, classes, grouping}
-use Rattle.group_numbers.specs.Smaller.{joined, smaller}
+use Rattle.group_numbers.specs.Smaller.{joinedLabels, smaller}
 use Rattle.minimising.specs.Entry.{minimiseVerdict, minimise}
 use Rattle.bench.specs.Bench.{imageP}
-use Rattle.bench.specs.Listing.{imageGap}
+use Rattle.bench.specs.Listing.{imageRowless}
 use Rattle.bench.specs.Minimise.{MinimiseCases, imageBranches, imageJoined}
 use Rattle.bench.proofs.Computing.{checking}
 
-abbrev bySizes : List ℕ → List ℕ → Lent
+abbrev bySizes : List ℕ → List ℕ → BufferOutcome
 bySizes t old =
-    lent (next (imageVerdict t) λ _. when 23 (unevenBySizes (decoded (contents t)))) 1 (λ _. imageText (smaller (decoded (contents t)))) old
+    bufferOn (next (imageVerdict t) λ _. when 23 (unevenBySizes (decoded (contents t))))
+    1 (λ _. imageText (smaller (decoded (contents t)))) old
 
 by-sizes : (t old : List ℕ) → imageVerdict t ≡ fine → minimise t old ≡ bySizes t old
 unfolding minimise minimiseVerdict
 by-sizes t old e =
-    ap (λ (x : Bool). lent (next (imageVerdict t) λ _. when 23 x) 1 (λ _. imageText (smaller (decoded (contents t)))) old)
+    ap (λ (x : Bool). bufferOn (next (imageVerdict t) λ _. when 23 x) 1 (λ _. imageText (smaller (decoded (contents t)))) old)
     (sym (sizes-decide (decoded (contents t)) (image-sound t e)))
 
 pub minimise-cases : MinimiseCases
-unfolding checking tabulate lowest count filter mapFrom ones onesIn imageFrames imageText overlaps covered unevenBySizes uneven parted classes grouping
-    joined minimiseVerdict minimise imageP imageGap imageBranches imageJoined
+unfolding checking tabulate lowest count filter mapFrom ones onesIn imageFrames imageText
+    overlaps covered unevenBySizes uneven parted classes grouping
+    joinedLabels minimiseVerdict minimise imageP imageRowless imageBranches imageJoined
 minimise-cases = record {
   ofP = λ out. by-sizes imageP out refl;
   branches = λ out. by-sizes imageBranches out refl;

@@ -1,16 +1,17 @@
--- The cases of a patched image hold, computed. Ones of a care mask are counted here, in causes and in the slips of the rule, and nowhere else on the bench.
+-- The cases of a patched image hold, computed.
+-- Ones of a care mask are counted here, in causes and in the slips of the rule, and nowhere else on the bench.
 use mathlib.Core.Path.{_≡_, ap}
 use mathlib.Core.List.{List}
 use Prim.Native.Nat.{ℕ}
 use native.Mathlib.Omega.{arith}
 use lib.Count.{ones, onesIn}
-use Rattle.bits.specs.Results.{noResults}
+use Rattle.results.specs.Results.{noResults}
 use Rattle.frames.specs.Verdict.{fine}
 use Rattle.image.specs.Image.{Image}
 use Rattle.state.specs.State.{fresh}
 use Rattle.rows.specs.Rows.{bestRow}
 use Rattle.ticks.specs.Tick.{choice, tick}
-use Rattle.runs.specs.Run.{Run, ticks, runOn}
+use Rattle.runs.specs.Run.{RunOutcome, ticks, runOn}
 use Rattle.bench.specs.Bench.{freshRun}
 use Rattle.bench.specs.Patched.{imagePlain, imageSpecial, imageEqual, answerWords, PatchedCases}
 use Rattle.bench.proofs.Tables.{tablePlain, of-plain, tableSpecial, of-special, tableEqual, of-equal}
@@ -28,10 +29,10 @@ special = image-run of-special 2 (omega arith) (omega arith)
 equal : (ws : List ℕ) → Ran imageEqual tableEqual ws
 equal = image-run of-equal 2 (omega arith) (omega arith)
 
-abbrev codes : Run → List ℕ
+abbrev codes : RunOutcome → List ℕ
 codes r = r .codes
 
-abbrev masks : Run → List ℕ
+abbrev masks : RunOutcome → List ℕ
 masks r = r .masks
 
 pub patched-cases : PatchedCases

@@ -10,25 +10,25 @@ use lib.ListN.{length, getD, replicate, length-replicate, length-map, drop-of-le
 use Rattle.lists.specs.Numbers.{range}
 use Rattle.lists.specs.Sequences.{over}
 use Rattle.lists.proofs.Ranges.{length-map-range}
-use Rattle.bits.specs.Results.{noResults}
-use Rattle.bits.specs.Binding.{ownBinding}
+use Rattle.results.specs.Results.{noResults}
+use Rattle.bindings.specs.Binding.{ownBinding}
 use Rattle.frames.specs.Frame.{contents}
 use Rattle.frames.specs.Verdict.{fine, next, when}
 use Rattle.frames.specs.Answer.{success}
-use Rattle.walk.specs.Walk.{Signal, spent, after, tick as oneTick, perform, drops, carriedOn, walkFrom, walk}
+use Rattle.walk.specs.Walk.{Signal, spent, after, oneTick, perform, drops, carriedOn, walkFrom, walk}
 use Rattle.image.specs.Image.{Image}
-use Rattle.image.proofs.Sound.{Sound}
+use Rattle.image.specs.inner.Sound.{SoundImage}
 use Rattle.image.proofs.Accepted.{image-sound}
 use Rattle.state.specs.declared.State.{State}
 use Rattle.state.specs.State.{fresh}
-use Rattle.ticks.specs.Tick.{Ticked, ticked, pushed, tick}
+use Rattle.ticks.specs.Tick.{MachineTick, finished, pushed, tick}
 use Rattle.rows.specs.Rows.{bestRow}
-use Rattle.runs.specs.Run.{Run, Ran, then, ticks, noRoom, runOn, run}
+use Rattle.runs.specs.Run.{RunOutcome, MachineRun, then, ticks, noRoom, runOn, run}
 use Rattle.fitness.proofs.Fitness.{fits}
 use Rattle.ticks.proofs.Keeps.{fresh-fits}
 use Rattle.agreement.proofs.Images.{run-image}
 use Rattle.agreement.proofs.Chain.{fresh-is}
-use Rattle.bench.specs.Bench.{chartHome, freshRun, one, beside, repeated}
+use Rattle.bench.specs.Bench.{chartHome, freshRun, tickOf, beside, repeated}
 use Rattle.bench.proofs.Computing.{walking}
 use Rattle.bench.proofs.Tables.{Holds, held, TranslatesTo, imageHome, tableHome, of-home, imageFunction, tableFunction, of-function}
 
@@ -42,7 +42,7 @@ room ws = simp (length-replicate, le-ltb (length ws) (length ws) (omega arith))
 pub image-run : {image : List ℕ} {i : Image} → Holds image i → (size : ℕ) → 1 ≤ size → size ≤ 32 → (ws : List ℕ)
     → freshRun image size ws ≡ runOn fine (λ _. ticks i (fresh size) ws) (fresh size) (blank ws) (blank ws)
 image-run {image} {i} known size l h ws =
-    let sound : Sound i = subst Sound (known .decodes) (image-sound image (known .passes)) in
+    let sound : SoundImage i = subst SoundImage (known .decodes) (image-sound image (known .passes)) in
     ap (λ (s : State). run image s ws (blank ws) (blank ws)) (fresh-is size l h)
     ∙ run-image image i (known .passes) (known .decodes) (fresh size) ws (blank ws) (blank ws)
     ∙ ap₂ (λ (a b : Bool). runOn (next (when 15 a) λ _. when 16 b) (λ _. ticks i (fresh size) ws) (fresh size) (blank ws) (blank ws))
@@ -57,18 +57,19 @@ full : (xs ws : List ℕ) → length xs ≡ length ws → over xs (blank ws) ≡
 full xs ws e = rw (drop-of-length-le (blank ws) {i = length xs} (simp length-replicate (omega arith)), append-nil)
 
 -- one tick for each word, and none refused
-finished : (r : Ran) (s : State) (ws : List ℕ) → r .verdict ≡ fine → length (r .masks) ≡ length ws → length (r .codes) ≡ length ws
-    → runOn fine (λ _. r) s (blank ws) (blank ws) ≡ record { reply = success (length ws); state = r .state; masks = r .masks; codes = r .codes }
-finished r s ws v m k = rw (full (r .masks) ws m, full (r .codes) ws k, v, k)
+finishedRun : (r : MachineRun) (s : State) (ws : List ℕ) → r .verdict ≡ fine → length (r .masks) ≡ length ws → length (r .codes) ≡ length ws
+    → runOn fine (λ _. r) s (blank ws)
+    (blank ws) ≡ record { reply = success (length ws); state = r .state; masks = r .masks; codes = r .codes }
+finishedRun r s ws v m k = rw (full (r .masks) ws m, full (r .codes) ws k, v, k)
 
 -- ---- B6
 home-course : (d : ℕ → Bool) (ws : List Signal)
-    → perform (length ws) (contents chartHome) d 1 1 1 ws noResults ≡ spent (map (λ w. one 1 1 0 4 1) ws)
+    → perform (length ws) (contents chartHome) d 1 1 1 ws noResults ≡ spent (map (λ w. tickOf 1 1 0 4 1) ws)
 unfolding walking chartHome
 home-course d [] = refl
 home-course d (w ∷ ws) = ap (after (oneTick 1 1 0 4 1)) (home-course d ws)
 
-pub home-walk : (n : ℕ) (ws : List Signal) → walk n (contents chartHome) ws ≡ map (λ w. one 1 1 0 4 1) ws
+pub home-walk : (n : ℕ) (ws : List Signal) → walk n (contents chartHome) ws ≡ map (λ w. tickOf 1 1 0 4 1) ws
 unfolding walking chartHome
 home-walk n [] = refl
 home-walk n (w ∷ ws) = let c = contents chartHome in ap (carriedOn (walkFrom (length ws) n c) c) (home-course (drops n c false) (w ∷ ws))
@@ -78,7 +79,8 @@ home-ticks : (size : ℕ) (ws : List ℕ)
 unfolding ticks tick tableHome
 home-ticks size [] = refl
 home-ticks size (w ∷ ws) =
-    ap (λ (r : Ran). record { masks = 0 ∷ r .masks; codes = 4 ∷ r .codes; state = r .state; verdict = r .verdict }) (home-ticks size ws)
+    ap (λ (r : MachineRun). record { masks = 0 ∷ r .masks; codes = 4 ∷ r .codes; state = r .state; verdict = r .verdict })
+    (home-ticks size ws)
 
 pub home-run : (size : ℕ) → 1 ≤ size → size ≤ 32 → (ws : List ℕ) → freshRun imageHome size ws ≡ record {
   reply = success (length ws);
@@ -88,8 +90,8 @@ pub home-run : (size : ℕ) → 1 ≤ size → size ≤ 32 → (ws : List ℕ) �
 }
 home-run size l h ws =
     fresh-run of-home size l h ws
-    ∙ ap (λ (r : Ran). runOn fine (λ _. r) (fresh size) (blank ws) (blank ws)) (home-ticks size ws)
-    ∙ finished (record { masks = map (λ w. 0) ws; codes = map (λ w. 4) ws; state = fresh size; verdict = fine }) (fresh size) ws refl
+    ∙ ap (λ (r : MachineRun). runOn fine (λ _. r) (fresh size) (blank ws) (blank ws)) (home-ticks size ws)
+    ∙ finishedRun (record { masks = map (λ w. 0) ws; codes = map (λ w. 4) ws; state = fresh size; verdict = fine }) (fresh size) ws refl
     (length-map ws _) (length-map ws _)
 
 -- ---- B10
@@ -125,23 +127,23 @@ module _ (size : ℕ) (two : 2 ≤ size) where
     servers = beside d (1 ∷ 2 ∷ []);
   }
 
-  home-tick : (x : Bool) (w : ℕ) → tick tableFunction (stateAt 1 0 0 x) w ≡ ticked 0 4 (stateAt 1 2 0 x)
+  home-tick : (x : Bool) (w : ℕ) → tick tableFunction (stateAt 1 0 0 x) w ≡ finished 0 4 (stateAt 1 2 0 x)
   unfolding tick tableFunction
   home-tick x w = refl
 
-  call-tick : (x : Bool) (w : ℕ) → tick tableFunction (stateAt 1 2 0 x) w ≡ ticked 0 66 (stateAt 2 2 4 false)
+  call-tick : (x : Bool) (w : ℕ) → tick tableFunction (stateAt 1 2 0 x) w ≡ finished 0 66 (stateAt 2 2 4 false)
   unfolding tick tableFunction
   call-tick x w = ap (pushed tableFunction (stateAt 1 2 0 x) 0 66 2 2 (stateAt 1 2 0 x .bits)) (lt-leb size 1 (omega arith))
 
-  operation-tick : (w : ℕ) → tick tableFunction (stateAt 2 2 4 false) w ≡ ticked 0 0 (stateAt 2 2 1 true)
+  operation-tick : (w : ℕ) → tick tableFunction (stateAt 2 2 4 false) w ≡ finished 0 0 (stateAt 2 2 1 true)
   unfolding tick bestRow tableFunction
   operation-tick w = rw (and-zero-r)
 
-  return-tick : (w : ℕ) → tick tableFunction (stateAt 2 2 1 true) w ≡ ticked 0 3 (stateAt 1 3 0 true)
+  return-tick : (w : ℕ) → tick tableFunction (stateAt 2 2 1 true) w ≡ finished 0 3 (stateAt 1 3 0 true)
   unfolding tick bestRow tableFunction
   return-tick w = rw (and-zero-r)
 
-  mask-tick : (w : ℕ) → tick tableFunction (stateAt 1 3 0 true) w ≡ ticked 1 0 (stateAt 1 0 0 true)
+  mask-tick : (w : ℕ) → tick tableFunction (stateAt 1 3 0 true) w ≡ finished 1 0 (stateAt 1 0 0 true)
   unfolding tick bestRow tableFunction
   mask-tick w = rw (and-zero-r)
 
@@ -155,13 +157,13 @@ module _ (size : ℕ) (two : 2 ≤ size) where
   unfolding ticks
   none s = record { masks = refl; codes = refl; verdict = refl }
 
-  more : {s t : State} {w m k : ℕ} {ws ms ks : List ℕ} → tick tableFunction s w ≡ ticked m k t → Makes t ws ms ks
+  more : {s t : State} {w m k : ℕ} {ws ms ks : List ℕ} → tick tableFunction s w ≡ finished m k t → Makes t ws ms ks
       → Makes s (w ∷ ws) (m ∷ ms) (k ∷ ks)
   unfolding ticks
   more {s} {t} {w} {m} {k} {ws} e r = record {
-    masks = ap (λ (x : Ticked). then s (λ u. ticks tableFunction u ws) x .masks) e ∙ ap (λ (ms : List ℕ). m ∷ ms) (r .masks);
-    codes = ap (λ (x : Ticked). then s (λ u. ticks tableFunction u ws) x .codes) e ∙ ap (λ (ks : List ℕ). k ∷ ks) (r .codes);
-    verdict = ap (λ (x : Ticked). then s (λ u. ticks tableFunction u ws) x .verdict) e ∙ r .verdict;
+    masks = ap (λ (x : MachineTick). then s (λ u. ticks tableFunction u ws) x .masks) e ∙ ap (λ (ms : List ℕ). m ∷ ms) (r .masks);
+    codes = ap (λ (x : MachineTick). then s (λ u. ticks tableFunction u ws) x .codes) e ∙ ap (λ (ks : List ℕ). k ∷ ks) (r .codes);
+    verdict = ap (λ (x : MachineTick). then s (λ u. ticks tableFunction u ws) x .verdict) e ∙ r .verdict;
   }
 
   rounds : (x : Bool) (ws : List ℕ) → Makes (stateAt 1 0 0 x) ws (repeated masks5 (length ws)) (repeated codes5 (length ws))
@@ -179,7 +181,11 @@ function-run size l h ws =
     let n : ℕ = length ws in
     let made = rounds size l false ws in
     let e = fresh-run of-function size (omega arith) h ws
-    ∙ finished (ticks tableFunction (fresh size) ws) (fresh size) ws (made .verdict)
+    ∙ finishedRun (ticks tableFunction (fresh size) ws) (fresh size) ws (made .verdict)
     (ap length (made .masks) ∙ length-map-range (λ k. getD masks5 (k % 5) 0) 0 n)
-    (ap length (made .codes) ∙ length-map-range (λ k. getD codes5 (k % 5) 0) 0 n) in
-    (ap (λ (r : Run). r .reply) e, ap (λ (r : Run). r .codes) e ∙ made .codes, ap (λ (r : Run). r .masks) e ∙ made .masks)
+    (ap length (made .codes) ∙ length-map-range (λ k. getD codes5 (k % 5) 0) 0 n) in (
+      ap (λ (r : RunOutcome). r .reply) e,
+      ap (λ (r : RunOutcome). r .codes) e
+          ∙ made .codes,
+      ap (λ (r : RunOutcome). r .masks) e ∙ made .masks,
+    )

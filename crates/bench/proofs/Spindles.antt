@@ -1,6 +1,6 @@
 -- The cases of four spindles hold, computed.
 use mathlib.Core.Path.{refl}
-use Rattle.runs.specs.Advance.{advance}
+use Rattle.runs.specs.TickOutcome.{imageTick}
 use Rattle.machine.specs.Live.{liveVerdict, liveRun, liveTick}
 use Rattle.spindles.specs.Spindles.{depths, spin, liveSpin}
 use Rattle.bench.specs.Bench.{imageP}
@@ -9,7 +9,7 @@ use Rattle.bench.specs.Spindles.{SpindleCases}
 use Rattle.bench.proofs.Computing.{running}
 
 pub spindle-cases : SpindleCases
-unfolding running advance liveVerdict liveRun liveTick depths spin liveSpin imageP imageHandler
+unfolding running imageTick liveVerdict liveRun liveTick depths spin liveSpin imageP imageHandler
 spindle-cases = record {
   no-spindle = refl;
   no-image = refl;

@@ -8,30 +8,31 @@ use Rattle.walk.specs.Walk.{Tick}
 use Rattle.state.specs.declared.State.{State}
 use Rattle.state.specs.State.{fresh, freshState}
 use Rattle.state.specs.Bytes.{bytesOf}
-use Rattle.runs.specs.Run.{Run}
+use Rattle.runs.specs.Run.{RunOutcome}
 use Rattle.rebinding.specs.Rebind.{rebind}
-use Rattle.agreement.specs.Agreement.{Given, rebinds, chain, joined, bound, expectedAll, walked}
-use Rattle.agreement.proofs.Images.{runImage, run-image}
-use Rattle.bench.specs.Swap.{chartSwap, imageSwap, asks, runOf, handed, walkOf}
+use Rattle.agreement.specs.Agreement.{CallInput, toRebind, callOutputs, joinedWords, bound, expectedOutputs, walkOutputs}
+use Rattle.agreement.proofs.Images.{rebindImage, runImage, run-image}
+use Rattle.bench.specs.Swap.{chartSwap, imageSwap, inputWord, runOf, swapOutputs, walkOf}
 use Rattle.bench.specs.Swap.{acrossBlocks, acrossDrop, acrossFull, blocksTicks, dropTicks, fullTicks}
 use Rattle.bench.specs.Swap.{ByteCases, SwapCases, RebindingCases, FitnessCases, WalkedCases}
 use Rattle.bench.proofs.Computing.{walking, ticking}
 use Rattle.bench.proofs.Tables.{tableSwap, of-swap, held}
-use Rattle.bench.proofs.Rebindings.{rebindImage, rebind-image, chain-image}
+use Rattle.bench.proofs.Rebindings.{rebind-image, chain-image}
 
 on-table : (n : ℕ) (s : State) → runOf n s ≡ runImage tableSwap s (replicate n 0) (replicate n 7) (replicate n 7)
 on-table n s = run-image imageSwap tableSwap (of-swap .passes) (of-swap .decodes) s (replicate n 0) (replicate n 7) (replicate n 7)
 
 state : (n : ℕ) (s : State) → runOf n s .state ≡ runImage tableSwap s (replicate n 0) (replicate n 7) (replicate n 7) .state
-state n s = ap (λ (r : Run). r .state) (on-table n s)
+state n s = ap (λ (r : RunOutcome). r .state) (on-table n s)
 
 reply : (s : State) → runOf 1 s .reply ≡ runImage tableSwap s (replicate 1 0) (replicate 1 7) (replicate 1 7) .reply
-reply s = ap (λ (r : Run). r .reply) (on-table 1 s)
+reply s = ap (λ (r : RunOutcome). r .reply) (on-table 1 s)
 
 rebound : (s : State) (h k : ℕ) → rebind imageSwap s h k ≡ rebindImage tableSwap s h k
 rebound = rebind-image (held of-swap)
 
-listed : (n : ℕ) (given : List Given) → handed n given ≡ chain (λ t. runImage tableSwap) (λ t. rebindImage tableSwap) imageSwap (fresh n) given
+listed : (n : ℕ) (given : List CallInput)
+    → swapOutputs n given ≡ callOutputs (λ t. runImage tableSwap) (λ t. rebindImage tableSwap) imageSwap (fresh n) given
 listed n = chain-image (held of-swap) (fresh n)
 
 pub byte-cases : ByteCases
@@ -39,11 +40,11 @@ unfolding freshState bytesOf
 byte-cases = record { new = refl; zeros = refl }
 
 pub swap-cases : SwapCases
-unfolding chain ticking tableSwap
+unfolding callOutputs ticking tableSwap
 swap-cases = record {
   translated = of-swap .translated;
-  between = listed 2 (asks 7 ∷ rebinds 2 3 ∷ asks 8 ∷ []);
-  within = listed 2 (asks 2 ∷ rebinds 2 3 ∷ asks 6 ∷ []);
+  between = listed 2 (inputWord 7 ∷ toRebind 2 3 ∷ inputWord 8 ∷ []);
+  within = listed 2 (inputWord 2 ∷ toRebind 2 3 ∷ inputWord 6 ∷ []);
   opened = state 2 _;
   swapped = rebound _ 2 3;
   served = state 2 _;
@@ -54,8 +55,8 @@ swap-cases = record {
   reads-zero = state 1 _;
   drops = state 1 _;
   returns = state 1 _;
-  handled = listed 2 (rebinds 2 4 ∷ asks 8 ∷ []);
-  stays-full = listed 1 (asks 3 ∷ rebinds 3 2 ∷ asks 1 ∷ []);
+  handled = listed 2 (toRebind 2 4 ∷ inputWord 8 ∷ []);
+  stays-full = listed 1 (inputWord 3 ∷ toRebind 3 2 ∷ inputWord 1 ∷ []);
 }
 
 pub rebinding-cases : RebindingCases
@@ -110,14 +111,14 @@ fitness-cases = record {
 }
 
 -- ---- the walk, and lists of calls by its ticks
-by-walk : (n : ℕ) (given : List Given) (ts : List Tick) → walkOf n given ≡ ts
-    → chain (λ t. runImage tableSwap) (λ t. rebindImage tableSwap) imageSwap (fresh n) given
-    ≡ expectedAll (contents chartSwap) (bound n ts) ts 0 given
-    → handed n given ≡ walked n (contents chartSwap) given
-by-walk n given ts e d = listed n given ∙ d ∙ sym (ap (λ (us : List Tick). expectedAll (contents chartSwap) (bound n us) us 0 given) e)
+by-walk : (n : ℕ) (given : List CallInput) (ts : List Tick) → walkOf n given ≡ ts
+    → callOutputs (λ t. runImage tableSwap) (λ t. rebindImage tableSwap) imageSwap (fresh n) given
+    ≡ expectedOutputs (contents chartSwap) (bound n ts) ts 0 given
+    → swapOutputs n given ≡ walkOutputs n (contents chartSwap) given
+by-walk n given ts e d = listed n given ∙ d ∙ sym (ap (λ (us : List Tick). expectedOutputs (contents chartSwap) (bound n us) us 0 given) e)
 
 pub walked-cases : WalkedCases
-unfolding walking chain joined bound expectedAll ticking tableSwap chartSwap
+unfolding walking callOutputs joinedWords bound expectedOutputs ticking tableSwap chartSwap
 walked-cases = record {
   blocks-walk = refl;
   drop-walk = refl;

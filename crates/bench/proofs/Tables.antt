@@ -4,11 +4,11 @@ use mathlib.Core.List.{List, [], _∷_}
 use Prim.Native.Nat.{ℕ}
 use Rattle.frames.specs.Frame.{contents}
 use Rattle.frames.specs.Verdict.{fine}
-use Rattle.frames.specs.Answer.{lent}
+use Rattle.frames.specs.Answer.{bufferOn}
 use Rattle.image.specs.Image.{Image, Label, Row}
 use Rattle.image.specs.Decode.{decoded}
 use Rattle.image.specs.Check.{imageVerdict}
-use Rattle.translator.specs.Labels.{homeLabel, returnLabel}
+use Rattle.chart_labels.specs.Labels.{homeLabel, returnLabel}
 use Rattle.translator.specs.Entry.{translate}
 use Rattle.bench.specs.Bench.{lines, chartP, imageP, chartHome, chartFunction, chartBore, chartAgain}
 use Rattle.bench.specs.Handler.{chartHandler, imageHandler}
@@ -23,7 +23,7 @@ pub record Holds (image : List ℕ) (table : Image) : Type 0 where
 
 -- and it is that of a chart
 pub record TranslatesTo (chart image : List ℕ) (table : Image) : Type 0 where
-  pub translated : (out : List ℕ) → translate chart out ≡ lent fine 1 (λ _. image) out
+  pub translated : (out : List ℕ) → translate chart out ≡ bufferOn fine 1 (λ _. image) out
   pub passes : imageVerdict image ≡ fine
   pub decodes : decoded (contents image) ≡ table
 
@@ -117,7 +117,8 @@ unfoldable pub tableBore : Image
 tableBore = record {
   handler = 0;
   entries = 2 ∷ 5 ∷ [];
-  labels = homeLabel ∷ returnLabel ∷ labelWith 2 2 1 0 0 ∷ labelWith 0 0 1 0 2 ∷ labelWith 0 0 1 0 1 ∷ labelWith 0 0 2 0 0 ∷ labelWith 0 0 2 2 0 ∷ [];
+  labels = homeLabel ∷ returnLabel ∷ labelWith 2 2 1 0 0 ∷ labelWith 0 0 1 0 2 ∷ labelWith
+      0 0 1 0 1 ∷ labelWith 0 0 2 0 0 ∷ labelWith 0 0 2 2 0 ∷ [];
   rows = row 2 0 0 0 3 ∷ row 2 0 0 1 4 ∷ row 3 0 0 2 0 ∷ row 4 0 0 2 0 ∷ row 5 1 0 2 1 ∷ row 5 1 1 2 6 ∷ row 6 0 0 2 1 ∷ [];
 }
 
@@ -151,7 +152,8 @@ tableHandler = record {
   entries = 2 ∷ 4 ∷ 6 ∷ [];
   labels = homeLabel ∷ returnLabel ∷ labelWith 2 2 1 0 0 ∷ labelWith 1 3 1 0 1 ∷ labelWith 0 0 2 0 0 ∷ labelWith 1 2 2 2 2
       ∷ labelWith 0 0 3 2 4 ∷ labelWith 1 2 3 2 8 ∷ [];
-  rows = row 2 2 0 0 0 ∷ row 2 2 2 0 3 ∷ row 2 2 0 1 0 ∷ row 2 2 2 1 3 ∷ row 3 0 0 2 0 ∷ row 4 1 0 2 1 ∷ row 4 1 1 2 5 ∷ row 5 0 0 2 1 ∷ row 6 1 0 2 1
+  rows = row 2 2 0 0 0 ∷ row 2 2 2 0 3 ∷ row 2 2 0 1 0 ∷ row 2 2 2 1 3 ∷ row 3 0 0 2 0 ∷ row
+      4 1 0 2 1 ∷ row 4 1 1 2 5 ∷ row 5 0 0 2 1 ∷ row 6 1 0 2 1
       ∷ row 6 1 1 2 7 ∷ row 7 0 0 2 1 ∷ [];
 }
 
@@ -164,7 +166,8 @@ unfoldable pub tableSwap : Image
 tableSwap = record {
   handler = 4;
   entries = 2 ∷ 5 ∷ 6 ∷ 7 ∷ [];
-  labels = homeLabel ∷ returnLabel ∷ labelWith 1 2 1 0 1 ∷ labelWith 2 2 1 0 0 ∷ labelWith 0 0 1 0 2 ∷ labelWith 0 0 2 1 4 ∷ labelWith 0 0 3 2 8
+  labels = homeLabel ∷ returnLabel ∷ labelWith 1 2 1 0 1 ∷ labelWith 2 2 1 0 0 ∷ labelWith
+      0 0 1 0 2 ∷ labelWith 0 0 2 1 4 ∷ labelWith 0 0 3 2 8
       ∷ labelWith 1 3 4 0 16 ∷ [];
   rows = row 2 0 0 2 3 ∷ row 3 0 0 0 0 ∷ row 3 0 0 1 4 ∷ row 4 0 0 2 0 ∷ row 5 0 0 2 1 ∷ row 6 0 0 2 1 ∷ row 7 0 0 2 1 ∷ [];
 }
@@ -173,7 +176,8 @@ pub of-swap : TranslatesTo chartSwap imageSwap tableSwap
 unfolding translating checking chartSwap imageSwap tableSwap
 of-swap = record { translated = λ out. refl; passes = refl; decodes = refl }
 
--- ---- function 2, on 0 End, on 1 an operation with mask 1; scheme 2: one with mask 2 that calls number 2; scheme 3: one with mask 4 that writes 1
+-- ---- function 2, on 0 End, on 1 an operation with mask 1; scheme 2: one with mask 2 that calls number 2;
+-- scheme 3: one with mask 4 that writes 1
 unfoldable pub chartInner : List ℕ
 chartInner = lines (
     "00010001000000000000FE" ∷ "04010203020000000000F4" ∷ "02010003000000000001F9" ∷ "01010000000000000000FE"
@@ -232,7 +236,8 @@ tableEqual = record {
   handler = 0;
   entries = 2 ∷ 5 ∷ [];
   labels = labelsPlain;
-  rows = row 2 1 0 2 3 ∷ row 2 6 0 2 0 ∷ row 2 1 1 2 4 ∷ row 2 3 1 2 3 ∷ row 3 0 0 2 0 ∷ row 4 0 0 0 0 ∷ row 4 0 0 1 3 ∷ row 4 0 0 2 2 ∷ row 5 0 0 2 1 ∷ [];
+  rows = row 2 1 0 2 3 ∷ row 2 6 0 2 0 ∷ row 2 1 1 2 4 ∷ row 2 3 1 2 3 ∷ row 3 0 0 2 0 ∷ row 4
+      0 0 0 0 ∷ row 4 0 0 1 3 ∷ row 4 0 0 2 2 ∷ row 5 0 0 2 1 ∷ [];
 }
 
 pub of-equal : Holds imageEqual tableEqual

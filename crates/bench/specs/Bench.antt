@@ -1,4 +1,5 @@
--- The bench sheet: its charts, words and answers, B1 to B8 and B10, said about the definitions, and calls that clear a result bit. (B9 is run
+-- The bench sheet: its charts, words and answers, B1 to B8 and B10, said about the definitions, and calls that clear a result bit.
+-- (B9 is run
 -- by a program.)
 use Prim.Native.Nat.{ℕ, _-_, _%_, _≤_}
 use Prim.Native.Char.{code}
@@ -8,15 +9,15 @@ use mathlib.Core.Path.{_≡_}
 use mathlib.Core.List.{List, [], _∷_, _++_, map}
 use lib.ListN.{length, getD, take, replicate}
 use Rattle.frames.specs.Verdict.{fine}
-use Rattle.frames.specs.Answer.{success, refusal, lent}
+use Rattle.frames.specs.Answer.{success, refusal, bufferOn}
 use Rattle.lists.specs.Numbers.{range}
 use Rattle.lists.specs.Sequences.{concatMap}
 use Rattle.frames.specs.Frame.{contents}
-use Rattle.bits.specs.Results.{noResults}
+use Rattle.results.specs.Results.{noResults}
 use Rattle.walk.specs.Walk.{Signal, Tick, walk}
 use Rattle.translator.specs.Entry.{translate}
 use Rattle.state.specs.State.{fresh, freshState}
-use Rattle.runs.specs.Run.{Run, run}
+use Rattle.runs.specs.Run.{RunOutcome, run}
 
 unfoldable pub characters : String → List ℕ
 characters none = []
@@ -37,8 +38,8 @@ imageP = lines (
     ∷ "11010300000000000000EB" ∷ "11020102010000000001E8" ∷ "11030000020000000000EA" ∷ "11040102020000000002E4"
     ∷ "12020000000002000000EA" ∷ "12030001000002010000E7" ∷ "12030001000102040000E3" ∷ "12040000000002010000E7" ∷ [])
 
-unfoldable pub words : List ℕ
-words = 0 ∷ 0 ∷ 1 ∷ 0 ∷ 0 ∷ 0 ∷ 0 ∷ 0 ∷ []
+unfoldable pub benchWords : List ℕ
+benchWords = 0 ∷ 0 ∷ 1 ∷ 0 ∷ 0 ∷ 0 ∷ 0 ∷ 0 ∷ []
 
 -- Begin to End alone
 unfoldable pub chartHome : List ℕ
@@ -86,12 +87,12 @@ abbrev pub imageOf : ℕ → List ℕ → List ℕ
 imageOf n text = translate text (replicate n 0) .buffer
 
 -- a run on an image from a fresh state, with room for just its words
-abbrev pub freshRun : List ℕ → ℕ → List ℕ → Run
+abbrev pub freshRun : List ℕ → ℕ → List ℕ → RunOutcome
 freshRun image size words = run image (freshState size .state) words (replicate (length words) 0) (replicate (length words) 0)
 
 -- a tick of the walk by its node, the number of its scheme, mask, code and open schemes
-abbrev pub one : ℕ → ℕ → ℕ → ℕ → ℕ → Tick
-one v g m k o = record { node = v; number = g; mask = m; code = k; opened = o }
+abbrev pub tickOf : ℕ → ℕ → ℕ → ℕ → ℕ → Tick
+tickOf v g m k o = record { node = v; number = g; mask = m; code = k; opened = o }
 
 -- what stands beside 32 places of which d are in use: the first d of xs, and 0 above them
 abbrev pub beside : ℕ → List ℕ → List ℕ
@@ -103,15 +104,15 @@ repeated xs n = map (λ k. getD xs (k % length xs) 0) (range 0 n)
 
 pub record BenchSheet : Type 0 where
   -- chart P gives its image, whatever buffer is lent
-  pub b1 : (out : List ℕ) → translate chartP out ≡ lent fine 1 (λ _. imageP) out
-  pub b2 : (freshRun imageP 3 words .reply ≡ success 8)
-      × (freshRun imageP 3 words .codes ≡ 4 ∷ 18 ∷ 0 ∷ 18 ∷ 0 ∷ 3 ∷ 3 ∷ 4 ∷ [])
-      × (freshRun imageP 3 words .masks ≡ 0 ∷ 1 ∷ 0 ∷ 2 ∷ 0 ∷ 0 ∷ 0 ∷ 0 ∷ [])
-  pub b3 : freshRun imageP 2 words .reply ≡ refusal 17 0 3
-  pub b4 : freshRun imageP 1 words .reply ≡ refusal 17 0 1
+  pub b1 : (out : List ℕ) → translate chartP out ≡ bufferOn fine 1 (λ _. imageP) out
+  pub b2 : (freshRun imageP 3 benchWords .reply ≡ success 8)
+      × (freshRun imageP 3 benchWords .codes ≡ 4 ∷ 18 ∷ 0 ∷ 18 ∷ 0 ∷ 3 ∷ 3 ∷ 4 ∷ [])
+      × (freshRun imageP 3 benchWords .masks ≡ 0 ∷ 1 ∷ 0 ∷ 2 ∷ 0 ∷ 0 ∷ 0 ∷ 0 ∷ [])
+  pub b3 : freshRun imageP 2 benchWords .reply ≡ refusal 17 0 3
+  pub b4 : freshRun imageP 1 benchWords .reply ≡ refusal 17 0 1
   pub b5 : (size : ℕ) → 1 ≤ size → size ≤ 32 → freshRun imageP size [] .reply ≡ success 0
   -- every tick of the walk and of the machine is a home tick, whatever the words and the stack size, and whatever serves
-  pub b6-walk : (n : ℕ) (ws : List Signal) → walk n (contents chartHome) ws ≡ map (λ w. one 1 1 0 4 1) ws
+  pub b6-walk : (n : ℕ) (ws : List Signal) → walk n (contents chartHome) ws ≡ map (λ w. tickOf 1 1 0 4 1) ws
   pub b6-run : (size : ℕ) → 1 ≤ size → size ≤ 32 → (ws : List ℕ) → freshRun (imageOf 92 chartHome) size ws ≡ record {
     reply = success (length ws);
     state = fresh size;

@@ -1,4 +1,5 @@
--- Cases of what made a tick go on: on the image of chart P, on the same with scheme 2 as the handler, and on one whose last row is missing; on a
+-- Cases of what made a tick go on: on the image of chart P, on the same with scheme 2 as the handler, and on one whose last row is missing;
+-- on a
 -- patched image; and on one with five rows after a function.
 use Prim.Native.Nat.{ℕ}
 use mathlib.Core.Bool.{Bool, true, false}
@@ -9,22 +10,23 @@ use Rattle.frames.specs.Frame.{contents, textOf}
 use Rattle.frames.specs.Answer.{success, refusal}
 use Rattle.state.specs.declared.State.{State}
 use Rattle.state.specs.Changes.{withBits}
-use Rattle.cause.specs.Cause.{Told, noCause, explain}
+use Rattle.cause.specs.Cause.{CauseOutcome, noCause, explain}
 use Rattle.bench.specs.Bench.{lines, imageP}
-use Rattle.bench.specs.Cases.{handlerTwo, stateOf, handling}
+use Rattle.bench.specs.RefusalCases.{handlerTwo, stateWithLabels, handlingState}
 use Rattle.bench.specs.Patched.{imageEqual}
 
 -- row, mask and bit
-abbrev pub tellsBit : ℕ → ℕ → ℕ → Told
+abbrev pub tellsBit : ℕ → ℕ → ℕ → CauseOutcome
 tellsBit k mask bit = record { reply = success 0; cause = record { row = k; mask = mask; bit = bit } }
 
-abbrev pub tells : ℕ → ℕ → Told
-tells k mask = tellsBit k mask 2
+abbrev pub causeTold : ℕ → ℕ → CauseOutcome
+causeTold k mask = tellsBit k mask 2
 
-abbrev pub tellsNone : ℕ → Told
+abbrev pub tellsNone : ℕ → CauseOutcome
 tellsNone number = record { reply = refusal number 0 0; cause = noCause }
 
--- the image of a function call, label 2, with five rows: for condition 3 set and bit 0, for condition 2 set and bit 1, for condition 0 clear and either
+-- the image of a function call, label 2, with five rows:
+-- for condition 3 set and bit 0, for condition 2 set and bit 1, for condition 0 clear and either
 -- bit, for conditions 0 and 1 set and bit 1, for condition 0 set, 1 clear and either bit
 unfoldable pub imageAnswers : List ℕ
 imageAnswers = lines (
@@ -37,38 +39,39 @@ imageAnswers = lines (
 abbrev pub withAnswer : Bool → State → State
 withAnswer b s = withBits s (set (s .bits) 1 b)
 
-abbrev pub standing : ℕ → Bool → State
-standing l b = withAnswer b (stateOf 1 (l ∷ 0 ∷ 0 ∷ []))
+abbrev pub standingAt : ℕ → Bool → State
+standingAt l b = withAnswer b (stateWithLabels 1 (l ∷ 0 ∷ 0 ∷ []))
 
 abbrev pub returning : ℕ → Bool → State
-returning l b = withAnswer b (stateOf 2 (l ∷ 1 ∷ 0 ∷ []))
+returning l b = withAnswer b (stateWithLabels 2 (l ∷ 1 ∷ 0 ∷ []))
 
 pub record CauseCases : Type 0 where
   -- a condition on 0 and on 1; a return, where label 2 beneath has one row
-  pub plain-zero : explain imageP (stateOf 2 (2 ∷ 3 ∷ 0 ∷ [])) 0 ≡ tells 1 1
-  pub plain-one : explain imageP (stateOf 2 (2 ∷ 3 ∷ 0 ∷ [])) 1 ≡ tells 2 1
-  pub beneath : explain imageP (stateOf 2 (2 ∷ 1 ∷ 0 ∷ [])) 0 ≡ tells 0 0
+  pub plain-zero : explain imageP (stateWithLabels 2 (2 ∷ 3 ∷ 0 ∷ [])) 0 ≡ causeTold 1 1
+  pub plain-one : explain imageP (stateWithLabels 2 (2 ∷ 3 ∷ 0 ∷ [])) 1 ≡ causeTold 2 1
+  pub beneath : explain imageP (stateWithLabels 2 (2 ∷ 1 ∷ 0 ∷ [])) 0 ≡ causeTold 0 0
   -- home, a call, one that finds the stack full, and the handler's return at depth 1
-  pub r21-home : explain imageP (stateOf 1 (0 ∷ 0 ∷ 0 ∷ [])) 0 ≡ tellsNone 21
-  pub r21-call : explain imageP (stateOf 1 (2 ∷ 0 ∷ 0 ∷ [])) 0 ≡ tellsNone 21
-  pub r21-full : explain imageP (stateOf 3 (2 ∷ 4 ∷ 4 ∷ [])) 0 ≡ tellsNone 21
-  pub r21-handler : explain handlerTwo (handling 1 (1 ∷ 0 ∷ 0 ∷ [])) 0 ≡ tellsNone 21
+  pub r21-home : explain imageP (stateWithLabels 1 (0 ∷ 0 ∷ 0 ∷ [])) 0 ≡ tellsNone 21
+  pub r21-call : explain imageP (stateWithLabels 1 (2 ∷ 0 ∷ 0 ∷ [])) 0 ≡ tellsNone 21
+  pub r21-full : explain imageP (stateWithLabels 3 (2 ∷ 4 ∷ 4 ∷ [])) 0 ≡ tellsNone 21
+  pub r21-handler : explain handlerTwo (handlingState 1 (1 ∷ 0 ∷ 0 ∷ [])) 0 ≡ tellsNone 21
   -- a state that does not fit comes before, a row that is missing after
-  pub r21-after-15 : explain imageP (stateOf 0 (0 ∷ 0 ∷ 0 ∷ [])) 0 ≡ tellsNone 15
-  pub r18-cause : explain (textOf (take 110 (set (contents imageP) 4 3))) (stateOf 3 (2 ∷ 4 ∷ 1 ∷ [])) 0 ≡ tellsNone 18
+  pub r21-after-15 : explain imageP (stateWithLabels 0 (0 ∷ 0 ∷ 0 ∷ [])) 0 ≡ tellsNone 15
+  pub r18-cause : explain (textOf (take 110 (set (contents imageP) 4 3))) (stateWithLabels 3 (2 ∷ 4 ∷ 1 ∷ [])) 0 ≡ tellsNone 18
 
 -- of a plain label, whatever the result bits are
 pub record RowCauses : Type 0 where
   -- of two rows with as many conditions the later one; the other, for conditions 1 and 2, adds neither
-  pub tie : explain imageEqual (standing 2 true) 1 ≡ tells 3 3
+  pub tie : explain imageEqual (standingAt 2 true) 1 ≡ causeTold 3 3
   -- the row for conditions 1 and 2; two others are contradicted in condition 0
-  pub more : explain imageEqual (standing 2 false) 0 ≡ tells 1 7
+  pub more : explain imageEqual (standingAt 2 false) 0 ≡ causeTold 1 7
   -- of the conditions that contradict a row the lowest: 1 of 1 and 2, and 0 of 0 and 1
-  pub lowest : explain imageEqual (standing 2 true) 6 ≡ tells 0 3
+  pub lowest : explain imageEqual (standingAt 2 true) 6 ≡ causeTold 0 3
 
 -- after a function that answered 0 or 1
 pub record AnswerCauses : Type 0 where
-  -- the row taken asks for neither bit; a row that the bit shuts out and the word contradicts too adds nothing: condition 3, then condition 2
+  -- the row taken asks for neither bit; a row that the bit shuts out and the word contradicts too adds nothing:
+  -- condition 3, then condition 2
   pub either-one : explain imageAnswers (returning 2 true) 1 ≡ tellsBit 4 7 1
   pub either-zero : explain imageAnswers (returning 2 false) 1 ≡ tellsBit 4 11 0
   -- it asks for the bit

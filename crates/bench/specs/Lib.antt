@@ -1,5 +1,5 @@
 pub mod Bench
-pub mod Cases
+pub mod RefusalCases
 pub mod Handler
 pub mod Swap
 pub mod Patched

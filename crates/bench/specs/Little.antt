@@ -5,7 +5,7 @@ use mathlib.Core.List.{List, [], _∷_, map}
 use lib.ListN.{getD, replicate}
 use Rattle.frames.specs.Frame.{textOf}
 use Rattle.frames.specs.Verdict.{fine}
-use Rattle.frames.specs.Answer.{lent}
+use Rattle.frames.specs.Answer.{bufferOn}
 use Rattle.little_charts.specs.Little.{littleCharts, littleText, littleChart}
 use Rattle.bench.specs.Bench.{lines}
 use Rattle.bench.specs.Minimise.{keptSmaller}
@@ -53,9 +53,9 @@ pub record LittleCases : Type 0 where
   pub three : map textOf (littleCharts 3) ≡ textsThree
   pub four : (littleText 4 0 ≡ firstFour) × (littleText 4 324 ≡ middleFour) × (littleText 4 647 ≡ lastFour)
   -- the last of each frame count is written
-  pub lastTwo : (out : List ℕ) → littleChart 2 1 out ≡ lent fine 1 (λ _. getD textsTwo 1 []) out
-  pub lastThree : (out : List ℕ) → littleChart 3 17 out ≡ lent fine 1 (λ _. getD textsThree 17 []) out
-  pub lastOfFour : (out : List ℕ) → littleChart 4 647 out ≡ lent fine 1 (λ _. lastFour) out
+  pub lastTwo : (out : List ℕ) → littleChart 2 1 out ≡ bufferOn fine 1 (λ _. getD textsTwo 1 []) out
+  pub lastThree : (out : List ℕ) → littleChart 3 17 out ≡ bufferOn fine 1 (λ _. getD textsThree 17 []) out
+  pub lastOfFour : (out : List ℕ) → littleChart 4 647 out ≡ bufferOn fine 1 (λ _. lastFour) out
   -- and the next number is past it
   pub pastTwo : (out : List ℕ) → littleChart 2 2 out ≡ keptSmaller 24 out
   pub pastThree : (out : List ℕ) → littleChart 3 18 out ≡ keptSmaller 24 out

@@ -4,7 +4,7 @@ use mathlib.Core.Path.{_≡_}
 use mathlib.Core.List.{List, [], _∷_}
 use Rattle.frames.specs.Frame.{contents}
 use Rattle.frames.specs.Verdict.{fine}
-use Rattle.image.proofs.Sound.{nthRow}
+use Rattle.image.specs.Image.{nthRow}
 use Rattle.translator.specs.Table.{table}
 use Rattle.translator.specs.Entry.{translateVerdict}
 use Rattle.state.specs.declared.State.{State}

@@ -5,11 +5,11 @@ use mathlib.Core.Path.{_≡_}
 use mathlib.Core.List.{List, [], _∷_}
 use lib.ListN.{replicate}
 use Rattle.frames.specs.Verdict.{fine}
-use Rattle.frames.specs.Answer.{Lent, refusal, lent}
+use Rattle.frames.specs.Answer.{BufferOutcome, refusal, bufferOn}
 use Rattle.minimising.specs.Entry.{minimise}
 use Rattle.bench.specs.Bench.{lines, imageP}
-use Rattle.bench.specs.Cases.{changedImage}
-use Rattle.bench.specs.Listing.{imageGap}
+use Rattle.bench.specs.RefusalCases.{changedImage}
+use Rattle.bench.specs.Listing.{imageRowless}
 
 -- labels 4 and 5 go home as 7 and 8 do, label 3 leads to the former and 6 to the latter
 unfoldable pub imageBranches : List ℕ
@@ -28,15 +28,15 @@ imageJoined = lines (
     ∷ "12040000000002050000E3" ∷ "12050000000002000000E7" ∷ "12060000000002040000E2" ∷ [])
 
 -- a call that is refused leaves the buffer
-abbrev pub keptSmaller : ℕ → List ℕ → Lent
+abbrev pub keptSmaller : ℕ → List ℕ → BufferOutcome
 keptSmaller number out = record { reply = refusal number 0 0; buffer = out }
 
 pub record MinimiseCases : Type 0 where
-  pub ofP : (out : List ℕ) → minimise imageP out ≡ lent fine 1 (λ _. imageP) out
-  pub branches : (out : List ℕ) → minimise imageBranches out ≡ lent fine 1 (λ _. imageJoined) out
-  pub again : (out : List ℕ) → minimise imageJoined out ≡ lent fine 1 (λ _. imageJoined) out
+  pub ofP : (out : List ℕ) → minimise imageP out ≡ bufferOn fine 1 (λ _. imageP) out
+  pub branches : (out : List ℕ) → minimise imageBranches out ≡ bufferOn fine 1 (λ _. imageJoined) out
+  pub again : (out : List ℕ) → minimise imageJoined out ≡ bufferOn fine 1 (λ _. imageJoined) out
   -- two rows match each word; a row asks more than it did, so that words match none
-  pub twice : (out : List ℕ) → minimise imageGap out ≡ keptSmaller 23 out
+  pub twice : (out : List ℕ) → minimise imageRowless out ≡ keptSmaller 23 out
   pub missed : (out : List ℕ) → minimise (changedImage 8 3 1) out ≡ keptSmaller 23 out
   -- 16 follows, one character short
   pub short : minimise imageBranches (replicate 344 9) ≡ keptSmaller 16 (replicate 344 9)

@@ -8,7 +8,7 @@ use Rattle.frames.specs.Frame.{textOf}
 use Rattle.printing.specs.Lines.{refusalLine}
 use Rattle.programs.specs.Programs.{translateOutput, runOutput}
 use Rattle.bench.specs.Bench.{lines, chartP, imageP, chartCircle}
-use Rattle.bench.specs.Cases.{markedFirst}
+use Rattle.bench.specs.RefusalCases.{markedFirst}
 
 -- Begin, an operation that calls scheme 2, End; scheme 2 the same, so that it calls itself for ever
 unfoldable pub chartEndless : List ℕ
@@ -38,7 +38,8 @@ pub record PrintedCases : Type 0 where
   -- sixteen turns of four ticks
   pub run-p : runOutput imageP ≡ lines (concatMap (λ r. r) (replicate 16 ("04" ∷ "12" ∷ "00" ∷ "03" ∷ [])))
   -- the words from 32 on have bit 5
-  pub run-held : runOutput (translateOutput chartHeld) ≡ lines (concatMap (λ r. r) (replicate 16 ("04" ∷ "00" ∷ [])) ++ ("04" ∷ replicate 31 "00"))
+  pub run-held : runOutput (translateOutput chartHeld) ≡ lines
+      (concatMap (λ r. r) (replicate 16 ("04" ∷ "00" ∷ [])) ++ ("04" ∷ replicate 31 "00"))
   -- a home tick and 31 calls fill the stack, and 17 follows
   pub run-endless : runOutput (translateOutput chartEndless) ≡ lines ("04" ∷ replicate 31 "12" ++ ("FF110000000000000000F0" ∷ []))
   -- with a handler a drop follows them, the handler with its return, and home again

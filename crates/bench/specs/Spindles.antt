@@ -3,13 +3,13 @@ use Prim.Native.Nat.{ℕ, _-_}
 use mathlib.Core.Path.{_≡_}
 use mathlib.Core.List.{List, [], _∷_, _++_, map}
 use lib.ListN.{replicate, set, take}
-use Rattle.bits.specs.Results.{noResults}
-use Rattle.bits.specs.Binding.{ownBinding}
-use Rattle.frames.specs.Answer.{number}
+use Rattle.results.specs.Results.{noResults}
+use Rattle.bindings.specs.Binding.{ownBinding}
+use Rattle.frames.specs.Answer.{replyNumber}
 use Rattle.state.specs.declared.State.{State}
 use Rattle.state.specs.State.{noState}
 use Rattle.state.specs.Changes.{withDepth}
-use Rattle.spindles.specs.Spindles.{Spun, spin, liveSpin}
+use Rattle.spindles.specs.Spindles.{SpinOutcome, spin, liveSpin}
 use Rattle.bench.specs.Bench.{imageP}
 use Rattle.bench.specs.Handler.{imageHandler}
 
@@ -38,27 +38,27 @@ abbrev pub fullHandler : List State
 fullHandler = withDepth noState 16 ∷ deep 5 16 16 5 ∷ withDepth noState 2 ∷ withDepth noState 30 ∷ []
 
 -- number, mask, code, record and depths
-abbrev pub shown : Spun → List ℕ
-shown r = number (r .reply) ∷ r .mask ∷ r .code ∷ r .taken ∷ map (λ (s : State). s .depth) (r .states)
+abbrev pub shownSpin : SpinOutcome → List ℕ
+shownSpin r = replyNumber (r .reply) ∷ r .mask ∷ r .code ∷ r .taken ∷ map (λ (s : State). s .depth) (r .states)
 
 pub record SpindleCases : Type 0 where
   -- 25 before all else, then what the image check tries
-  pub no-spindle : shown (spin [] fullP 63 4 0) ≡ 25 ∷ 0 ∷ 0 ∷ 63 ∷ 16 ∷ 16 ∷ 16 ∷ 16 ∷ []
-  pub no-image : shown (spin [] fullP 63 0 0) ≡ 1 ∷ 0 ∷ 0 ∷ 63 ∷ 16 ∷ 16 ∷ 16 ∷ 16 ∷ []
+  pub no-spindle : shownSpin (spin [] fullP 63 4 0) ≡ 25 ∷ 0 ∷ 0 ∷ 63 ∷ 16 ∷ 16 ∷ 16 ∷ 16 ∷ []
+  pub no-image : shownSpin (spin [] fullP 63 0 0) ≡ 1 ∷ 0 ∷ 0 ∷ 63 ∷ 16 ∷ 16 ∷ 16 ∷ 16 ∷ []
   -- 15: the record is not the sum, or is above 64; there are three states, or five; the spindle's own does not fit
-  pub wrong-sum : shown (spin imageP fullP 63 2 0) ≡ 15 ∷ 0 ∷ 0 ∷ 63 ∷ 16 ∷ 16 ∷ 16 ∷ 16 ∷ []
-  pub too-many : shown (spin imageP (set fullP 3 (deep 4 32 17 3)) 65 2 0) ≡ 15 ∷ 0 ∷ 0 ∷ 65 ∷ 16 ∷ 16 ∷ 16 ∷ 17 ∷ []
-  pub three : shown (spin imageP (take 3 fullP) 48 3 0) ≡ 15 ∷ 0 ∷ 0 ∷ 48 ∷ 16 ∷ 16 ∷ 16 ∷ []
-  pub five : shown (spin imageP (withDepth noState 0 ∷ fullP) 64 3 0) ≡ 15 ∷ 0 ∷ 0 ∷ 64 ∷ 0 ∷ 16 ∷ 16 ∷ 16 ∷ 16 ∷ []
-  pub unfit-own : shown (spin imageHandler fullHandler 64 0 0) ≡ 15 ∷ 0 ∷ 0 ∷ 64 ∷ 16 ∷ 16 ∷ 2 ∷ 30 ∷ []
+  pub wrong-sum : shownSpin (spin imageP fullP 63 2 0) ≡ 15 ∷ 0 ∷ 0 ∷ 63 ∷ 16 ∷ 16 ∷ 16 ∷ 16 ∷ []
+  pub too-many : shownSpin (spin imageP (set fullP 3 (deep 4 32 17 3)) 65 2 0) ≡ 15 ∷ 0 ∷ 0 ∷ 65 ∷ 16 ∷ 16 ∷ 16 ∷ 17 ∷ []
+  pub three : shownSpin (spin imageP (take 3 fullP) 48 3 0) ≡ 15 ∷ 0 ∷ 0 ∷ 48 ∷ 16 ∷ 16 ∷ 16 ∷ []
+  pub five : shownSpin (spin imageP (withDepth noState 0 ∷ fullP) 64 3 0) ≡ 15 ∷ 0 ∷ 0 ∷ 64 ∷ 0 ∷ 16 ∷ 16 ∷ 16 ∷ 16 ∷ []
+  pub unfit-own : shownSpin (spin imageHandler fullHandler 64 0 0) ≡ 15 ∷ 0 ∷ 0 ∷ 64 ∷ 16 ∷ 16 ∷ 2 ∷ 30 ∷ []
   -- a call at a full stack is 17, one that finds no place 26
-  pub stack-full : shown (spin imageP fullP 64 1 0) ≡ 17 ∷ 0 ∷ 0 ∷ 64 ∷ 16 ∷ 16 ∷ 16 ∷ 16 ∷ []
-  pub no-place : shown (spin imageP fullP 64 0 0) ≡ 26 ∷ 0 ∷ 0 ∷ 64 ∷ 16 ∷ 16 ∷ 16 ∷ 16 ∷ []
+  pub stack-full : shownSpin (spin imageP fullP 64 1 0) ≡ 17 ∷ 0 ∷ 0 ∷ 64 ∷ 16 ∷ 16 ∷ 16 ∷ 16 ∷ []
+  pub no-place : shownSpin (spin imageP fullP 64 0 0) ≡ 26 ∷ 0 ∷ 0 ∷ 64 ∷ 16 ∷ 16 ∷ 16 ∷ 16 ∷ []
   -- a return gives its place back, a plain tick needs none, a drop gives back 15, and a call takes the last place
-  pub return-back : shown (spin imageP fullP 64 2 0) ≡ 0 ∷ 0 ∷ 3 ∷ 63 ∷ 16 ∷ 16 ∷ 15 ∷ 16 ∷ []
-  pub plain : shown (spin imageP fullP 64 3 0) ≡ 0 ∷ 0 ∷ 0 ∷ 64 ∷ 16 ∷ 16 ∷ 16 ∷ 16 ∷ []
-  pub drop-back : shown (spin imageHandler fullHandler 64 1 0) ≡ 0 ∷ 2 ∷ 96 ∷ 49 ∷ 16 ∷ 1 ∷ 2 ∷ 30 ∷ []
-  pub last-place : shown (spin imageP (set fullP 3 (withDepth noState 15)) 63 0 0) ≡ 0 ∷ 2 ∷ 18 ∷ 64 ∷ 17 ∷ 16 ∷ 16 ∷ 15 ∷ []
+  pub return-back : shownSpin (spin imageP fullP 64 2 0) ≡ 0 ∷ 0 ∷ 3 ∷ 63 ∷ 16 ∷ 16 ∷ 15 ∷ 16 ∷ []
+  pub plain : shownSpin (spin imageP fullP 64 3 0) ≡ 0 ∷ 0 ∷ 0 ∷ 64 ∷ 16 ∷ 16 ∷ 16 ∷ 16 ∷ []
+  pub drop-back : shownSpin (spin imageHandler fullHandler 64 1 0) ≡ 0 ∷ 2 ∷ 96 ∷ 49 ∷ 16 ∷ 1 ∷ 2 ∷ 30 ∷ []
+  pub last-place : shownSpin (spin imageP (set fullP 3 (withDepth noState 15)) 63 0 0) ≡ 0 ∷ 2 ∷ 18 ∷ 64 ∷ 17 ∷ 16 ∷ 16 ∷ 15 ∷ []
   -- on bytes that are no table
-  pub no-table : shown (liveSpin [] fullP 63 0 0) ≡ 11 ∷ 0 ∷ 0 ∷ 63 ∷ 16 ∷ 16 ∷ 16 ∷ 16 ∷ []
-  pub no-live-spindle : shown (liveSpin [] fullP 63 4 0) ≡ 25 ∷ 0 ∷ 0 ∷ 63 ∷ 16 ∷ 16 ∷ 16 ∷ 16 ∷ []
+  pub no-table : shownSpin (liveSpin [] fullP 63 0 0) ≡ 11 ∷ 0 ∷ 0 ∷ 63 ∷ 16 ∷ 16 ∷ 16 ∷ 16 ∷ []
+  pub no-live-spindle : shownSpin (liveSpin [] fullP 63 4 0) ≡ 25 ∷ 0 ∷ 0 ∷ 63 ∷ 16 ∷ 16 ∷ 16 ∷ 16 ∷ []

@@ -34,7 +34,8 @@ pub same-bits : (k a b : ℕ) → a < 2 ^ k → b < 2 ^ k → ((i : ℕ) → bit
 same-bits zero a b ha hb h = lt-one ha ∙ sym (lt-one hb)
 same-bits (suc k) a b ha hb h =
     let p : 2 ^ suc k ≡ 2 ^ k * 2 = pow-suc 2 k in
-    let e : a / 2 ≡ b / 2 = same-bits k (a / 2) (b / 2) (omega (arith, p)) (omega (arith, p)) (λ i. bit-half a i ∙ h (1 + i) ∙ sym (bit-half b i)) in
+    let e : a / 2 ≡ b / 2 = same-bits k (a / 2) (b / 2) (omega (arith, p)) (omega (arith, p))
+    (λ i. bit-half a i ∙ h (1 + i) ∙ sym (bit-half b i)) in
     let z : a % 2 ≡ b % 2 = sym (bit-zero a) ∙ h 0 ∙ bit-zero b in
     omega arith
 
@@ -51,11 +52,13 @@ bit-pow-other zero (suc j) ne = sym (ap (λ (n : ℕ). bit 1 n) (one-add j)) ∙
 bit-pow-other (suc i) zero ne = bit-zero (2 ^ suc i) ∙ ap (λ (x : ℕ). x % 2) (pow-suc 2 i) ∙ mul-mod-left (2 ^ i) 2
 bit-pow-other (suc i) (suc j) ne =
     sym (ap (λ (n : ℕ). bit (2 ^ suc i) n) (one-add j)) ∙ sym (bit-half (2 ^ suc i) j)
-    ∙ ap (λ (x : ℕ). bit x j) (ap (λ (x : ℕ). x / 2) (pow-suc 2 i) ∙ mul-div-cancel (2 ^ i) (lit< tt)) ∙ bit-pow-other i j (λ e. ne (ap suc e))
+    ∙ ap (λ (x : ℕ). bit x j) (ap (λ (x : ℕ). x / 2) (pow-suc 2 i) ∙ mul-div-cancel (2 ^ i) (lit< tt))
+    ∙ bit-pow-other i j (λ e. ne (ap suc e))
 
 -- a bit that a number lacks is added
 pub lacks : (c i : ℕ) → bit c i ≡ 0 → bitAnd c (2 ^ i) ≡ 0
-lacks c i e = same-bits (suc i) (bitAnd c (2 ^ i)) 0 (omega (arith, and-le-r c (2 ^ i), pow-lt {i = i} {j = suc i} (omega arith))) (pow-pos (suc i)) (λ j. at j (ℕ-discrete i j))
+lacks c i e = same-bits (suc i) (bitAnd c (2 ^ i)) 0 (omega (arith, and-le-r c (2 ^ i), pow-lt {i = i} {j = suc i} (omega arith)))
+    (pow-pos (suc i)) (λ j. at j (ℕ-discrete i j))
   where
     at : (j : ℕ) → Dec (i ≡ j) → bit (bitAnd c (2 ^ i)) j ≡ bit 0 j
     at j (yes q) =
@@ -101,7 +104,8 @@ pub agree-match : (w care values : ℕ) → Mask care values → Agree w care va
 agree-match w care values m a = same-bits 16 (bitAnd w care) values (omega (arith, and-le-r w care, m .small)) (m .low) at
   where
     at : (i : ℕ) → bit (bitAnd w care) i ≡ bit values i
-    at i = bit-and w care i ∙ ⊎-elim (λ (z : bit care i ≡ 0). omega (arith, m .within i z)) (λ (o : bit care i ≡ 1). omega (arith, a .agrees i o)) (bit-cases care i)
+    at i = bit-and w care i ∙ ⊎-elim (λ (z : bit care i ≡ 0). omega (arith, m .within i z))
+        (λ (o : bit care i ≡ 1). omega (arith, a .agrees i o)) (bit-cases care i)
 
 pub clash-match : (w care values : ℕ) → Clash w care values → bitAnd w care ≡ values → ⊥
 clash-match w care values k e =
@@ -125,7 +129,12 @@ module _ (care values i : ℕ) (free : bit care i ≡ 0) (m : Mask care values) 
       go j e (no q) = m .within j (sym (bit-add-other care i j free q) ∙ e)
 
   pub mask-1 : i ≤ 15 → Mask (care + 2 ^ i) (values + 2 ^ i)
-  mask-1 l = record { small = add-small care i free (m .small) l; low = add-small values i (m .within i free) (m .low) l; within = λ j e. go j e (ℕ-discrete i j) }
+  mask-1 l = record {
+    small = add-small care i free (m .small) l;
+    low =
+        add-small values i (m .within i free) (m .low) l;
+    within = λ j e. go j e (ℕ-discrete i j);
+  }
     where
       go : (j : ℕ) → bit (care + 2 ^ i) j ≡ 0 → Dec (i ≡ j) → bit (values + 2 ^ i) j ≡ 0
       go j e (yes q) =
@@ -152,7 +161,12 @@ module _ (care values i : ℕ) (free : bit care i ≡ 0) (m : Mask care values) 
   apart j o q = let z : bit care j ≡ 0 = subst (λ (n : ℕ). bit care n ≡ 0) q free in omega arith
 
   pub clash-0 : (w : ℕ) → Clash w care values → Clash w (care + 2 ^ i) values
-  clash-0 w k = record { place = k .place; cares = bit-add-other care i (k .place) free (apart (k .place) (k .cares)) ∙ k .cares; differs = k .differs }
+  clash-0 w k = record {
+    place = k .place;
+    cares = bit-add-other care i (k .place) free (apart (k .place) (k .cares))
+        ∙ k .cares;
+    differs = k .differs;
+  }
 
   pub clash-1 : (w : ℕ) → Clash w care values → Clash w (care + 2 ^ i) (values + 2 ^ i)
   clash-1 w k = record {
@@ -166,4 +180,9 @@ module _ (care values i : ℕ) (free : bit care i ≡ 0) (m : Mask care values) 
   clash-here-0 w o = record { place = i; cares = bit-add-same care i free; differs = λ e. omega (arith, m .within i free) }
 
   pub clash-here-1 : (w : ℕ) → bit w i ≡ 0 → Clash w (care + 2 ^ i) (values + 2 ^ i)
-  clash-here-1 w z = record { place = i; cares = bit-add-same care i free; differs = λ e. omega (arith, bit-add-same values i (m .within i free)) }
+  clash-here-1 w z = record {
+    place = i;
+    cares = bit-add-same care i free;
+    differs =
+        λ e. omega (arith, bit-add-same values i (m .within i free));
+  }

@@ -57,7 +57,8 @@ more-within-1 zero v c n e =
 more-within-1 (suc a) v c n e =
     let w : (bitAnd (v / 2) (c / 2) ≡ v / 2) × (v % 2 ≤ c % 2) = within-half v c e in
     half-within (v + 2 ^ suc a) (c + 2 ^ suc a)
-    (ap₂ bitAnd (half-power v a) (half-power c a) ∙ more-within-1 a (v / 2) (c / 2) (λ o. n (bit-suc c a ∙ o)) (w .0) ∙ sym (half-power v a))
+    (ap₂ bitAnd (half-power v a) (half-power c a) ∙ more-within-1 a (v / 2) (c / 2) (λ o. n (bit-suc c a ∙ o)) (w .0)
+    ∙ sym (half-power v a))
     (omega (arith, odd-power c a, odd-power v a))
 
 -- what the mask lacks the values lack

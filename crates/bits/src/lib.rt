@@ -1,4 +1,4 @@
-// Words of bits: a condition's bit, care masks and values; the result bits of schemes.
+// Words of bits: a condition's bit, care masks and values.
 ghost use mathlib.Core.Path.{_≡_};
 ghost use Prim.Native.Nat.{_<_, _^_};
 ghost use lib.Bits.{bitOr};

@@ -6,12 +6,14 @@ use native.Mathlib.Numerals.{add-one}
 use native.Mathlib.Omega.{arith}
 use lib.ListN.{List·getD-eq-default}
 use borrow.Author.Tests.{lt-leb}
-use Rattle.bits.specs.Results.{Results, withResult, cleared}
-use Rattle.bits.specs.Binding.{served}
+use Rattle.results.specs.Results.{Results, withResult, cleared}
+use Rattle.bindings.specs.Binding.{served}
+use Rattle.image.specs.Layout.{tickKind}
 use Rattle.image.specs.Image.{Label}
 use Rattle.image.specs.Decode.{schemeCount}
-use Rattle.tables.specs.Table.{Whole, labelOf, entryOf, tableImage}
-use Rattle.tables.specs.Labels.{asLabel}
+use Rattle.tables.specs.Table.{tableLabel, tableImage}
+use Rattle.tables.specs.inner.Asked.{Whole, entryOf}
+use Rattle.tables.specs.inner.Labels.{asLabel}
 use Rattle.tables.specs.declared.Label as declared
 use Rattle.tables.proofs.TableReads.{entries-count, entry-at}
 use Rattle.codes.specs.Codes.{codeOf}
@@ -19,8 +21,8 @@ use Rattle.state.specs.declared.State.{State}
 use Rattle.state.specs.State.{entryAt, numberAt}
 use Rattle.state.specs.Changes.{withDepth, withOpened, afterResult}
 use Rattle.state.specs.Bytes.{stateOf}
-use Rattle.ticks.specs.Tick.{opening, pushed}
-use Rattle.ticks.specs.Parts.{topOf, TopCalls, Steps}
+use Rattle.ticks.specs.Tick.{opening, pushed, topOf}
+use Rattle.ticks.specs.inner.TickContracts.{TopCalls, GivesTickEnd}
 use Rattle.ticks.proofs.TickCases.{steps-ticked, tick-call}
 
 module _ (b before : List ℕ) (w : ℕ) where
@@ -29,7 +31,7 @@ module _ (b before : List ℕ) (w : ℕ) where
 
   module _ (y : TopCalls b s) where
     abbrev caller : Label
-    caller = labelOf b (topOf s)
+    caller = tableLabel b (topOf s)
 
     abbrev server : ℕ
     server = served (s .serving) (caller .called)
@@ -39,19 +41,19 @@ module _ (b before : List ℕ) (w : ℕ) where
 
     -- d is the depth, l the top, z what was read of it, h its number, k the scheme that serves, n its entry and g the code; then the bytes
     -- after each write
-    pub call-steps : (d : ℕ) → d ≡ s .depth → d < s .size → (l : ℕ) → l ≡ topOf s → (z : declared.Label) → asLabel z ≡ labelOf b l
+    pub call-steps : (d : ℕ) → d ≡ s .depth → d < s .size → (l : ℕ) → l ≡ topOf s → (z : declared.Label) → asLabel z ≡ tableLabel b l
         → (h : ℕ) → h ≡ numberAt s (s .depth - 1) → (k : ℕ) → k ≡ served (s .serving) (z .called) → (n : ℕ) → n ≡ entryAt (tableImage b) k
-        → (g : ℕ) → g ≡ codeOf (z .kind) (z .called)
+        → (g : ℕ) → g ≡ codeOf (tickKind (z .kind)) (z .called)
         → (first second third bytes : List ℕ) → stateOf first ≡ afterResult s (z .result) h
         → stateOf second ≡ afterResult (stateOf first) 1 (z .called)
         → stateOf third ≡ withOpened (stateOf second) d n (z .called) k → stateOf bytes ≡ withDepth (stateOf third) (d + 1)
-        → Steps b before w (record { number = 0; mask = z .mask; code = g }) bytes
+        → GivesTickEnd b before w (record { number = 0; mask = z .mask; code = g }) bytes
     call-steps d is f l at z read h called k by n p g q first second third bytes e₁ e₂ e₃ e₄ =
-        let e : asLabel z ≡ caller = read ∙ ap (labelOf b) at in
+        let e : asLabel z ≡ caller = read ∙ ap (tableLabel b) at in
         let c : z .called ≡ caller .called = ap (λ (u : Label). u .called) e in
         let r : z .result ≡ caller .result = ap (λ (u : Label). u .result) e in
         let m : z .mask ≡ caller .mask = ap (λ (u : Label). u .mask) e in
-        let code : g ≡ codeOf (caller .kind) (caller .called) = q ∙ ap₂ codeOf (ap (λ (u : Label). u .kind) e) c in
+        let code : g ≡ codeOf (tickKind (caller .kind)) (caller .called) = q ∙ ap₂ codeOf (ap (λ (u : Label). tickKind (u .kind)) e) c in
         let serves : k ≡ server = by ∙ ap (served (s .serving)) c in
         let entry : n ≡ entryAt (tableImage b) server = p ∙ ap (entryAt (tableImage b)) serves in
         let written : stateOf second ≡ afterResult (afterResult s (caller .result) (numberAt s (s .depth - 1))) 1 (caller .called) =
@@ -61,10 +63,11 @@ module _ (b before : List ℕ) (w : ℕ) where
         ∙ ap₂ (withOpened (stateOf second) (s .depth) (entryAt (tableImage b) server)) c serves in
         let left : stateOf bytes ≡ opening s (entryAt (tableImage b) server) (caller .called) server (cleared (caller .called) bits) =
         e₄
-        ∙ ap₂ withDepth (opened ∙ ap (λ (u : State). withOpened u (s .depth) (entryAt (tableImage b) server) (caller .called) server) written)
+        ∙ ap₂ withDepth (opened ∙ ap (λ (u : State). withOpened u (s .depth) (entryAt (tableImage b) server) (caller .called) server)
+        written)
         (ap (λ (j : ℕ). j + 1) is ∙ add-one (s .depth)) in
         rw (m, code)
-        (steps-ticked b before w (caller .mask) (codeOf (caller .kind) (caller .called)) _ bytes
+        (steps-ticked b before w (caller .mask) (codeOf (tickKind (caller .kind)) (caller .called)) _ bytes
         (tick-call b s (y .stands) w (y .low) (y .high)
         ∙ ap (pushed (tableImage b) s (caller .mask) _ (caller .called) _ _) (lt-leb (s .size) (s .depth) (omega arith))) left)
 

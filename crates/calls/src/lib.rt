@@ -1,6 +1,7 @@
 // The tick of a call, in place: there is a free place, or the stack is full.
 use codes::code_of;
 use full_stack::tick_full;
+use state::layout::STATE_BYTES;
 use state_places::depth_of;
 use state_places::number_of;
 use state_places::open_place;
@@ -11,13 +12,14 @@ use state_results::put_result;
 use state_results::serving_of;
 use tables::entry_of;
 use tables::label_read;
-use ticks::Stepped;
+use ticks::TickEnd;
 ghost use mathlib.Core.Path.{_≡_};
 ghost use Rattle.image.specs.Decode.{schemeCount};
-ghost use Rattle.tables.specs.Table.{Whole, tableImage};
+ghost use Rattle.tables.specs.Table.{tableImage};
+ghost use Rattle.tables.specs.inner.Asked.{Whole};
 ghost use Rattle.state.specs.State.{entryAt};
 ghost use Rattle.state.specs.Bytes.{stateOf};
-ghost use Rattle.ticks.specs.Parts.{TopCalls, Steps};
+ghost use Rattle.ticks.specs.inner.TickContracts.{TopCalls, GivesTickEnd};
 
 // The entry of the scheme that serves, 0 where the table has none of that number.
 fn server_entry(table: &[u8], schemes: u8, server: u8) -> u8
@@ -31,12 +33,13 @@ fn server_entry(table: &[u8], schemes: u8, server: u8) -> u8
     entry_of(table, server)
 }
 
-// A call: the entry of the scheme that serves the number called goes above the top, and the number's bit is cleared after the caller's result is
+// A call: the entry of the scheme that serves the number called goes above the top,
+// and the number's bit is cleared after the caller's result is
 // written.
-pub fn tick_call(table: &[u8], schemes: u8, bytes: &mut [u8; 130], word: u16) -> Stepped
+pub fn tick_call(table: &[u8], schemes: u8, bytes: &mut [u8; STATE_BYTES], word: u16) -> TickEnd
     requires { ⌜ TopCalls (now table) (stateOf (now bytes)) ⌝ }
     requires { ⌜ schemes ≡ schemeCount (now table) ⌝ }
-    ensures { λ r. ⌜ Steps (now (table .entry)) (now (bytes .entry)) word r (now (bytes .exit)) ⌝ }
+    ensures { λ r. ⌜ GivesTickEnd (now (table .entry)) (now (bytes .entry)) word r (now (bytes .exit)) ⌝ }
 {
     let depth = depth_of(bytes);
     if size_of(bytes) <= depth {
@@ -52,7 +55,7 @@ pub fn tick_call(table: &[u8], schemes: u8, bytes: &mut [u8; 130], word: u16) ->
     put_result(bytes, 1, called);
     open_place(bytes, depth as usize, entry, called, server);
     put_depth(bytes, depth + 1);
-    Stepped {
+    TickEnd {
         number: 0,
         mask: label.mask,
         code: code_of(label.kind, called),

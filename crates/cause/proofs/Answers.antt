@@ -1,26 +1,24 @@
--- What success of the entry point says: the image is accepted, the state fits it, and what is reported is the cause, so that the laws speak of it.
+-- What success of the entry point says: the image is accepted, the state fits it,
+-- and what is reported is the cause, so that the laws speak of it.
 use Prim.Native.Nat.{ℕ}
 use mathlib.Core.Bool.{Bool, true, false}
 use mathlib.Core.Path.{_≡_, refl}
 use mathlib.Core.List.{List}
-use native.Mathlib.Omega.{arith}
 use Rattle.frames.specs.Frame.{contents}
 use Rattle.frames.specs.Verdict.{Verdict, fine, refused, next, when}
-use Rattle.frames.specs.Answer.{success, refusal}
+use Rattle.frames.specs.Answer.{success}
+use Rattle.frames.proofs.Chains.{no-success}
 use Rattle.image.specs.Decode.{decoded}
 use Rattle.image.specs.Check.{imageVerdict}
 use Rattle.state.specs.declared.State.{State}
 use Rattle.state.specs.State.{Sized}
 use Rattle.fitness.specs.Fitness.{unfit}
-use Rattle.cause.specs.Cause.{Caused, because, unexplained, Told, toldOn, causeOf, explain}
+use Rattle.cause.specs.Cause.{Caused, because, unexplained, CauseOutcome, causeOn, causeOf, explain}
 use Rattle.cause.specs.Laws.{Explains}
 
-no-success : {A : Type 0} (k i m n : ℕ) → refusal k i m ≡ success n → A
-no-success k i m n e = absurd (let z : _≡_ {A = ℕ} 0 1 = cc in omega arith)
-
 -- the image check's verdict, whether the state is unfit, and the cause found
-abbrev answer : Verdict → Bool → Caused → Told
-answer v u x = toldOn (next v λ _. when 15 u) (λ _. x)
+abbrev answer : Verdict → Bool → Caused → CauseOutcome
+answer v u x = causeOn (next v λ _. when 15 u) (λ _. x)
 
 record Succeeded (v : Verdict) (u : Bool) (x : Caused) (n : ℕ) : Type 0 where
   passes : v ≡ fine

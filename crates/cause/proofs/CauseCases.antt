@@ -11,21 +11,22 @@ use lib.ListN.{List·getD-eq-default}
 use borrow.Author.Tests.{lt-ltb, le-ltb, le-leb, lt-leb, eq-eqb}
 use Rattle.lists.specs.Pick.{pick}
 use Rattle.lists.proofs.Tests.{yes-pick, no-pick}
-use Rattle.bits.specs.Results.{Results}
+use Rattle.results.specs.Results.{Results}
 use Rattle.frames.specs.Frame.{size, pairAt}
 use Rattle.frames.specs.Verdict.{Verdict}
 use Rattle.frames.specs.Answer.{reply}
 use Rattle.frames.specs.declared.Answer.{Answer}
 use Rattle.frames.specs.declared.Answer.the-variants.{Done, Refused}
 use Rattle.frames.proofs.Chains.{when-holds, when-fails}
+use Rattle.image.specs.Layout.{tickKind}
 use Rattle.image.specs.Image.{Image, Label, Row}
 use Rattle.image.specs.Decode.{rowsFrom}
-use Rattle.tables.specs.Table.{labelOf, firstOn, endOn, rowOn, rowsOn, tableImage}
-use Rattle.tables.specs.Labels.{asLabel}
+use Rattle.tables.specs.Table.{tableLabel, firstOn, endOn, rowOn, rowsOn, tableImage}
+use Rattle.tables.specs.inner.Labels.{asLabel}
 use Rattle.tables.specs.declared.Label as declared
 use Rattle.tables.proofs.TableReads.{labels-count, label-at}
-use Rattle.rows.specs.Rows.{Choice, row, none, bestRow}
-use Rattle.rows.specs.Search.{Deciding, foundAt}
+use Rattle.rows.specs.Rows.{Choice, row, noChoice, bestRow}
+use Rattle.rows.specs.inner.Search.{Deciding, foundAt}
 use Rattle.rows.proofs.ChoiceLaws.{moved-by}
 use Rattle.rows.proofs.BestRows.{best-at, best-is}
 use Rattle.rows.proofs.TableRows.{rowsBefore, found-number, any-row}
@@ -36,18 +37,20 @@ use Rattle.state.specs.Bytes.{stateOf}
 use Rattle.state.proofs.ResultBytes.{held-places, held-sized}
 use Rattle.fitness.proofs.Fitness.{unfits}
 use Rattle.ticks.specs.Tick.{calledBit, choice}
-use Rattle.ticks.specs.Parts.{bitOf}
-use Rattle.cause.specs.declared.Cause as given
-use Rattle.cause.specs.Cause.{againstAll, Leaving, label, nothing, leavingBy, leaving, unexplained, causeBy, causeAt, causeOf, Told, told, toldOn, Tells}
-use Rattle.cause.specs.Parts.{Ordered, Placed, againstFrom, leavingNumber, tableCause}
+use Rattle.ticks.specs.inner.TickContracts.{bitOf}
+use Rattle.cause.specs.declared.CauseReport as given
+use Rattle.cause.specs.Cause.{againstAll, Leaving, leavesLabel, nothing, leavingBy, leaving, unexplained, causeBy}
+use Rattle.cause.specs.Cause.{causeAt, causeOf, CauseOutcome, causeOutcome, causeOn, GivesCause}
+use Rattle.cause.specs.inner.CauseContracts.{Ordered, OrderedLabel, againstFrom, leavingNumber, tableCause}
 use Rattle.cause.proofs.Leaves.{Leaves, by, stays, leaves}
 use Rattle.cause.proofs.TableConditions.{any-conditions, frame-conditions}
 
 -- what is answered with no cause
-abbrev pub untold : Answer → given.Cause
+abbrev pub untold : Answer → given.CauseReport
 untold a = record { answer = a; row = 0; mask = 0; bit = 0 }
 
-pub tells-none : (x : Told) (n : ℕ) → x ≡ told (unexplained n) → (a : Answer) → a ≡ Refused n 0 0 → (r : given.Cause) → r ≡ untold a → Tells x r
+pub tells-none : (x : CauseOutcome) (n : ℕ) → x ≡ causeOutcome (unexplained n) → (a : Answer)
+    → a ≡ Refused n 0 0 → (r : given.CauseReport) → r ≡ untold a → GivesCause x r
 tells-none x n e a p r q = rw (e, q) (record { answered = ap reply p; row = refl; mask = refl; bit = refl })
 
 -- ---- places: n below the depth d
@@ -59,35 +62,38 @@ module _ (bytes : List ℕ) (d n : ℕ) where
   place-past h = sym (List·getD-eq-default (stateOf bytes .places) 0 (omega (arith, held-places bytes)))
 
 -- ---- the label that is left: d is the depth, top the label at the top, and z what was read of it
-module _ (b : List ℕ) (s : State) (d top : ℕ) (is : d ≡ s .depth) (at : top ≡ placeAt s (d - 1)) (z : declared.Label) (read : asLabel z ≡ labelOf b top) where
+module _ (b : List ℕ) (s : State) (d top : ℕ) (is : d ≡ s .depth) (at : top ≡ placeAt s (d - 1))
+    (z : declared.Label) (read : asLabel z ≡ tableLabel b top) where
   abbrev i : Image
   i = tableImage b
 
   top-is : top ≡ placeAt s (s .depth - 1)
   top-is = at ∙ ap (λ (k : ℕ). placeAt s (k - 1)) is
 
-  left-is : leaving i s ≡ leavingBy s (z .kind)
+  left-is : leaving i s ≡ leavingBy s (tickKind (z .kind))
   unfolding leaving
   left-is =
-      ap (λ (x : Label). leavingBy s (x .kind)) (label-at b (placeAt s (s .depth - 1)) ∙ sym (read ∙ ap (labelOf b) top-is))
+      ap (λ (x : Label). leavingBy s (tickKind (x .kind))) (label-at b (placeAt s (s .depth - 1)) ∙ sym (read ∙ ap (tableLabel b) top-is))
 
   pub left-plain : z .kind ≡ 0 → top ≡ leavingNumber (leaving i s)
-  left-plain k = top-is ∙ sym (ap leavingNumber (left-is ∙ ap (leavingBy s) k))
+  left-plain k = top-is ∙ sym (ap leavingNumber (left-is ∙ ap (λ (n : ℕ). leavingBy s (tickKind n)) k))
 
   pub left-other : (z .kind ≡ 0 → ⊥) → (z .kind ≡ 3 → ⊥) → 0 ≡ leavingNumber (leaving i s)
   left-other m n = go (z .kind) refl
     where
       go : (k : ℕ) → z .kind ≡ k → 0 ≡ leavingNumber (leaving i s)
       go zero e = absurd (m e)
-      go (suc zero) e = sym (ap leavingNumber (left-is ∙ ap (leavingBy s) e))
-      go (suc (suc zero)) e = sym (ap leavingNumber (left-is ∙ ap (leavingBy s) e))
+      go (suc zero) e = sym (ap leavingNumber (left-is ∙ ap (λ (n : ℕ). leavingBy s (tickKind n)) e))
+      go (suc (suc zero)) e = sym (ap leavingNumber (left-is ∙ ap (λ (n : ℕ). leavingBy s (tickKind n)) e))
       go (suc (suc (suc zero))) e = absurd (n e)
-      go (suc (suc (suc (suc k)))) e = sym (ap leavingNumber (left-is ∙ ap (leavingBy s) e))
+      go (suc (suc (suc (suc k)))) e = sym (ap leavingNumber (left-is ∙ ap (λ (n : ℕ). leavingBy s (tickKind n)) e))
 
   module _ (k : z .kind ≡ 3) where
-    left-back : (t : Bool) → leb (s .depth) 1 ≡ t → leavingNumber (leaving i s) ≡ leavingNumber (pick t nothing (label (placeAt s (s .depth - 2))))
+    left-back : (t : Bool) → leb (s .depth) 1 ≡ t
+        → leavingNumber (leaving i s) ≡ leavingNumber (pick t nothing (leavesLabel (placeAt s (s .depth - 2))))
     left-back t e =
-        ap leavingNumber (left-is ∙ ap (leavingBy s) k) ∙ ap (λ (u : Bool). leavingNumber (pick u nothing (label (placeAt s (s .depth - 2))))) e
+        ap leavingNumber (left-is ∙ ap (λ (n : ℕ). leavingBy s (tickKind n)) k)
+        ∙ ap (λ (u : Bool). leavingNumber (pick u nothing (leavesLabel (placeAt s (s .depth - 2))))) e
 
     pub left-last : d ≤ 1 → 0 ≡ leavingNumber (leaving i s)
     left-last h = sym (left-back true (le-leb (s .depth) 1 (omega arith)))
@@ -97,22 +103,22 @@ module _ (b : List ℕ) (s : State) (d top : ℕ) (is : d ≡ s .depth) (at : to
 
 -- ---- the row that label l takes: z is what was read of the label, and bit the one that decides
 unmoved : (m n f : ℕ) (r : Row) (x : Choice) → row (m + f) r ≡ moved-by n x → (k : ℕ) × (x ≡ row k r) × (m + f ≡ n + k)
-unmoved m n f r none e = absurd (let z : _≡_ {A = ℕ} 0 1 = cc in omega arith)
+unmoved m n f r noChoice e = absurd (let z : _≡_ {A = ℕ} 0 1 = cc in omega arith)
 unmoved m n f r (row k q) e = (k, ap (row k) (let z : q ≡ r = cc in z), (let z : m + f ≡ n + k = cc in z))
 
-unmoved-none : (n : ℕ) (x : Choice) → none ≡ moved-by n x → x ≡ none
-unmoved-none n none e = refl
+unmoved-none : (n : ℕ) (x : Choice) → noChoice ≡ moved-by n x → x ≡ noChoice
+unmoved-none n noChoice e = refl
 unmoved-none n (row k q) e = absurd (let z : _≡_ {A = ℕ} 0 1 = cc in omega arith)
 
 -- the row in frame f, by its number k among all rows
-pub record Numbers (b : List ℕ) (l w bit f : ℕ) : Type 0 where
+pub record RowNumbers (b : List ℕ) (l w bit f : ℕ) : Type 0 where
   pub least : rowsFrom b ≤ f
   pub after : firstOn b l ≤ f
   pub below : firstOn b l ≡ rowsFrom b + rowsBefore b l
   pub few : f - rowsFrom b < 1024
   pub chosen : bestRow l w bit 0 (tableImage b .rows) ≡ row (f - rowsFrom b) (rowOn b l f)
 
-module _ (b : List ℕ) (l w : ℕ) (x : Placed b l) (bs : Results) (z : declared.Label) (read : asLabel z ≡ labelOf b l) (bit : ℕ)
+module _ (b : List ℕ) (l w : ℕ) (x : OrderedLabel b l) (bs : Results) (z : declared.Label) (read : asLabel z ≡ tableLabel b l) (bit : ℕ)
     (e : bit ≡ bitOf (z .kind) (z .called) bs) where
   abbrev img : Image
   img = tableImage b
@@ -124,7 +130,7 @@ module _ (b : List ℕ) (l w : ℕ) (x : Placed b l) (bs : Results) (z : declare
   bit-told = e ∙ ap (λ (y : Label). bitOf (y .kind) (y .called) bs) label-is
 
   -- what does not look at the bit of a label that calls no function is the same for the bit called and the one that decides
-  decided : {A : Type 0} (F : ℕ → A) → ((labelOf b l .kind ≡ 2 → ⊥) → (p q : ℕ) → F p ≡ F q) → F (calledBit img bs l) ≡ F bit
+  decided : {A : Type 0} (F : ℕ → A) → ((tableLabel b l .kind ≡ 2 → ⊥) → (p q : ℕ) → F p ≡ F q) → F (calledBit img bs l) ≡ F bit
   decided F any = go (ℕ-discrete (labelAt img l .kind) 2)
     where
       go : Dec (labelAt img l .kind ≡ 2) → F (calledBit img bs l) ≡ F bit
@@ -137,25 +143,26 @@ module _ (b : List ℕ) (l w : ℕ) (x : Placed b l) (bs : Results) (z : declare
   conditions-are : againstAll l w (calledBit img bs l) (img .rows) ≡ againstAll l w bit (img .rows)
   conditions-are = decided (λ n. againstAll l w n (img .rows)) (λ n p q. any-conditions b l w n p q (x .label .low) (x .label .high))
 
-  abbrev caused : Choice → Told
-  caused y = told (causeBy (img .rows) (labelAt img l .kind) l w (calledBit img bs l) y)
+  abbrev caused : Choice → CauseOutcome
+  caused y = causeOutcome (causeBy (img .rows) (labelAt img l .kind) l w (calledBit img bs l) y)
 
   module _ (f : ℕ) (g : foundAt b l f ≡ bestRow l w bit (firstOn b l) (rowsOn b l)) where
     by-number : moved-by (rowsBefore b l) (foundAt b l f) ≡ moved-by (firstOn b l) (bestRow l w bit 0 (img .rows))
     by-number = found-number b l w bit (x .label) f g
 
-    pub none-told : size b ≤ f → (a : Answer) → a ≡ Refused 18 0 0 → (r : given.Cause) → r ≡ untold a → Tells (told (causeAt img bs w (label l))) r
+    pub none-told : size b ≤ f → (a : Answer) → a ≡ Refused 18 0 0 → (r : given.CauseReport) → r ≡ untold a
+        → GivesCause (causeOutcome (causeAt img bs w (leavesLabel l))) r
     none-told h =
-        let found : foundAt b l f ≡ none = no-pick (ltb f (size b)) (row f (rowOn b l f)) none (le-ltb f (size b) h) in
-        tells-none (told (causeAt img bs w (label l))) 18
+        let found : foundAt b l f ≡ noChoice = no-pick (ltb f (size b)) (row f (rowOn b l f)) noChoice (le-ltb f (size b) h) in
+        tells-none (causeOutcome (causeAt img bs w (leavesLabel l))) 18
         (ap caused (choice-is ∙ unmoved-none (firstOn b l) (bestRow l w bit 0 (img .rows))
         (sym (ap (moved-by (rowsBefore b l)) found) ∙ by-number)))
 
     module _ (h : f < size b) where
       found-is : foundAt b l f ≡ row f (rowOn b l f)
-      found-is = yes-pick (ltb f (size b)) (row f (rowOn b l f)) none (lt-ltb f (size b) h)
+      found-is = yes-pick (ltb f (size b)) (row f (rowOn b l f)) noChoice (lt-ltb f (size b) h)
 
-      pub numbers : Numbers b l w bit f
+      pub numbers : RowNumbers b l w bit f
       numbers =
           let u = unmoved (rowsBefore b l) (firstOn b l) f (rowOn b l f) (bestRow l w bit 0 (img .rows))
           (sym (ap (moved-by (rowsBefore b l)) found-is) ∙ by-number) in
@@ -173,12 +180,15 @@ module _ (b : List ℕ) (l w : ℕ) (x : Placed b l) (bs : Results) (z : declare
 
       pub row-told : (first end care others from k : ℕ) → first ≡ firstOn b l → end ≡ endOn b l → care ≡ pairAt b f 2
           → Deciding b l bit → others ≡ againstFrom b w bit first (end - first) → from ≡ rowsFrom b → k ≡ f - from
-          → Tells (told (causeAt img bs w (label l))) (record { answer = Done 0; row = k; mask = bitOr care others; bit = bit })
+          → GivesCause (causeOutcome (causeAt img bs w (leavesLabel l)))
+          (record { answer = Done 0; row = k; mask = bitOr care others; bit = bit })
       row-told first end care others from k p q r y o u v =
-          let same : told (causeAt img bs w (label l)) ≡ caused (row (f - rowsFrom b) (rowOn b l f)) = ap caused (choice-is ∙ numbers .chosen) in
+          let same : causeOutcome (causeAt img bs w (leavesLabel l)) ≡ caused (row (f - rowsFrom b) (rowOn b l f)) =
+          ap caused (choice-is ∙ numbers .chosen) in
           let joined : others ≡ againstAll l w (calledBit img bs l) (img .rows) =
-          o ∙ ap₂ (λ (m n : ℕ). againstFrom b w bit m (n - m)) p q ∙ frame-conditions b l w bit y (x .label .low) (x .label .high) ∙ sym conditions-are in
-          subst (λ (t : Told). Tells t (record { answer = Done 0; row = k; mask = bitOr care others; bit = bit })) (sym same)
+          o ∙ ap₂ (λ (m n : ℕ). againstFrom b w bit m (n - m)) p q
+          ∙ frame-conditions b l w bit y (x .label .low) (x .label .high) ∙ sym conditions-are in
+          subst (λ (t : CauseOutcome). GivesCause t (record { answer = Done 0; row = k; mask = bitOr care others; bit = bit })) (sym same)
           (record { answered = refl; row = v ∙ ap (λ (n : ℕ). f - n) u; mask = ap₂ bitOr r joined; bit = bit-told })
 
 -- ---- on the table: t says whether the state is unfit, and l is the label left, 0 for none
@@ -186,31 +196,32 @@ module _ (b bytes : List ℕ) (w : ℕ) (x : Ordered b) (t : Bool) (e : t ≡ un
   abbrev s : State
   s = stateOf bytes
 
-  pub unfit-told : t ≡ true → (a : Answer) → a ≡ Refused 15 0 0 → (r : given.Cause) → r ≡ untold a → Tells (tableCause b s w) r
+  pub unfit-told : t ≡ true → (a : Answer) → a ≡ Refused 15 0 0 → (r : given.CauseReport) → r ≡ untold a → GivesCause (tableCause b s w) r
   unfit-told h =
       tells-none (tableCause b s w) 15
-      (ap (λ (v : Verdict). toldOn v (λ _. causeOf (tableImage b) s w)) (when-holds 15 (unfit (tableImage b) s) (sym e ∙ h)))
+      (ap (λ (v : Verdict). causeOn v (λ _. causeOf (tableImage b) s w)) (when-holds 15 (unfit (tableImage b) s) (sym e ∙ h)))
 
   module _ (h : t ≡ false) (l : ℕ) (is : l ≡ leavingNumber (leaving (tableImage b) s)) where
-    fit-told : tableCause b s w ≡ told (causeAt (tableImage b) (s .bits) w (leaving (tableImage b) s))
+    fit-told : tableCause b s w ≡ causeOutcome (causeAt (tableImage b) (s .bits) w (leaving (tableImage b) s))
     unfolding causeOf
-    fit-told = ap (λ (v : Verdict). toldOn v (λ _. causeOf (tableImage b) s w)) (when-fails 15 (unfit (tableImage b) s) (sym e ∙ h))
+    fit-told = ap (λ (v : Verdict). causeOn v (λ _. causeOf (tableImage b) s w)) (when-fails 15 (unfit (tableImage b) s) (sym e ∙ h))
 
     view : Leaves (tableImage b) s
     view = leaves (tableImage b) (x .sound) s (unfits (tableImage b) s (held-sized bytes) (sym e ∙ h))
 
-    pub rowless-told : l ≡ 0 → (a : Answer) → a ≡ Refused 21 0 0 → (r : given.Cause) → r ≡ untold a → Tells (tableCause b s w) r
-    rowless-told n = tells-none (tableCause b s w) 21 (fit-told ∙ ap (λ (y : Leaving). told (causeAt (tableImage b) (s .bits) w y)) (none-left view))
+    pub rowless-told : l ≡ 0 → (a : Answer) → a ≡ Refused 21 0 0 → (r : given.CauseReport) → r ≡ untold a → GivesCause (tableCause b s w) r
+    rowless-told n = tells-none (tableCause b s w) 21
+        (fit-told ∙ ap (λ (y : Leaving). causeOutcome (causeAt (tableImage b) (s .bits) w y)) (none-left view))
       where
         none-left : Leaves (tableImage b) s → leaving (tableImage b) s ≡ nothing
         none-left (by m q o) = absurd (omega (arith, o .low, is ∙ ap leavingNumber q))
         none-left (stays q o) = q
 
     module _ (n : l ≡ 0 → ⊥) where
-      one-left : Leaves (tableImage b) s → (leaving (tableImage b) s ≡ label l) × Placed b l
+      one-left : Leaves (tableImage b) s → (leaving (tableImage b) s ≡ leavesLabel l) × OrderedLabel b l
       one-left (by m q o) =
           let same : m ≡ l = sym (is ∙ ap leavingNumber q) in (
-            q ∙ ap label same,
+            q ∙ ap leavesLabel same,
             record {
               ordered = x;
               label = record { whole = x .whole; low = omega (arith, o .low); high = omega (arith, o .high, labels-count b) };
@@ -218,10 +229,11 @@ module _ (b bytes : List ℕ) (w : ℕ) (x : Ordered b) (t : Bool) (e : t ≡ un
           )
       one-left (stays q o) = absurd (n (is ∙ ap leavingNumber q))
 
-      pub left-placed : Placed b l
+      pub left-placed : OrderedLabel b l
       left-placed = one-left view .1
 
-      pub left-told : (r : given.Cause) → Tells (told (causeAt (tableImage b) (s .bits) w (label l))) r → Tells (tableCause b s w) r
+      pub left-told : (r : given.CauseReport) → GivesCause (causeOutcome (causeAt (tableImage b) (s .bits) w (leavesLabel l))) r
+          → GivesCause (tableCause b s w) r
       left-told r y =
-          subst (λ (u : Told). Tells u r)
-          (sym (fit-told ∙ ap (λ (y : Leaving). told (causeAt (tableImage b) (s .bits) w y)) (one-left view .0))) y
+          subst (λ (u : CauseOutcome). GivesCause u r)
+          (sym (fit-told ∙ ap (λ (y : Leaving). causeOutcome (causeAt (tableImage b) (s .bits) w y)) (one-left view .0))) y

@@ -16,7 +16,7 @@ use Rattle.lists.proofs.Tests.{split}
 use Rattle.bits.specs.Word.{bit, agrees}
 use Rattle.frames.specs.Frame.{field, pairAt}
 use Rattle.cause.specs.Cause.{differs}
-use Rattle.cause.specs.Parts.{RowAsked, lets, againstIn, againstFrom}
+use Rattle.cause.specs.inner.CauseContracts.{RowAsked, lets, againstIn, againstFrom}
 use Rattle.cause.proofs.Masks.{low-differs}
 
 -- ---- one condition
@@ -34,22 +34,26 @@ module _ (w care values : ℕ) where
   abbrev p : ℕ → Bool
   p = differs w care values
 
-  pub record Passed (low i : ℕ) : Type 0 where
+  pub record PassedCondition (low i : ℕ) : Type 0 where
     pub inside : i ≤ 16
     pub lowest : low ≡ lowest p i (16 - i)
 
-  module _ (low i : ℕ) (x : Passed low i) (some : 0 < i) (t : Bool) (e : t ≡ p (i - 1)) where
-    pub passed-here : t ≡ true → Passed (i - 1) (i - 1)
-    passed-here h = record { inside = omega (arith, x .inside); lowest = sym (lowest-here p 16 (i - 1) (omega (arith, x .inside)) (sym e ∙ h)) }
+  module _ (low i : ℕ) (x : PassedCondition low i) (some : 0 < i) (t : Bool) (e : t ≡ p (i - 1)) where
+    pub passed-here : t ≡ true → PassedCondition (i - 1) (i - 1)
+    passed-here h = record {
+      inside = omega (arith, x .inside);
+      lowest =
+          sym (lowest-here p 16 (i - 1) (omega (arith, x .inside)) (sym e ∙ h));
+    }
 
-    pub passed-on : t ≡ false → Passed low (i - 1)
+    pub passed-on : t ≡ false → PassedCondition low (i - 1)
     passed-on h = record {
       inside = omega (arith, x .inside);
       lowest = x .lowest ∙ ap (λ (k : ℕ). lowest p k (16 - k)) (let z : i ≡ i - 1 + 1 = omega arith in z)
           ∙ sym (lowest-on p 16 (i - 1) (omega (arith, x .inside)) (sym e ∙ h));
     }
 
-  pub passed-all : (low i : ℕ) → Passed low i → i ≤ 0 → low ≡ lowest p 0 16
+  pub passed-all : (low i : ℕ) → PassedCondition low i → i ≤ 0 → low ≡ lowest p 0 16
   passed-all low i x h = x .lowest ∙ ap (λ (k : ℕ). lowest p k (16 - k)) (let z : i ≡ 0 = omega arith in z)
 
 -- ---- the row in frame f: its bit, care mask and values as they were read
@@ -94,12 +98,12 @@ module _ (b : List ℕ) (f w bit : ℕ) (x : RowAsked b f) (bytes : (k : ℕ) �
 
 -- ---- the loop over rows, from the last one down: those passed stand in the mask
 module _ (b : List ℕ) (w bit first end : ℕ) where
-  pub record Joined (mask f : ℕ) : Type 0 where
+  pub record JoinedMask (mask f : ℕ) : Type 0 where
     pub inside : f ≤ end
     pub reached : min first end ≤ f
     pub joined : mask ≡ againstFrom b w bit f (end - f)
 
-  pub joined-none : Joined 0 end
+  pub joined-none : JoinedMask 0 end
   unfolding againstFrom
   joined-none = record {
     inside = omega arith;
@@ -107,7 +111,7 @@ module _ (b : List ℕ) (w bit first end : ℕ) where
     joined = ap (againstFrom b w bit end) (let z : 0 ≡ end - end = omega arith in z);
   }
 
-  pub joined-more : (mask f r : ℕ) → Joined mask f → first < f → r ≡ againstIn b w bit (f - 1) → Joined (bitOr r mask) (f - 1)
+  pub joined-more : (mask f r : ℕ) → JoinedMask mask f → first < f → r ≡ againstIn b w bit (f - 1) → JoinedMask (bitOr r mask) (f - 1)
   unfolding againstFrom
   joined-more mask f r x h e = record {
     inside = omega (arith, x .inside);
@@ -122,7 +126,7 @@ module _ (b : List ℕ) (w bit first end : ℕ) where
   unfolding againstFrom
   over-end f h = ap (againstFrom b w bit f) (let z : end - f ≡ 0 = omega arith in z)
 
-  pub joined-all : (mask f : ℕ) → Joined mask f → f ≤ first → mask ≡ againstFrom b w bit first (end - first)
+  pub joined-all : (mask f : ℕ) → JoinedMask mask f → f ≤ first → mask ≡ againstFrom b w bit first (end - first)
   joined-all mask f x h = x .joined ∙ go (split end first)
     where
       go : (end < first) ⊎ (first ≤ end) → againstFrom b w bit f (end - f) ≡ againstFrom b w bit first (end - first)

@@ -11,10 +11,11 @@ use lib.Seq.{getD-set-same}
 use borrow.Author.Tests.{le-leb, leb-true, leb-false, eqb-true, eq-eqb}
 use Rattle.lists.specs.Pick.{pick}
 use Rattle.lists.proofs.Tests.{or-cases, or-true-l, or-true-r}
-use Rattle.bits.specs.Results.{Results, withResult, cleared}
-use Rattle.bits.specs.Binding.{served}
-use Rattle.image.specs.Image.{Image, Label, returnLabel}
-use Rattle.image.proofs.Sound.{nthRow, Sound}
+use Rattle.results.specs.Results.{Results, withResult, cleared}
+use Rattle.bindings.specs.Binding.{served}
+use Rattle.image.specs.Image.{Image, Label, returnLabel, nthRow}
+use Rattle.image.specs.inner.Sound.{SoundImage}
+use Rattle.image.specs.Layout.{tickKind}
 use Rattle.rows.specs.Rows.{Choice, Found, found, missing, leads}
 use Rattle.rows.proofs.ChoiceLaws.{any-bit}
 use Rattle.state.specs.declared.State.{State}
@@ -22,54 +23,53 @@ use Rattle.state.specs.State.{labelAt, entryAt, placeAt, numberAt, serverAt}
 use Rattle.state.specs.Changes.{withBits}
 use Rattle.fitness.specs.Fitness.{isCall, ofHandler}
 use Rattle.fitness.proofs.Fitness.{Fits}
-use Rattle.ticks.specs.Tick.{calledBit, choice, Ticked, ticked, stopped, moved, dropping, alone, pushed, popped, tickBy, tick}
-use Rattle.ticks.specs.Parts.{topOf}
-use Rattle.ticks.proofs.Leads.{Sort, first, second, other, sort, call-kind, carry-told}
-use Rattle.cause.specs.Cause.{label, nothing, leavingBy, leaving}
-use Rattle.cause.specs.Laws.{Arrives, Rowless, home, call, last}
+use Rattle.ticks.specs.Tick.{calledBit, choice, MachineTick, finished, stopped, moved, dropping, alone, pushed, popped, tickBy, tick, topOf}
+use Rattle.ticks.proofs.Leads.{Sort, homeSort, returnSort, numberedSort, sort, call-kind, carry-told}
+use Rattle.cause.specs.Cause.{leavesLabel, nothing, leavingBy, leaving}
+use Rattle.cause.specs.Laws.{Arrives, Rowless, atHomeLabel, atCallLabel, atLastReturn}
 
 -- a tick that takes a row of label l, one of 2 to M, goes by that row's next label alone, and has it on top then
 pub record Goes (i : Image) (s : State) (l : ℕ) : Type 0 where
   pub low : 2 ≤ l
   pub high : l < length (i .labels)
-  pub go : Found → Ticked
+  pub go : Found → MachineTick
   pub ticks : (w : ℕ) → tick i s w ≡ go (leads (choice i (s .bits) l w))
   pub arrives : (u : ℕ) → Arrives (go (found u)) u
   pub stops : go missing ≡ stopped 18
 
 -- a tick that takes none is the same by every word, and does not get 18
-pub record Stays (i : Image) (s : State) : Type 0 where
+pub record StaysPut (i : Image) (s : State) : Type 0 where
   pub rowless : Rowless i s
   pub same : (v w : ℕ) → tick i s v ≡ tick i s w
   pub never : (w : ℕ) → tick i s w ≡ stopped 18 → ⊥
 
 pub data Leaves (i : Image) (s : State) : Type 0 where
-  by : (l : ℕ) → leaving i s ≡ label l → Goes i s l → Leaves i s
-  stays : leaving i s ≡ nothing → Stays i s → Leaves i s
+  by : (l : ℕ) → leaving i s ≡ leavesLabel l → Goes i s l → Leaves i s
+  stays : leaving i s ≡ nothing → StaysPut i s → Leaves i s
 
 -- a tick that is finished or gets another number
-abbrev Other : Ticked → Type 0
-Other (ticked m code t) = Unit {0}
+abbrev Other : MachineTick → Type 0
+Other (finished m code t) = Unit {0}
 Other (stopped n) = n ≡ 18 → ⊥
 
-other-never : (x : Ticked) → Other x → x ≡ stopped 18 → ⊥
-other-never (ticked m code t) o e = let z : _≡_ {A = ℕ} 0 1 = cc in omega arith
+other-never : (x : MachineTick) → Other x → x ≡ stopped 18 → ⊥
+other-never (finished m code t) o e = let z : _≡_ {A = ℕ} 0 1 = cc in omega arith
 other-never (stopped n) o e = o (let z : n ≡ 18 = cc in z)
 
-module _ (i : Image) (sound : Sound i) (s : State) (f : Fits i s) where
+module _ (i : Image) (sound : SoundImage i) (s : State) (f : Fits i s) where
   abbrev x : Label
   x = labelAt i (topOf s)
 
   abbrev bits : Results
   bits = withResult (x .result) (numberAt s (s .depth - 1)) (s .bits)
 
-  tick-by : (w k : ℕ) → x .kind ≡ k → tick i s w ≡ tickBy i s w (topOf s) x bits k
+  tick-by : (w k : ℕ) → x .kind ≡ k → tick i s w ≡ tickBy i s w (topOf s) x bits (tickKind k)
   unfolding tick
-  tick-by w k e = ap (tickBy i s w (topOf s) x bits) e
+  tick-by w k e = ap (λ (n : ℕ). tickBy i s w (topOf s) x bits (tickKind n)) e
 
-  leaving-by : (k : ℕ) → x .kind ≡ k → leaving i s ≡ leavingBy s k
+  leaving-by : (k : ℕ) → x .kind ≡ k → leaving i s ≡ leavingBy s (tickKind k)
   unfolding leaving
-  leaving-by k e = ap (leavingBy s) e
+  leaving-by k e = ap (λ (n : ℕ). leavingBy s (tickKind n)) e
 
   top-low : topOf s < length (i .labels)
   top-low = f .labels (s .depth - 1) (omega (arith, f .some))
@@ -82,9 +82,9 @@ module _ (i : Image) (sound : Sound i) (s : State) (f : Fits i s) where
   two-up l h k = go (sort i sound l h)
     where
       go : Sort i sound l → 2 ≤ l
-      go (first z q o) = absurd (omega arith)
-      go (second z q o) = absurd (omega arith)
-      go (other z q) = z
+      go (homeSort z q o) = absurd (omega arith)
+      go (returnSort z q o) = absurd (omega arith)
+      go (numberedSort z q) = z
 
   under-low : 1 < s .depth → placeAt s (s .depth - 2) < length (i .labels)
   under-low h = f .labels (s .depth - 2) (omega arith)
@@ -118,13 +118,15 @@ module _ (i : Image) (sound : Sound i) (s : State) (f : Fits i s) where
   return-is e = go top-sort
     where
       go : Sort i sound (topOf s) → (topOf s ≡ 1) × (x ≡ returnLabel)
-      go (first z q o) = absurd (omega arith)
-      go (second z q o) = (z, ap (labelAt i) z ∙ sound .back)
-      go (other z q) = absurd (omega arith)
+      go (homeSort z q o) = absurd (omega arith)
+      go (returnSort z q o) = (z, ap (labelAt i) z ∙ sound .back)
+      go (numberedSort z q) = absurd (omega arith)
 
   returns : x .kind ≡ 3 → (w : ℕ) → tick i s w ≡ popped i s w 0 (s .bits) (leb (s .depth) 1)
   unfolding tick
-  returns e w = ap (λ (y : Label). tickBy i s w (topOf s) y (withResult (y .result) (numberAt s (s .depth - 1)) (s .bits)) (y .kind)) (return-is e .1)
+  returns e w =
+      ap (λ (y : Label). tickBy i s w (topOf s) y (withResult (y .result) (numberAt s (s .depth - 1)) (s .bits)) (tickKind (y .kind)))
+      (return-is e .1)
 
   back : x .kind ≡ 3 → leb (s .depth) 1 ≡ false → Goes i s (placeAt s (s .depth - 2))
   back e t = let two : 1 < s .depth = leb-false (s .depth) 1 t in record {
@@ -145,16 +147,16 @@ module _ (i : Image) (sound : Sound i) (s : State) (f : Fits i s) where
   last-tick : x .kind ≡ 3 → leb (s .depth) 1 ≡ true → (w : ℕ) → tick i s w ≡ popped i s 0 0 (s .bits) true
   last-tick e t w = returns e w ∙ ap (popped i s w 0 (s .bits)) t
 
-  ends : x .kind ≡ 3 → leb (s .depth) 1 ≡ true → Stays i s
+  ends : x .kind ≡ 3 → leb (s .depth) 1 ≡ true → StaysPut i s
   ends e t = record {
-    rowless = last (return-is e .0) (let one : s .depth ≤ 1 = leb-true (s .depth) 1 t in omega (arith, f .some));
+    rowless = atLastReturn (return-is e .0) (let one : s .depth ≤ 1 = leb-true (s .depth) 1 t in omega (arith, f .some));
     same = λ v w. last-tick e t v ∙ sym (last-tick e t w);
     never = λ w q. other-never (popped i s 0 0 (s .bits) true) tt (sym (last-tick e t w) ∙ q);
   }
 
   -- ---- a call, and home
   full-other : (m : ℕ) (t : Bool) → Other (pick t (stopped 17)
-      (ticked m 96 (alone s (entryAt i (i .handler)) (i .handler) (cleared (i .handler) bits))))
+      (finished m 96 (alone s (entryAt i (i .handler)) (i .handler) (cleared (i .handler) bits))))
   full-other m true = λ e. omega arith
   full-other m false = tt
 
@@ -163,49 +165,54 @@ module _ (i : Image) (sound : Sound i) (s : State) (f : Fits i s) where
   pushed-other m code h k false = tt
 
   calls : (code : ℕ) → isCall x ≡ true
-      → ((w : ℕ) → tick i s w ≡ pushed i s (x .mask) code (x .called) (served (s .serving) (x .called)) bits (leb (s .size) (s .depth))) → Stays i s
+      → ((w : ℕ) → tick i s w ≡ pushed i s (x .mask) code (x .called) (served (s .serving) (x .called)) bits (leb (s .size) (s .depth)))
+      → StaysPut i s
   calls code e go = record {
-    rowless = call e;
+    rowless = atCallLabel e;
     same = λ v w. go v ∙ sym (go w);
-    never = λ w q. other-never _ (pushed-other (x .mask) code (x .called) (served (s .serving) (x .called)) (leb (s .size) (s .depth))) (sym (go w) ∙ q);
+    never = λ w q. other-never _ (pushed-other (x .mask) code (x .called) (served (s .serving) (x .called)) (leb (s .size) (s .depth)))
+        (sym (go w) ∙ q);
   }
 
-  starts : (k : ℕ) → x .kind ≡ suc (suc (suc (suc k))) → Stays i s
+  starts : (k : ℕ) → x .kind ≡ suc (suc (suc (suc k))) → StaysPut i s
   starts k e = record {
-    rowless = home (at top-sort);
+    rowless = atHomeLabel (at top-sort);
     same = λ v w. tick-by v (suc (suc (suc (suc k)))) e ∙ sym (tick-by w (suc (suc (suc (suc k)))) e);
     never = λ w q. other-never _ tt (sym (tick-by w (suc (suc (suc (suc k)))) e) ∙ q);
   }
     where
       at : Sort i sound (topOf s) → topOf s ≡ 0
-      at (first z q o) = z
-      at (second z q o) = absurd (omega arith)
-      at (other z q) = absurd (omega arith)
+      at (homeSort z q o) = z
+      at (returnSort z q o) = absurd (omega arith)
+      at (numberedSort z q) = absurd (omega arith)
 
   pub leaves : Leaves i s
   leaves = go (x .kind) refl
     where
       beneath : x .kind ≡ 3 → (t : Bool) → leb (s .depth) 1 ≡ t → Leaves i s
-      beneath e true t = stays (leaving-by 3 e ∙ ap (λ (b : Bool). pick b nothing (label (placeAt s (s .depth - 2)))) t) (ends e t)
+      beneath e true t = stays (leaving-by 3 e ∙ ap (λ (b : Bool). pick b nothing (leavesLabel (placeAt s (s .depth - 2)))) t) (ends e t)
       beneath e false t =
-          by (placeAt s (s .depth - 2)) (leaving-by 3 e ∙ ap (λ (b : Bool). pick b nothing (label (placeAt s (s .depth - 2)))) t) (back e t)
+          by (placeAt s (s .depth - 2)) (leaving-by 3 e ∙ ap (λ (b : Bool). pick b nothing (leavesLabel (placeAt s (s .depth - 2)))) t)
+          (back e t)
 
       go : (k : ℕ) → x .kind ≡ k → Leaves i s
       go zero e = by (topOf s) (leaving-by 0 e) (plain e)
       go (suc zero) e =
-          stays (leaving-by 1 e) (calls (16 + x .called) (or-true-l (eqb (x .kind) 1) (eqb (x .kind) 2) (eq-eqb (x .kind) 1 e)) (λ w. tick-by w 1 e))
+          stays (leaving-by 1 e) (calls (16 + x .called) (or-true-l (eqb (x .kind) 1) (eqb (x .kind) 2) (eq-eqb (x .kind) 1 e))
+          (λ w. tick-by w 1 e))
       go (suc (suc zero)) e =
-          stays (leaving-by 2 e) (calls (64 + x .called) (or-true-r (eqb (x .kind) 1) (eqb (x .kind) 2) (eq-eqb (x .kind) 2 e)) (λ w. tick-by w 2 e))
+          stays (leaving-by 2 e) (calls (64 + x .called) (or-true-r (eqb (x .kind) 1) (eqb (x .kind) 2) (eq-eqb (x .kind) 2 e))
+          (λ w. tick-by w 2 e))
       go (suc (suc (suc zero))) e = beneath e (leb (s .depth) 1) refl
       go (suc (suc (suc (suc k)))) e = stays (leaving-by (suc (suc (suc (suc k)))) e) (starts k e)
 
   pub rowless-stays : Rowless i s → leaving i s ≡ nothing
-  rowless-stays (home e) = leaving-by 4 (ap (λ (l : ℕ). labelAt i l .kind) e ∙ ap (λ (y : Label). y .kind) (sound .home))
-  rowless-stays (call e) = go (or-cases (eqb (x .kind) 1) (eqb (x .kind) 2) e)
+  rowless-stays (atHomeLabel e) = leaving-by 4 (ap (λ (l : ℕ). labelAt i l .kind) e ∙ ap (λ (y : Label). y .kind) (sound .home))
+  rowless-stays (atCallLabel e) = go (or-cases (eqb (x .kind) 1) (eqb (x .kind) 2) e)
     where
       go : (eqb (x .kind) 1 ≡ true) ⊎ (eqb (x .kind) 2 ≡ true) → leaving i s ≡ nothing
       go (inl p) = leaving-by 1 (eqb-true (x .kind) 1 p)
       go (inr p) = leaving-by 2 (eqb-true (x .kind) 2 p)
-  rowless-stays (last e d) =
+  rowless-stays (atLastReturn e d) =
       leaving-by 3 (ap (λ (l : ℕ). labelAt i l .kind) e ∙ ap (λ (y : Label). y .kind) (sound .back))
-      ∙ ap (λ (b : Bool). pick b nothing (label (placeAt s (s .depth - 2)))) (le-leb (s .depth) 1 (omega arith))
+      ∙ ap (λ (b : Bool). pick b nothing (leavesLabel (placeAt s (s .depth - 2)))) (le-leb (s .depth) 1 (omega arith))

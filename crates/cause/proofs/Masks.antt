@@ -1,4 +1,5 @@
--- The rows of one label, for one word and one bit: every word that agrees on the mask of the row chosen and of the conditions against the others
+-- The rows of one label, for one word and one bit:
+-- every word that agrees on the mask of the row chosen and of the conditions against the others
 -- chooses the same row, and no condition of the row's own care mask can be left out.
 use mathlib.Core.Path.{_≡_, sym, _∙_, ap, subst}
 use mathlib.Core.Logic.{_⊎_, inl, inr}
@@ -19,9 +20,9 @@ use Rattle.lists.proofs.Searches.{lowest-hit, lowest-past}
 use Rattle.bits.specs.Word.{bit, agrees}
 use Rattle.bits.proofs.BitLaws.{bit-and, bit-or, same-bits, bit-pow-same, bit-cases, Mask, agree-match, clash-match}
 use Rattle.bits.proofs.MaskLaws.{within-lacks}
-use Rattle.image.specs.Image.{Image, Row}
-use Rattle.image.proofs.Sound.{noRow, nthRow, SoundRow, Sound}
-use Rattle.rows.specs.Rows.{matches, isOwn, row, bestRow}
+use Rattle.image.specs.Image.{Image, Row, noRow, nthRow}
+use Rattle.image.specs.inner.Sound.{SoundRow, SoundImage}
+use Rattle.rows.specs.Rows.{matches, isCandidate, row, bestRow}
 use Rattle.rows.specs.Choices.{Best}
 use Rattle.cause.specs.Cause.{differs, contradicted, against, againstAll}
 use Rattle.rows.proofs.BestRows.{best-is, is-best}
@@ -33,12 +34,15 @@ agree-bit v w m i e o =
     omega arith
 
 -- and so on a part of it
-pub agree-part : (v w m care : ℕ) → care < 2 ^ 16 → ((i : ℕ) → bit care i ≡ 1 → bit m i ≡ 1) → bitAnd v m ≡ bitAnd w m → bitAnd v care ≡ bitAnd w care
+pub agree-part : (v w m care : ℕ) → care < 2 ^ 16 → ((i : ℕ) → bit care i ≡ 1 → bit m i ≡ 1)
+    → bitAnd v m ≡ bitAnd w m → bitAnd v care ≡ bitAnd w care
 agree-part v w m care small part e =
-    same-bits 16 (bitAnd v care) (bitAnd w care) (omega (arith, and-le-r v care)) (omega (arith, and-le-r w care)) (λ i. at i (bit-cases care i))
+    same-bits 16 (bitAnd v care) (bitAnd w care) (omega (arith, and-le-r v care))
+    (omega (arith, and-le-r w care)) (λ i. at i (bit-cases care i))
   where
     at : (i : ℕ) → (bit care i ≡ 0) ⊎ (bit care i ≡ 1) → bit (bitAnd v care) i ≡ bit (bitAnd w care) i
-    at i (inl z) = bit-and v care i ∙ (let q : min (bit v i) (bit care i) ≡ min (bit w i) (bit care i) = omega arith in q) ∙ sym (bit-and w care i)
+    at i (inl z) = bit-and v care i ∙ (let q : min (bit v i) (bit care i) ≡ min (bit w i) (bit care i) = omega arith in q)
+        ∙ sym (bit-and w care i)
     at i (inr o) = bit-and v care i ∙ ap (λ (x : ℕ). min x (bit care i)) (agree-bit v w m i e (part i o)) ∙ sym (bit-and w care i)
 
 -- ---- one row
@@ -68,26 +72,33 @@ low-differs w care values small tiny kept e = go (split (lowest p 0 16) 16)
 
     go : (lowest p 0 16 < 16) ⊎ (16 ≤ lowest p 0 16) → lowest p 0 16 < 16
     go (inl h) = h
-    go (inr h) = no-both (agrees w care values) (eq-eqb (bitAnd w care) values (agree-match w care values mask (record { agrees = each h }))) e
+    go (inr h) = no-both (agrees w care values)
+        (eq-eqb (bitAnd w care) values (agree-match w care values mask (record { agrees = each h }))) e
 
 module _ (i : Image) (w : ℕ) (r : Row) (s : SoundRow i r) where
-  lowest-contradicts : agrees w (r .care) (r .values) ≡ false → differs w (r .care) (r .values) (lowest (differs w (r .care) (r .values)) 0 16) ≡ true
-  lowest-contradicts e = lowest-hit (differs w (r .care) (r .values)) 0 16 (omega (arith, low-differs w (r .care) (r .values) (s .cares) (s .small) (s .within) e))
+  lowest-contradicts : agrees w (r .care) (r .values) ≡ false
+      → differs w (r .care) (r .values) (lowest (differs w (r .care) (r .values)) 0 16) ≡ true
+  lowest-contradicts e = lowest-hit (differs w (r .care) (r .values)) 0 16
+      (omega (arith, low-differs w (r .care) (r .values) (s .cares) (s .small) (s .within) e))
 
   -- a word with the same value there does not match it either
   still : agrees w (r .care) (r .values) ≡ false → (v : ℕ)
-      → bit v (lowest (differs w (r .care) (r .values)) 0 16) ≡ bit w (lowest (differs w (r .care) (r .values)) 0 16) → agrees v (r .care) (r .values) ≡ false
+      → bit v (lowest (differs w (r .care) (r .values)) 0 16) ≡ bit w (lowest (differs w (r .care) (r .values)) 0 16)
+      → agrees v (r .care) (r .values) ≡ false
   still e v q =
       let j : ℕ = lowest (differs w (r .care) (r .values)) 0 16 in
       let t : differs w (r .care) (r .values) j ≡ true = lowest-contradicts e in
-      let o : bit (r .care) j ≡ 1 = eqb-true (bit (r .care) j) 1 (and-l (eqb (bit (r .care) j) 1) (not (eqb (bit w j) (bit (r .values) j))) t) in
+      let o : bit (r .care) j ≡ 1 = eqb-true (bit (r .care) j) 1
+      (and-l (eqb (bit (r .care) j) 1) (not (eqb (bit w j) (bit (r .values) j))) t) in
       let d : bit w j ≡ bit (r .values) j → ⊥ =
       eqb-false (bit w j) (bit (r .values) j)
       (not-true (eqb (bit w j) (bit (r .values) j)) (and-r (eqb (bit (r .care) j) 1) (not (eqb (bit w j) (bit (r .values) j))) t)) in
-      ne-eqb (bitAnd v (r .care)) (r .values) (clash-match v (r .care) (r .values) (record { place = j; cares = o; differs = λ z. d (sym q ∙ z) }))
+      ne-eqb (bitAnd v (r .care)) (r .values)
+      (clash-match v (r .care) (r .values) (record { place = j; cares = o; differs = λ z. d (sym q ∙ z) }))
 
 -- ---- all rows
-has-against : (l w b j : ℕ) (rs : List Row) (k : ℕ) → k < length rs → bit (against l w b (getD rs k noRow)) j ≡ 1 → bit (againstAll l w b rs) j ≡ 1
+has-against : (l w b j : ℕ) (rs : List Row) (k : ℕ) → k < length rs
+    → bit (against l w b (getD rs k noRow)) j ≡ 1 → bit (againstAll l w b rs) j ≡ 1
 unfolding againstAll
 has-against l w b j [] k h o = absurd (omega arith)
 has-against l w b j (r ∷ rs) k h o = go k h o (has-against l w b j rs)
@@ -101,10 +112,10 @@ has-against l w b j (r ∷ rs) k h o = go k h o (has-against l w b j rs)
     go zero h o ih = omega (arith, whole, o)
     go (suc k) h o ih = omega (arith, whole, ih k (omega arith) o)
 
-module _ (i : Image) (sound : Sound i) (l w b : ℕ) where
+module _ (i : Image) (sound : SoundImage i) (l w b : ℕ) where
   module _ (v m : ℕ) (e : bitAnd v m ≡ bitAnd w m) (part : (j : ℕ) → bit (againstAll l w b (i .rows)) j ≡ 1 → bit m j ≡ 1) where
     -- what w does not match, v does not match
-    kept-out : (k : ℕ) → k < length (i .rows) → isOwn l w b (nthRow i k) ≡ false → isOwn l v b (nthRow i k) ≡ false
+    kept-out : (k : ℕ) → k < length (i .rows) → isCandidate l w b (nthRow i k) ≡ false → isCandidate l v b (nthRow i k) ≡ false
     kept-out k h q = go (cases (eqb (r .from) l)) (cases (eqb (r .bit) 2 || eqb (r .bit) b)) (cases (agrees w (r .care) (r .values)))
       where
         r : Row
@@ -115,13 +126,14 @@ module _ (i : Image) (sound : Sound i) (l w b : ℕ) where
 
         go : (eqb (r .from) l ≡ true) ⊎ (eqb (r .from) l ≡ false)
             → ((eqb (r .bit) 2 || eqb (r .bit) b) ≡ true) ⊎ ((eqb (r .bit) 2 || eqb (r .bit) b) ≡ false)
-            → (agrees w (r .care) (r .values) ≡ true) ⊎ (agrees w (r .care) (r .values) ≡ false) → isOwn l v b r ≡ false
+            → (agrees w (r .care) (r .values) ≡ true) ⊎ (agrees w (r .care) (r .values) ≡ false) → isCandidate l v b r ≡ false
         go (inr f) y z = ap (λ (t : Bool). t && matches v b r) f
         go (inl f) (inr y) z =
             and-no (eqb (r .from) l) (matches v b r) (and-no (agrees v (r .care) (r .values)) (eqb (r .bit) 2 || eqb (r .bit) b) y)
         go (inl f) (inl y) (inl z) =
-            no-both (isOwn l w b r)
-            (and-true (eqb (r .from) l) (matches w b r) f (and-true (agrees w (r .care) (r .values)) (eqb (r .bit) 2 || eqb (r .bit) b) z y)) q
+            no-both (isCandidate l w b r)
+            (and-true (eqb (r .from) l) (matches w b r) f
+            (and-true (agrees w (r .care) (r .values)) (eqb (r .bit) 2 || eqb (r .bit) b) z y)) q
         go (inl f) (inl y) (inr z) =
             let out : contradicted l w b r ≡ true =
             and-true (eqb (r .from) l) ((eqb (r .bit) 2 || eqb (r .bit) b) && not (agrees w (r .care) (r .values))) f
@@ -140,19 +152,20 @@ module _ (i : Image) (sound : Sound i) (l w b : ℕ) where
       last = λ j g h o. best .last j g h (before j h o);
     }
       where
-        before : (j : ℕ) → j < length (i .rows) → isOwn l v b (nthRow i j) ≡ true → isOwn l w b (nthRow i j) ≡ true
-        before j h o = go (cases (isOwn l w b (nthRow i j)))
+        before : (j : ℕ) → j < length (i .rows) → isCandidate l v b (nthRow i j) ≡ true → isCandidate l w b (nthRow i j) ≡ true
+        before j h o = go (cases (isCandidate l w b (nthRow i j)))
           where
-            go : (isOwn l w b (nthRow i j) ≡ true) ⊎ (isOwn l w b (nthRow i j) ≡ false) → isOwn l w b (nthRow i j) ≡ true
+            go : (isCandidate l w b (nthRow i j) ≡ true) ⊎ (isCandidate l w b (nthRow i j) ≡ false) → isCandidate l w b (nthRow i j) ≡ true
             go (inl y) = y
-            go (inr y) = no-both (isOwn l v b (nthRow i j)) o (kept-out j h y)
+            go (inr y) = no-both (isCandidate l v b (nthRow i j)) o (kept-out j h y)
 
         small : r .care < 2 ^ 16
         small = subst (λ (x : Row). x .care < 65536) (best .is) (sound .each k (best .inside) .cares)
 
-        matching : isOwn l v b r ≡ true
+        matching : isCandidate l v b r ≡ true
         matching =
-            ap (λ (x : ℕ). eqb (r .from) l && (eqb x (r .values) && (eqb (r .bit) 2 || eqb (r .bit) b))) (agree-part v w m (r .care) small cares e)
+            ap (λ (x : ℕ). eqb (r .from) l && (eqb x (r .values) && (eqb (r .bit) 2 || eqb (r .bit) b)))
+            (agree-part v w m (r .care) small cares e)
             ∙ best .matches
 
   -- the mask of a cause decides the row
@@ -161,15 +174,17 @@ module _ (i : Image) (sound : Sound i) (l w b : ℕ) where
       bitAnd v m ≡ bitAnd w m → bestRow l v b 0 (i .rows) ≡ row k r
   mask-decides k r q v e =
       let m : ℕ = bitOr (r .care) (againstAll l w b (i .rows)) in
-      let joined : (j : ℕ) → bit m j ≡ max (bit (r .care) j) (bit (againstAll l w b (i .rows)) j) = bit-or (r .care) (againstAll l w b (i .rows)) in
-      is-best l v b (i .rows) k r (same-best v m e (λ j o. omega (arith, joined j)) k r (λ j o. omega (arith, joined j)) (best-is l w b (i .rows) k r q))
+      let joined : (j : ℕ) → bit m j ≡ max (bit (r .care) j) (bit (againstAll l w b (i .rows)) j) =
+      bit-or (r .care) (againstAll l w b (i .rows)) in
+      is-best l v b (i .rows) k r (same-best v m e (λ j o. omega (arith, joined j)) k r
+      (λ j o. omega (arith, joined j)) (best-is l w b (i .rows) k r q))
 
 -- and no condition of the row's care mask can be left out: a word with another value there takes another row, or none
 pub care-tells : (i : Image) (l w b k : ℕ) (r : Row) → bestRow l w b 0 (i .rows) ≡ row k r → (v j : ℕ) → bit (r .care) j ≡ 1
     → (bit v j ≡ bit w j → ⊥) → bestRow l v b 0 (i .rows) ≡ row k r → ⊥
 care-tells i l w b k r q v j o d z =
     let match : (u : ℕ) → bestRow l u b 0 (i .rows) ≡ row k r → bitAnd u (r .care) ≡ r .values = λ u y.
-    let t : isOwn l u b r ≡ true = best-is l u b (i .rows) k r y .matches in
+    let t : isCandidate l u b r ≡ true = best-is l u b (i .rows) k r y .matches in
     eqb-true (bitAnd u (r .care)) (r .values)
     (and-l (agrees u (r .care) (r .values)) (eqb (r .bit) 2 || eqb (r .bit) b) (and-r (eqb (r .from) l) (matches u b r) t)) in
     d (agree-bit v w (r .care) j (match v z ∙ sym (match w q)) o)

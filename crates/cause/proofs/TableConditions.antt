@@ -1,4 +1,5 @@
--- The conditions against the rows of a label, among all rows of a table: only its own rows have any, they stand in its frames, and each has its
+-- The conditions against the rows of a label, among all rows of a table:
+-- only its own rows have any, they stand in its frames, and each has its
 -- values within its care mask.
 use Prim.Native.Nat.{ℕ, zero, suc, _+_, _-_, _^_, _≤_, _<_}
 use mathlib.Core.Bool.{Bool, _&&_, _||_, not}
@@ -11,19 +12,19 @@ use lib.Dec.{eqb}
 use borrow.Author.Tests.{eq-eqb, ne-eqb}
 use Rattle.lists.specs.Pick.{pick}
 use Rattle.lists.specs.Numbers.{range, lowest}
-use Rattle.lists.specs.Sequences.{concatMap}
+use Rattle.lists.specs.Sequences.{concatMap, All}
 use Rattle.lists.proofs.Tests.{yes-pick, no-pick}
 use Rattle.lists.proofs.Ranges.{length-map-range, getD-map-range}
-use Rattle.lists.proofs.Joins.{All, all-at, all-places, concat-cons}
+use Rattle.lists.proofs.Joins.{all-at, all-places, concat-cons}
 use Rattle.bits.specs.Word.{agrees}
 use Rattle.frames.specs.Frame.{field, pairAt}
-use Rattle.image.specs.Image.{Row}
+use Rattle.image.specs.Image.{Row, noRow}
 use Rattle.image.specs.Decode.{lastLabel}
-use Rattle.image.proofs.Sound.{noRow, Sound}
-use Rattle.tables.specs.Table.{labelOf, firstOn, endOn, rowOn, rowsOn, tableImage}
-use Rattle.rows.specs.Search.{Deciding}
+use Rattle.image.specs.inner.Sound.{SoundImage}
+use Rattle.tables.specs.Table.{tableLabel, firstOn, endOn, rowOn, rowsOn, tableImage}
+use Rattle.rows.specs.inner.Search.{Deciding}
 use Rattle.cause.specs.Cause.{differs, against, againstAll}
-use Rattle.cause.specs.Parts.{Kept, lets, againstFrom}
+use Rattle.cause.specs.inner.CauseContracts.{ValuesWithin, lets, againstFrom}
 
 -- ---- rows of other labels have none
 module _ (b : List ℕ) (l w bit : ℕ) where
@@ -35,7 +36,8 @@ module _ (b : List ℕ) (l w bit : ℕ) where
 
   other-none : (r : Row) → (r .from ≡ l → ⊥) → against l w bit r ≡ 0
   other-none r h =
-      ap (λ (t : Bool). pick (t && (let-in r && not (agrees w (r .care) (r .values)))) (2 ^ lowest (differs w (r .care) (r .values)) 0 16) 0)
+      ap (λ (t : Bool). pick (t && (let-in r && not (agrees w (r .care) (r .values))))
+      (2 ^ lowest (differs w (r .care) (r .values)) 0 16) 0)
       (ne-eqb (r .from) l h)
 
   others-first : (m : ℕ) → (m ≡ l → ⊥) → (i n : ℕ) (rs : List Row) → all (map (rowOn b m) (range i n) ++ rs) ≡ all rs
@@ -79,7 +81,7 @@ module _ (b : List ℕ) (l w bit : ℕ) where
 -- ---- one of its own rows, by its frame
 module _ (b : List ℕ) (l w : ℕ) where
   abbrev kind : ℕ
-  kind = labelOf b l .kind
+  kind = tableLabel b l .kind
 
   abbrev only : ℕ → ℕ
   only f = rowOn b l f .bit
@@ -107,7 +109,8 @@ module _ (b : List ℕ) (l w : ℕ) where
     free-rows p q f (suc n) = ap₂ bitOr (free-lets p f ∙ sym (free-lets q f)) (free-rows p q (suc f) n)
 
     pub any-conditions : (p q : ℕ) → 2 ≤ l → l ≤ lastLabel b → againstAll l w p (tableImage b .rows) ≡ againstAll l w q (tableImage b .rows)
-    any-conditions p q h g = own-conditions b l w p h g ∙ free-rows p q (firstOn b l) (endOn b l - firstOn b l) ∙ sym (own-conditions b l w q h g)
+    any-conditions p q h g = own-conditions b l w p h g ∙ free-rows p q (firstOn b l) (endOn b l - firstOn b l)
+        ∙ sym (own-conditions b l w q h g)
 
   module _ (bit : ℕ) (x : Deciding b l bit) where
     lets-is : (f : ℕ) → lets (field b f 6) bit ≡ (eqb (only f) 2 || eqb (only f) bit)
@@ -147,14 +150,15 @@ module _ (b : List ℕ) (l : ℕ) where
   own-within i (suc n) p q a = go (ℕ-discrete i l) (own-within (suc i) n)
     where
       parts : All Within (rowsOn b i) × All Within (concatMap (rowsOn b) (range (suc i) n))
-      parts = all-split Within (rowsOn b i) (concatMap (rowsOn b) (range (suc i) n)) (subst (All Within) (concat-cons (rowsOn b) i (range (suc i) n)) a)
+      parts = all-split Within (rowsOn b i) (concatMap (rowsOn b) (range (suc i) n))
+          (subst (All Within) (concat-cons (rowsOn b) i (range (suc i) n)) a)
 
       go : Dec (i ≡ l) → (suc i ≤ l → l < suc i + n → All Within (concatMap (rowsOn b) (range (suc i) n)) → All Within (rowsOn b l))
           → All Within (rowsOn b l)
       go (yes e) ih = subst (λ (m : ℕ). All Within (rowsOn b m)) e (parts .0)
       go (no e) ih = ih (omega arith) (omega arith) (parts .1)
 
-  pub rows-kept : Sound (tableImage b) → 2 ≤ l → l ≤ lastLabel b → (f : ℕ) → firstOn b l ≤ f → f < endOn b l → Kept b f
+  pub rows-kept : SoundImage (tableImage b) → 2 ≤ l → l ≤ lastLabel b → (f : ℕ) → firstOn b l ≤ f → f < endOn b l → ValuesWithin b f
   unfolding tableImage
   rows-kept sound h g f p q =
       let first : ℕ = firstOn b l in
@@ -162,5 +166,6 @@ module _ (b : List ℕ) (l : ℕ) where
       let own : All Within (rowsOn b l) =
       own-within 2 (lastLabel b - 1) h (omega arith) (all-places Within noRow (tableImage b .rows) (λ k m. sound .each k m .within)) in
       subst Within
-      (getD-map-range (rowOn b l) noRow first count (f - first) (omega arith) ∙ ap (rowOn b l) (let z : first + (f - first) ≡ f = omega arith in z))
+      (getD-map-range (rowOn b l) noRow first count (f - first) (omega arith)
+      ∙ ap (rowOn b l) (let z : first + (f - first) ≡ f = omega arith in z))
       (all-at Within noRow (rowsOn b l) own (f - first) (omega (arith, length-map-range (rowOn b l) first count)))

@@ -1,3 +1,3 @@
 pub mod Cause
 pub mod Laws
-pub mod Parts
+pub mod inner

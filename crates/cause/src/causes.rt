@@ -1,9 +1,18 @@
 // What made a tick go on, over an image and the bytes of a state, or a state by value.
-use super::Cause;
+use super::CauseReport;
 use crate::conditions::against_rows;
 use fitting::is_unfit;
 use frames::Answer;
+use frames::refusals::NO_ROW;
+use frames::refusals::ROWLESS;
+use frames::refusals::UNFIT;
 use frames::refused;
+use frames::sizes::FRAME;
+use frames::sizes::LINE;
+use frames::sizes::TABLE;
+use image::layout::CARE;
+use image::layout::PLAIN;
+use image::layout::RETURN;
 use image::pair;
 use image::rows_from;
 use preparing::prepare_table;
@@ -11,27 +20,28 @@ use rows::end_of;
 use rows::find_row;
 use rows::first_of;
 use state::State;
+use state::layout::STATE_BYTES;
 use state_bytes::bytes_of;
 use state_places::depth_of;
 use state_places::place_of;
-use tables::LARGEST;
 use tables::label_of;
 use tables::label_read;
 use tables::scheme_count;
 use ticks::bit_of;
 ghost use mathlib.Core.Path.{_≡_};
 ghost use Prim.Native.Nat.{_-_};
-ghost use Rattle.tables.specs.Table.{Whole, tableImage};
+ghost use Rattle.tables.specs.Table.{tableImage};
+ghost use Rattle.tables.specs.inner.Asked.{Whole};
 ghost use Rattle.state.specs.State.{placeAt};
 ghost use Rattle.state.specs.Bytes.{stateOf};
-ghost use Rattle.cause.specs.Cause.{label, leaving, causeAt, told, explain, Tells};
-ghost use Rattle.cause.specs.Parts.{Ordered, Placed, leavingNumber, tableCause};
+ghost use Rattle.cause.specs.Cause.{leavesLabel, leaving, causeAt, causeOutcome, explain, GivesCause};
+ghost use Rattle.cause.specs.inner.CauseContracts.{Ordered, OrderedLabel, leavingNumber, tableCause};
 
 // No cause, but an answer.
-fn untold(answer: Answer) -> Cause
+fn untold(answer: Answer) -> CauseReport
     ensures { λ r. ⌜ r ≡ record { answer = answer; row = 0; mask = 0; bit = 0 } ⌝ }
 {
-    Cause {
+    CauseReport {
         answer,
         row: 0,
         mask: 0,
@@ -40,7 +50,7 @@ fn untold(answer: Answer) -> Cause
 }
 
 // The label n places below that depth, whatever the state: the lowest place where there are fewer, and 0 past the highest.
-fn place_below(bytes: &[u8; 130], depth: u8, n: u8) -> u8
+fn place_below(bytes: &[u8; STATE_BYTES], depth: u8, n: u8) -> u8
     ensures { λ r. ⌜ r ≡ placeAt (stateOf (now (bytes .entry))) (depth - n) ⌝ }
 {
     if depth < n {
@@ -54,7 +64,7 @@ fn place_below(bytes: &[u8; 130], depth: u8, n: u8) -> u8
 }
 
 // The label whose row a tick takes, whatever the state: the top of a plain tick, the one beneath on a return, and 0 where it takes none.
-fn leaving_label(table: &[u8], bytes: &[u8; 130]) -> u8
+fn leaving_label(table: &[u8], bytes: &[u8; STATE_BYTES]) -> u8
     requires { ⌜ Whole (now table) ⌝ }
     ensures { λ r. ⌜ r ≡ leavingNumber (leaving (tableImage (now (table .entry))) (stateOf (now (bytes .entry)))) ⌝ }
 {
@@ -62,10 +72,10 @@ fn leaving_label(table: &[u8], bytes: &[u8; 130]) -> u8
     let top = place_below(bytes, depth, 1);
     let label = label_of(table, top);
     let kind = label.kind;
-    if kind == 0 {
+    if kind == PLAIN {
         return top;
     }
-    if kind != 3 {
+    if kind != RETURN {
         return 0;
     }
     if depth <= 1 {
@@ -75,25 +85,26 @@ fn leaving_label(table: &[u8], bytes: &[u8; 130]) -> u8
 }
 
 // The row that label l takes, the conditions that decide it and the bit; 18 where no row matches.
-fn cause_at(table: &[u8], bytes: &[u8; 130], l: u8, word: u16) -> Cause
-    requires { ⌜ Placed (now table) l ⌝ }
-    ensures { λ r. ⌜ Tells (told (causeAt (tableImage (now (table .entry))) (stateOf (now (bytes .entry)) .bits) word (label l))) r ⌝ }
+fn cause_at(table: &[u8], bytes: &[u8; STATE_BYTES], l: u8, word: u16) -> CauseReport
+    requires { ⌜ OrderedLabel (now table) l ⌝ }
+    ensures { λ r. ⌜ GivesCause (causeOutcome
+        (causeAt (tableImage (now (table .entry))) (stateOf (now (bytes .entry)) .bits) word (leavesLabel l))) r ⌝ }
 {
     let schemes = scheme_count(table);
     let read = label_read(table, schemes, l as usize);
     let bit = bit_of(bytes, read.kind, read.called);
     let f = find_row(table, schemes, l as usize, word, bit);
-    if table.len() / 10 <= f {
-        let answer = refused(18, 0);
+    if table.len() / FRAME <= f {
+        let answer = refused(NO_ROW, 0);
         return untold(answer);
     }
     let first = first_of(table, schemes, l as usize);
     let end = end_of(table, schemes, l as usize);
-    let care = pair(table, f, 2);
+    let care = pair(table, f, CARE);
     let others = against_rows(table, first, end, word, bit);
     let from = rows_from(table);
     let row = (f - from) as u16;
-    Cause {
+    CauseReport {
         answer: Answer::Done(0),
         row,
         mask: care | others,
@@ -102,39 +113,39 @@ fn cause_at(table: &[u8], bytes: &[u8; 130], l: u8, word: u16) -> Cause
 }
 
 // A cause on a prepared table: 15, then 21, then 18.
-fn cause_table(table: &[u8], bytes: &[u8; 130], word: u16) -> Cause
+fn cause_table(table: &[u8], bytes: &[u8; STATE_BYTES], word: u16) -> CauseReport
     requires { ⌜ Ordered (now table) ⌝ }
-    ensures { λ r. ⌜ Tells (tableCause (now (table .entry)) (stateOf (now (bytes .entry))) word) r ⌝ }
+    ensures { λ r. ⌜ GivesCause (tableCause (now (table .entry)) (stateOf (now (bytes .entry))) word) r ⌝ }
 {
     let unfit = is_unfit(table, bytes);
     let l = leaving_label(table, bytes);
     if unfit {
-        let answer = refused(15, 0);
+        let answer = refused(UNFIT, 0);
         return untold(answer);
     }
     if l == 0 {
-        let answer = refused(21, 0);
+        let answer = refused(ROWLESS, 0);
         return untold(answer);
     }
     cause_at(table, bytes, l, word)
 }
 
 // What the image check tries, then 15, 21 and 18.
-pub fn cause_bytes(image: &[u8], bytes: &[u8; 130], word: u16) -> Cause
-    ensures { λ r. ⌜ Tells (explain (now (image .entry)) (stateOf (now (bytes .entry))) word) r ⌝ }
+pub fn cause_bytes(image: &[u8], bytes: &[u8; STATE_BYTES], word: u16) -> CauseReport
+    ensures { λ r. ⌜ GivesCause (explain (now (image .entry)) (stateOf (now (bytes .entry))) word) r ⌝ }
 {
-    let mut table = [0u8; LARGEST];
+    let mut table = [0u8; TABLE];
     let answer = prepare_table(image, &mut table);
     let Answer::Done(_) = answer else {
         return untold(answer);
     };
-    let n = 10 * (image.len() / 23);
+    let n = FRAME * (image.len() / LINE);
     cause_table(&table[..n], bytes, word)
 }
 
 // The same of a state by value.
-pub fn cause_of(image: &[u8], state: State, word: u16) -> Cause
-    ensures { λ r. ⌜ Tells (explain (now (image .entry)) state word) r ⌝ }
+pub fn cause_of(image: &[u8], state: State, word: u16) -> CauseReport
+    ensures { λ r. ⌜ GivesCause (explain (now (image .entry)) state word) r ⌝ }
 {
     let bytes = bytes_of(state);
     cause_bytes(image, &bytes, word)

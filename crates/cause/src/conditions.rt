@@ -2,12 +2,13 @@
 use bits::bit;
 use bits::with_bit;
 use image::byte;
+use image::layout::*;
 use image::pair;
 ghost use mathlib.Core.Path.{_≡_};
 ghost use Prim.Native.Nat.{_-_, _<_};
 ghost use Rattle.lists.specs.Numbers.{lowest};
 ghost use Rattle.cause.specs.Cause.{differs};
-ghost use Rattle.cause.specs.Parts.{RowAsked, RowsAsked, lets, againstIn, againstFrom};
+ghost use Rattle.cause.specs.inner.CauseContracts.{RowAsked, RowsAsked, lets, againstIn, againstFrom};
 
 // Whether condition i is in the care mask and has another value in the word.
 fn differs(word: u16, care: u16, values: u16, i: u8) -> bool
@@ -39,10 +40,10 @@ fn lowest_differing(word: u16, care: u16, values: u16) -> u8
 fn lets_through(only: u8, bit: u8) -> bool
     ensures { λ r. ⌜ r ≡ lets only bit ⌝ }
 {
-    if bit == 2 {
+    if bit == NO_BIT {
         return true;
     }
-    if only == 2 {
+    if only == NO_BIT {
         return true;
     }
     only == bit
@@ -53,11 +54,11 @@ fn against_row(table: &[u8], f: usize, word: u16, bit: u8) -> u16
     requires { ⌜ RowAsked (now table) f ⌝ }
     ensures { λ r. ⌜ r ≡ againstIn (now (table .entry)) word bit f ⌝ }
 {
-    if !lets_through(byte(table, f, 6), bit) {
+    if !lets_through(byte(table, f, FUNCTION_BIT), bit) {
         return 0;
     }
-    let care = pair(table, f, 2);
-    let values = pair(table, f, 4);
+    let care = pair(table, f, CARE);
+    let values = pair(table, f, VALUES);
     if word & care == values {
         return 0;
     }

@@ -18,7 +18,7 @@ use Rattle.graph.specs.Reach.{member}
 use Rattle.frames.specs.Frame.{size}
 use Rattle.charts.specs.Chart.{Chart, kind, scheme, argument, is, schemes}
 use Rattle.walk.proofs.Facts.{Facts}
-use Rattle.chains.specs.Calls.{holdsCall, isCall, calls, callsOf}
+use Rattle.chains.specs.Calls.{holdsCall, isCallOf, calls, callsOf}
 use Rattle.chains.specs.Chains.{Calls}
 
 -- ---- a member of the numbers that pass
@@ -35,7 +35,8 @@ unfolding some filter
 filter-member p h [] = sym (and-no (p h) false refl)
 filter-member p h (x ∷ xs) = go (filter-member p h xs) (p x) refl (ℕ-discrete h x)
   where
-    go : member h (filter p xs) ≡ (p h && member h xs) → (b : Bool) → p x ≡ b → Dec (h ≡ x) → member h (filter p (x ∷ xs)) ≡ (p h && member h (x ∷ xs))
+    go : member h (filter p xs) ≡ (p h && member h xs) → (b : Bool) → p x ≡ b → Dec (h ≡ x)
+        → member h (filter p (x ∷ xs)) ≡ (p h && member h (x ∷ xs))
     go ih true q (yes e) = ap (member h) (filter-yes p x xs q) ∙ or-true-l (eqb h x) (member h (filter p xs)) (eq-eqb h x e)
         ∙ sym (and-true (p h) (member h (x ∷ xs)) (ap p e ∙ q) (or-true-l (eqb h x) (member h xs) (eq-eqb h x e)))
     go ih false q (yes e) =
@@ -51,16 +52,17 @@ module _ (c : Chart) where
   unfolding calls
   calls-true g h k =
       let v : ℕ = k .node in
-      any-true (isCall c g h) 0 (size c) v (omega arith) (omega (arith, k .inside))
+      any-true (isCallOf c g h) 0 (size c) v (omega arith) (omega (arith, k .inside))
       (and-true (holdsCall c v) (eqb (scheme c v) g && eqb (argument c v) h) (k .holds)
       (and-true (eqb (scheme c v) g) (eqb (argument c v) h) (eq-eqb (scheme c v) g (k .owner)) (eq-eqb (argument c v) h (k .called))))
 
   pub true-calls : (g h : ℕ) → calls c g h ≡ true → Calls c g h
   unfolding calls
   true-calls g h e =
-      let r = any-some (isCall c g h) 0 (size c) e in
+      let r = any-some (isCallOf c g h) 0 (size c) e in
       let v : ℕ = r .0 in
-      let m : (eqb (scheme c v) g && eqb (argument c v) h) ≡ true = and-r (holdsCall c v) (eqb (scheme c v) g && eqb (argument c v) h) (r .3) in
+      let m : (eqb (scheme c v) g && eqb (argument c v) h) ≡ true =
+      and-r (holdsCall c v) (eqb (scheme c v) g && eqb (argument c v) h) (r .3) in
       record {
         node = v;
         inside = omega (arith, r .2);

@@ -15,16 +15,17 @@ use Rattle.lists.specs.Pick.{pick}
 use Rattle.lists.specs.Numbers.{any, lowest}
 use Rattle.lists.specs.Sequences.{some}
 use Rattle.lists.proofs.Tests.{cases, and-true, and-no, or-true-r, yes-pick, no-pick}
-use Rattle.lists.proofs.Searches.{any-snoc, lowest-alike, lowest-none, lowest-most, Searching, searching-first, searching-found, searching-next, searching-over}
+use Rattle.lists.proofs.Searches.{any-snoc, lowest-alike, lowest-none, lowest-most, Searching}
+use Rattle.lists.proofs.Searches.{searching-first, searching-found, searching-next, searching-over}
 use Rattle.lists.proofs.Tabulated.{length-tabulate, getD-tabulate, tabulate-alike, tabulate-set, tabulate-none}
 use Rattle.bits.specs.Word.{bit}
 use Rattle.graph.specs.Reach.{marked}
 use Rattle.frames.specs.Frame.{size}
 use Rattle.charts.specs.Chart.{Chart, kind, scheme, argument}
 use Rattle.walk.proofs.Facts.{Facts}
-use Rattle.chains.specs.Calls.{holdsCall, isCall, calls, circular, endsOf, noEnd, places}
+use Rattle.chains.specs.Calls.{holdsCall, isCallOf, calls, circular, endsOf, noEnd, places}
 use Rattle.chains.specs.Chains.{Calls}
-use Rattle.chains.specs.Masks.{calledAt, maskOf, callMasks, calledBy, endsBy, longestBy, longestChain}
+use Rattle.chains.specs.inner.Masks.{calledAt, maskOf, callMasks, calledBy, endsBy, longestBy, longestChain}
 use Rattle.chains.proofs.CallLaws.{holds-function, holds-operation, called-range}
 use Rattle.chains.proofs.Longest.{ends-suc}
 use Rattle.chains.proofs.Circles.{circle-told, circle-long, no-circle-short}
@@ -92,21 +93,22 @@ module _ (c : Chart) (v r : ℕ) (e : r ≡ calledAt c v) where
 module _ (c : Chart) where
   pub masks-start : (masks : List ℕ) → masks ≡ replicate 17 0 → masks ≡ callMasks c 0
   unfolding any
-  masks-start masks e = e ∙ tabulate-none (λ g. maskOf (λ h. any (isCall c g h) 0 0) 17) 17 (λ g. unfold maskOf in refl)
+  masks-start masks e = e ∙ tabulate-none (λ g. maskOf (λ h. any (isCallOf c g h) 0 0) 17) 17 (λ g. unfold maskOf in refl)
 
   module _ (v : ℕ) (masks : List ℕ) (e : masks ≡ callMasks c v) where
     pub masks-long : length masks ≡ 17
-    masks-long = ap (λ (xs : List ℕ). length xs) e ∙ length-tabulate (λ g. maskOf (λ h. any (isCall c g h) 0 v) 17) 17
+    masks-long = ap (λ (xs : List ℕ). length xs) e ∙ length-tabulate (λ g. maskOf (λ h. any (isCallOf c g h) 0 v) 17) 17
 
-    masks-at : (g : ℕ) → g < 17 → getD masks g 0 ≡ maskOf (λ h. any (isCall c g h) 0 v) 17
-    masks-at g l = ap (λ (xs : List ℕ). getD xs g 0) e ∙ getD-tabulate (λ g. maskOf (λ h. any (isCall c g h) 0 v) 17) 17 g l
+    masks-at : (g : ℕ) → g < 17 → getD masks g 0 ≡ maskOf (λ h. any (isCallOf c g h) 0 v) 17
+    masks-at g l = ap (λ (xs : List ℕ). getD xs g 0) e ∙ getD-tabulate (λ g. maskOf (λ h. any (isCallOf c g h) 0 v) 17) 17 g l
 
-    no-more : (g h : ℕ) → isCall c g h v ≡ false → any (isCall c g h) 0 v ≡ any (isCall c g h) 0 (v + 1)
-    no-more g h n = or-right (any (isCall c g h) 0 v) (isCall c g h v) n ∙ sym (any-next (isCall c g h) v)
+    no-more : (g h : ℕ) → isCallOf c g h v ≡ false → any (isCallOf c g h) 0 v ≡ any (isCallOf c g h) 0 (v + 1)
+    no-more g h n = or-right (any (isCallOf c g h) 0 v) (isCallOf c g h v) n ∙ sym (any-next (isCallOf c g h) v)
 
     -- a node with no call
     pub masks-same : holdsCall c v ≡ false → masks ≡ callMasks c (v + 1)
-    masks-same n = e ∙ tabulate-alike (λ g. maskOf (λ h. any (isCall c g h) 0 v) 17) (λ g. maskOf (λ h. any (isCall c g h) 0 (v + 1)) 17) 17
+    masks-same n = e ∙ tabulate-alike (λ g. maskOf (λ h. any (isCallOf c g h) 0 v) 17)
+        (λ g. maskOf (λ h. any (isCallOf c g h) 0 (v + 1)) 17) 17
         (λ g l. mask-alike _ _ 17 (λ h m. no-more g h (ap (λ (b : Bool). b && (eqb (scheme c v) g && eqb (argument c v) h)) n)))
 
     -- a node of scheme g that calls scheme k
@@ -114,17 +116,17 @@ module _ (c : Chart) where
         → set masks g (bitOr (getD masks g 0) (2 ^ k)) ≡ callMasks c (v + 1)
     masks-more g k holds eg ek lg lk =
         ap (λ (xs : List ℕ). set xs g (bitOr (getD masks g 0) (2 ^ k))) e
-        ∙ tabulate-set (λ g. maskOf (λ h. any (isCall c g h) 0 v) 17) (λ g. maskOf (λ h. any (isCall c g h) 0 (v + 1)) 17) 17 g
+        ∙ tabulate-set (λ g. maskOf (λ h. any (isCallOf c g h) 0 v) 17) (λ g. maskOf (λ h. any (isCallOf c g h) 0 (v + 1)) 17) 17 g
         (bitOr (getD masks g 0) (2 ^ k)) lg
         (ap (λ (x : ℕ). bitOr x (2 ^ k)) (masks-at g lg)
-        ∙ mask-more (λ h. any (isCall c g h) 0 v) (λ h. any (isCall c g h) 0 (v + 1)) 17 k lk
-        (any-next (isCall c g k) v ∙ or-true-r (any (isCall c g k) 0 v) (isCall c g k v) here)
+        ∙ mask-more (λ h. any (isCallOf c g h) 0 v) (λ h. any (isCallOf c g h) 0 (v + 1)) 17 k lk
+        (any-next (isCallOf c g k) v ∙ or-true-r (any (isCallOf c g k) 0 v) (isCallOf c g k v) here)
         (λ h n. no-more g h (and-no (holdsCall c v) (eqb (scheme c v) g && eqb (argument c v) h)
         (and-no (eqb (scheme c v) g) (eqb (argument c v) h) (ne-eqb (argument c v) h (λ z. n (ek ∙ z)))))))
         (λ u n. mask-alike _ _ 17 (λ h m. no-more u h (and-no (holdsCall c v) (eqb (scheme c v) u && eqb (argument c v) h)
         (ap (λ (b : Bool). b && eqb (argument c v) h) (ne-eqb (scheme c v) u (λ z. n (sym z ∙ sym eg)))))))
       where
-        here : isCall c g k v ≡ true
+        here : isCallOf c g k v ≡ true
         here = and-true (holdsCall c v) (eqb (scheme c v) g && eqb (argument c v) k) holds
             (and-true (eqb (scheme c v) g) (eqb (argument c v) k) (eq-eqb (scheme c v) g (sym eg)) (eq-eqb (argument c v) k (sym ek)))
 
@@ -145,7 +147,8 @@ module _ (p : ℕ → ℕ → Bool) (s : ℕ → Bool) (masks : List ℕ) (are :
           (λ z. let o : bit (maskOf s 17) n ≡ 0 = mask-bit s 17 n (omega arith) ∙ ap (λ (b : Bool). pick b 1 0) e in omega arith)
 
       with-one : (b : Bool) → s n ≡ b → (h : ℕ) → by (suc n) h ≡ (by n h || (b && p n h))
-      with-one b e h = any-snoc (λ g. s g && p g h) 0 n ∙ ap (λ (k : ℕ). by n h || (s k && p k h)) (omega arith) ∙ ap (λ (b : Bool). by n h || (b && p n h)) e
+      with-one b e h = any-snoc (λ g. s g && p g h) 0 n ∙ ap (λ (k : ℕ). by n h || (s k && p k h)) (omega arith)
+          ∙ ap (λ (b : Bool). by n h || (b && p n h)) e
 
       go : (b : Bool) → s n ≡ b → calledBy masks (maskOf s 17) n ≡ maskOf (by n) 17
           → bitOr (calledBy masks (maskOf s 17) n) (pick (eqb (bit (maskOf s 17) n) 1) (getD masks n 0) 0) ≡ maskOf (by (suc n)) 17
@@ -175,16 +178,21 @@ module _ (masks : List ℕ) where
   emptyBy k = eqb (endsBy masks k) 0
 
   -- the chains of fewer than s calls end somewhere, those of s - 1 in these schemes
-  pub record Round (ends s : ℕ) : Type 0 where
+  pub record MaskRound (ends s : ℕ) : Type 0 where
     pub some : 1 ≤ s
     pub search : Searching emptyBy 17 s
     pub held : ends ≡ endsBy masks (s - 1)
 
-  pub round-first : Round 2 1
+  pub round-first : MaskRound 2 1
   unfolding endsBy
-  round-first = record { some = omega arith; search = searching-next emptyBy 17 0 (searching-first emptyBy 17) (omega arith) refl; held = refl }
+  round-first = record {
+    some = omega arith;
+    search =
+        searching-next emptyBy 17 0 (searching-first emptyBy 17) (omega arith) refl;
+    held = refl;
+  }
 
-  module _ (ends s r : ℕ) (h : Round ends s) (e : r ≡ calledBy masks ends 17) where
+  module _ (ends s r : ℕ) (h : MaskRound ends s) (e : r ≡ calledBy masks ends 17) where
     round-ends : r ≡ endsBy masks s
     unfolding endsBy
     round-ends =
@@ -196,14 +204,14 @@ module _ (masks : List ℕ) where
         let q : s ≡ lowest emptyBy 0 17 = searching-found emptyBy 17 s (h .search) l (eq-eqb (endsBy masks s) 0 (sym round-ends ∙ z)) in
         q ∙ sym (yes-pick (ltb (lowest emptyBy 0 17) 17) (lowest emptyBy 0 17) 0 (lt-ltb (lowest emptyBy 0 17) 17 (omega arith)))
 
-    pub round-next : s < 17 → (r ≡ 0 → ⊥) → Round r (s + 1)
+    pub round-next : s < 17 → (r ≡ 0 → ⊥) → MaskRound r (s + 1)
     round-next l n = record {
       some = omega arith;
       search = searching-next emptyBy 17 s (h .search) l (ne-eqb (endsBy masks s) 0 (λ z. n (round-ends ∙ z)));
       held = round-ends ∙ ap (endsBy masks) (omega arith);
     }
 
-  pub round-over : (ends s : ℕ) → Round ends s → 17 ≤ s → 0 ≡ longestBy masks
+  pub round-over : (ends s : ℕ) → MaskRound ends s → 17 ≤ s → 0 ≡ longestBy masks
   unfolding longestBy
   round-over ends s h l =
       let q : s ≡ lowest emptyBy 0 17 = searching-over emptyBy 17 s (h .search) l in
@@ -221,14 +229,16 @@ module _ (c : Chart) (masks : List ℕ) (e : masks ≡ callMasks c (size c)) whe
   ends-by (suc k) =
       ap (λ (set : ℕ). calledBy masks set 17) (ends-by k)
       ∙ called-by (calls c) (marked (endsOf c k)) masks (λ g l. masks-at c (size c) masks e g l ∙ (unfold calls in refl)) 17 (omega arith)
-      ∙ mask-alike (λ h. any (λ g. marked (endsOf c k) g && calls c g h) 0 17) (marked (endsOf c (suc k))) 17 (λ h l. sym (ends-suc c k h l))
+      ∙ mask-alike (λ h. any (λ g. marked (endsOf c k) g && calls c g h) 0 17)
+      (marked (endsOf c (suc k))) 17 (λ h l. sym (ends-suc c k h l))
 
   none-by : (k : ℕ) → eqb (endsBy masks k) 0 ≡ noEnd c k
   none-by k = ap (λ (x : ℕ). eqb x 0) (ends-by k) ∙ mask-empty (marked (endsOf c k)) 17
 
   pub longest-by : Facts c → longestBy masks ≡ longestChain c
   unfolding longestBy
-  longest-by f = ap (λ (k : ℕ). pick (ltb k 17) k 0) (lowest-alike (λ k. eqb (endsBy masks k) 0) (noEnd c) 0 17 (λ k a b. none-by k)) ∙ go (circular c) refl
+  longest-by f = ap (λ (k : ℕ). pick (ltb k 17) k 0) (lowest-alike (λ k. eqb (endsBy masks k) 0) (noEnd c) 0 17 (λ k a b. none-by k))
+      ∙ go (circular c) refl
     where
       go : (b : Bool) → circular c ≡ b → pick (ltb (lowest (noEnd c) 0 17) 17) (lowest (noEnd c) 0 17) 0 ≡ longestChain c
       go true q =
@@ -236,5 +246,6 @@ module _ (c : Chart) (masks : List ℕ) (e : masks ≡ callMasks c (size c)) whe
           ap (λ (k : ℕ). pick (ltb k 17) k 0) k ∙ sym (ap (λ (b : Bool). pick b 0 (places c)) q)
       go false q =
           let k : lowest (noEnd c) 0 17 ≡ lowest (noEnd c) 0 16 = lowest-last (noEnd c) 0 16 (no-circle-short c f q) in
-          ap (λ (b : Bool). pick b (lowest (noEnd c) 0 17) 0) (lt-ltb (lowest (noEnd c) 0 17) 17 (omega (arith, lowest-most (noEnd c) 0 16))) ∙ k
+          ap (λ (b : Bool). pick b (lowest (noEnd c) 0 17) 0)
+          (lt-ltb (lowest (noEnd c) 0 17) 17 (omega (arith, lowest-most (noEnd c) 0 16))) ∙ k
           ∙ places-lowest c ∙ sym (ap (λ (b : Bool). pick b 0 (places c)) q)

@@ -42,7 +42,13 @@ module _ (c : Chart) where
       let p : PathFrom 17 (callsOf c) (1 ∷ []) h = joined-path 17 (callsOf c) (1 ∷ []) h (and-l reached back (r .3)) in
       let q : PathFrom 17 (callsOf c) (callsOf c h) h = joined-path 17 (callsOf c) (callsOf c h) h (and-r reached back (r .3)) in
       let s : ChainTo h = path-chain (subst (λ (g : ℕ). Path 17 (callsOf c) g h) (one-member (p .first) (p .among)) (p .path)) in
-      record { scheme = h; schemes = s .schemes; chain = s .chain; back = path-leads h (q .first) (member-calls c h (q .first) (q .among)) (q .path) }
+      record {
+        scheme = h;
+        schemes = s .schemes;
+        chain = s .chain;
+        back =
+            path-leads h (q .first) (member-calls c h (q .first) (q .among)) (q .path);
+      }
 
   module _ (f : Facts c) where
     leads-marked : (g h : ℕ) → Leads c g h → marked (joinedFrom 17 (callsOf c) (callsOf c g)) h ≡ true
@@ -77,7 +83,8 @@ module _ (c : Chart) (f : Facts c) where
   longer : (g h : ℕ) → Leads c g h → (n : ℕ) → Chain c n g → Further n h
   longer g h (one s) n k = record { schemes = suc n; beyond = omega arith; chain = on k s }
   longer g k (more {h} l s) n q =
-      let r : Further n h = longer g h l n q in record { schemes = suc (r .schemes); beyond = omega (arith, r .beyond); chain = on (r .chain) s }
+      let r : Further n h = longer g h l n q in
+      record { schemes = suc (r .schemes); beyond = omega (arith, r .beyond); chain = on (r .chain) s }
 
   -- round and round
   rounds : (h : ℕ) → Leads c h h → (m n : ℕ) → Chain c n h → Further m h

@@ -3,4 +3,4 @@ pub mod Longest
 pub mod Circles
 pub mod Masks
 pub mod CallMasks
-pub mod Cases
+pub mod PlaceCases

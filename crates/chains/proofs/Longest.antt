@@ -16,7 +16,7 @@ use Rattle.lists.proofs.Counts.{count-miss}
 use Rattle.lists.proofs.Ranges.{length-map-range, getD-map-range}
 use Rattle.graph.specs.Reach.{member, marked, joinedFrom}
 use Rattle.graph.proofs.Closure.{marked-below, only-long, only-at, joined-first, joined-closed, joined-least, Closed}
-use Rattle.graph.proofs.Rank.{rank, rank-some, rank-falls, after, with}
+use Rattle.graph.proofs.Rank.{rank, rank-some, rank-falls, afterArcs, with}
 use Rattle.charts.specs.Chart.{Chart}
 use Rattle.walk.proofs.Facts.{Facts}
 use Rattle.chains.specs.Calls.{calls, callsOf, callsItself, circular, endsOf, noEnd, places}
@@ -103,32 +103,37 @@ module _ (c : Chart) where
     chain-reached n h first = joined-first 17 (callsOf c) (1 ∷ []) 1 (omega arith) one-is
     chain-reached n h (on {m} {g} s call) =
         let r = called-range c f g h call in
-        joined-closed 17 (callsOf c) (1 ∷ []) .goes g h (omega (arith, r)) (omega (arith, r)) (chain-reached m g s) (calls-member c g h (omega (arith, r)) call)
+        joined-closed 17 (callsOf c) (1 ∷ []) .goes g h (omega (arith, r)) (omega (arith, r))
+        (chain-reached m g s) (calls-member c g h (omega (arith, r)) call)
 
     abbrev nonzero : ℕ → Bool
     nonzero h = not (eqb h 0)
 
     never-zero : Closed 17 (callsOf c) nonzero
-    never-zero = record { goes = λ g h lg lh m s. let r = called-range c f g h (member-calls c g h s) in ap not (ne-eqb h 0 (λ e. omega (arith, r))) }
+    never-zero = record {
+      goes = λ g h lg lh m s. let r = called-range c f g h (member-calls c g h s) in
+          ap not (ne-eqb h 0 (λ e. omega (arith, r)));
+    }
 
     -- nobody calls scheme 0
-    unjoined : (h : ℕ) → marked (after 17 (callsOf c) h) 0 ≡ false
+    unjoined : (h : ℕ) → marked (afterArcs 17 (callsOf c) h) 0 ≡ false
     unjoined h = ⊎-elim
-        (λ (e : marked (after 17 (callsOf c) h) 0 ≡ true). no-both false
+        (λ (e : marked (afterArcs 17 (callsOf c) h) 0 ≡ true). no-both false
         (joined-least 17 (callsOf c) (callsOf c h) nonzero never-zero
         (λ g l s. let r = called-range c f h g (member-calls c h g s) in ap not (ne-eqb g 0 (λ q. omega (arith, r)))) 0 e) refl)
-        (λ e. e) (cases (marked (after 17 (callsOf c) h) 0))
+        (λ e. e) (cases (marked (afterArcs 17 (callsOf c) h) 0))
 
     rank-most : rank 17 (callsOf c) 1 ≤ 16
     unfolding rank
     rank-most =
         let l : rank 17 (callsOf c) 1 < 17 = count-miss (with 17 (callsOf c) 1) 17 0 (omega arith)
-        (or-none (eqb 1 0) (marked (after 17 (callsOf c) 1) 0) refl (unjoined 1)) in omega arith
+        (or-none (eqb 1 0) (marked (afterArcs 17 (callsOf c) 1) 0) refl (unjoined 1)) in omega arith
 
     module _ (calm : circular c ≡ false) where
-      no-return : (h : ℕ) → 1 ≤ h → h ≤ 16 → reached h ≡ true → marked (after 17 (callsOf c) h) h ≡ false
+      no-return : (h : ℕ) → 1 ≤ h → h ≤ 16 → reached h ≡ true → marked (afterArcs 17 (callsOf c) h) h ≡ false
       unfolding circular
-      no-return h a b m = and-false (reached h) (marked (after 17 (callsOf c) h) h) (any-false (callsItself c) 1 16 calm h a (omega arith)) m
+      no-return h a b m = and-false (reached h) (marked (afterArcs 17 (callsOf c) h) h)
+          (any-false (callsItself c) 1 16 calm h a (omega arith)) m
 
       falls : (n h : ℕ) → Chain c n h → rank 17 (callsOf c) h + n ≤ rank 17 (callsOf c) 1 + 1
       falls n h first = omega arith
@@ -156,7 +161,8 @@ module _ (c : Chart) where
       no-longer n h s = ⊎-elim
           (λ (l : lowest (noEnd c) 0 16 < n).
           let e : n ≡ suc (lowest (noEnd c) 0 16) + (n - suc (lowest (noEnd c) 0 16)) = omega arith in
-          let t : Front (suc (lowest (noEnd c) 0 16)) = front (n - suc (lowest (noEnd c) 0 16)) (suc (lowest (noEnd c) 0 16)) h (omega arith)
+          let t : Front (suc (lowest (noEnd c) 0 16)) =
+          front (n - suc (lowest (noEnd c) 0 16)) (suc (lowest (noEnd c) 0 16)) h (omega arith)
           (subst (λ (m : ℕ). Chain c m h) e s) in
           no-both (noEnd c (lowest (noEnd c) 0 16)) (lowest-hit (noEnd c) 0 16 (omega (arith, chain-few n h s)))
           (filled (lowest (noEnd c) 0 16) (t .end) (t .chain)))

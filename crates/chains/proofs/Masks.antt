@@ -17,7 +17,7 @@ use Rattle.lists.proofs.Tests.{split}
 use Rattle.lists.proofs.Searches.{any-some, any-false}
 use Rattle.bits.specs.Word.{bit}
 use Rattle.bits.proofs.BitLaws.{bit-or, bit-none, bit-add-same, bit-add-other, bit-pow-same, bit-pow-other, same-bits}
-use Rattle.chains.specs.Masks.{maskOf}
+use Rattle.chains.specs.inner.Masks.{maskOf}
 
 -- a number below 2 to the power i has no bit i
 beyond : (x i : ℕ) → x < 2 ^ i → bit x i ≡ 0
@@ -43,11 +43,14 @@ module _ (p : ℕ → Bool) where
       free : bit (maskOf p n) n ≡ 0
       free = beyond (maskOf p n) n (mask-small n)
 
-      go : (b : Bool) → p n ≡ b → Dec (n ≡ i) → (i < n → bit (maskOf p n) i ≡ pick (p i) 1 0) → bit (maskOf p n + pick b (2 ^ n) 0) i ≡ pick (p i) 1 0
+      go : (b : Bool) → p n ≡ b → Dec (n ≡ i) → (i < n → bit (maskOf p n) i ≡ pick (p i) 1 0)
+          → bit (maskOf p n + pick b (2 ^ n) 0) i ≡ pick (p i) 1 0
       go true e (yes q) ih =
-          ap (λ (k : ℕ). bit (maskOf p n + 2 ^ n) k) (sym q) ∙ bit-add-same (maskOf p n) n free ∙ sym (ap (λ (b : Bool). pick b 1 0) (ap p (sym q) ∙ e))
+          ap (λ (k : ℕ). bit (maskOf p n + 2 ^ n) k) (sym q) ∙ bit-add-same (maskOf p n) n free
+          ∙ sym (ap (λ (b : Bool). pick b 1 0) (ap p (sym q) ∙ e))
       go false e (yes q) ih =
-          ap (λ (k : ℕ). bit k i) (omega arith) ∙ ap (bit (maskOf p n)) (sym q) ∙ free ∙ sym (ap (λ (b : Bool). pick b 1 0) (ap p (sym q) ∙ e))
+          ap (λ (k : ℕ). bit k i) (omega arith) ∙ ap (bit (maskOf p n)) (sym q) ∙ free
+          ∙ sym (ap (λ (b : Bool). pick b 1 0) (ap p (sym q) ∙ e))
       go true e (no q) ih = bit-add-other (maskOf p n) n i free q ∙ ih (omega arith)
       go false e (no q) ih = ap (λ (k : ℕ). bit k i) (omega arith) ∙ ih (omega arith)
 
@@ -68,7 +71,8 @@ module _ (p : ℕ → Bool) where
       go true e =
           let r = any-some p 0 n e in
           let o : bit (maskOf p n) (r .0) ≡ 1 = mask-bit n (r .0) (omega (arith, r .2)) ∙ ap (λ (b : Bool). pick b 1 0) (r .3) in
-          ne-eqb (maskOf p n) 0 (λ z. let q : bit (maskOf p n) (r .0) ≡ 0 = ap (λ (x : ℕ). bit x (r .0)) z ∙ bit-none (r .0) in omega arith) ∙ sym (ap not e)
+          ne-eqb (maskOf p n) 0 (λ z. let q : bit (maskOf p n) (r .0) ≡ 0 = ap (λ (x : ℕ). bit x (r .0)) z ∙ bit-none (r .0) in omega arith)
+          ∙ sym (ap not e)
       go false e =
           eq-eqb (maskOf p n) 0 (sym (mask-is n 0 (pow-pos n)
           (λ i l. bit-none i ∙ sym (ap (λ (b : Bool). pick b 1 0) (any-false p 0 n e i (omega arith) (omega arith))))))
@@ -81,7 +85,8 @@ mask-alike p q (suc n) h =
     ap₂ (λ (x : ℕ) (b : Bool). x + pick b (2 ^ n) 0) (mask-alike p q n (λ i l. h i (omega arith))) (h n (omega arith))
 
 pub mask-or : (p q : ℕ → Bool) (n : ℕ) → bitOr (maskOf p n) (maskOf q n) ≡ maskOf (λ i. p i || q i) n
-mask-or p q n = mask-is (λ i. p i || q i) n (bitOr (maskOf p n) (maskOf q n)) (or-lt n (maskOf p n) (maskOf q n) (mask-small p n) (mask-small q n))
+mask-or p q n = mask-is (λ i. p i || q i) n (bitOr (maskOf p n) (maskOf q n))
+    (or-lt n (maskOf p n) (maskOf q n) (mask-small p n) (mask-small q n))
     (λ i l. bit-or (maskOf p n) (maskOf q n) i ∙ ap₂ max (mask-bit p n i l) (mask-bit q n i l) ∙ higher (p i) (q i))
   where
     higher : (a b : Bool) → max (pick a 1 0) (pick b 1 0) ≡ pick (a || b) 1 0
@@ -91,7 +96,8 @@ mask-or p q n = mask-is (λ i. p i || q i) n (bitOr (maskOf p n) (maskOf q n)) (
     higher false false = refl
 
 -- number k besides
-pub mask-more : (p q : ℕ → Bool) (n k : ℕ) → k < n → q k ≡ true → ((i : ℕ) → (k ≡ i → ⊥) → p i ≡ q i) → bitOr (maskOf p n) (2 ^ k) ≡ maskOf q n
+pub mask-more : (p q : ℕ → Bool) (n k : ℕ) → k < n → q k ≡ true → ((i : ℕ) → (k ≡ i → ⊥) → p i ≡ q i)
+    → bitOr (maskOf p n) (2 ^ k) ≡ maskOf q n
 mask-more p q n k l e h =
     mask-is q n (bitOr (maskOf p n) (2 ^ k)) (or-lt n (maskOf p n) (2 ^ k) (mask-small p n) (pow-lt {i = k} {j = n} l))
     (λ i a. bit-or (maskOf p n) (2 ^ k) i ∙ go i a (ℕ-discrete k i))

@@ -7,18 +7,19 @@ use Rattle.lists.specs.Numbers.{range, lowest, any}
 use Rattle.lists.specs.Sequences.{filter}
 use Rattle.graph.specs.Reach.{marked, only, joinedFrom}
 use Rattle.frames.specs.Frame.{size}
+use Rattle.charts.specs.Layout.{OPERATION, FUNCTION}
 use Rattle.charts.specs.Chart.{Chart, scheme, argument, is}
 
 -- a function, or an operation that calls a scheme
 abbrev pub holdsCall : Chart → ℕ → Bool
-holdsCall c v = is c 4 v || (is c 2 v && not (eqb (argument c v) 0))
+holdsCall c v = is c FUNCTION v || (is c OPERATION v && not (eqb (argument c v) 0))
 
-abbrev pub isCall : Chart → ℕ → ℕ → ℕ → Bool
-isCall c g h v = holdsCall c v && (eqb (scheme c v) g && eqb (argument c v) h)
+abbrev pub isCallOf : Chart → ℕ → ℕ → ℕ → Bool
+isCallOf c g h v = holdsCall c v && (eqb (scheme c v) g && eqb (argument c v) h)
 
 -- a node of scheme g holds a call of scheme h, whether or not words lead to it
 unfoldable pub calls : Chart → ℕ → ℕ → Bool
-calls c g h = any (isCall c g h) 0 (size c)
+calls c g h = any (isCallOf c g h) 0 (size c)
 
 -- schemes are below 17
 abbrev pub callsOf : Chart → ℕ → List ℕ

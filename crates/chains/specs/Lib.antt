@@ -1,3 +1,3 @@
 pub mod Calls
 pub mod Chains
-pub mod Masks
+pub mod inner

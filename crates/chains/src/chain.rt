@@ -2,8 +2,8 @@
 use crate::calls::note_calls;
 ghost use mathlib.Core.Path.{_≡_};
 ghost use lib.ListN.{length};
-ghost use Rattle.chart_labels.specs.Ready.{Ready};
-ghost use Rattle.chains.specs.Masks.{calledBy, longestBy, longestChain};
+ghost use Rattle.chart_labels.specs.inner.ChartContracts.{Ready};
+ghost use Rattle.chains.specs.inner.Masks.{calledBy, longestBy, longestChain};
 
 // The schemes that those of a set call.
 fn called_by(masks: &[u32], set: u32) -> u32

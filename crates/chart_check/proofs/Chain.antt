@@ -11,7 +11,7 @@ use Rattle.frames.specs.declared.Answer.the-variants.{Refused}
 use Rattle.frames.proofs.Chains.{lowest-refused, lowest-fine, next-refused, next-on}
 use Rattle.charts.specs.Chart.{Chart, schemes}
 use Rattle.charts.specs.Check.{badField, badScheme, badMarks, badArc, badCall, cutOff, chartVerdict}
-use Rattle.chart_check.specs.Asked.{joinedVerdict}
+use Rattle.chart_check.specs.inner.CheckContracts.{joinedVerdict}
 
 -- ---- the verdicts from a refusal on
 abbrev pub from9 : Chart → Verdict

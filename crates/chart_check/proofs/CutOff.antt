@@ -1,4 +1,5 @@
--- Where refusals 4 to 6 find nothing, the nodes joined from all Begins together are, scheme by scheme, those joined from the Begin of the scheme.
+-- Where refusals 4 to 6 find nothing, the nodes joined from all Begins together are,
+-- scheme by scheme, those joined from the Begin of the scheme.
 use mathlib.Core.Path.{_≡_, refl, sym, _∙_, ap, subst}
 use mathlib.Core.Logic.{⊎-elim}
 use mathlib.Core.Bool.{Bool, true, false, _&&_, not}
@@ -19,12 +20,12 @@ use Rattle.graph.proofs.Closure.{Closed, marked-below, reach-grow, reach-least,
 use Rattle.frames.specs.Frame.{size}
 use Rattle.charts.specs.Chart.{Chart, scheme, is, isOf, schemes, nodeOf, begin}
 use Rattle.charts.specs.Check.{badField, badScheme, arcs, badEnd, badArc, cutOff}
-use Rattle.charts.specs.Marks.{kindMarks}
+use Rattle.charts.specs.inner.Marks.{kindMarks}
 use Rattle.charts.proofs.Nodes.{field-scheme, good-end, member-first}
 use Rattle.charts.proofs.Meaning.{member-only}
-use Rattle.chart_check.specs.Asked.{Passed}
+use Rattle.chart_check.specs.inner.CheckContracts.{Passed4To6}
 
-module _ (c : Chart) (passed : Passed c) where
+module _ (c : Chart) (passed : Passed4To6 c) where
   -- ---- the Begin of a node's scheme
   one-begin : (v : ℕ) → v < size c → count (isOf c 0 (scheme c v)) 0 (size c) ≡ 1
   one-begin v l =
@@ -82,7 +83,8 @@ module _ (c : Chart) (passed : Passed c) where
       (subst (λ (b : ℕ). member v (b ∷ []) ≡ true) (own-begin v l (sym (begins-at v l) ∙ m)) (member-first v [])))
 
   from-own : (v : ℕ) → v < size c → own v ≡ true → marked joined v ≡ true
-  from-own v l = joined-least (size c) (arcs c) (begin c (scheme c v) ∷ []) (marked joined) (reach-closed (size c) (arcs c) (kindMarks c 0) begins-long)
+  from-own v l = joined-least (size c) (arcs c) (begin c (scheme c v) ∷ []) (marked joined)
+      (reach-closed (size c) (arcs c) (kindMarks c 0) begins-long)
       (λ w lw s. reach-grow (size c) (arcs c) (size c) (kindMarks c 0) begins-long w
       (begins-at w lw ∙ subst (λ (b : ℕ). is c 0 b ≡ true) (sym (member-only w (begin c (scheme c v)) s))
       (and-l (is c 0 (begin c (scheme c v))) (eqb (scheme c (begin c (scheme c v))) (scheme c v)) (the-begin v l .1)))) v

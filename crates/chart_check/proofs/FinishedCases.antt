@@ -19,8 +19,8 @@ use Rattle.graph.proofs.Closure.{Closed, marks-at, marked-below, joined-least}
 use Rattle.frames.specs.Frame.{size}
 use Rattle.charts.specs.Chart.{Chart, kind, next0, next1, is}
 use Rattle.charts.specs.Check.{arcs, conditionArcs, onCircle}
-use Rattle.charts.specs.Marks.{kindMarks}
-use Rattle.charts.specs.Finished.{nextUnfinished, NoneAhead, Finished}
+use Rattle.charts.specs.inner.Marks.{kindMarks}
+use Rattle.charts.specs.inner.Finished.{nextUnfinished, NoneAhead, Finished}
 use Rattle.charts.proofs.Nodes.{arcs-condition}
 use Rattle.charts.proofs.Meaning.{condition-arcs, leaves-condition, member-only}
 use Rattle.chart_check.proofs.MarkCases.{no-circle}
@@ -40,19 +40,23 @@ module _ (c : Chart) (ms : List Bool) (v : ℕ) where
 
   module _ (a : ℕ) (p : a ≡ next0 c v) where
     pub next-first : marked ms a ≡ true → a ≡ nextUnfinished c ms v
-    next-first m = p ∙ sym (yes-pick (marked ms (next0 c v)) (next0 c v) (pick (marked ms (next1 c v)) (next1 c v) (size c)) (ap (marked ms) (sym p) ∙ m))
+    next-first m = p ∙ sym (yes-pick (marked ms (next0 c v)) (next0 c v)
+        (pick (marked ms (next1 c v)) (next1 c v) (size c)) (ap (marked ms) (sym p) ∙ m))
 
     module _ (m : marked ms a ≡ false) (b : ℕ) (q : b ≡ next1 c v) where
       pub next-second : marked ms b ≡ true → b ≡ nextUnfinished c ms v
-      next-second t = q ∙ sym (next-other (ap (marked ms) (sym p) ∙ m) ∙ yes-pick (marked ms (next1 c v)) (next1 c v) (size c) (ap (marked ms) (sym q) ∙ t))
+      next-second t = q ∙ sym (next-other (ap (marked ms) (sym p) ∙ m)
+          ∙ yes-pick (marked ms (next1 c v)) (next1 c v) (size c) (ap (marked ms) (sym q) ∙ t))
 
       pub next-none : marked ms b ≡ false → size c ≡ nextUnfinished c ms v
-      next-none t = sym (next-other (ap (marked ms) (sym p) ∙ m) ∙ no-pick (marked ms (next1 c v)) (next1 c v) (size c) (ap (marked ms) (sym q) ∙ t))
+      next-none t = sym (next-other (ap (marked ms) (sym p) ∙ m)
+          ∙ no-pick (marked ms (next1 c v)) (next1 c v) (size c) (ap (marked ms) (sym q) ∙ t))
 
   none-both : marked ms (next0 c v) ≡ false → marked ms (next1 c v) ≡ false → NoneAhead c ms v
   none-both a b u s =
       let i : is c 3 v ≡ true = leaves-condition c v u s in
-      let t : member u (next0 c v ∷ next1 c v ∷ []) ≡ true = ap (member u) (sym (condition-arcs c v i ∙ arcs-condition c v (eqb-true (kind c v) 3 i))) ∙ s in
+      let t : member u (next0 c v ∷ next1 c v ∷ []) ≡ true =
+      ap (member u) (sym (condition-arcs c v i ∙ arcs-condition c v (eqb-true (kind c v) 3 i))) ∙ s in
       ⊎-elim
       (λ (e : eqb u (next0 c v) ≡ true). ap (marked ms) (eqb-true u (next0 c v) e) ∙ a)
       (λ (e : member u (next1 c v ∷ []) ≡ true). ap (marked ms) (member-only u (next1 c v) e) ∙ b)
@@ -61,9 +65,11 @@ module _ (c : Chart) (ms : List Bool) (v : ℕ) where
   pub none-ahead : length ms ≡ size c → (r : ℕ) → r ≡ nextUnfinished c ms v → size c ≤ r → NoneAhead c ms v
   none-ahead e r q l = go (cases (marked ms (next0 c v))) (cases (marked ms (next1 c v)))
     where
-      go : (marked ms (next0 c v) ≡ true) ⊎ (marked ms (next0 c v) ≡ false) → (marked ms (next1 c v) ≡ true) ⊎ (marked ms (next1 c v) ≡ false) → NoneAhead c ms v
+      go : (marked ms (next0 c v) ≡ true) ⊎ (marked ms (next0 c v) ≡ false)
+          → (marked ms (next1 c v) ≡ true) ⊎ (marked ms (next1 c v) ≡ false) → NoneAhead c ms v
       go (inl a) b = absurd (omega (arith, next-first (next0 c v) refl a, marked-below (size c) ms (next0 c v) e a))
-      go (inr a) (inl b) = absurd (omega (arith, next-second (next0 c v) refl a (next1 c v) refl b, marked-below (size c) ms (next1 c v) e b))
+      go (inr a) (inl b) = absurd (omega
+          (arith, next-second (next0 c v) refl a (next1 c v) refl b, marked-below (size c) ms (next1 c v) e b))
       go (inr a) (inr b) = none-both a b
 
 -- ---- one more is finished
@@ -127,7 +133,8 @@ pub record Standing (c : Chart) (unfinished : List Bool) (path : List ℕ) (left
   pub here : at < size c
   pub before : (i : ℕ) → i < depth → getD path i 0 < size c
 
-pub standing-first : (c : Chart) (ms : List Bool) (path : List ℕ) (v : ℕ) → Finished c ms → size c ≤ length path → v < size c → Standing c ms path (size c) 0 v
+pub standing-first : (c : Chart) (ms : List Bool) (path : List ℕ) (v : ℕ) → Finished c ms
+    → size c ≤ length path → v < size c → Standing c ms path (size c) 0 v
 standing-first c ms path v f r l = record { finished = f; fits = r; steps = omega arith; here = l; before = λ i b. absurd (omega arith) }
 
 module _ (c : Chart) (ms : List Bool) (path : List ℕ) (left depth at : ℕ) (s : Standing c ms path left depth at) where
@@ -141,7 +148,9 @@ module _ (c : Chart) (ms : List Bool) (path : List ℕ) (left depth at : ℕ) (s
   }
     where
       go : (i : ℕ) → i < depth + 1 → Dec (i ≡ depth) → getD (set path depth at) i 0 < size c
-      go i b (yes e) = subst (λ (x : ℕ). x < size c) (sym (ap (λ (j : ℕ). getD (set path depth at) j 0) e ∙ getD-set-same path depth at 0 (omega (arith, s .fits, s .steps)))) (s .here)
+      go i b (yes e) = subst (λ (x : ℕ). x < size c)
+          (sym (ap (λ (j : ℕ). getD (set path depth at) j 0) e ∙ getD-set-same path depth at 0 (omega (arith, s .fits, s .steps))))
+          (s .here)
       go i b (no e) = subst (λ (x : ℕ). x < size c) (sym (getD-set-other path depth i at 0 e)) (s .before i (omega arith))
 
   module _ (r : ℕ) (q : r ≡ nextUnfinished c ms at) (l : size c ≤ r) where

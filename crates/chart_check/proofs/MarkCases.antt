@@ -19,16 +19,16 @@ use Rattle.lists.proofs.Searches.{lowest-none}
 use Rattle.lists.proofs.Counts.{count-miss}
 use Rattle.lists.proofs.Ranges.{length-map-range, map-range-snoc}
 use Rattle.graph.specs.Reach.{marked, only, reach, joinedFrom}
-use Rattle.graph.specs.Listed.{many, Listing, listing, enlist, enlistAll, Listed}
+use Rattle.graph.specs.inner.Listed.{many, Listing, listing, enlist, enlistAll, Listed}
 use Rattle.graph.proofs.Lists.{listed-none}
 use Rattle.graph.proofs.Enlisted.{Enlisted, enlisted-all}
 use Rattle.frames.specs.Frame.{size}
 use Rattle.charts.specs.Chart.{Chart, kind, next0, next1, is}
 use Rattle.charts.specs.Check.{arcs, conditionArcs, onCircle}
-use Rattle.charts.specs.Marks.{arcsBy, kindMarks}
-use Rattle.chart_check.specs.Asked.{Blank, Lent}
+use Rattle.charts.specs.inner.Marks.{arcsBy, kindMarks}
+use Rattle.chart_check.specs.inner.CheckContracts.{Blank, ListedRoom}
 use Rattle.charts.proofs.Nodes.{arcs-end, arcs-one, arcs-condition, arcs-function, two-arcs}
-use Rattle.charts.proofs.Cases.{outside}
+use Rattle.charts.proofs.NodeCases.{outside}
 use Rattle.charts.proofs.Meaning.{condition-arcs, no-condition-arcs}
 
 -- ---- arcs
@@ -61,7 +61,8 @@ module _ (c : Chart) (b : Bool) (v : ℕ) where
       count-two l m = long (next0 c v ∷ next1 c v ∷ []) (all ∙ two-arcs c v (omega arith) (omega arith))
 
       pub count-one : (k ≡ 1 → ⊥) → (k < 3) ⊎ (5 ≤ k) → 1 ≡ length (arcsBy c b v)
-      count-one n o = long (next0 c v ∷ []) (all ∙ arcs-one c v (λ q. n (e ∙ q)) (λ q. outside k o .0 (e ∙ q)) (λ q. outside k o .1 (e ∙ q)))
+      count-one n o = long (next0 c v ∷ [])
+          (all ∙ arcs-one c v (λ q. n (e ∙ q)) (λ q. outside k o .0 (e ∙ q)) (λ q. outside k o .1 (e ∙ q)))
 
 -- none, the first, or both
 abbrev Shape : Chart → ℕ → List ℕ → Type 0
@@ -130,7 +131,8 @@ module _ (c : Chart) (k : ℕ) (old : List Bool) where
   pub kinds-done : (v : ℕ) (ms : List Bool) → v ≡ size c → length old ≡ size c → ms ≡ map (is c k) (range 0 v) ++ drop v old
       → ms ≡ kindMarks c k
   kinds-done v ms q l e =
-      e ∙ ap (λ (xs : List Bool). front v ++ xs) (drop-of-length-le old {i = v} (omega arith)) ∙ append-nil (front v) ∙ ap (λ (j : ℕ). front j) q
+      e ∙ ap (λ (xs : List Bool). front v ++ xs) (drop-of-length-le old {i = v} (omega arith))
+      ∙ append-nil (front v) ∙ ap (λ (j : ℕ). front j) q
 
 -- ---- a condition on a circle
 pub no-circle : (c : Chart) (v : ℕ) → is c 3 v ≡ false → onCircle c v ≡ false
@@ -162,7 +164,8 @@ spread-apart c begins joined r first spread long found = (
 
 -- where as many are marked as there are, there is none without
 pub all-marked : (ms : List Bool) → many ms ≡ length ms → length ms ≡ lowest (λ v. not (marked ms v)) 0 (length ms)
-all-marked ms e = sym (lowest-none (λ v. not (marked ms v)) 0 (length ms) (λ k h. one k h (cases (marked ms (0 + k)))) ∙ zero-add (length ms))
+all-marked ms e = sym (lowest-none (λ v. not (marked ms v)) 0 (length ms) (λ k h. one k h (cases (marked ms (0 + k))))
+    ∙ zero-add (length ms))
   where
     one : (k : ℕ) → k < length ms → (marked ms (0 + k) ≡ true) ⊎ (marked ms (0 + k) ≡ false) → not (marked ms (0 + k)) ≡ false
     one k h (inl t) = ap not t
@@ -183,7 +186,7 @@ module _ (c : Chart) (marks : List Bool) (list : List ℕ) (blank : Blank c mark
   pub blank-long : length marks ≡ size c
   blank-long = ap (λ (xs : List Bool). length xs) (blank .none) ∙ length-replicate (size c) false
 
-  pub blank-lent : Lent c marks list 0
+  pub blank-lent : ListedRoom c marks list 0
   blank-lent = record {
     long = blank-long;
     room = blank .room;
@@ -191,6 +194,6 @@ module _ (c : Chart) (marks : List Bool) (list : List ℕ) (blank : Blank c mark
   }
 
 -- ---- nodes enlisted in what is lent
-pub lent-enlisted : (c : Chart) (marks : List Bool) (list : List ℕ) (k : ℕ) → Lent c marks list k → (us : List ℕ) (t : Listing)
+pub lent-enlisted : (c : Chart) (marks : List Bool) (list : List ℕ) (k : ℕ) → ListedRoom c marks list k → (us : List ℕ) (t : Listing)
     → t ≡ enlistAll (listing marks list k) us → Enlisted (listing marks list k) us t
 lent-enlisted c marks list k lent us t e = enlisted-all us (listing marks list k) t (omega (arith, lent .long, lent .room)) (lent .listed) e

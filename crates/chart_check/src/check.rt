@@ -4,38 +4,41 @@ use charts::bad_marks;
 use charts::check_fields;
 use charts::lowest_arc_and_call;
 use frames::Answer;
+use frames::refusals::*;
 use frames::refused;
+use frames::sizes::RECORD;
 ghost use mathlib.Core.Path.{_≡_};
 ghost use Prim.Native.Nat.{_*_, _≤_};
 ghost use lib.ListN.{length};
+ghost use Rattle.frames.specs.Sizes.{RECORD, NODES};
 ghost use Rattle.frames.specs.Frame.{size};
 ghost use Rattle.frames.specs.Answer.{reply, judged};
 ghost use Rattle.charts.specs.Check.{chartVerdict};
 
 pub fn check_chart(records: &[u8]) -> Answer
-    requires { ⌜ (length (now records) ≡ 10 * size (now records)) × (size (now records) ≤ 256) ⌝ }
+    requires { ⌜ (length (now records) ≡ RECORD * size (now records)) × (size (now records) ≤ NODES) ⌝ }
     ensures { λ r. ⌜ reply r ≡ judged (chartVerdict (now (records .entry))) 0 ⌝ }
 {
-    let n = records.len() / 10;
+    let n = records.len() / RECORD;
     let tried = check_fields(records);
     let field = tried.field;
     if field < n {
-        return refused(4, field);
+        return refused(BAD_FIELD, field);
     }
     if tried.scheme {
-        return refused(5, 0);
+        return refused(BAD_SCHEME, 0);
     }
     if bad_marks(records) {
-        return refused(19, 0);
+        return refused(BAD_MARKS, 0);
     }
     let found = lowest_arc_and_call(records, tried.highest);
     let arc = found.arc;
     if arc < n {
-        return refused(6, arc);
+        return refused(BAD_ARC, arc);
     }
     let call = found.call;
     if call < n {
-        return refused(7, call);
+        return refused(BAD_CALL, call);
     }
     check_joined(records)
 }

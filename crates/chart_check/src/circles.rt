@@ -4,6 +4,10 @@ use crate::marks::follow;
 use crate::marks::join;
 use crate::marks::mark_kind;
 use charts::field;
+use charts::layout::CONDITION;
+use charts::layout::KIND;
+use frames::sizes::NODES;
+use frames::sizes::RECORD;
 ghost use mathlib.Core.Path.{_≡_};
 ghost use Prim.Native.Nat.{_<_};
 ghost use lib.ListN.{length};
@@ -11,13 +15,14 @@ ghost use Rattle.lists.specs.Numbers.{lowest};
 ghost use Rattle.graph.specs.Reach.{marked, joinedFrom};
 ghost use Rattle.frames.specs.Frame.{size};
 ghost use Rattle.charts.specs.Check.{arcs, conditionArcs, onCircle};
-ghost use Rattle.chart_check.specs.Asked.{Room, Blank, Search};
+ghost use Rattle.chart_check.specs.inner.CheckContracts.{NodeRoom, Blank, DepthFirst};
 
 // The nodes that arcs of conditions join from the next nodes of v are marked; whether v is one of them.
 fn leads_back(records: &[u8], v: usize, marks: &mut [bool], list: &mut [u8]) -> bool
     requires { ⌜ v < size (now records) ⌝ }
     requires { ⌜ Blank (now records) (now marks) (now list) ⌝ }
-    ensures { λ r. ⌜ (now (marks .exit) ≡ joinedFrom (size (now (records .entry))) (conditionArcs (now (records .entry))) (arcs (now (records .entry)) v)) × (r ≡ marked (now (marks .exit)) v) ⌝ }
+    ensures { λ r. ⌜ (now (marks .exit) ≡ joinedFrom (size (now (records .entry))) (conditionArcs (now (records .entry)))
+        (arcs (now (records .entry)) v)) × (r ≡ marked (now (marks .exit)) v) ⌝ }
 {
     let count = follow(records, false, v, marks, list, 0);
     join(records, true, marks, list, count);
@@ -27,23 +32,23 @@ fn leads_back(records: &[u8], v: usize, marks: &mut [bool], list: &mut [u8]) -> 
 // 8: node v is a condition on a circle of conditions.
 fn on_circle(records: &[u8], v: usize, list: &mut [u8]) -> bool
     requires { ⌜ v < size (now records) ⌝ }
-    requires { ⌜ Room (now records) (now list) ⌝ }
+    requires { ⌜ NodeRoom (now records) (now list) ⌝ }
     ensures { λ r. ⌜ r ≡ onCircle (now (records .entry)) v ⌝ }
 {
-    if field(records, v, 0) != 3 {
+    if field(records, v, KIND) != CONDITION {
         return false;
     }
-    let n = records.len() / 10;
-    let mut marks = [false; 256];
+    let n = records.len() / RECORD;
+    let mut marks = [false; NODES];
     leads_back(records, v, &mut marks[..n], list)
 }
 
 // The lowest node on a circle, or the number of nodes. A finished node is on none, so only the others are tried.
 fn search_circle(records: &[u8], unfinished: &[bool], list: &mut [u8]) -> usize
-    requires { ⌜ Search (now records) (now unfinished) (now list) ⌝ }
+    requires { ⌜ DepthFirst (now records) (now unfinished) (now list) ⌝ }
     ensures { λ r. ⌜ r ≡ lowest (onCircle (now (records .entry))) 0 (size (now (records .entry))) ⌝ }
 {
-    let n = records.len() / 10;
+    let n = records.len() / RECORD;
     let mut v: usize = 0;
     while v < n {
         if unfinished[v] {
@@ -60,10 +65,10 @@ fn search_circle(records: &[u8], unfinished: &[bool], list: &mut [u8]) -> usize
 // The list serves both as the path and for marks.
 pub fn lowest_circle(records: &[u8], unfinished: &mut [bool], list: &mut [u8]) -> usize
     requires { ⌜ length (now unfinished) ≡ size (now records) ⌝ }
-    requires { ⌜ Room (now records) (now list) ⌝ }
+    requires { ⌜ NodeRoom (now records) (now list) ⌝ }
     ensures { λ r. ⌜ r ≡ lowest (onCircle (now (records .entry))) 0 (size (now (records .entry))) ⌝ }
 {
-    mark_kind(records, 3, unfinished);
+    mark_kind(records, CONDITION, unfinished);
     finish_all(records, unfinished, list);
     search_circle(records, unfinished, list)
 }

@@ -2,8 +2,13 @@
 use crate::circles::lowest_circle;
 use crate::marks::join;
 use crate::marks::mark_kind;
+use charts::layout::BEGIN;
 use frames::Answer;
+use frames::refusals::CIRCLE;
+use frames::refusals::CUT_OFF;
 use frames::refused;
+use frames::sizes::NODES;
+use frames::sizes::RECORD;
 ghost use mathlib.Core.Path.{_≡_};
 ghost use mathlib.Core.Bool.{not};
 ghost use lib.ListN.{length};
@@ -11,18 +16,21 @@ ghost use Rattle.lists.specs.Numbers.{lowest};
 ghost use Rattle.graph.specs.Reach.{marked, reach};
 ghost use Rattle.frames.specs.Frame.{size};
 ghost use Rattle.frames.specs.Answer.{reply, judged};
+ghost use Rattle.charts.specs.Layout.{BEGIN};
 ghost use Rattle.charts.specs.Check.{arcs, cutOff};
-ghost use Rattle.charts.specs.Marks.{kindMarks};
-ghost use Rattle.chart_check.specs.Asked.{Room, Passed, joinedVerdict};
+ghost use Rattle.charts.specs.inner.Marks.{kindMarks};
+ghost use Rattle.chart_check.specs.inner.CheckContracts.{NodeRoom, Passed4To6, joinedVerdict};
 
 // The nodes that arcs join from some Begin are marked; the lowest other one, or the number of nodes. It is looked for only
 // where not all are marked.
 fn lowest_apart(records: &[u8], marks: &mut [bool], list: &mut [u8]) -> usize
     requires { ⌜ length (now marks) ≡ size (now records) ⌝ }
-    requires { ⌜ Room (now records) (now list) ⌝ }
-    ensures { λ r. ⌜ (now (marks .exit) ≡ reach (size (now (records .entry))) (arcs (now (records .entry))) (size (now (records .entry))) (kindMarks (now (records .entry)) 0)) × (r ≡ lowest (λ v. not (marked (now (marks .exit)) v)) 0 (size (now (records .entry)))) ⌝ }
+    requires { ⌜ NodeRoom (now records) (now list) ⌝ }
+    ensures { λ r. ⌜ (now (marks .exit) ≡ reach (size (now (records .entry))) (arcs (now (records .entry))) (size (now (records .entry)))
+        (kindMarks (now (records .entry)) BEGIN))
+        × (r ≡ lowest (λ v. not (marked (now (marks .exit)) v)) 0 (size (now (records .entry)))) ⌝ }
 {
-    mark_kind(records, 0, marks);
+    mark_kind(records, BEGIN, marks);
     let count = graph::list_marked(marks, list);
     let joined = join(records, false, marks, list, count);
     if joined == marks.len() {
@@ -33,8 +41,8 @@ fn lowest_apart(records: &[u8], marks: &mut [bool], list: &mut [u8]) -> usize
 
 // The lowest node that 9 refuses, or the number of nodes. Arcs stay within a scheme, so the marks of all Begins serve every scheme.
 fn lowest_cut_off(records: &[u8], marks: &mut [bool], list: &mut [u8]) -> usize
-    requires { ⌜ (length (now marks) ≡ size (now records)) × Passed (now records) ⌝ }
-    requires { ⌜ Room (now records) (now list) ⌝ }
+    requires { ⌜ (length (now marks) ≡ size (now records)) × Passed4To6 (now records) ⌝ }
+    requires { ⌜ NodeRoom (now records) (now list) ⌝ }
     ensures { λ r. ⌜ r ≡ lowest (cutOff (now (records .entry))) 0 (size (now (records .entry))) ⌝ }
 {
     lowest_apart(records, marks, list)
@@ -42,29 +50,29 @@ fn lowest_cut_off(records: &[u8], marks: &mut [bool], list: &mut [u8]) -> usize
 
 // 8 and 9; marks and list serve both.
 fn try_joined(records: &[u8], marks: &mut [bool], list: &mut [u8]) -> Answer
-    requires { ⌜ (length (now marks) ≡ size (now records)) × Passed (now records) ⌝ }
-    requires { ⌜ Room (now records) (now list) ⌝ }
+    requires { ⌜ (length (now marks) ≡ size (now records)) × Passed4To6 (now records) ⌝ }
+    requires { ⌜ NodeRoom (now records) (now list) ⌝ }
     ensures { λ r. ⌜ reply r ≡ judged (joinedVerdict (now (records .entry))) 0 ⌝ }
 {
-    let n = records.len() / 10;
+    let n = records.len() / RECORD;
     let circle = lowest_circle(records, marks, list);
     if circle < n {
-        return refused(8, circle);
+        return refused(CIRCLE, circle);
     }
     let cut_off = lowest_cut_off(records, marks, list);
     if cut_off < n {
-        return refused(9, cut_off);
+        return refused(CUT_OFF, cut_off);
     }
     Answer::Done(0)
 }
 
 // The same, with room for 256 nodes.
 pub fn check_joined(records: &[u8]) -> Answer
-    requires { ⌜ Passed (now records) ⌝ }
+    requires { ⌜ Passed4To6 (now records) ⌝ }
     ensures { λ r. ⌜ reply r ≡ judged (joinedVerdict (now (records .entry))) 0 ⌝ }
 {
-    let n = records.len() / 10;
-    let mut marks = [false; 256];
-    let mut list = [0u8; 256];
+    let n = records.len() / RECORD;
+    let mut marks = [false; NODES];
+    let mut list = [0u8; NODES];
     try_joined(records, &mut marks[..n], &mut list)
 }

@@ -22,7 +22,7 @@ use Rattle.charts.specs.Chart.{Chart, kind, scheme, next0, is, begin, end}
 use Rattle.walk.specs.Stops.{stops}
 use Rattle.walk.proofs.Facts.{Facts}
 use Rattle.chart_labels.specs.Labels.{numbered, label}
-use Rattle.chart_labels.specs.Ready.{Ready, Labelled}
+use Rattle.chart_labels.specs.inner.ChartContracts.{Ready, Labelled}
 use Rattle.chart_labels.proofs.ReadyLaws.{ready-facts}
 use Rattle.walk.proofs.Follow.{stops-begin}
 
@@ -89,7 +89,14 @@ pub record Labelling (c : Chart) (old labels : List ℕ) (own v : ℕ) : Type 0 
   pub done : labels ≡ written old 0 (map (label c) (range 0 v))
 
 pub labelling-start : (c : Chart) (old : List ℕ) → Labelling c old old 0 0
-labelling-start c old = record { within = omega arith; owned = unfold count in refl; few = omega arith; long = refl; done = sym (written-none old 0) }
+labelling-start c old = record {
+  within = omega arith;
+  owned = unfold count in refl;
+  few =
+      omega arith;
+  long = refl;
+  done = sym (written-none old 0);
+}
 
 module _ (c : Chart) (old labels : List ℕ) (own v : ℕ) (room : size c ≤ length old) (t : Labelling c old labels own v)
     (l : v < size c) (x : ℕ) (e : x ≡ label c v) where
@@ -142,6 +149,7 @@ labelled c old labels room e =
       );
       at = λ v l.
           ap (λ (ls : List ℕ). getD ls v 0) q
-          ∙ lib.ListN.List·getD-append (map (label c) (range 0 (size c))) (lib.ListN.drop (length (map (label c) (range 0 (size c)))) old) 0 v (omega arith)
+          ∙ lib.ListN.List·getD-append (map (label c) (range 0 (size c)))
+          (lib.ListN.drop (length (map (label c) (range 0 (size c)))) old) 0 v (omega arith)
           ∙ getD-map-range (label c) 0 0 (size c) v l ∙ ap (label c) (zero-add v);
     }

@@ -15,27 +15,27 @@ use Rattle.lists.proofs.Tests.{and-true, and-no, and-second, and-first}
 use Rattle.frames.specs.Frame.{size}
 use Rattle.charts.specs.Chart.{Chart, kind, scheme, next0, is, isOf, begin, nodeOf}
 use Rattle.walk.specs.Stops.{stops}
-use Rattle.chart_labels.specs.Ready.{Ready, Begun}
+use Rattle.chart_labels.specs.inner.ChartContracts.{Ready, Begun}
 use Rattle.chart_labels.proofs.ReadyLaws.{ready-facts}
 use Rattle.walk.proofs.Follow.{stops-condition}
 
 -- ---- the search for the Begin of scheme h
-pub record Search (c : Chart) (h n v : ℕ) : Type 0 where
+pub record BeginSearch (c : Chart) (h n v : ℕ) : Type 0 where
   pub within : v ≤ n
   pub all : n ≡ size c
   pub left : lowest (isOf c 0 h) v (n - v) ≡ begin c h
 
-module _ (c : Chart) (h n v : ℕ) (s : Search c h n v) where
+module _ (c : Chart) (h n v : ℕ) (s : BeginSearch c h n v) where
   pub search-hit : v < n → isOf c 0 h v ≡ true → v ≡ begin c h
   search-hit l t = sym (lowest-here (isOf c 0 h) n v l t) ∙ s .left
 
-  pub search-on : v < n → isOf c 0 h v ≡ false → Search c h n (v + 1)
+  pub search-on : v < n → isOf c 0 h v ≡ false → BeginSearch c h n (v + 1)
   search-on l t = record { within = omega arith; all = s .all; left = sym (lowest-on (isOf c 0 h) n v l t) ∙ s .left }
 
   pub search-over : n ≤ v → v ≡ begin c h
   search-over l = sym (lowest-over (isOf c 0 h) n v l) ∙ s .left
 
-pub search-start : (c : Chart) (h : ℕ) → Search c h (size c) 0
+pub search-start : (c : Chart) (h : ℕ) → BeginSearch c h (size c) 0
 unfolding nodeOf
 search-start c h = record { within = omega arith; all = refl; left = lowest-start (isOf c 0 h) (size c) }
 
@@ -80,7 +80,8 @@ module _ (c : Chart) (begins : List ℕ) (n v : ℕ) (s : Noting c begins n v) (
     where
       go : (h : ℕ) → lowest (isOf c 0 h) w (n - w) < n → Dec (h ≡ g) → getD (set begins g w) h 0 ≡ lowest (isOf c 0 h) w (n - w)
       go h b (yes q) =
-          let t : isOf c 0 h w ≡ true = and-true (is c 0 w) (eqb (scheme c w) h) (eq-eqb (kind c w) 0 (sym ek ∙ z)) (eq-eqb (scheme c w) h (sym eg ∙ sym q)) in
+          let t : isOf c 0 h w ≡ true = and-true (is c 0 w) (eqb (scheme c w) h) (eq-eqb (kind c w) 0 (sym ek ∙ z))
+          (eq-eqb (scheme c w) h (sym eg ∙ sym q)) in
           ap (λ (j : ℕ). getD (set begins g w) j 0) q ∙ getD-set-same begins g w 0 (omega (arith, s .long))
           ∙ sym (lowest-here (isOf c 0 h) n w (omega (arith, s .within)) t)
       go h b (no q) =

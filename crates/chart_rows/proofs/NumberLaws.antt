@@ -18,32 +18,32 @@ use Rattle.charts.specs.Chart.{Chart, kind, argument, is, taken}
 use Rattle.walk.specs.Stops.{stops}
 use Rattle.walk.proofs.Follow.{goes-on, takes-0, takes-1}
 use Rattle.chart_labels.specs.Labels.{numbered, label}
-use Rattle.chart_labels.specs.Ready.{Ready, Charted, OfKind}
+use Rattle.chart_labels.specs.inner.ChartContracts.{Ready, Charted, OfKind}
 use Rattle.chart_labels.proofs.ReadyLaws.{ready-facts}
 use Rattle.chart_labels.proofs.LabelSteps.{own-label, no-own-label}
-use Rattle.chart_rows.specs.Parts.{number, known}
-use Rattle.chart_rows.specs.Ready.{Noted, Entered}
+use Rattle.chart_rows.specs.inner.NodeRows.{testedNumber, known}
+use Rattle.chart_rows.specs.inner.PathContracts.{Noted, Entered}
 
 -- ---- the number of a node
 module _ (c : Chart) (v : ℕ) where
-  pub number-none : (is c 3 v && not (stops c v)) ≡ false → 16 ≡ number c v
+  pub number-none : (is c 3 v && not (stops c v)) ≡ false → 16 ≡ testedNumber c v
   number-none e = sym (no-pick (is c 3 v && not (stops c v)) (argument c v) 16 e)
 
-  pub number-other : (kind c v ≡ 3 → ⊥) → 16 ≡ number c v
+  pub number-other : (kind c v ≡ 3 → ⊥) → 16 ≡ testedNumber c v
   number-other n = number-none (ap (λ x. x && not (stops c v)) (ne-eqb (kind c v) 3 n))
 
-  pub number-stop : stops c v ≡ true → 16 ≡ number c v
+  pub number-stop : stops c v ≡ true → 16 ≡ testedNumber c v
   number-stop s = number-none (ap (λ x. is c 3 v && not x) s ∙ nothing (is c 3 v))
     where
       nothing : (b : Bool) → (b && false) ≡ false
       nothing true = refl
       nothing false = refl
 
-  pub number-goes : kind c v ≡ 3 → stops c v ≡ false → number c v ≡ argument c v
+  pub number-goes : kind c v ≡ 3 → stops c v ≡ false → testedNumber c v ≡ argument c v
   number-goes k s = yes-pick (is c 3 v && not (stops c v)) (argument c v) 16
       (and-true (is c 3 v) (not (stops c v)) (eq-eqb (kind c v) 3 k) (ap not s))
 
-  pub low-condition : (i : ℕ) → i ≡ number c v → i ≤ 15 → kind c v ≡ 3
+  pub low-condition : (i : ℕ) → i ≡ testedNumber c v → i ≤ 15 → kind c v ≡ 3
   low-condition i e h = ⊎-elim
       (λ (g : (is c 3 v && not (stops c v)) ≡ true). eqb-true (kind c v) 3 (and-l (is c 3 v) (not (stops c v)) g))
       (λ (g : (is c 3 v && not (stops c v)) ≡ false). absurd (omega (arith, number-none g))) (cases (is c 3 v && not (stops c v)))
@@ -63,7 +63,7 @@ module _ (c : Chart) (v own : ℕ) (e : own ≡ label c v) where
 pub small-number : {c : Chart} {v i : ℕ} → OfKind c 3 v → i ≡ argument c v → i < 16
 small-number {c} {v} node e = omega (arith, ready-facts (node .ready) .conditions v (node .inside) (node .kind))
 
-module _ (c : Chart) (ready : Ready c) (v i : ℕ) (t : Entered c v) (e : i ≡ number c v) where
+module _ (c : Chart) (ready : Ready c) (v i : ℕ) (t : Entered c v) (e : i ≡ testedNumber c v) where
   goes-small : stops c v ≡ false → (i ≡ argument c v) × (i < 16)
   goes-small s =
       let k : kind c v ≡ 3 = goes-on c v (t .noBegin) s in
@@ -79,7 +79,8 @@ module _ (c : Chart) (ready : Ready c) (v i : ℕ) (t : Entered c v) (e : i ≡ 
       (λ (s : stops c v ≡ false). absurd (omega (arith, goes-small s .1))) (cases (stops c v))
 
   pub low-goes : i ≤ 15 → stops c v ≡ false
-  low-goes h = ⊎-elim (λ (s : stops c v ≡ true). absurd (omega (arith, number-stop c v s))) (λ (s : stops c v ≡ false). s) (cases (stops c v))
+  low-goes h = ⊎-elim (λ (s : stops c v ≡ true). absurd (omega (arith, number-stop c v s)))
+      (λ (s : stops c v ≡ false). s) (cases (stops c v))
 
   pub low-number : i ≤ 15 → i ≡ argument c v
   low-number h = goes-small (low-goes h) .0
@@ -123,13 +124,13 @@ pub record Numbering (c : Chart) (old notes : List ℕ) (v : ℕ) : Type 0 where
   pub within : v ≤ size c
   pub size : length notes ≡ length old
   pub chart : Charted c notes
-  pub numbers : (u : ℕ) → u < v → getD notes (256 + u) 0 ≡ number c u
+  pub numbers : (u : ℕ) → u < v → getD notes (256 + u) 0 ≡ testedNumber c u
 
 pub numbering-start : (c : Chart) (notes : List ℕ) → Charted c notes → Numbering c notes notes 0
 numbering-start c notes chart = record { within = omega arith; size = refl; chart = chart; numbers = λ u l. absurd (omega arith) }
 
 module _ (c : Chart) (old notes : List ℕ) (v : ℕ) (long : 512 ≤ length old) (t : Numbering c old notes v) where
-  pub numbering-on : v < size c → (x : ℕ) → x ≡ number c v → Numbering c old (set notes (256 + v) x) (v + 1)
+  pub numbering-on : v < size c → (x : ℕ) → x ≡ testedNumber c v → Numbering c old (set notes (256 + v) x) (v + 1)
   numbering-on l x e =
       let few : size c ≤ 256 = t .chart .ready .few in record {
         within = omega arith;
@@ -144,10 +145,10 @@ module _ (c : Chart) (old notes : List ℕ) (v : ℕ) (long : 512 ≤ length old
         numbers = λ u g. go u g (ℕ-discrete u v);
       }
     where
-      go : (u : ℕ) → u < v + 1 → Dec (u ≡ v) → getD (set notes (256 + v) x) (256 + u) 0 ≡ number c u
+      go : (u : ℕ) → u < v + 1 → Dec (u ≡ v) → getD (set notes (256 + v) x) (256 + u) 0 ≡ testedNumber c u
       go u g (yes q) =
           ap (λ (k : ℕ). getD (set notes (256 + v) x) (256 + k) 0) q
-          ∙ getD-set-same notes (256 + v) x 0 (omega (arith, t .size, t .chart .ready .few)) ∙ e ∙ ap (number c) (sym q)
+          ∙ getD-set-same notes (256 + v) x 0 (omega (arith, t .size, t .chart .ready .few)) ∙ e ∙ ap (testedNumber c) (sym q)
       go u g (no n) =
           getD-set-other notes (256 + v) (256 + u) x 0 (λ q. n (omega arith)) ∙ t .numbers u (let d : u ≡ v → ⊥ = n in omega arith)
 

@@ -20,8 +20,8 @@ use Rattle.walk.specs.Stops.{stops}
 use Rattle.image.specs.Image.{Row}
 use Rattle.walk.proofs.Follow.{goes-on}
 use Rattle.chart_rows.specs.Rows.{paths}
-use Rattle.chart_labels.specs.Ready.{Ready}
-use Rattle.chart_rows.specs.Ready.{Entered}
+use Rattle.chart_labels.specs.inner.ChartContracts.{Ready}
+use Rattle.chart_rows.specs.inner.PathContracts.{Entered}
 use Rattle.chart_labels.proofs.ReadyLaws.{ready-sound}
 use Rattle.chart_rows.proofs.NumberLaws.{small-number}
 use Rattle.chart_rows.proofs.PathSteps.{pathRow, entered0, entered1, at-stop, at-new}
@@ -118,7 +118,14 @@ module _ (c : Chart) (care values v most : ℕ) where
   count-stop row n e l f = omega (arith, ap (λ (rs : List Row). length rs) (e l f))
 
   pub count-fork : (tested valued w0 w1 low high : ℕ) → Fork c care values v tested valued w0 w1
-      → ((l f : ℕ) → low ≡ min most (length (P tested values w0 l f))) → ((l f : ℕ) → high ≡ min (most - low) (length (P tested valued w1 l f)))
+      → ((l f : ℕ) → low ≡ min most (length (P tested values w0 l f)))
+      → ((l f : ℕ) → high ≡ min (most - low) (length (P tested valued w1 l f)))
       → (l f : ℕ) → low + high ≡ min most (length (P care values v l f))
   count-fork tested valued w0 w1 low high k a b l f =
-      omega (arith, a l f, b l f, ap (λ (rs : List Row). length rs) (k .all l f) ∙ length-append (P tested values w0 l f) (P tested valued w1 l f))
+      omega (
+        arith,
+        a l f,
+        b l f,
+        ap (λ (rs : List Row). length rs) (k .all l f)
+            ∙ length-append (P tested values w0 l f) (P tested valued w1 l f),
+      )

@@ -18,8 +18,8 @@ use Rattle.walk.proofs.Follow.{goes-on}
 use Rattle.image.specs.Image.{Row}
 use Rattle.chart_labels.specs.Labels.{label}
 use Rattle.chart_rows.specs.Rows.{paths}
-use Rattle.chart_labels.specs.Ready.{Ready}
-use Rattle.chart_rows.specs.Ready.{Entered}
+use Rattle.chart_labels.specs.inner.ChartContracts.{Ready}
+use Rattle.chart_rows.specs.inner.PathContracts.{Entered}
 use Rattle.chart_labels.proofs.ReadyLaws.{ready-sound, ready-facts}
 
 abbrev pub pathRow : Chart → ℕ → ℕ → ℕ → ℕ → ℕ → Row
@@ -30,7 +30,8 @@ module _ (n : ℕ) (c : Chart) (l f care values v : ℕ) where
   unfolding paths
   step-stop e = rw (paths, e)
 
-  step-known : stops c v ≡ false → bit care (argument c v) ≡ 1 → paths (suc n) c l f care values v ≡ paths n c l f care values (taken c values v)
+  step-known : stops c v ≡ false → bit care (argument c v) ≡ 1
+      → paths (suc n) c l f care values v ≡ paths n c l f care values (taken c values v)
   unfolding paths
   step-known e k = rw (paths, e, eq-eqb (bit care (argument c v)) 1 k)
 
@@ -61,7 +62,8 @@ module _ (c : Chart) (ready : Ready c) where
   entered-taken w v l k = taken-by (Entered c) w v (entered0 v l (λ e. omega arith)) (entered1 v l (omega arith))
 
   pub falls-taken : (w v : ℕ) → v < size c → kind c v ≡ 3 → rank c (taken c w v) < rank c v
-  falls-taken w v l k = taken-by (λ u. rank c u < rank c v) w v (rank-falls0 c (ready-sound ready) v l k) (rank-falls1 c (ready-sound ready) v l k)
+  falls-taken w v l k = taken-by (λ u. rank c u < rank c v) w v (rank-falls0 c (ready-sound ready) v l k)
+      (rank-falls1 c (ready-sound ready) v l k)
 
   module _ (l f : ℕ) where
     abbrev P : ℕ → ℕ → ℕ → ℕ → List Row
@@ -106,5 +108,6 @@ module _ (c : Chart) (ready : Ready c) where
 
       pub at-new : stops c v ≡ false → (bit care (argument c v) ≡ 1 → ⊥)
           → P (size c) care values v
-          ≡ P (size c) (care + 2 ^ argument c v) values (next0 c v) ++ P (size c) (care + 2 ^ argument c v) (values + 2 ^ argument c v) (next1 c v)
+          ≡ P (size c) (care + 2 ^ argument c v) values (next0 c v) ++ P (size c)
+          (care + 2 ^ argument c v) (values + 2 ^ argument c v) (next1 c v)
       at-new s k = more ∙ step-new (size c) c l f care values v s k

@@ -22,8 +22,8 @@ use Rattle.walk.specs.Stops.{stops}
 use Rattle.image.specs.Image.{Row}
 use Rattle.chart_labels.specs.Labels.{numbered, label}
 use Rattle.chart_rows.specs.Rows.{paths, rowsOf, rows}
-use Rattle.chart_rows.specs.Ready.{NotedAt, Entered, SidesAt}
-use Rattle.chart_rows.specs.Parts.{sides, nodeRows}
+use Rattle.chart_rows.specs.inner.PathContracts.{NotedAt, Entered, SidesAt}
+use Rattle.chart_rows.specs.inner.NodeRows.{sides, nodeRows}
 use Rattle.chart_labels.proofs.ReadyLaws.{ready-facts}
 use Rattle.chart_labels.proofs.LabelSteps.{own-label, no-own-label}
 use Rattle.chart_rows.proofs.PathSteps.{entered0, entered1}
@@ -120,7 +120,8 @@ abbrev pub rowsBelow : Chart → ℕ → List Row
 rowsBelow c v = concatMap (nodeRows c) (range 0 v)
 
 pub below-more : (c : Chart) (v : ℕ) → rowsBelow c (v + 1) ≡ rowsBelow c v ++ nodeRows c v
-below-more c v = ap (rowsBelow c) (add-one v) ∙ concat-range-snoc (nodeRows c) 0 v ∙ ap (λ (k : ℕ). rowsBelow c v ++ nodeRows c k) (zero-add v)
+below-more c v = ap (rowsBelow c) (add-one v) ∙ concat-range-snoc (nodeRows c) 0 v
+    ∙ ap (λ (k : ℕ). rowsBelow c v ++ nodeRows c k) (zero-add v)
 
 -- the nodes without a label add nothing
 picked : {A : Type 0} (p : ℕ → Bool) (f : ℕ → List A) (i n : ℕ)
@@ -141,21 +142,21 @@ pub below-all : (c : Chart) (v : ℕ) → v ≡ size c → rowsBelow c v ≡ row
 unfolding rows
 below-all c v e = ap (rowsBelow c) e ∙ picked (numbered c) (rowsOf c) 0 (size c)
 
-pub record Counting (c : Chart) (most total v : ℕ) : Type 0 where
+pub record CountingRows (c : Chart) (most total v : ℕ) : Type 0 where
   pub within : v ≤ size c
   pub limited : total ≤ most
   pub counted : total ≡ min most (length (rowsBelow c v))
 
-pub counting-start : (c : Chart) (most : ℕ) → Counting c most 0 0
+pub counting-start : (c : Chart) (most : ℕ) → CountingRows c most 0 0
 counting-start c most = record { within = omega arith; limited = omega arith; counted = unfold concatMap in omega arith }
 
-pub counting-on : (c : Chart) (most total v more : ℕ) → Counting c most total v → v < size c
-    → more ≡ min (most - total) (length (nodeRows c v)) → Counting c most (total + more) (v + 1)
+pub counting-on : (c : Chart) (most total v more : ℕ) → CountingRows c most total v → v < size c
+    → more ≡ min (most - total) (length (nodeRows c v)) → CountingRows c most (total + more) (v + 1)
 counting-on c most total v more t l e = record {
   within = omega arith;
   limited = omega (arith, t .limited);
   counted = omega (arith, t .counted, ap (λ (rs : List Row). length rs) (below-more c v) ∙ length-append (rowsBelow c v) (nodeRows c v));
 }
 
-pub counting-done : (c : Chart) (most total v n : ℕ) → Counting c most total v → n ≡ size c → n ≤ v → total ≡ min most (length (rows c))
+pub counting-done : (c : Chart) (most total v n : ℕ) → CountingRows c most total v → n ≡ size c → n ≤ v → total ≡ min most (length (rows c))
 counting-done c most total v n t e h = t .counted ∙ ap (λ (rs : List Row). min most (length rs)) (below-all c v (omega (arith, t .within)))

@@ -14,20 +14,20 @@ use Rattle.charts.proofs.Rank.{rank, rank-le, rank-some}
 use Rattle.walk.specs.Stops.{stops}
 use Rattle.walk.proofs.Follow.{goes-on}
 use Rattle.chart_rows.specs.Rows.{paths}
-use Rattle.chart_labels.specs.Ready.{Ready}
-use Rattle.chart_rows.specs.Ready.{Entered}
-use Rattle.chart_rows.specs.Parts.{known, settled}
+use Rattle.chart_labels.specs.inner.ChartContracts.{Ready}
+use Rattle.chart_rows.specs.inner.PathContracts.{Entered}
+use Rattle.chart_rows.specs.inner.NodeRows.{known, settledNode}
 use Rattle.chart_rows.proofs.PathSteps.{entered-taken, falls-taken, at-known}
 
 module _ (c : Chart) (care values v : ℕ) where
-  settled-known : (n : ℕ) → known c care v ≡ true → settled (suc n) c care values v ≡ settled n c care values (taken c values v)
-  unfolding settled
-  settled-known n k = rw (settled, k)
+  settled-known : (n : ℕ) → known c care v ≡ true → settledNode (suc n) c care values v ≡ settledNode n c care values (taken c values v)
+  unfolding settledNode
+  settled-known n k = rw (settledNode, k)
 
-  settled-here : (n : ℕ) → known c care v ≡ false → settled n c care values v ≡ v
-  unfolding settled
+  settled-here : (n : ℕ) → known c care v ≡ false → settledNode n c care values v ≡ v
+  unfolding settledNode
   settled-here zero k = refl
-  settled-here (suc n) k = rw (settled, k)
+  settled-here (suc n) k = rw (settledNode, k)
 
 -- a condition that was met before is passed along an arc, to a node of lower rank
 module _ (c : Chart) (care v : ℕ) (t : Entered c v) (k : known c care v ≡ true) where
@@ -57,14 +57,14 @@ pub record Settled (c : Chart) (care values v u : ℕ) : Type 0 where
   pub fresh : known c care u ≡ false
 
 module _ (c : Chart) (ready : Ready c) (care values : ℕ) where
-  settles : (n v : ℕ) → Entered c v → rank c v ≤ n → Settled c care values v (settled n c care values v)
+  settles : (n v : ℕ) → Entered c v → rank c v ≤ n → Settled c care values v (settledNode n c care values v)
   settles zero v t h = absurd (omega (arith, rank-some c v (t .inside)))
   settles (suc n) v t h = go (known c care v) refl (settles n (taken c values v))
     where
       go : (b : Bool) → known c care v ≡ b
           → (Entered c (taken c values v) → rank c (taken c values v) ≤ n
-          → Settled c care values (taken c values v) (settled n c care values (taken c values v)))
-          → Settled c care values v (settled (suc n) c care values v)
+          → Settled c care values (taken c values v) (settledNode n c care values (taken c values v)))
+          → Settled c care values v (settledNode (suc n) c care values v)
       go true k ih =
           let down = known-falls c care v t k ready values (taken c values v) refl in
           let s = ih (known-entered c care v t k ready values (taken c values v) refl) (omega arith) in
@@ -82,7 +82,7 @@ module _ (c : Chart) (ready : Ready c) (care values : ℕ) where
             fresh = k;
           })
 
-  pub is-settled : (v u : ℕ) → Entered c v → u ≡ settled (size c) c care values v → Settled c care values v u
+  pub is-settled : (v u : ℕ) → Entered c v → u ≡ settledNode (size c) c care values v → Settled c care values v u
   is-settled v u t e = subst (Settled c care values v) (sym e) (settles (size c) v t (rank-le c v))
 
 -- ---- the loop: from node u, with n conditions still to pass at most, the path goes on where it does from node v
@@ -90,7 +90,7 @@ pub record Passing (c : Chart) (care values v u : ℕ) : Type 0 where
   pub entered : Entered c u
   pub n : ℕ
   pub enough : rank c u ≤ n
-  pub same : settled n c care values u ≡ settled (size c) c care values v
+  pub same : settledNode n c care values u ≡ settledNode (size c) c care values v
 
 pub passing-start : (c : Chart) (care values v : ℕ) → Entered c v → Passing c care values v v
 passing-start c care values v t = record { entered = t; n = size c; enough = rank-le c v; same = refl }
@@ -99,14 +99,14 @@ module _ (c : Chart) (care values v u : ℕ) (p : Passing c care values v u) whe
   pub passing-on : Ready c → known c care u ≡ true → (w : ℕ) → w ≡ taken c values u → Passing c care values v w
   passing-on ready k w e = go (p .n) (p .enough) (p .same)
     where
-      go : (n : ℕ) → rank c u ≤ n → settled n c care values u ≡ settled (size c) c care values v → Passing c care values v w
+      go : (n : ℕ) → rank c u ≤ n → settledNode n c care values u ≡ settledNode (size c) c care values v → Passing c care values v w
       go zero h q = absurd (omega (arith, rank-some c u (p .entered .inside)))
       go (suc n) h q = record {
         entered = known-entered c care u (p .entered) k ready values w e;
         n = n;
         enough = omega (arith, known-falls c care u (p .entered) k ready values w e);
-        same = ap (settled n c care values) e ∙ sym (settled-known c care values u n k) ∙ q;
+        same = ap (settledNode n c care values) e ∙ sym (settled-known c care values u n k) ∙ q;
       }
 
-  pub passing-done : known c care u ≡ false → u ≡ settled (size c) c care values v
+  pub passing-done : known c care u ≡ false → u ≡ settledNode (size c) c care values v
   passing-done k = sym (settled-here c care values u (p .n) k) ∙ p .same

@@ -6,8 +6,10 @@ use lib.Dec.{eqb}
 use Rattle.lists.specs.Sequences.{concatMap}
 use Rattle.bits.specs.Word.{bit}
 use Rattle.frames.specs.Frame.{size}
+use Rattle.charts.specs.Layout.{CONDITION, FUNCTION}
 use Rattle.charts.specs.Chart.{Chart, argument, next0, next1, is, taken}
 use Rattle.walk.specs.Stops.{stops}
+use Rattle.image.specs.Layout.{NO-BIT}
 use Rattle.image.specs.Image.{Row}
 use Rattle.chart_labels.specs.Labels.{label, numberedNodes}
 
@@ -26,11 +28,11 @@ paths (suc n) c l f care values v = elim (stops c v) [
 
 -- the rows of a numbered stop: a function's bit comes first, and a stopping condition's own test does
 unfoldable pub rowsOf : Chart → ℕ → List Row
-rowsOf c v = let l = label c v in let n = size c in elim (is c 4 v) [
+rowsOf c v = let l = label c v in let n = size c in elim (is c FUNCTION v) [
   | true ↦ paths n c l 0 0 0 (next0 c v) ++ paths n c l 1 0 0 (next1 c v)
-  | false ↦ elim (is c 3 v) [
-    | true ↦ paths n c l 2 (2 ^ argument c v) 0 (next0 c v) ++ paths n c l 2 (2 ^ argument c v) (2 ^ argument c v) (next1 c v)
-    | false ↦ paths n c l 2 0 0 (next0 c v)
+  | false ↦ elim (is c CONDITION v) [
+    | true ↦ paths n c l NO-BIT (2 ^ argument c v) 0 (next0 c v) ++ paths n c l NO-BIT (2 ^ argument c v) (2 ^ argument c v) (next1 c v)
+    | false ↦ paths n c l NO-BIT 0 0 (next0 c v)
   ]
 ]
 

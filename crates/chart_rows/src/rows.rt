@@ -2,24 +2,26 @@
 use crate::paths::count_paths;
 use bits::with_bit;
 use charts::field;
+use charts::layout::*;
+use frames::sizes::RECORD;
 ghost use mathlib.Core.Path.{_≡_};
 ghost use Prim.Native.Nat.{ℕ, min};
 ghost use lib.ListN.{length};
 ghost use Rattle.chart_rows.specs.Rows.{rows};
-ghost use Rattle.chart_rows.specs.Ready.{Noted, NotedAt, SidesAt};
-ghost use Rattle.chart_rows.specs.Parts.{sides, nodeRows};
+ghost use Rattle.chart_rows.specs.inner.PathContracts.{Noted, NotedAt, SidesAt};
+ghost use Rattle.chart_rows.specs.inner.NodeRows.{sides, nodeRows};
 
 // How many paths go on from the two arcs of a node.
 fn count_sides(records: &[u8], notes: &[u8], v: usize, care: u16, values: u16, most: usize) -> usize
     requires { ⌜ SidesAt (now records) (now notes) care values v ⌝ }
     ensures { λ r. ⌜ ((l f g : ℕ) → r ≡ min most (length (sides (now (records .entry)) l f g care values v))) ⌝ }
 {
-    let low = count_paths(records, notes, field(records, v, 3), care, 0, most);
+    let low = count_paths(records, notes, field(records, v, NEXT0), care, 0, most);
     low
         + count_paths(
             records,
             notes,
-            field(records, v, 4),
+            field(records, v, NEXT1),
             care,
             values,
             most - low,
@@ -34,10 +36,10 @@ fn count_node(records: &[u8], notes: &[u8], v: usize, most: usize) -> usize
     if notes[v] < 2 {
         return 0;
     }
-    match field(records, v, 0) {
-        0..=2 => count_paths(records, notes, field(records, v, 3), 0, 0, most),
-        3 => {
-            let own = with_bit(0, field(records, v, 2));
+    match field(records, v, KIND) {
+        BEGIN..=OPERATION => count_paths(records, notes, field(records, v, NEXT0), 0, 0, most),
+        CONDITION => {
+            let own = with_bit(0, field(records, v, ARGUMENT));
             count_sides(records, notes, v, own, own, most)
         }
         _ => count_sides(records, notes, v, 0, 0, most),
@@ -49,7 +51,7 @@ pub fn count_rows(records: &[u8], notes: &[u8], most: usize) -> usize
     requires { ⌜ Noted (now records) (now notes) ⌝ }
     ensures { λ r. ⌜ r ≡ min most (length (rows (now (records .entry)))) ⌝ }
 {
-    let n = records.len() / 10;
+    let n = records.len() / RECORD;
     let mut total: usize = 0;
     let mut v: usize = 0;
     while v < n {

@@ -10,8 +10,8 @@ use Rattle.lists.proofs.Written.{written-front}
 use Rattle.frames.specs.Frame.{contents, frameCount, size, textOf}
 use Rattle.frames.specs.Verdict.{Verdict, fine, when}
 use Rattle.frames.specs.Check.{badLength, textVerdict}
-use Rattle.frames.specs.Read.{readInto}
-use Rattle.frames.specs.Answer.{refusal, reply, Lends, judged}
+use Rattle.frames.specs.inner.Read.{readInto}
+use Rattle.frames.specs.Answer.{refusal, reply, GivesBuffer, judged}
 use Rattle.frames.specs.declared.Answer.{Answer}
 use Rattle.frames.specs.declared.Answer.the-variants.{Done, Refused}
 use Rattle.frames.proofs.Chains.{when-holds, when-fails, next-refused, next-on, done-fine, refused-verdict}
@@ -55,7 +55,8 @@ formed t a n e d =
 
 -- the part of the table that was read is the chart
 pub formed-chart : (t table zeros : List ℕ) (n : ℕ) → Formed t n → table ≡ readInto 5888 t zeros → take (10 * n) table ≡ contents t
-formed-chart t table zeros n F e = ap (take (10 * n)) (e ∙ read-fine 5888 t zeros (F .passed)) ∙ front (10 * n) (contents t) zeros (sym (F .records))
+formed-chart t table zeros n F e = ap (take (10 * n)) (e ∙ read-fine 5888 t zeros (F .passed))
+    ∙ front (10 * n) (contents t) zeros (sym (F .records))
 
 pub chart-length : (t c : List ℕ) (n : ℕ) → Formed t n → c ≡ contents t → length c ≡ 10 * n
 chart-length t c n F e = ap length e ∙ F .records
@@ -67,11 +68,12 @@ chart-asked t c n F e =
 
 module _ (t out : List ℕ) where
   pub read-unformed : (a : Answer) → reply a ≡ judged (textVerdict 5888 t) (frameCount t) → (k i m : ℕ) → a ≡ Refused k i m
-      → Lends (readChart t out) a out
+      → GivesBuffer (readChart t out) a out
   unfolding readChart readVerdict
   read-unformed a e k i m q =
       lent-refused (readVerdict t) 10 (λ _. contents t) out k i
-      (next-refused (textVerdict 5888 t) (λ _. chartVerdict (contents t)) k i (refused-verdict a (textVerdict 5888 t) (frameCount t) e k i m q .0))
+      (next-refused (textVerdict 5888 t) (λ _. chartVerdict (contents t)) k i
+      (refused-verdict a (textVerdict 5888 t) (frameCount t) e k i m q .0))
       a (refused-reply a (textVerdict 5888 t) (frameCount t) e k i m q)
 
   module _ (n : ℕ) (F : Formed t n) (c : Chart) (is : c ≡ contents t) (a : Answer) (e : reply a ≡ judged (chartVerdict c) 0) where
@@ -79,20 +81,20 @@ module _ (t out : List ℕ) where
     unfolding readVerdict
     rest = next-on (textVerdict 5888 t) (λ _. chartVerdict (contents t)) (F .passed) ∙ ap chartVerdict (sym is)
 
-    pub read-unsound : (k i m : ℕ) → a ≡ Refused k i m → Lends (readChart t out) a out
+    pub read-unsound : (k i m : ℕ) → a ≡ Refused k i m → GivesBuffer (readChart t out) a out
     unfolding readChart
     read-unsound k i m q =
         lent-refused (readVerdict t) 10 (λ _. contents t) out k i (rest ∙ refused-verdict a (chartVerdict c) 0 e k i m q .0)
         a (refused-reply a (chartVerdict c) 0 e k i m q)
 
-    pub read-short : (m : ℕ) → a ≡ Done m → length out < 10 * n → (r : Answer) → r ≡ Refused 16 0 0 → Lends (readChart t out) r out
+    pub read-short : (m : ℕ) → a ≡ Done m → length out < 10 * n → (r : Answer) → r ≡ Refused 16 0 0 → GivesBuffer (readChart t out) r out
     unfolding readChart
     read-short m q h r is16 =
-        subst (λ (x : Answer). Lends (readChart t out) x out) (sym is16)
+        subst (λ (x : Answer). GivesBuffer (readChart t out) x out) (sym is16)
         (lent-short (readVerdict t) 10 (λ _. contents t) out (rest ∙ done-fine a (chartVerdict c) 0 e m q .0) (omega (arith, F .records)))
 
     pub read-done : (m : ℕ) → a ≡ Done m → 10 * n ≤ length out → (out′ : List ℕ) → out′ ≡ written out 0 c
-        → Lends (readChart t out) (Done n) out′
+        → GivesBuffer (readChart t out) (Done n) out′
     unfolding readChart
     read-done m q h out′ o =
         lent-done (readVerdict t) 10 (λ _. contents t) out (rest ∙ done-fine a (chartVerdict c) 0 e m q .0) (omega (arith, F .records))
@@ -100,13 +102,13 @@ module _ (t out : List ℕ) where
 
 -- ---- the writer
 -- 1 finds nothing
-pub record Whole (c : Chart) : Type 0 where
+pub record WholeRecords (c : Chart) : Type 0 where
   pub passed : badLength 10 2560 (length c) ≡ false
   pub records : length c ≡ 10 * size c
   pub some : 1 ≤ size c
   pub few : size c ≤ 256
 
-pub whole : (c : Chart) → badLength 10 2560 (length c) ≡ false → Whole c
+pub whole : (c : Chart) → badLength 10 2560 (length c) ≡ false → WholeRecords c
 whole c e =
     let l : Length 10 2560 (length c) = length-told 10 2560 (length c) e in
     record { passed = e; records = omega (arith, l .whole); some = go (length c) l; few = omega (arith, l .fits) }
@@ -115,36 +117,37 @@ whole c e =
     go zero l = absurd (l .some refl)
     go (suc m) l = omega (arith, l .whole)
 
-pub whole-asked : (c : Chart) → Whole c → (length c ≡ 10 * size c) × (size c ≤ 256)
+pub whole-asked : (c : Chart) → WholeRecords c → (length c ≡ 10 * size c) × (size c ≤ 256)
 whole-asked c w = (w .records, w .few)
 
 module _ (c : Chart) (out : List ℕ) where
-  pub write-unwhole : badLength 10 2560 (length c) ≡ true → (r : Answer) → r ≡ Refused 1 0 0 → Lends (writeChart c out) r out
+  pub write-unwhole : badLength 10 2560 (length c) ≡ true → (r : Answer) → r ≡ Refused 1 0 0 → GivesBuffer (writeChart c out) r out
   unfolding writeChart writeVerdict
   write-unwhole b r is1 =
       lent-refused (writeVerdict c) 1 (λ _. textOf c) out 1 0
-      (next-refused (when 1 (badLength 10 2560 (length c))) (λ _. chartVerdict c) 1 0 (when-holds 1 (badLength 10 2560 (length c)) b)) r (ap reply is1)
+      (next-refused (when 1 (badLength 10 2560 (length c))) (λ _. chartVerdict c) 1 0 (when-holds 1 (badLength 10 2560 (length c)) b))
+      r (ap reply is1)
 
-  module _ (w : Whole c) (a : Answer) (e : reply a ≡ judged (chartVerdict c) 0) where
+  module _ (w : WholeRecords c) (a : Answer) (e : reply a ≡ judged (chartVerdict c) 0) where
     on : writeVerdict c ≡ chartVerdict c
     unfolding writeVerdict
     on = next-on (when 1 (badLength 10 2560 (length c))) (λ _. chartVerdict c) (when-fails 1 (badLength 10 2560 (length c)) (w .passed))
 
-    pub write-unsound : (k i m : ℕ) → a ≡ Refused k i m → Lends (writeChart c out) a out
+    pub write-unsound : (k i m : ℕ) → a ≡ Refused k i m → GivesBuffer (writeChart c out) a out
     unfolding writeChart
     write-unsound k i m q =
         lent-refused (writeVerdict c) 1 (λ _. textOf c) out k i (on ∙ refused-verdict a (chartVerdict c) 0 e k i m q .0)
         a (refused-reply a (chartVerdict c) 0 e k i m q)
 
     pub write-short : (m : ℕ) → a ≡ Done m → length out < 23 * size c → (r : Answer) → r ≡ Refused 16 0 0
-        → Lends (writeChart c out) r out
+        → GivesBuffer (writeChart c out) r out
     unfolding writeChart
     write-short m q h r is16 =
-        subst (λ (x : Answer). Lends (writeChart c out) x out) (sym is16)
+        subst (λ (x : Answer). GivesBuffer (writeChart c out) x out) (sym is16)
         (lent-short (writeVerdict c) 1 (λ _. textOf c) out (on ∙ done-fine a (chartVerdict c) 0 e m q .0) (omega (arith, length-text c)))
 
     pub write-done : (m : ℕ) → a ≡ Done m → 23 * size c ≤ length out → (out′ : List ℕ) → out′ ≡ written out 0 (textOf c)
-        → Lends (writeChart c out) (Done (23 * size c)) out′
+        → GivesBuffer (writeChart c out) (Done (23 * size c)) out′
     unfolding writeChart
     write-done m q h out′ o =
         lent-done (writeVerdict c) 1 (λ _. textOf c) out (on ∙ done-fine a (chartVerdict c) 0 e m q .0) (omega (arith, length-text c))

@@ -10,7 +10,7 @@ use Rattle.digits.specs.Digit.{capital}
 use Rattle.frames.specs.Frame.{contents, frameCount, size, textOf}
 use Rattle.frames.specs.Verdict.{Verdict, fine, next, when}
 use Rattle.frames.specs.Check.{badLength, textVerdict}
-use Rattle.frames.specs.Answer.{success, lent}
+use Rattle.frames.specs.Answer.{success, bufferOn}
 use Rattle.frames.proofs.Verdicts.{next-rest}
 use Rattle.frames.proofs.Texts.{length-good}
 use Rattle.frames.proofs.Contents.{any-contents-length, textOf-fine, textOf-contents, textOf-capitals, text-back}
@@ -40,9 +40,9 @@ module _ (c : Chart) (bytes : (k : ℕ) → getD c k 0 < 256) (ok : writeVerdict
       let w : length c ≡ 10 * size c = A .whole in
       textOf-capitals c bytes (A .some) (omega arith)
 
-  pub read-written : (out : List ℕ) → readChart (textOf c) out ≡ lent fine 10 (λ _. c) out
+  pub read-written : (out : List ℕ) → readChart (textOf c) out ≡ bufferOn fine 10 (λ _. c) out
   unfolding readChart
-  read-written out = ap₂ (λ (v : Verdict) (x : List ℕ). lent v 10 (λ _. x) out) written-accepted written-contents
+  read-written out = ap₂ (λ (v : Verdict) (x : List ℕ). bufferOn v 10 (λ _. x) out) written-accepted written-contents
 
 -- ---- an accepted text: its records are accepted and their text is that text in capitals
 module _ (t : List ℕ) (ok : readVerdict t ≡ fine) where
@@ -60,9 +60,9 @@ module _ (t : List ℕ) (ok : readVerdict t ≡ fine) where
       (length-good 10 2560 (length (contents t)) (λ z. omega arith) (omega arith) (omega arith))
       ∙ next-rest (textVerdict 5888 t) (λ _. chartVerdict (contents t)) ok
 
-  pub write-read : (out : List ℕ) → writeChart (contents t) out ≡ lent fine 1 (λ _. map capital t) out
+  pub write-read : (out : List ℕ) → writeChart (contents t) out ≡ bufferOn fine 1 (λ _. map capital t) out
   unfolding writeChart
-  write-read out = ap₂ (λ (v : Verdict) (x : List ℕ). lent v 1 (λ _. x) out) read-accepted read-back
+  write-read out = ap₂ (λ (v : Verdict) (x : List ℕ). bufferOn v 1 (λ _. x) out) read-accepted read-back
 
 -- ---- through the buffers
 -- n characters were written; given room, the reader turns them into the records again
@@ -84,7 +84,8 @@ write-of-read t out out′ n e room =
     let w : length (contents t) ≡ 10 * frameCount t = any-contents-length t in
     let f : take (10 * n) (readChart t out .buffer) ≡ contents t =
     ap (take (10 * n)) (s .buffer) ∙ front (10 * n) (contents t) out (omega (arith, s .count)) in
-    ap (λ (c : Chart). writeChart c out′) f ∙ write-read t (s .accepted) out′ ∙ lent-fits 1 (λ _. map capital t) out′ (omega (arith, length-map t capital))
+    ap (λ (c : Chart). writeChart c out′) f ∙ write-read t (s .accepted) out′
+    ∙ lent-fits 1 (λ _. map capital t) out′ (omega (arith, length-map t capital))
 
 -- a text that was in capitals comes back as it was
 pub write-of-capitals : (t out out′ : List ℕ) (n : ℕ) → map capital t ≡ t → readChart t out .reply ≡ success n → length t ≤ length out′

@@ -17,7 +17,7 @@ use Rattle.charts.specs.Check.{badField, badScheme, badMarks, badArc, ba
 use Rattle.charts.specs.Entry.{readVerdict, writeVerdict}
 
 -- refusals 4 to 9 and 19 find nothing
-pub record Sound (c : Chart) : Type 0 where
+pub record SoundChart (c : Chart) : Type 0 where
   pub goodField : (v : ℕ) → v < size c → badField c v ≡ false
   pub goodScheme : (h : ℕ) → 1 ≤ h → h ≤ schemes c → badScheme c h ≡ false
   pub goodMarks : badMarks c ≡ false
@@ -31,7 +31,7 @@ pub record Accepted (c : Chart) : Type 0 where
   pub whole : length c ≡ 10 * size c
   pub some : 1 ≤ size c
   pub few : size c ≤ 256
-  pub sound : Sound c
+  pub sound : SoundChart c
 
 nexts : (a b m d e f g : Verdict) → next a (λ _. next b (λ _. next m (λ _. next d (λ _. next e (λ _. next f (λ _. g)))))) ≡ fine
     → (a ≡ fine) × (b ≡ fine) × (m ≡ fine) × (d ≡ fine) × (e ≡ fine) × (f ≡ fine) × (g ≡ fine)
@@ -52,7 +52,7 @@ nexts a b m d e f g q =
       next-rest f (λ _. g) qf,
     )
 
-pub sound : (c : Chart) → chartVerdict c ≡ fine → Sound c
+pub sound : (c : Chart) → chartVerdict c ≡ fine → SoundChart c
 unfolding chartVerdict
 sound c e =
     let q = nexts (atLowest 4 (badField c) (size c)) (when 5 (any (badScheme c) 1 (schemes c))) (when 19 (badMarks c))

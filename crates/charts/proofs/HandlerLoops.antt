@@ -83,7 +83,8 @@ module _ (c : Chart) (n v : ℕ) (marked : Bool) (d : Marking c n v marked) wher
 
       pub marking-first : (s : ℕ) → s ≡ scheme c v → s ≡ 1 → true ≡ badMarks c
       marking-first s is e =
-          sym (or-true-l firsts (ltb 1 marks) (sym left-all ∙ any-here (marksFirst c) n v l (eq-eqb (handlerAt c v) 1 (marked-scheme ∙ sym is ∙ e))))
+          sym (or-true-l firsts (ltb 1 marks)
+          (sym left-all ∙ any-here (marksFirst c) n v l (eq-eqb (handlerAt c v) 1 (marked-scheme ∙ sym is ∙ e))))
 
       pub marking-mark : (s : ℕ) → s ≡ scheme c v → marked ≡ false → (s ≡ 1 → ⊥) → Marking c n (v + 1) true
       marking-mark s is m o = record {

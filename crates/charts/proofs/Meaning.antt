@@ -40,7 +40,12 @@ module _ (c : Chart) where
       (cases (is c 3 v))
 
   pub condition-arc : (v u : ℕ) → kind c v ≡ 3 → Arc (size c) (arcs c) v u → Arc (size c) (conditionArcs c) v u
-  condition-arc v u k a = record { start = a .start; end = a .end; leads = ap (member u) (condition-arcs v (eq-eqb (kind c v) 3 k)) ∙ a .leads }
+  condition-arc v u k a = record {
+    start = a .start;
+    end = a .end;
+    leads =
+        ap (member u) (condition-arcs v (eq-eqb (kind c v) 3 k)) ∙ a .leads;
+  }
 
   pub arc-of-condition : (v u : ℕ) → Arc (size c) (conditionArcs c) v u → (kind c v ≡ 3) × Arc (size c) (arcs c) v u
   arc-of-condition v u a =
@@ -48,12 +53,12 @@ module _ (c : Chart) where
       (eqb-true (kind c v) 3 i, record { start = a .start; end = a .end; leads = ap (member u) (sym (condition-arcs v i)) ∙ a .leads })
 
 -- ---- 8: an arc of the condition v, and a path of arcs of conditions from its end back to v
-pub record Circle (c : Chart) (v : ℕ) : Type 0 where
+pub record ConditionCircle (c : Chart) (v : ℕ) : Type 0 where
   pub second : ℕ
   pub leaves : Arc (size c) (conditionArcs c) v second
   pub back : Path (size c) (conditionArcs c) second v
 
-pub found-circle : (c : Chart) (v : ℕ) → onCircle c v ≡ true → Circle c v
+pub found-circle : (c : Chart) (v : ℕ) → onCircle c v ≡ true → ConditionCircle c v
 found-circle c v e =
     let ahead = joinedFrom (size c) (conditionArcs c) (arcs c v) in
     let i : is c 3 v ≡ true = and-l (is c 3 v) (marked ahead v) e in
@@ -69,10 +74,11 @@ found-circle c v e =
       back = p .path;
     }
 
-pub circle-found : (c : Chart) (v : ℕ) → Circle c v → onCircle c v ≡ true
+pub circle-found : (c : Chart) (v : ℕ) → ConditionCircle c v → onCircle c v ≡ true
 circle-found c v k =
     let i : is c 3 v ≡ true = leaves-condition c v (k .second) (k .leaves .leads) in
-    and-true (is c 3 v) (marked (joinedFrom (size c) (conditionArcs c) (arcs c v)) v) i (path-joined (size c) (conditionArcs c) (arcs c v) v (record {
+    and-true (is c 3 v) (marked (joinedFrom (size c) (conditionArcs c) (arcs c v)) v) i
+    (path-joined (size c) (conditionArcs c) (arcs c v) v (record {
       first = k .second;
       inside = k .leaves .end;
       among = ap (member (k .second)) (sym (condition-arcs c v i)) ∙ k .leaves .leads;
@@ -80,16 +86,16 @@ circle-found c v k =
     }))
 
 -- ---- 9: a path of arcs from the Begin of its scheme
-pub record Joined (c : Chart) (v : ℕ) : Type 0 where
+pub record JoinedNode (c : Chart) (v : ℕ) : Type 0 where
   pub inside : begin c (scheme c v) < size c
   pub path : Path (size c) (arcs c) (begin c (scheme c v)) v
 
-pub joined-found : (c : Chart) (v : ℕ) → Joined c v → cutOff c v ≡ false
+pub joined-found : (c : Chart) (v : ℕ) → JoinedNode c v → cutOff c v ≡ false
 joined-found c v j =
     let b : ℕ = begin c (scheme c v) in
     ap not (path-joined (size c) (arcs c) (b ∷ []) v (record { first = b; inside = j .inside; among = member-first b []; path = j .path }))
 
-pub found-joined : (c : Chart) (v : ℕ) → cutOff c v ≡ false → Joined c v
+pub found-joined : (c : Chart) (v : ℕ) → cutOff c v ≡ false → JoinedNode c v
 found-joined c v e =
     let b : ℕ = begin c (scheme c v) in
     let p : PathFrom (size c) (arcs c) (b ∷ []) v =

@@ -14,9 +14,11 @@ use Rattle.lists.proofs.Searches.{lowest-hit, highest-ge, highest-le, highest-o
 use Rattle.lists.proofs.Counts.{count-lowest, count-one}
 use Rattle.graph.specs.Reach.{member}
 use Rattle.frames.specs.Frame.{size}
-use Rattle.charts.specs.Chart.{Chart, kind, scheme, argument, next0, next1, result, is, isOf, marksHandler, handlerAt, handler, schemes, nodeOf, begin, end}
+use Rattle.charts.specs.Chart.{Chart, kind, scheme, argument, next0, next1, result, is, isOf}
+use Rattle.charts.specs.Chart.{marksHandler, handlerAt, handler, schemes, nodeOf, begin, end}
+use Rattle.charts.specs.Layout.{kindOf}
 use Rattle.charts.specs.Check.{filledFrom, badUse, badField, arcs, badEnd}
-use Rattle.charts.proofs.Accepted.{Sound}
+use Rattle.charts.proofs.Accepted.{SoundChart}
 
 -- node u may be an arc's end in scheme h
 pub record Target (c : Chart) (h u : ℕ) : Type 0 where
@@ -32,7 +34,7 @@ pub record TheNode (c : Chart) (k h v : ℕ) : Type 0 where
   pub alone : (u : ℕ) → u < size c → kind c u ≡ k → scheme c u ≡ h → u ≡ v
 
 -- ---- fields: 4
-used-kind : (c : Chart) (v k : ℕ) → badUse c v k ≡ false → k ≤ 4
+used-kind : (c : Chart) (v k : ℕ) → badUse c v (kindOf k) ≡ false → k ≤ 4
 used-kind c v zero e = omega arith
 used-kind c v (suc zero) e = omega arith
 used-kind c v (suc (suc zero)) e = omega arith
@@ -41,16 +43,16 @@ used-kind c v (suc (suc (suc (suc zero)))) e = omega arith
 used-kind c v (suc (suc (suc (suc (suc k))))) e = no-both true refl e
 
 module _ (c : Chart) (v : ℕ) (e : badField c v ≡ false) where
-  fields : (eqb (scheme c v) 0 ≡ false) × (ltb 16 (scheme c v) ≡ false) × (badUse c v (kind c v) ≡ false)
+  fields : (eqb (scheme c v) 0 ≡ false) × (ltb 16 (scheme c v) ≡ false) × (badUse c v (kindOf (kind c v)) ≡ false)
   unfolding badField
   fields =
       let x : Bool = eqb (scheme c v) 0 in
       let y : Bool = ltb 16 (scheme c v) in
-      let z : Bool = badUse c v (kind c v) in
+      let z : Bool = badUse c v (kindOf (kind c v)) in
       (or-l x y (or-l (x || y) z e), or-r x y (or-l (x || y) z e), or-r (x || y) z e)
 
-  use-of : (k : ℕ) → kind c v ≡ k → badUse c v k ≡ false
-  use-of k q = subst (λ (k : ℕ). badUse c v k ≡ false) q (fields .2)
+  use-of : (k : ℕ) → kind c v ≡ k → badUse c v (kindOf k) ≡ false
+  use-of k q = subst (λ (k : ℕ). badUse c v (kindOf k) ≡ false) q (fields .2)
 
   pub field-kind : kind c v ≤ 4
   field-kind = used-kind c v (kind c v) (fields .2)
@@ -113,7 +115,7 @@ module _ (c : Chart) (v : ℕ) where
   pub in-arcs1 : 3 ≤ kind c v → kind c v ≤ 4 → member (next1 c v) (arcs c v) ≡ true
   in-arcs1 n m = ap (member (next1 c v)) (two-arcs n m) ∙ member-second (next0 c v) (next1 c v) []
 
-module _ (c : Chart) (a : Sound c) where
+module _ (c : Chart) (a : SoundChart c) where
   pub kinds : (v : ℕ) → v < size c → kind c v ≤ 4
   kinds v l = field-kind c v (a .goodField v l)
 
@@ -144,7 +146,8 @@ module _ (c : Chart) (a : Sound c) where
         inside = l;
         kinded = eqb-true (kind c v) k (and-l (is c k v) (eqb (scheme c v) h) t);
         same = eqb-true (scheme c v) h (and-r (is c k v) (eqb (scheme c v) h) t);
-        alone = λ u lu x y. count-one p (size c) u v e lu l (and-true (is c k u) (eqb (scheme c u) h) (eq-eqb (kind c u) k x) (eq-eqb (scheme c u) h y)) t;
+        alone = λ u lu x y. count-one p (size c) u v e lu l
+            (and-true (is c k u) (eqb (scheme c u) h) (eq-eqb (kind c u) k x) (eq-eqb (scheme c u) h y)) t;
       }
 
   ones : (h : ℕ) → 1 ≤ h → h ≤ schemes c → (count (isOf c 0 h) 0 (size c) ≡ 1) × (count (isOf c 1 h) 0 (size c) ≡ 1)
@@ -165,7 +168,8 @@ module _ (c : Chart) (a : Sound c) where
   marked-deep v l e =
       let p : ℕ → Bool = λ u. eqb (handlerAt c u) 1 in
       let f : p v ≡ false =
-      any-false p 0 (size c) (or-l (any p 0 (size c)) (ltb 1 (count (marksHandler c) 0 (size c))) (a .goodMarks)) v (omega arith) (omega arith) in
+      any-false p 0 (size c) (or-l (any p 0 (size c)) (ltb 1 (count (marksHandler c) 0 (size c))) (a .goodMarks))
+      v (omega arith) (omega arith) in
       let n : handlerAt c v ≡ 1 → ⊥ = eqb-false (handlerAt c v) 1 f in
       omega (arith, owned v l, yes-pick (marksHandler c v) (scheme c v) 0 e)
 

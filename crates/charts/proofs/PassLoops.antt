@@ -10,19 +10,21 @@ use lib.ListN.{length, replicate, length-replicate}
 use Rattle.lists.specs.Pick.{pick}
 use Rattle.lists.specs.Numbers.{lowest, highest, any}
 use Rattle.lists.proofs.Tests.{cases, yes-pick, no-pick}
-use Rattle.lists.proofs.Searches.{lowest-here, lowest-on, lowest-over, Searching, searching-first, searching-found, searching-next, searching-over, highest-next}
+use Rattle.lists.proofs.Searches.{lowest-here, lowest-on, lowest-over, Searching, searching-first}
+use Rattle.lists.proofs.Searches.{searching-found, searching-next, searching-over, highest-next}
 use Rattle.frames.specs.Frame.{size}
 use Rattle.charts.specs.Chart.{Chart, scheme}
 use Rattle.charts.specs.Check.{badField, badScheme}
-use Rattle.charts.specs.Counts.{countsTo, notOne}
-use Rattle.charts.specs.Found.{CountsFound, FieldsFound}
+use Rattle.charts.specs.inner.Counts.{countsTo, notOne}
+use Rattle.charts.specs.inner.Found.{CountsFound, FieldsFound}
 use Rattle.charts.specs.declared.Counted.{Counted}
 use Rattle.charts.proofs.Nodes.{field-scheme}
 use Rattle.charts.proofs.SchemeCounts.{counts-start, counts-long, bad-counts}
 
 -- ---- two searches from the last number down
 -- the lowest where the number before the others is tried too
-lowest-below : (p : ℕ → Bool) (n v r : ℕ) → 0 < v → v ≤ n → r ≡ lowest p v (n - v) → pick (p (v - 1)) (v - 1) r ≡ lowest p (v - 1) (n - (v - 1))
+lowest-below : (p : ℕ → Bool) (n v r : ℕ) → 0 < v → v ≤ n → r ≡ lowest p v (n - v)
+    → pick (p (v - 1)) (v - 1) r ≡ lowest p (v - 1) (n - (v - 1))
 lowest-below p n v r some low e = go (cases (p (v - 1)))
   where
     go : (p (v - 1) ≡ true) ⊎ (p (v - 1) ≡ false) → pick (p (v - 1)) (v - 1) r ≡ lowest p (v - 1) (n - (v - 1))
@@ -64,7 +66,7 @@ module _ (p q : ℕ → Bool) (n v a b : ℕ) (d : Downward p q n v a b) where
 
 -- ---- 4 and the counts of 5
 -- the nodes below v have good fields and are counted
-pub record Counting (c : Chart) (n v h : ℕ) (bs es : List ℕ) : Type 0 where
+pub record CountingNodes (c : Chart) (n v h : ℕ) (bs es : List ℕ) : Type 0 where
   pub search : Searching (badField c) n v
   pub all : n ≡ size c
   pub highest : h ≡ highest (scheme c) 0 v
@@ -72,7 +74,8 @@ pub record Counting (c : Chart) (n v h : ℕ) (bs es : List ℕ) : Type 0 where
   pub begins : bs ≡ countsTo c 0 v
   pub ends : es ≡ countsTo c 1 v
 
-pub counting-none : (c : Chart) (n : ℕ) (bs es : List ℕ) → n ≡ size c → bs ≡ replicate 17 0 → es ≡ replicate 17 0 → Counting c n 0 0 bs es
+pub counting-none : (c : Chart) (n : ℕ) (bs es : List ℕ) → n ≡ size c → bs ≡ replicate 17 0
+    → es ≡ replicate 17 0 → CountingNodes c n 0 0 bs es
 unfolding highest
 counting-none c n bs es e p q = record {
   search = searching-first _ _;
@@ -83,7 +86,7 @@ counting-none c n bs es e p q = record {
   ends = counts-start c 1 es q;
 }
 
-module _ (c : Chart) (n v h : ℕ) (bs es : List ℕ) (d : Counting c n v h bs es) where
+module _ (c : Chart) (n v h : ℕ) (bs es : List ℕ) (d : CountingNodes c n v h bs es) where
   pub begins-long : length bs ≡ length (replicate {A = ℕ} 17 0)
   begins-long = counts-long c 0 v bs (d .begins) ∙ sym (length-replicate {A = ℕ} 17 0)
 
@@ -91,7 +94,7 @@ module _ (c : Chart) (n v h : ℕ) (bs es : List ℕ) (d : Counting c n v h bs e
   ends-long = counts-long c 1 v es (d .ends) ∙ sym (length-replicate {A = ℕ} 17 0)
 
   pub counting-turn : (h′ s : ℕ) (bs′ es′ : List ℕ) → v < n → badField c v ≡ false → s ≡ scheme c v → h′ ≡ max h s
-      → bs′ ≡ countsTo c 0 (v + 1) → es′ ≡ countsTo c 1 (v + 1) → Counting c n (v + 1) h′ bs′ es′
+      → bs′ ≡ countsTo c 0 (v + 1) → es′ ≡ countsTo c 1 (v + 1) → CountingNodes c n (v + 1) h′ bs′ es′
   counting-turn h′ s bs′ es′ l good is e p q = record {
     search = searching-next (badField c) n v (d .search) l good;
     all = d .all;
@@ -126,6 +129,7 @@ pub fields-found : (c : Chart) (r : Counted) (bs es : List ℕ) (t : Bool) → C
     → FieldsFound c (record { field = r .field; scheme = t; highest = r .highest })
 fields-found c r bs es t d e = record {
   field = d .field;
-  scheme = λ l. e ∙ bad-counts c bs es (r .highest) (d .begins l) (d .ends l) (omega (arith, d .low)) ∙ ap (any (badScheme c) 1) (d .highest l);
+  scheme = λ l. e ∙ bad-counts c bs es (r .highest) (d .begins l) (d .ends l) (omega (arith, d .low))
+      ∙ ap (any (badScheme c) 1) (d .highest l);
   highest = d .highest;
 }

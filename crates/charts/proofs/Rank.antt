@@ -10,7 +10,7 @@ use Rattle.graph.specs.Reach.{member, marked, joinedFrom}
 use Rattle.frames.specs.Frame.{size}
 use Rattle.charts.specs.Chart.{Chart, kind, next0, next1, is}
 use Rattle.charts.specs.Check.{arcs, conditionArcs}
-use Rattle.charts.proofs.Accepted.{Sound}
+use Rattle.charts.proofs.Accepted.{SoundChart}
 use Rattle.charts.proofs.Nodes.{arc-end, in-arcs0, in-arcs1}
 use Rattle.charts.proofs.Meaning.{condition-arcs}
 
@@ -23,7 +23,7 @@ rank-le c v = Rattle.graph.proofs.Rank.rank-le (size c) (conditionArcs c) v
 pub rank-some : (c : Chart) (v : ℕ) → v < size c → 1 ≤ rank c v
 rank-some c v l = Rattle.graph.proofs.Rank.rank-some (size c) (conditionArcs c) v l
 
-module _ (c : Chart) (a : Sound c) (v : ℕ) (l : v < size c) (k : kind c v ≡ 3) where
+module _ (c : Chart) (a : SoundChart c) (v : ℕ) (l : v < size c) (k : kind c v ≡ 3) where
   pub rank-falls : (u : ℕ) → member u (arcs c v) ≡ true → rank c u < rank c v
   rank-falls u s =
       let i : is c 3 v ≡ true = eq-eqb (kind c v) 3 k in

@@ -10,11 +10,12 @@ use borrow.Author.Tests.{eq-eqb, ne-eqb}
 use Rattle.lists.specs.Numbers.{any, count}
 use Rattle.lists.proofs.Tests.{and-true, and-no}
 use Rattle.lists.proofs.Counts.{count-le, count-yes, count-pass}
+use Rattle.lists.proofs.Searches.{any-alike}
 use Rattle.lists.proofs.Tabulated.{length-tabulate, getD-tabulate, tabulate-alike, tabulate-set, tabulate-none}
 use Rattle.frames.specs.Frame.{size}
 use Rattle.charts.specs.Chart.{Chart, kind, scheme, is, isOf}
 use Rattle.charts.specs.Check.{badScheme}
-use Rattle.charts.specs.Counts.{countsTo, notOne}
+use Rattle.charts.specs.inner.Counts.{countsTo, notOne}
 
 -- ---- the counts of the first v nodes
 module _ (c : Chart) (k : ℕ) where
@@ -58,11 +59,6 @@ module _ (begins ends : List ℕ) (h : ℕ) where
 
   pub not-end : getD begins h 0 ≡ 1 → (getD ends h 0 ≡ 1 → ⊥) → notOne begins ends h ≡ true
   not-end p n = rw (p, ne-eqb (getD ends h 0) 1 n)
-
-any-alike : (p q : ℕ → Bool) (i n : ℕ) → ((j : ℕ) → i ≤ j → j < i + n → p j ≡ q j) → any p i n ≡ any q i n
-unfolding any
-any-alike p q i zero h = refl
-any-alike p q i (suc n) h = rw (h i (omega arith) (omega arith), any-alike p q (suc i) n (λ j a b. h j (omega arith) (omega arith)))
 
 pub bad-counts : (c : Chart) (begins ends : List ℕ) (n : ℕ) → begins ≡ countsTo c 0 (size c) → ends ≡ countsTo c 1 (size c) → n < 17
     → any (notOne begins ends) 1 n ≡ any (badScheme c) 1 n

@@ -1,7 +1,5 @@
+pub mod Layout
 pub mod Chart
 pub mod Check
-pub mod Counts
-pub mod Found
-pub mod Finished
-pub mod Marks
 pub mod Entry
+pub mod inner

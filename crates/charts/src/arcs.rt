@@ -1,66 +1,70 @@
 // Refusals 6 and 7: where arcs lead, and which schemes are called.
-use crate::Lowest;
+use crate::LowestFaults;
 use crate::fields::field;
+use crate::layout::*;
+use frames::sizes::RECORD;
 ghost use mathlib.Core.Path.{_≡_};
 ghost use mathlib.Core.Bool.{_||_};
 ghost use Prim.Native.Nat.{_+_, _*_, _≤_, _<_};
 ghost use lib.ListN.{length};
+ghost use Rattle.frames.specs.Sizes.{RECORD};
 ghost use Rattle.charts.specs.Chart.{next0, next1, schemes};
 ghost use Rattle.charts.specs.Check.{badEnd, badArc, badCall};
-ghost use Rattle.charts.specs.Found.{LowestFound};
+ghost use Rattle.charts.specs.inner.Found.{LowestFound};
 
 // An arc of node v to u leads to no node, to another scheme or to a Begin.
 fn bad_end(records: &[u8], v: usize, u: usize) -> bool
-    requires { ⌜ 10 * v + 10 ≤ length (now records) ⌝ }
+    requires { ⌜ RECORD * v + RECORD ≤ length (now records) ⌝ }
     ensures { λ r. ⌜ r ≡ badEnd (now (records .entry)) v u ⌝ }
 {
-    if records.len() / 10 <= u {
+    if records.len() / RECORD <= u {
         return true;
     }
-    if field(records, u, 1) != field(records, v, 1) {
+    if field(records, u, SCHEME) != field(records, v, SCHEME) {
         return true;
     }
-    field(records, u, 0) == 0
+    field(records, u, KIND) == BEGIN
 }
 
 // One of the two arcs of node v leads where none may.
 fn bad_pair(records: &[u8], v: usize) -> bool
-    requires { ⌜ 10 * v + 10 ≤ length (now records) ⌝ }
-    ensures { λ r. ⌜ r ≡ (badEnd (now (records .entry)) v (next0 (now (records .entry)) v) || badEnd (now (records .entry)) v (next1 (now (records .entry)) v)) ⌝ }
+    requires { ⌜ RECORD * v + RECORD ≤ length (now records) ⌝ }
+    ensures { λ r. ⌜ r ≡ (badEnd (now (records .entry)) v (next0 (now (records .entry)) v)
+        || badEnd (now (records .entry)) v (next1 (now (records .entry)) v)) ⌝ }
 {
-    if bad_end(records, v, field(records, v, 3) as usize) {
+    if bad_end(records, v, field(records, v, NEXT0) as usize) {
         return true;
     }
-    bad_end(records, v, field(records, v, 4) as usize)
+    bad_end(records, v, field(records, v, NEXT1) as usize)
 }
 
 // 6: an arc of node v leads where none may. An End has none, a condition and a function have two.
 fn bad_arc(records: &[u8], v: usize) -> bool
-    requires { ⌜ 10 * v + 10 ≤ length (now records) ⌝ }
+    requires { ⌜ RECORD * v + RECORD ≤ length (now records) ⌝ }
     ensures { λ r. ⌜ r ≡ badArc (now (records .entry)) v ⌝ }
 {
-    match field(records, v, 0) {
-        1 => false,
-        3..=4 => bad_pair(records, v),
-        _ => bad_end(records, v, field(records, v, 3) as usize),
+    match field(records, v, KIND) {
+        END => false,
+        CONDITION..=FUNCTION => bad_pair(records, v),
+        _ => bad_end(records, v, field(records, v, NEXT0) as usize),
     }
 }
 
 // 7: node v calls scheme 1 or one above the highest, or is a function that calls 0.
 fn bad_call(records: &[u8], highest: u8, v: usize) -> bool
-    requires { ⌜ 10 * v + 10 ≤ length (now records) ⌝ }
+    requires { ⌜ RECORD * v + RECORD ≤ length (now records) ⌝ }
     requires { ⌜ highest ≡ schemes (now records) ⌝ }
     ensures { λ r. ⌜ r ≡ badCall (now (records .entry)) v ⌝ }
 {
-    let called = field(records, v, 2);
-    match field(records, v, 0) {
-        2 => {
+    let called = field(records, v, ARGUMENT);
+    match field(records, v, KIND) {
+        OPERATION => {
             if called == 1 {
                 return true;
             }
             highest < called
         }
-        4 => {
+        FUNCTION => {
             if called <= 1 {
                 return true;
             }
@@ -71,11 +75,11 @@ fn bad_call(records: &[u8], highest: u8, v: usize) -> bool
 }
 
 // 6 and 7 tried on each node, from the last one down: the node found last is the lowest.
-pub fn lowest_arc_and_call(records: &[u8], highest: u8) -> Lowest
+pub fn lowest_arc_and_call(records: &[u8], highest: u8) -> LowestFaults
     requires { ⌜ highest ≡ schemes (now records) ⌝ }
     ensures { λ r. ⌜ LowestFound (now (records .entry)) r ⌝ }
 {
-    let n = records.len() / 10;
+    let n = records.len() / RECORD;
     let mut arc = n;
     let mut call = n;
     let mut v = n;
@@ -88,5 +92,5 @@ pub fn lowest_arc_and_call(records: &[u8], highest: u8) -> Lowest
             call = v;
         }
     }
-    Lowest { arc, call }
+    LowestFaults { arc, call }
 }

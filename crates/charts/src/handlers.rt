@@ -1,32 +1,35 @@
 // The handler, the scheme that is performed when the stack is full, and refusal 19: a mark on scheme 1 or a second mark.
 use crate::fields::field;
+use crate::layout::*;
+use frames::sizes::RECORD;
 ghost use mathlib.Core.Path.{_≡_};
 ghost use Prim.Native.Nat.{_+_, _*_, _≤_};
 ghost use lib.ListN.{length};
+ghost use Rattle.frames.specs.Sizes.{RECORD};
 ghost use Rattle.charts.specs.Chart.{marksHandler, handler};
 ghost use Rattle.charts.specs.Check.{badMarks};
 
 // Node v is a Begin with the mark.
 fn marks_handler(records: &[u8], v: usize) -> bool
-    requires { ⌜ 10 * v + 10 ≤ length (now records) ⌝ }
+    requires { ⌜ RECORD * v + RECORD ≤ length (now records) ⌝ }
     ensures { λ r. ⌜ r ≡ marksHandler (now (records .entry)) v ⌝ }
 {
-    if field(records, v, 0) != 0 {
+    if field(records, v, KIND) != BEGIN {
         return false;
     }
-    field(records, v, 2) == 1
+    field(records, v, ARGUMENT) == 1
 }
 
 // The handler's scheme, or 0 where none is marked.
 pub fn handler_scheme(records: &[u8]) -> u8
     ensures { λ r. ⌜ r ≡ handler (now (records .entry)) ⌝ }
 {
-    let n = records.len() / 10;
+    let n = records.len() / RECORD;
     let mut highest: u8 = 0;
     let mut v: usize = 0;
     while v < n {
         if marks_handler(records, v) {
-            let scheme = field(records, v, 1);
+            let scheme = field(records, v, SCHEME);
             if highest < scheme {
                 highest = scheme;
             }
@@ -40,7 +43,7 @@ pub fn handler_scheme(records: &[u8]) -> u8
 pub fn bad_marks(records: &[u8]) -> bool
     ensures { λ r. ⌜ r ≡ badMarks (now (records .entry)) ⌝ }
 {
-    let n = records.len() / 10;
+    let n = records.len() / RECORD;
     let mut marked = false;
     let mut v: usize = 0;
     while v < n {
@@ -48,7 +51,7 @@ pub fn bad_marks(records: &[u8]) -> bool
             if marked {
                 return true;
             }
-            if field(records, v, 1) == 1 {
+            if field(records, v, SCHEME) == 1 {
                 return true;
             }
             marked = true;

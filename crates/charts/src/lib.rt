@@ -3,6 +3,7 @@ mod arcs;
 mod counts;
 mod fields;
 mod handlers;
+pub mod layout;
 mod schemes;
 
 pub use arcs::lowest_arc_and_call;
@@ -18,7 +19,8 @@ struct Counted {
     highest: u8,
 }
 
-// What 4 and 5 find: the lowest node that 4 refuses, or the number of nodes; where there is none, whether 5 refuses, and the largest scheme.
+// What 4 and 5 find: the lowest node that 4 refuses, or the number of nodes;
+// where there is none, whether 5 refuses, and the largest scheme.
 pub struct Tried {
     pub field: usize,
     pub scheme: bool,
@@ -26,7 +28,7 @@ pub struct Tried {
 }
 
 // The lowest node that 6 refuses and the lowest that 7 refuses, or the number of nodes.
-pub struct Lowest {
+pub struct LowestFaults {
     pub arc: usize,
     pub call: usize,
 }

@@ -1,21 +1,23 @@
 // Refusal 5: each scheme up to the largest has one Begin and one End.
 use crate::fields::field;
+use crate::layout::SCHEME;
+use frames::sizes::RECORD;
 ghost use mathlib.Core.Path.{_≡_};
 ghost use Prim.Native.Nat.{_<_};
 ghost use lib.ListN.{length};
 ghost use Rattle.lists.specs.Numbers.{any};
 ghost use Rattle.charts.specs.Chart.{schemes};
-ghost use Rattle.charts.specs.Counts.{notOne};
+ghost use Rattle.charts.specs.inner.Counts.{notOne};
 
 // H, the largest scheme of a node.
 pub fn highest_scheme(records: &[u8]) -> u8
     ensures { λ r. ⌜ r ≡ schemes (now (records .entry)) ⌝ }
 {
-    let n = records.len() / 10;
+    let n = records.len() / RECORD;
     let mut highest: u8 = 0;
     let mut v: usize = 0;
     while v < n {
-        let scheme = field(records, v, 1);
+        let scheme = field(records, v, SCHEME);
         if highest < scheme {
             highest = scheme;
         }

@@ -7,9 +7,10 @@ use lib.Dec.{leb, eqb}
 use borrow.Author.Tests.{eqb-true, leb-true}
 use Rattle.lists.specs.Pick.{pick}
 use Rattle.lists.proofs.Tests.{and-l}
+use Rattle.image.specs.Layout.{tickKind}
 use Rattle.codes.specs.declared.Meaning.{Meaning}
 use Rattle.codes.specs.declared.Meaning.the-variants.{Plain, OperationCall, FunctionCall, Return, Home, Drop, Unknown}
-use Rattle.codes.specs.Codes.{codeOf, tickOf, callAbove, meaningOf, kindOf, calledOf}
+use Rattle.codes.specs.Codes.{codeOf, meaningBy, callAbove, meaningOf, tickKindOf, calledOf}
 use Rattle.codes.proofs.CodeCases.{in-operations, in-functions}
 
 -- a call is of a scheme of 2 to 16
@@ -17,7 +18,7 @@ abbrev pub Called : ℕ → ℕ → Type 0
 Called k h = 1 ≤ k → k ≤ 2 → (2 ≤ h) × (h ≤ 16)
 
 -- the code of a tick stands for the tick, so no two ticks share a code
-pub code-means : (k h : ℕ) → Called k h → meaningOf (codeOf k h) ≡ tickOf k h
+pub code-means : (k h : ℕ) → Called k h → meaningOf (codeOf (tickKind k) h) ≡ meaningBy (tickKind k) h
 unfolding meaningOf
 code-means zero h p = refl
 code-means (suc zero) h p =
@@ -29,7 +30,8 @@ code-means (suc (suc zero)) h p =
 code-means (suc (suc (suc zero))) h p = refl
 code-means (suc (suc (suc (suc k)))) h p = refl
 
-pub codes-apart : (k h : ℕ) → Called k h → (j g : ℕ) → Called j g → codeOf k h ≡ codeOf j g → tickOf k h ≡ tickOf j g
+pub codes-apart : (k h : ℕ) → Called k h → (j g : ℕ) → Called j g → codeOf (tickKind k) h ≡ codeOf (tickKind j) g
+    → meaningBy (tickKind k) h ≡ meaningBy (tickKind j) g
 codes-apart k h p j g q e = sym (code-means k h p) ∙ ap meaningOf e ∙ code-means j g q
 
 -- 96 stands for a drop, and no other tick has it
@@ -37,7 +39,7 @@ pub drop-means : meaningOf 96 ≡ Drop
 unfolding meaningOf
 drop-means = refl
 
-pub drop-apart : (k h : ℕ) → Called k h → codeOf k h ≡ 96 → ⊥
+pub drop-apart : (k h : ℕ) → Called k h → codeOf (tickKind k) h ≡ 96 → ⊥
 drop-apart zero h p e = omega arith
 drop-apart (suc zero) h p e = omega (arith, p (omega arith) (omega arith) .1)
 drop-apart (suc (suc zero)) h p e = omega (arith, p (omega arith) (omega arith) .1)
@@ -45,7 +47,7 @@ drop-apart (suc (suc (suc zero))) h p e = omega arith
 drop-apart (suc (suc (suc (suc k)))) h p e = omega arith
 
 -- a tick's kind is read back
-pub kind-back : (k h : ℕ) → k ≤ 4 → kindOf (tickOf k h) ≡ k
+pub kind-back : (k h : ℕ) → k ≤ 4 → tickKindOf (meaningBy (tickKind k) h) ≡ k
 kind-back zero h l = refl
 kind-back (suc zero) h l = refl
 kind-back (suc (suc zero)) h l = refl
@@ -55,7 +57,7 @@ kind-back (suc (suc (suc (suc (suc k))))) h l = absurd (omega arith)
 
 -- a code that stands for a tick is that tick's, which is 96 for a drop
 abbrev pub Coded : ℕ → Meaning → Type 0
-Coded c m = pick (eqb (kindOf m) 5) 96 (codeOf (kindOf m) (calledOf m)) ≡ c
+Coded c m = pick (eqb (tickKindOf m) 5) 96 (codeOf (tickKind (tickKindOf m)) (calledOf m)) ≡ c
 
 module _ (c : ℕ) where
   one-more : (t : Bool) (m rest : Meaning) → (t ≡ true → Coded c m) → ((rest ≡ Unknown → ⊥) → Coded c rest)

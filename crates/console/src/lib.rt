@@ -1,6 +1,6 @@
 // Standard input of the programs: a read that fails is not taken for the end of the input.
 ghost use lib.ListN.{length};
-ghost use Rattle.console.specs.Input.{Within};
+ghost use Rattle.console.specs.inner.Input.{InputWithin};
 
 // How many bytes of the buffer were read, or that a read failed.
 pub enum Input {
@@ -10,7 +10,7 @@ pub enum Input {
 
 // Reads until the input ends or the buffer is full. Of what was read no contract can speak.
 pub fn read_input(buffer: &mut [u8]) -> Input
-    ensures { λ r. ⌜ Within r (length (now (buffer .exit))) ⌝ }
+    ensures { λ r. ⌜ InputWithin r (length (now (buffer .exit))) ⌝ }
 {
     let mut done: usize = 0;
     while done < buffer.len() {

@@ -1,1 +1,1 @@
-pub mod Tells
+pub mod CountingContracts

@@ -3,24 +3,30 @@ use fill_counts::Tally;
 use fill_counts::tally_all;
 use fill_counts::tally_one;
 use frames::Answer;
+use frames::refusals::BAD_SIZE;
+use frames::refusals::MANY_LISTS;
 use frames::refused;
+use frames::sizes::FRAME;
+use frames::sizes::LINE;
+use frames::sizes::TABLE;
 use preparing::prepare_table;
 use state::State;
 use state::bad_size;
+use state::layout::STATE_BYTES;
 use state_bytes::bytes_of;
-use tables::LARGEST;
 ghost use mathlib.Core.Bool.{false};
 ghost use mathlib.Core.Path.{_≡_};
 ghost use Prim.Native.Nat.{_*_, _≤_};
-ghost use Rattle.tables.specs.Table.{Whole, tableImage};
+ghost use Rattle.tables.specs.Table.{tableImage};
+ghost use Rattle.tables.specs.inner.Asked.{Whole};
 ghost use Rattle.state.specs.State.{fresh, badSize};
 ghost use Rattle.state.specs.Bytes.{stateOf};
-ghost use Rattle.fillings.specs.Counts.{tooMany, counted};
-ghost use Rattle.fill_counts.specs.Parts.{tallyOf};
-ghost use Rattle.counting.specs.Tells.{Tells};
+ghost use Rattle.fillings.specs.Counts.{tooManyLists, countFillings};
+ghost use Rattle.fill_counts.specs.inner.TallyContracts.{tallyOf};
+ghost use Rattle.counting.specs.CountingContracts.{GivesFillings};
 
 // How many lists run to their end, meet 17 and meet 18; 0 with a refusal.
-pub struct Counted {
+pub struct FillingsReport {
     pub answer: Answer,
     pub ended: u32,
     pub full: u32,
@@ -29,7 +35,7 @@ pub struct Counted {
 
 // 28: each bound by itself, so that no product wraps.
 fn too_many(n: usize, k: usize) -> bool
-    ensures { λ r. ⌜ r ≡ tooMany n k ⌝ }
+    ensures { λ r. ⌜ r ≡ tooManyLists n k ⌝ }
 {
     if 16 < k {
         return true;
@@ -40,7 +46,7 @@ fn too_many(n: usize, k: usize) -> bool
     16 < n * k
 }
 
-fn fresh_bytes(size: usize) -> [u8; 130]
+fn fresh_bytes(size: usize) -> [u8; STATE_BYTES]
     requires { ⌜ badSize size ≡ false ⌝ }
     ensures { λ r. ⌜ stateOf r ≡ fresh size ⌝ }
 {
@@ -63,13 +69,13 @@ fn tally(table: &[u8], size: usize, n: usize, k: usize) -> Tally
 }
 
 // What the image check tries, then 14 and 28.
-pub fn count_fillings(image: &[u8], size: usize, n: usize, k: usize) -> Counted
-    ensures { λ r. ⌜ Tells (counted (now (image .entry)) size n k) r ⌝ }
+pub fn count_fillings(image: &[u8], size: usize, n: usize, k: usize) -> FillingsReport
+    ensures { λ r. ⌜ GivesFillings (countFillings (now (image .entry)) size n k) r ⌝ }
 {
-    let mut table = [0u8; LARGEST];
+    let mut table = [0u8; TABLE];
     let answer = prepare_table(image, &mut table);
     let Answer::Done(_) = answer else {
-        return Counted {
+        return FillingsReport {
             answer,
             ended: 0,
             full: 0,
@@ -77,8 +83,8 @@ pub fn count_fillings(image: &[u8], size: usize, n: usize, k: usize) -> Counted
         };
     };
     if bad_size(size) {
-        let answer = refused(14, 0);
-        return Counted {
+        let answer = refused(BAD_SIZE, 0);
+        return FillingsReport {
             answer,
             ended: 0,
             full: 0,
@@ -86,17 +92,17 @@ pub fn count_fillings(image: &[u8], size: usize, n: usize, k: usize) -> Counted
         };
     }
     if too_many(n, k) {
-        let answer = refused(28, 0);
-        return Counted {
+        let answer = refused(MANY_LISTS, 0);
+        return FillingsReport {
             answer,
             ended: 0,
             full: 0,
             unmatched: 0,
         };
     }
-    let m = 10 * (image.len() / 23);
+    let m = FRAME * (image.len() / LINE);
     let all = tally(&table[..m], size, n, k);
-    Counted {
+    FillingsReport {
         answer: Answer::Done(0),
         ended: all.ended,
         full: all.full,

@@ -14,8 +14,8 @@ use Rattle.lists.specs.Numbers.{sum}
 use Rattle.lists.proofs.Searches.{sum-snoc}
 use Rattle.frames.specs.Frame.{field, pairAt}
 use Rattle.image.specs.Image.{Row}
-use Rattle.covering.specs.Sizes.{together}
-use Rattle.covering.specs.Parts.{rowIn, rowWith, togetherAny, wordsWith, wordsIn, unevenRows, isOther}
+use Rattle.covering.specs.Matched.{together}
+use Rattle.covering.specs.inner.CoveringContracts.{rowInFrame, rowWith, togetherAny, wordsWith, wordsIn, unevenRows, isOther}
 
 -- ---- meets
 module _ (b : List ℕ) (g care values x p q : ℕ) (e₁ : p ≡ pairAt b g 2) (e₂ : q ≡ pairAt b g 4) where
@@ -26,31 +26,31 @@ module _ (b : List ℕ) (g care values x p q : ℕ) (e₁ : p ≡ pairAt b g 2) 
   y = field b g 6
 
   by-values : (t : Bool) → eqb (bitAnd values (pairAt b g 2)) (bitAnd (pairAt b g 4) care) ≡ t
-      → together r (rowIn b g) ≡ (t && (eqb x 2 || eqb y 2 || eqb x y))
+      → together r (rowInFrame b g) ≡ (t && (eqb x 2 || eqb y 2 || eqb x y))
   by-values t e = ap (λ (t : Bool). t && (eqb x 2 || eqb y 2 || eqb x y)) e
 
-  pub meets-no : (bitAnd values p ≡ bitAnd q care → ⊥) → false ≡ together r (rowIn b g)
+  pub meets-no : (bitAnd values p ≡ bitAnd q care → ⊥) → false ≡ together r (rowInFrame b g)
   meets-no n = sym (by-values false (ne-eqb (bitAnd values (pairAt b g 2)) (bitAnd (pairAt b g 4) care)
       (λ z. n (ap (bitAnd values) e₁ ∙ z ∙ sym (ap (λ (k : ℕ). bitAnd k care) e₂)))))
 
   module _ (z : bitAnd values p ≡ bitAnd q care) where
-    by-bits : together r (rowIn b g) ≡ (eqb x 2 || eqb y 2 || eqb x y)
+    by-bits : together r (rowInFrame b g) ≡ (eqb x 2 || eqb y 2 || eqb x y)
     by-bits = by-values true (eq-eqb (bitAnd values (pairAt b g 2)) (bitAnd (pairAt b g 4) care)
         (sym (ap (bitAnd values) e₁) ∙ z ∙ ap (λ (k : ℕ). bitAnd k care) e₂))
 
-    pub meets-first : x ≡ 2 → true ≡ together r (rowIn b g)
+    pub meets-first : x ≡ 2 → true ≡ together r (rowInFrame b g)
     meets-first k = sym (by-bits ∙ ap (λ (t : Bool). t || eqb y 2 || eqb x y) (eq-eqb x 2 k))
 
-    pub meets-second : (x ≡ 2 → ⊥) → (s : ℕ) → s ≡ y → s ≡ 2 → true ≡ together r (rowIn b g)
+    pub meets-second : (x ≡ 2 → ⊥) → (s : ℕ) → s ≡ y → s ≡ 2 → true ≡ together r (rowInFrame b g)
     meets-second m s e k = sym (by-bits ∙ ap₂ (λ (t u : Bool). t || u || eqb x y) (ne-eqb x 2 m) (eq-eqb y 2 (sym e ∙ k)))
 
-    pub meets-same : (x ≡ 2 → ⊥) → (s : ℕ) → s ≡ y → (s ≡ 2 → ⊥) → eqb x s ≡ together r (rowIn b g)
+    pub meets-same : (x ≡ 2 → ⊥) → (s : ℕ) → s ≡ y → (s ≡ 2 → ⊥) → eqb x s ≡ together r (rowInFrame b g)
     meets-same m s e k =
         ap (eqb x) e ∙ sym (by-bits ∙ ap₂ (λ (t u : Bool). t || u || eqb x y) (ne-eqb x 2 m) (ne-eqb y 2 (λ z. k (e ∙ z))))
 
 -- ---- are_together, meets_before: the row in frame f, read once
 pub read-row : (b : List ℕ) (f care values x : ℕ) → care ≡ pairAt b f 2 → values ≡ pairAt b f 4 → x ≡ field b f 6 → (s : Row)
-    (t : Bool) → t ≡ together (rowWith care values x) s → t ≡ together (rowIn b f) s
+    (t : Bool) → t ≡ together (rowWith care values x) s → t ≡ together (rowInFrame b f) s
 read-row b f care values x e₁ e₂ e₃ s t e =
     e ∙ ap₂ (λ (c v : ℕ). together (rowWith c v x) s) e₁ e₂ ∙ ap (λ (k : ℕ). together (rowWith (pairAt b f 2) (pairAt b f 4) k) s) e₃
 
@@ -65,11 +65,11 @@ module _ (b : List ℕ) (f bit : ℕ) where
   abbrev asked : ℕ → Bool
   asked x = eqb x 2 || eqb x bit
 
-  pub words-off : (x : ℕ) (t : Bool) → x ≡ field b f 6 → t ≡ asked x → t ≡ false → 0 ≡ wordsWith bit (rowIn b f)
+  pub words-off : (x : ℕ) (t : Bool) → x ≡ field b f 6 → t ≡ asked x → t ≡ false → 0 ≡ wordsWith bit (rowInFrame b f)
   words-off x t e h z = sym (ap (λ (u : Bool). pick u (2 ^ (16 - ones (pairAt b f 2))) 0) (ap asked (sym e) ∙ sym h ∙ z))
 
   pub words-on : (x p : ℕ) (t : Bool) → x ≡ field b f 6 → t ≡ asked x → t ≡ true → p ≡ pairAt b f 2
-      → (1 * 2 ^ (16 - ones p) % 4294967296 ≡ wordsWith bit (rowIn b f)) × (1 * 2 ^ (16 - ones p) % 4294967296 ≤ 65536)
+      → (1 * 2 ^ (16 - ones p) % 4294967296 ≡ wordsWith bit (rowInFrame b f)) × (1 * 2 ^ (16 - ones p) % 4294967296 ≤ 65536)
   words-on x p t e h z q = let s = shifted p (16 - ones p) refl in (
     s .0 ∙ ap (λ (y : ℕ). 2 ^ (16 - ones y)) q
         ∙ sym (ap (λ (u : Bool). pick u (2 ^ (16 - ones (pairAt b f 2))) 0) (ap asked (sym e) ∙ sym h ∙ z)),
@@ -80,21 +80,21 @@ pub few-ones : (x : ℕ) → x < 65536 → ones x ≤ 16
 few-ones x h = ones-le 16 x h
 
 -- ---- words_in
-pub record Summed (b : List ℕ) (first end bit total f : ℕ) : Type 0 where
+pub record SummedWords (b : List ℕ) (first end bit total f : ℕ) : Type 0 where
   pub low : first ≤ f
   pub high : f ≤ end
   pub is : total ≡ wordsIn b bit first (f - first)
   pub small : total ≤ 65536 * (f - first)
 
 module _ (b : List ℕ) (first end bit : ℕ) where
-  pub sum-start : first ≤ end → Summed b first end bit 0 first
+  pub sum-start : first ≤ end → SummedWords b first end bit 0 first
   unfolding sum
   sum-start h =
       let e : first - first ≡ 0 = omega arith in
       record { low = omega arith; high = h; is = sym (ap (λ (n : ℕ). wordsIn b bit first n) e); small = omega arith }
 
-  pub sum-on : (total f x : ℕ) → Summed b first end bit total f → f < end → (x ≡ wordsWith bit (rowIn b f)) × (x ≤ 65536)
-      → Summed b first end bit (total + x) (f + 1)
+  pub sum-on : (total f x : ℕ) → SummedWords b first end bit total f → f < end → (x ≡ wordsWith bit (rowInFrame b f)) × (x ≤ 65536)
+      → SummedWords b first end bit (total + x) (f + 1)
   sum-on total f x t h w =
       let low : first ≤ f = t .low in
       let e : f + 1 - first ≡ suc (f - first) = omega arith in
@@ -102,12 +102,12 @@ module _ (b : List ℕ) (first end bit : ℕ) where
       record {
         low = omega arith;
         high = omega arith;
-        is = ap₂ _+_ (t .is) (w .0 ∙ ap (λ (k : ℕ). wordsWith bit (rowIn b k)) (sym g))
-            ∙ sym (ap (λ (n : ℕ). wordsIn b bit first n) e ∙ sum-snoc (λ k. wordsWith bit (rowIn b k)) first (f - first));
+        is = ap₂ _+_ (t .is) (w .0 ∙ ap (λ (k : ℕ). wordsWith bit (rowInFrame b k)) (sym g))
+            ∙ sym (ap (λ (n : ℕ). wordsIn b bit first n) e ∙ sum-snoc (λ k. wordsWith bit (rowInFrame b k)) first (f - first));
         small = omega (arith, t .small, w .1);
       }
 
-  pub sum-all : (total f : ℕ) → Summed b first end bit total f → end ≤ f → total ≡ wordsIn b bit first (end - first)
+  pub sum-all : (total f : ℕ) → SummedWords b first end bit total f → end ≤ f → total ≡ wordsIn b bit first (end - first)
   sum-all total f t h = t .is ∙ ap (λ (n : ℕ). wordsIn b bit first (n - first)) (omega (arith, t .high))
 
 -- ---- uneven_rows

@@ -10,23 +10,23 @@ use lib.ListN.{length, getD}
 use borrow.Author.Tests.{eqb-true, eq-eqb}
 use Rattle.lists.specs.Pick.{pick}
 use Rattle.lists.specs.Numbers.{any, count, sum}
-use Rattle.lists.specs.Sequences.{filter}
+use Rattle.lists.specs.Sequences.{filter, All}
 use Rattle.lists.proofs.Tests.{no-both, and-l, and-r, and-true, or-l, or-r, or-none, not-false}
-use Rattle.lists.proofs.Searches.{any-false, any-none}
+use Rattle.lists.proofs.Searches.{sum-shift, any-false, any-none}
 use Rattle.lists.proofs.Counts.{count-alike, count-none}
 use Rattle.lists.proofs.Ranges.{filter-yes, filter-no}
 use Rattle.lists.proofs.Filters.{filter-none, one-passes}
-use Rattle.lists.proofs.Joins.{All, all-places}
+use Rattle.lists.proofs.Joins.{all-places}
 use Rattle.bits.specs.Word.{agrees}
 use Rattle.image.specs.Image.{Image, Row}
-use Rattle.image.proofs.Sound.{SoundRow, Sound}
-use Rattle.rows.specs.Rows.{matches, isOwn}
-use Rattle.covering.specs.Matched.{hits, uneven}
-use Rattle.covering.specs.Sizes.{noRow, rowAt, together, overlap, overlaps, wordsOf, covered, gaps, unevenBySizes}
+use Rattle.image.specs.inner.Sound.{SoundRow, SoundImage}
+use Rattle.rows.specs.Rows.{matches, isCandidate}
+use Rattle.covering.specs.Matched.{hits, uneven, noRow, rowAt, together}
+use Rattle.covering.specs.inner.Sizes.{overlap, overlaps, wordsMatched, covered, gaps, unevenBySizes}
 use Rattle.covering.proofs.Together.{Common, common-together, together-common, together-turned}
 use Rattle.covering.proofs.Hits.{even-low, even-of}
 use Rattle.covering.proofs.WordCount.{words-count}
-use Rattle.covering.proofs.Sums.{sum-suc, sum-none, sum-zero, sum-ones, sum-full, sum-add, sum-shift, few-pass}
+use Rattle.covering.proofs.Sums.{sum-suc, sum-none, sum-zero, sum-ones, sum-full, sum-add, few-pass}
 
 -- ---- words and rows
 module _ (l b : ℕ) where
@@ -34,7 +34,7 @@ module _ (l b : ℕ) where
   asks r = eqb (r .from) l && (eqb (r .bit) 2 || eqb (r .bit) b)
 
   abbrev kept : List Row → ℕ → ℕ
-  kept rs w = length (filter (isOwn l w b) rs)
+  kept rs w = length (filter (isCandidate l w b) rs)
 
   split-own : (x y z : Bool) → (x && (y && z)) ≡ pick (x && z) y false
   split-own true true true = refl
@@ -43,43 +43,46 @@ module _ (l b : ℕ) where
   split-own true false false = refl
   split-own false y z = refl
 
-  row-words : {i : Image} (r : Row) → SoundRow i r → count (λ w. isOwn l w b r) 0 65536 ≡ wordsOf l b r
+  row-words : {i : Image} (r : Row) → SoundRow i r → count (λ w. isCandidate l w b r) 0 65536 ≡ wordsMatched l b r
   row-words r s = go (asks r) refl
     where
-      go : (t : Bool) → asks r ≡ t → count (λ w. isOwn l w b r) 0 65536 ≡ pick (asks r) (2 ^ (16 - ones (r .care))) 0
+      go : (t : Bool) → asks r ≡ t → count (λ w. isCandidate l w b r) 0 65536 ≡ pick (asks r) (2 ^ (16 - ones (r .care))) 0
       go true e =
-          count-alike (λ w. agrees w (r .care) (r .values)) (λ w. isOwn l w b r) 0 65536 (λ w m k.
+          count-alike (λ w. agrees w (r .care) (r .values)) (λ w. isCandidate l w b r) 0 65536 (λ w m k.
           split-own (eqb (r .from) l) (agrees w (r .care) (r .values)) (eqb (r .bit) 2 || eqb (r .bit) b)
           ∙ ap (λ (t : Bool). pick t (agrees w (r .care) (r .values)) false) e)
           ∙ words-count 16 (r .care) (r .values) (s .cares) (s .within)
           ∙ sym (ap (λ (t : Bool). pick t (2 ^ (16 - ones (r .care))) 0) e)
       go false e =
-          count-none (λ w. isOwn l w b r) 0 65536 (λ w m k.
+          count-none (λ w. isCandidate l w b r) 0 65536 (λ w m k.
           split-own (eqb (r .from) l) (agrees w (r .care) (r .values)) (eqb (r .bit) 2 || eqb (r .bit) b)
           ∙ ap (λ (t : Bool). pick t (agrees w (r .care) (r .values)) false) e)
           ∙ sym (ap (λ (t : Bool). pick t (2 ^ (16 - ones (r .care))) 0) e)
 
-  kept-more : (r : Row) (rs : List Row) (w : ℕ) → kept (r ∷ rs) w ≡ pick (isOwn l w b r) 1 0 + kept rs w
-  kept-more r rs w = go (isOwn l w b r) refl
+  kept-more : (r : Row) (rs : List Row) (w : ℕ) → kept (r ∷ rs) w ≡ pick (isCandidate l w b r) 1 0 + kept rs w
+  kept-more r rs w = go (isCandidate l w b r) refl
     where
-      go : (t : Bool) → isOwn l w b r ≡ t → kept (r ∷ rs) w ≡ pick (isOwn l w b r) 1 0 + kept rs w
+      go : (t : Bool) → isCandidate l w b r ≡ t → kept (r ∷ rs) w ≡ pick (isCandidate l w b r) 1 0 + kept rs w
       go true e =
-          ap (λ (xs : List Row). length xs) (filter-yes (isOwn l w b) r rs e) ∙ omega arith ∙ sym (ap (λ (t : Bool). pick t 1 0 + kept rs w) e)
+          ap (λ (xs : List Row). length xs) (filter-yes (isCandidate l w b) r rs e) ∙ omega arith
+          ∙ sym (ap (λ (t : Bool). pick t 1 0 + kept rs w) e)
       go false e =
-          ap (λ (xs : List Row). length xs) (filter-no (isOwn l w b) r rs e) ∙ omega arith ∙ sym (ap (λ (t : Bool). pick t 1 0 + kept rs w) e)
+          ap (λ (xs : List Row). length xs) (filter-no (isCandidate l w b) r rs e) ∙ omega arith
+          ∙ sym (ap (λ (t : Bool). pick t 1 0 + kept rs w) e)
 
   -- word by word, row by row
-  all-words : (i : Image) (rs : List Row) → All (SoundRow i) rs → sum (kept rs) 0 65536 ≡ sum (λ k. wordsOf l b (getD rs k noRow)) 0 (length rs)
+  all-words : (i : Image) (rs : List Row) → All (SoundRow i) rs
+      → sum (kept rs) 0 65536 ≡ sum (λ k. wordsMatched l b (getD rs k noRow)) 0 (length rs)
   all-words i [] a =
-      sum-zero (kept []) 0 65536 (λ w m k. ap (λ (xs : List Row). length xs) (filter-none (isOwn l w b)))
-      ∙ sym (sum-none (λ k. wordsOf l b (getD [] k noRow)) 0)
+      sum-zero (kept []) 0 65536 (λ w m k. ap (λ (xs : List Row). length xs) (filter-none (isCandidate l w b)))
+      ∙ sym (sum-none (λ k. wordsMatched l b (getD [] k noRow)) 0)
   all-words i (r ∷ rs) a =
-      sum-add (λ w. isOwn l w b r) (kept (r ∷ rs)) (kept rs) (kept-more r rs) 0 65536
+      sum-add (λ w. isCandidate l w b r) (kept (r ∷ rs)) (kept rs) (kept-more r rs) 0 65536
       ∙ ap₂ _+_ (row-words {i = i} r (a .0)) (all-words i rs (a .1))
-      ∙ sym (sum-suc (λ k. wordsOf l b (getD (r ∷ rs) k noRow)) 0 (length rs)
-      ∙ ap (λ (x : ℕ). wordsOf l b r + x) (sum-shift (λ k. wordsOf l b (getD (r ∷ rs) k noRow)) 0 (length rs)))
+      ∙ sym (sum-suc (λ k. wordsMatched l b (getD (r ∷ rs) k noRow)) 0 (length rs)
+      ∙ ap (λ (x : ℕ). wordsMatched l b r + x) (sum-shift (λ k. wordsMatched l b (getD (r ∷ rs) k noRow)) 0 (length rs)))
 
-module _ (i : Image) (S : Sound i) where
+module _ (i : Image) (S : SoundImage i) where
   sound-rows : All (SoundRow i) (i .rows)
   sound-rows = all-places (SoundRow i) noRow (i .rows) (S .each)
 
@@ -111,7 +114,7 @@ module _ (i : Image) (S : Sound i) where
               let C : Common r s = together-common r s (S .each j hj) (S .each k hk) e in
               let b : ℕ = pick (C .bit) 1 0 in
               let few : hits i l (C .word) b ≡ 1 = one (C .word) b (C .low) (bit-low (C .bit)) in
-              absurd (n (one-passes (isOwn l (C .word) b) noRow (i .rows) (omega arith) j k hj hk
+              absurd (n (one-passes (isCandidate l (C .word) b) noRow (i .rows) (omega arith) j k hj hk
               (and-true (eqb (r .from) l) (matches (C .word) b r) (eq-eqb (r .from) l p) (C .first))
               (and-true (eqb (s .from) l) (matches (C .word) b s) (eq-eqb (s .from) l q) (C .second))))
 
@@ -122,7 +125,7 @@ module _ (i : Image) (S : Sound i) where
     module _ (apart : (j k : ℕ) → j < length (i .rows) → k < j → rowAt i j .from ≡ l → rowAt i k .from ≡ l
         → together (rowAt i j) (rowAt i k) ≡ false) where
       few-hits : (w b : ℕ) → hits i l w b ≤ 1
-      few-hits w b = few-pass (isOwn l w b) noRow (i .rows) (λ j k hj hk p q.
+      few-hits w b = few-pass (isCandidate l w b) noRow (i .rows) (λ j k hj hk p q.
           let r : Row = rowAt i j in
           let s : Row = rowAt i k in
           no-both (together r s)
@@ -176,7 +179,8 @@ module _ (i : Image) (S : Sound i) where
       one-hits l (λ j k hj hk p q.
       let u : any (λ k. overlap (rowAt i k) (rowAt i j)) 0 j ≡ false =
       any-false (λ j. any (λ k. overlap (rowAt i k) (rowAt i j)) 0 j) 0 (length (i .rows)) (or-l x y e) j (omega arith) (omega arith) in
-      let v : overlap (rowAt i k) (rowAt i j) ≡ false = any-false (λ k. overlap (rowAt i k) (rowAt i j)) 0 j u k (omega arith) (omega arith) in
+      let v : overlap (rowAt i k) (rowAt i j) ≡ false =
+      any-false (λ k. overlap (rowAt i k) (rowAt i j)) 0 j u k (omega arith) (omega arith) in
       together-turned (rowAt i k) (rowAt i j) (sym (ap (λ (t : Bool). t && together (rowAt i k) (rowAt i j))
       (eq-eqb (rowAt i k .from) (rowAt i j .from) (q ∙ sym p))) ∙ v))
       (eqb-true (covered i l 0) 65536 (not-false g₀ (or-l (not g₀) (not g₁) g)))

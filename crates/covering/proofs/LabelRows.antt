@@ -17,17 +17,17 @@ use Rattle.frames.specs.Frame.{size, field}
 use Rattle.image.specs.Image.{Image, Row}
 use Rattle.image.specs.Decode.{rowsFrom, decoded}
 use Rattle.image.proofs.Accepted.{row-read, rows-count}
-use Rattle.covering.specs.Matched.{hits, unevenLabel}
-use Rattle.covering.specs.Sizes.{rowAt, together, wordsOf, covered}
-use Rattle.covering.specs.Parts.{SoundTable, rowIn, togetherSome, togetherAny, wordsWith, wordsIn, unevenRows}
+use Rattle.covering.specs.Matched.{hits, unevenLabel, rowAt, together}
+use Rattle.covering.specs.inner.Sizes.{wordsMatched, covered}
+use Rattle.covering.specs.inner.CoveringContracts.{SoundTable, rowInFrame, togetherSome, togetherAny, wordsWith, wordsIn, unevenRows}
 use Rattle.covering.proofs.Sums.{sum-same, sum-zero, sum-split, sum-move}
 use Rattle.covering.proofs.Hits.{label-low, label-of}
 use Rattle.covering.proofs.Covered.{no-pair, full, one-hits}
 
-words-own : (l b : ℕ) (r : Row) → r .from ≡ l → wordsOf l b r ≡ wordsWith b r
+words-own : (l b : ℕ) (r : Row) → r .from ≡ l → wordsMatched l b r ≡ wordsWith b r
 words-own l b r e = ap (λ (t : Bool). pick (t && (eqb (r .bit) 2 || eqb (r .bit) b)) (2 ^ (16 - ones (r .care))) 0) (eq-eqb (r .from) l e)
 
-words-other : (l b : ℕ) (r : Row) → (r .from ≡ l → ⊥) → wordsOf l b r ≡ 0
+words-other : (l b : ℕ) (r : Row) → (r .from ≡ l → ⊥) → wordsMatched l b r ≡ 0
 words-other l b r n = ap (λ (t : Bool). pick (t && (eqb (r .bit) 2 || eqb (r .bit) b)) (2 ^ (16 - ones (r .care))) 0) (ne-eqb (r .from) l n)
 
 module _ (b : List ℕ) (T : SoundTable b) where
@@ -38,7 +38,7 @@ module _ (b : List ℕ) (T : SoundTable b) where
   a = rowsFrom b
 
   -- ---- rows by their frames
-  row-is : (k : ℕ) → k < length (i .rows) → rowIn b (a + k) ≡ rowAt i k
+  row-is : (k : ℕ) → k < length (i .rows) → rowInFrame b (a + k) ≡ rowAt i k
   row-is k h = sym (row-read b k (omega (arith, rows-count b)))
 
   inside : (k : ℕ) → k < length (i .rows) → a + k < size b
@@ -47,8 +47,8 @@ module _ (b : List ℕ) (T : SoundTable b) where
   number : (f : ℕ) → a ≤ f → f < size b → f - a < length (i .rows)
   number f h g = omega (arith, rows-count b, T .all)
 
-  pub row-at : (f : ℕ) → a ≤ f → f < size b → rowAt i (f - a) ≡ rowIn b f
-  row-at f h g = sym (row-is (f - a) (number f h g)) ∙ ap (rowIn b) (let e : a + (f - a) ≡ f = omega arith in e)
+  pub row-at : (f : ℕ) → a ≤ f → f < size b → rowAt i (f - a) ≡ rowInFrame b f
+  row-at f h g = sym (row-is (f - a) (number f h g)) ∙ ap (rowInFrame b) (let e : a + (f - a) ≡ f = omega arith in e)
 
   from-at : (f : ℕ) → a ≤ f → f < size b → rowAt i (f - a) .from ≡ field b f 1
   from-at f h g = ap (λ (r : Row). r .from) (row-at f h g)
@@ -80,19 +80,21 @@ module _ (b : List ℕ) (T : SoundTable b) where
     words-are : (bit : ℕ) → covered i l bit ≡ wordsIn b bit first n
     unfolding covered
     words-are bit =
-        let g : ℕ → ℕ = λ f. wordsOf l bit (rowIn b f) in
+        let g : ℕ → ℕ = λ f. wordsMatched l bit (rowInFrame b f) in
         let m : ℕ = first - a in
         let rest : ℕ = size b - (first + n) in
         let other : (f : ℕ) → a ≤ f → f < size b → (first ≤ f → f < first + n → ⊥) → g f ≡ 0 =
-        λ f x y z. words-other l bit (rowIn b f) (λ e. let w = only f x y e in z (w .0) (w .1)) in
+        λ f x y z. words-other l bit (rowInFrame b f) (λ e. let w = only f x y e in z (w .0) (w .1)) in
         let moved : sum g (a + 0) (length (i .rows)) ≡ covered i l bit =
-        sum-move g (λ k. wordsOf l bit (rowAt i k)) a 0 (length (i .rows)) (λ k x y. ap (wordsOf l bit) (row-is k (omega arith))) in
+        sum-move g (λ k. wordsMatched l bit (rowAt i k)) a 0 (length (i .rows))
+        (λ k x y. ap (wordsMatched l bit) (row-is k (omega arith))) in
         let parts : sum g (a + 0) (length (i .rows)) ≡ sum g a (m + (n + rest)) =
         ap₂ (λ (x y : ℕ). sum g x y) (omega arith) (omega (arith, rows-count b, T .all)) in
         let before : sum g a m ≡ 0 = sum-zero g a m (λ f x y. other f x (omega arith) (λ u v. omega arith)) in
         let here : sum g first n ≡ wordsIn b bit first n =
-        sum-same g (λ f. wordsWith bit (rowIn b f)) first n (λ f x y. words-own l bit (rowIn b f) (own f x y)) in
-        let after : sum g (first + n) rest ≡ 0 = sum-zero g (first + n) rest (λ f x y. other f (omega arith) (omega arith) (λ u v. omega arith)) in
+        sum-same g (λ f. wordsWith bit (rowInFrame b f)) first n (λ f x y. words-own l bit (rowInFrame b f) (own f x y)) in
+        let after : sum g (first + n) rest ≡ 0 =
+        sum-zero g (first + n) rest (λ f x y. other f (omega arith) (omega arith) (λ u v. omega arith)) in
         let at : sum g (a + m) (n + rest) ≡ sum g first (n + rest) = ap (λ (x : ℕ). sum g x (n + rest)) (omega arith) in
         omega (arith, moved, parts, before, here, after, at, sum-split g a m (n + rest), sum-split g first n rest)
 
@@ -101,13 +103,15 @@ module _ (b : List ℕ) (T : SoundTable b) where
         let all : (bit : ℕ) → bit < 2 → not (eqb (wordsIn b bit first n) 65536) ≡ false =
         λ bit h. ap not (eq-eqb (wordsIn b bit first n) 65536 (sym (words-are bit) ∙ full i (T .image) l one bit h)) in
         or-none (not (eqb (wordsIn b 0 first n) 65536) || not (eqb (wordsIn b 1 first n) 65536)) (togetherAny b first n)
-        (or-none (not (eqb (wordsIn b 0 first n) 65536)) (not (eqb (wordsIn b 1 first n) 65536)) (all 0 (omega arith)) (all 1 (omega arith)))
-        (any-none (λ f. togetherSome b (rowIn b f) first (f - first)) first n (λ j hj.
-        any-none (λ g. together (rowIn b (first + j)) (rowIn b g)) first (first + j - first) (λ k hk.
+        (or-none (not (eqb (wordsIn b 0 first n) 65536)) (not (eqb (wordsIn b 1 first n) 65536))
+        (all 0 (omega arith)) (all 1 (omega arith)))
+        (any-none (λ f. togetherSome b (rowInFrame b f) first (f - first)) first n (λ j hj.
+        any-none (λ g. together (rowInFrame b (first + j)) (rowInFrame b g)) first (first + j - first) (λ k hk.
         let f : ℕ = first + j in
         let g : ℕ = first + k in
         ap₂ together (sym (row-at f (omega arith) (omega arith))) (sym (row-at g (omega arith) (omega arith)))
-        ∙ no-pair i (T .image) l one (f - a) (g - a) (number f (omega arith) (omega arith)) (number g (omega arith) (omega arith)) (λ z. omega arith)
+        ∙ no-pair i (T .image) l one (f - a) (g - a) (number f (omega arith) (omega arith))
+        (number g (omega arith) (omega arith)) (λ z. omega arith)
         (from-at f (omega arith) (omega arith) ∙ own f (omega arith) (omega arith))
         (from-at g (omega arith) (omega arith) ∙ own g (omega arith) (omega arith)))))
 
@@ -121,8 +125,8 @@ module _ (b : List ℕ) (T : SoundTable b) where
         let u = only (a + j) (omega arith) (inside j hj) (ap (λ (r : Row). r .from) (row-is j hj) ∙ p) in
         let v = only (a + k) (omega arith) (inside k hk₂) (ap (λ (r : Row). r .from) (row-is k hk₂) ∙ q) in
         ap₂ together (sym (row-is j hj)) (sym (row-is k hk₂))
-        ∙ any-false (λ g. together (rowIn b (a + j)) (rowIn b g)) first (a + j - first)
-        (any-false (λ f. togetherSome b (rowIn b f) first (f - first)) first n (or-r (not x || not y) (togetherAny b first n) e)
+        ∙ any-false (λ g. together (rowInFrame b (a + j)) (rowInFrame b g)) first (a + j - first)
+        (any-false (λ f. togetherSome b (rowInFrame b f) first (f - first)) first n (or-r (not x || not y) (togetherAny b first n) e)
         (a + j) (u .0) (u .1))
         (a + k) (v .0) (omega (arith, u .0)))
         (words-are 0 ∙ eqb-true (wordsIn b 0 first n) 65536 (not-false x (or-l (not x) (not y) sums)))

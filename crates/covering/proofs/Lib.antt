@@ -1,4 +1,4 @@
-pub mod Cases
+pub mod CoveringCases
 pub mod Together
 pub mod Hits
 pub mod WordCount

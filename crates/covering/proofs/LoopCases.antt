@@ -16,7 +16,7 @@ use Rattle.frames.specs.Frame.{size, field}
 use Rattle.image.specs.Decode.{lastLabel, rowCount, rowsFrom, decoded}
 use Rattle.image.proofs.Accepted.{labels-count, rows-count}
 use Rattle.covering.specs.Matched.{unevenLabel, uneven}
-use Rattle.covering.specs.Parts.{SoundTable, unevenRows, isOther}
+use Rattle.covering.specs.inner.CoveringContracts.{SoundTable, unevenRows, isOther}
 use Rattle.covering.proofs.LabelRows.{from-low, rises-on, rows-decide}
 
 -- labels below l are tried, and the rows of the others begin at frame first
@@ -74,7 +74,8 @@ module _ (b : List ℕ) (last first l : ℕ) (t : Trying b last first l) (h : l 
   end-near = omega (arith, end-inside, first-from, t .table .all, t .table .image .few, rows-count b)
 
   own : (f : ℕ) → first ≤ f → f < end → field b f 1 ≡ l
-  own f p q = eqb-true (field b f 1) l (not-false (eqb (field b f 1) l) (lowest-before (isOther b l) first (size b - first) f p (omega (arith, e))))
+  own f p q = eqb-true (field b f 1) l
+      (not-false (eqb (field b f 1) l) (lowest-before (isOther b l) first (size b - first) f p (omega (arith, e))))
 
   -- the first row behind them is of a label above
   behind : end < size b → l < field b end 1
@@ -93,7 +94,8 @@ module _ (b : List ℕ) (last first l : ℕ) (t : Trying b last first l) (h : l 
       omega (arith, same, behind (omega arith), rises-on b (t .table) end (f - end) (omega (arith, end-after, first-from)) (omega arith))
 
   label-is : unevenRows b first n ≡ unevenLabel (decoded b) l
-  label-is = rows-decide b (t .table) l first n first-from (omega (arith, end-after, end-inside)) (λ f p q. own f p (omega (arith, end-after)))
+  label-is = rows-decide b (t .table) l first n first-from (omega (arith, end-after, end-inside))
+      (λ f p q. own f p (omega (arith, end-after)))
       (λ f p q z. (front f p z, omega (arith, end-after, back f q z)))
     where
       front : (f : ℕ) → rowsFrom b ≤ f → field b f 1 ≡ l → first ≤ f

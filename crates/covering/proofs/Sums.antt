@@ -55,10 +55,6 @@ pub sum-add : (p : ℕ → Bool) (f g : ℕ → ℕ) → ((k : ℕ) → f k ≡ 
 sum-add p f g h i zero = omega (arith, sum-none f i, sum-none g i, count-none p i 0 (λ k a b. absurd (omega arith)))
 sum-add p f g h i (suc n) = omega (arith, sum-suc f i n, sum-suc g i n, count-suc p i n, h i, sum-add p f g h (suc i) n)
 
-pub sum-shift : (f : ℕ → ℕ) (i n : ℕ) → sum f (suc i) n ≡ sum (λ k. f (suc k)) i n
-sum-shift f i zero = sum-none f (suc i) ∙ sym (sum-none (λ k. f (suc k)) i)
-sum-shift f i (suc n) = omega (arith, sum-suc f (suc i) n, sum-suc (λ k. f (suc k)) i n, sum-shift f (suc i) n)
-
 pub sum-split : (f : ℕ → ℕ) (i m n : ℕ) → sum f i (m + n) ≡ sum f i m + sum f (i + m) n
 sum-split f i zero n =
     let e : sum f i (0 + n) ≡ sum f (i + 0) n = ap₂ (λ (x y : ℕ). sum f x y) (omega arith) (omega arith) in
@@ -103,10 +99,16 @@ module _ {A : Type 0} (p : A → Bool) (d : A) where
       go true e ih = absurd (h 0 (omega arith) e)
       go false e ih = ap (λ ys. length ys) (filter-no p x xs e) ∙ ih
 
-  pub few-pass : (xs : List A) → ((j k : ℕ) → j < length xs → k < j → p (getD xs j d) ≡ true → p (getD xs k d) ≡ true → ⊥) → length (filter p xs) ≤ 1
+  pub few-pass : (xs : List A) → ((j k : ℕ) → j < length xs → k < j → p (getD xs j d) ≡ true → p (getD xs k d) ≡ true → ⊥)
+      → length (filter p xs) ≤ 1
   few-pass [] h = omega (arith, ap (λ ys. length ys) (filter-none p))
   few-pass (x ∷ xs) h = go (p x) refl (few-pass xs (λ j k a b. h (suc j) (suc k) (omega arith) (omega arith)))
     where
       go : (t : Bool) → p x ≡ t → length (filter p xs) ≤ 1 → length (filter p (x ∷ xs)) ≤ 1
-      go true e ih = omega (arith, ap (λ ys. length ys) (filter-yes p x xs e), none-pass xs (λ j a q. h (suc j) 0 (omega arith) (omega arith) q e))
+      go true e ih = omega (
+        arith,
+        ap (λ ys. length ys) (filter-yes p x xs e),
+        none-pass xs
+            (λ j a q. h (suc j) 0 (omega arith) (omega arith) q e),
+      )
       go false e ih = omega (arith, ap (λ ys. length ys) (filter-no p x xs e))

@@ -10,15 +10,15 @@ use Rattle.frames.specs.Verdict.{fine}
 use Rattle.image.specs.Image.{Row}
 use Rattle.image.specs.Decode.{schemeCount, lastLabel, rowCount, rowsFrom, handlerIn, entryIn, labelIn, rowIn, decoded}
 use Rattle.image.specs.Check.{tableVerdict}
-use Rattle.image.proofs.Sound.{Sound}
+use Rattle.image.specs.inner.Sound.{SoundImage}
 use Rattle.image.proofs.Accepted.{counted, accepted-sound, image-table, image-bytes}
 use Rattle.tables.specs.Prepare.{noted}
 use Rattle.tables.proofs.RangeLaws.{map-alike}
 use Rattle.tables.proofs.Noted.{noted-size, noted-schemes, noted-last, noted-rows, noted-handler, noted-rows-from}
 use Rattle.tables.proofs.Noted.{noted-label, noted-late, noted-row, noted-pair}
-use Rattle.tables.proofs.Made.{Made}
+use Rattle.tables.proofs.Made.{MadeTable}
 use Rattle.covering.specs.Matched.{uneven}
-use Rattle.covering.specs.Parts.{SoundTable}
+use Rattle.covering.specs.inner.CoveringContracts.{SoundTable}
 
 module _ (b : List ℕ) where
   row-same : (k : ℕ) → rowIn (noted b) k ≡ rowIn b k
@@ -59,13 +59,14 @@ module _ (b : List ℕ) where
 
     pub noted-table : SoundTable (noted b)
     noted-table = record {
-      image = subst Sound (sym noted-decoded) (accepted-sound b ok bytes);
+      image = subst SoundImage (sym noted-decoded) (accepted-sound b ok bytes);
       all = noted-size b ∙ counted b ok .all ∙ sym (ap₂ _+_ (noted-rows-from b) (noted-rows b));
     }
 
-module _ (t b : List ℕ) (made : Made t b) where
+module _ (t b : List ℕ) (made : MadeTable t b) where
   pub made-table : SoundTable b
-  made-table = subst SoundTable (sym (made .is)) (noted-table (contents t) (image-table t (made .accepted)) (image-bytes t (made .accepted)))
+  made-table = subst SoundTable (sym (made .is))
+      (noted-table (contents t) (image-table t (made .accepted)) (image-bytes t (made .accepted)))
 
   pub made-uneven : uneven (decoded b) ≡ uneven (decoded (contents t))
   made-uneven = ap uneven (ap decoded (made .is) ∙ noted-decoded (contents t))

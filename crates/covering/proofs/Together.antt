@@ -13,9 +13,9 @@ use Rattle.lists.proofs.Tests.{no-both, and-l, and-r, and-true, or-cases, or-tr
 use Rattle.bits.specs.Word.{bit, agrees}
 use Rattle.bits.proofs.BitLaws.{bit-and, bit-or, same-bits}
 use Rattle.image.specs.Image.{Image, Row}
-use Rattle.image.proofs.Sound.{SoundRow}
+use Rattle.image.specs.inner.Sound.{SoundRow}
 use Rattle.rows.specs.Rows.{matches}
-use Rattle.covering.specs.Sizes.{together}
+use Rattle.covering.specs.Matched.{together}
 
 -- ---- words above 16 bits
 pub and-low : (w c : ℕ) → c < 65536 → bitAnd w c ≡ bitAnd (w % 65536) c
@@ -106,9 +106,11 @@ pub record Common (r s : Row) : Type 0 where
   pub second : matches word (pick bit 1 0) s ≡ true
 
 module _ (r s : Row) where
-  pub common-together : (w b : ℕ) → r .values < 65536 → s .values < 65536 → matches w b r ≡ true → matches w b s ≡ true → together r s ≡ true
+  pub common-together : (w b : ℕ) → r .values < 65536 → s .values < 65536 → matches w b r ≡ true
+      → matches w b s ≡ true → together r s ≡ true
   common-together w b hr hs p q =
-      and-true (eqb (bitAnd (r .values) (s .care)) (bitAnd (s .values) (r .care))) (eqb (r .bit) 2 || eqb (s .bit) 2 || eqb (r .bit) (s .bit))
+      and-true (eqb (bitAnd (r .values) (s .care)) (bitAnd (s .values) (r .care)))
+      (eqb (r .bit) 2 || eqb (s .bit) 2 || eqb (r .bit) (s .bit))
       (eq-eqb (bitAnd (r .values) (s .care)) (bitAnd (s .values) (r .care)) (both-have w (r .care) (r .values) (s .care) (s .values) hr hs
       (eqb-true (bitAnd w (r .care)) (r .values) (and-l (agrees w (r .care) (r .values)) (suits (r .bit) b) p))
       (eqb-true (bitAnd w (s .care)) (s .values) (and-l (agrees w (s .care) (s .values)) (suits (s .bit) b) q))))

@@ -1,3 +1,2 @@
 pub mod Matched
-pub mod Sizes
-pub mod Parts
+pub mod inner

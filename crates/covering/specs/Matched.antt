@@ -1,16 +1,18 @@
 -- Refusal 23: a label from 2 up whose rows leave some word out, with one of the two bits, or match it more than once.
 use Prim.Native.Nat.{ℕ, _-_}
-use mathlib.Core.Bool.{Bool, not}
+use mathlib.Core.Bool.{Bool, _&&_, _||_, not}
+use lib.Bits.{bitAnd}
 use lib.Dec.{eqb}
-use lib.ListN.{length}
+use lib.ListN.{length, getD}
 use Rattle.lists.specs.Numbers.{any}
 use Rattle.lists.specs.Sequences.{filter}
-use Rattle.image.specs.Image.{Image}
-use Rattle.rows.specs.Rows.{isOwn}
+use Rattle.image.specs.Layout.{NO-BIT}
+use Rattle.image.specs.Image.{Image, Row}
+use Rattle.rows.specs.Rows.{isCandidate}
 
 -- how many rows of label l match word w and bit b
 abbrev pub hits : Image → ℕ → ℕ → ℕ → ℕ
-hits i l w b = length (filter (isOwn l w b) (i .rows))
+hits i l w b = length (filter (isCandidate l w b) (i .rows))
 
 -- with both bits, of which only the rows of a function call's label ask in an accepted image
 abbrev pub unevenWord : Image → ℕ → ℕ → Bool
@@ -21,3 +23,15 @@ unevenLabel i l = any (unevenWord i l) 0 65536
 
 unfoldable pub uneven : Image → Bool
 uneven i = any (unevenLabel i) 2 (length (i .labels) - 2)
+
+abbrev pub noRow : Row
+noRow = record { from = 0; care = 0; values = 0; bit = 0; next = 0 }
+
+abbrev pub rowAt : Image → ℕ → Row
+rowAt i k = getD (i .rows) k noRow
+
+-- some word and bit match both rows: where both care they have the same value
+abbrev pub together : Row → Row → Bool
+together r s =
+    eqb (bitAnd (r .values) (s .care)) (bitAnd (s .values) (r .care))
+    && (eqb (r .bit) NO-BIT || eqb (s .bit) NO-BIT || eqb (r .bit) (s .bit))

@@ -1,6 +1,8 @@
 // Whether each word and bit match just one row of each label from 2 up: refusal 23. Words are not tried: no two rows of a label can match
 // together, and for each bit the numbers of words that its rows match sum up to 65,536.
+use frames::sizes::FRAME;
 use image::byte;
+use image::layout::*;
 use image::pair;
 use image::rows_from;
 ghost use mathlib.Core.Path.{_≡_};
@@ -8,28 +10,29 @@ ghost use mathlib.Core.Bool.{_||_};
 ghost use Prim.Native.Nat.{_-_, _≤_, _<_};
 ghost use lib.Dec.{eqb};
 ghost use Rattle.lists.specs.Numbers.{lowest};
+ghost use Rattle.frames.specs.Sizes.{ROWS};
 ghost use Rattle.frames.specs.Frame.{size};
+ghost use Rattle.image.specs.Layout.{NO-BIT};
 ghost use Rattle.image.specs.Decode.{decoded};
-ghost use Rattle.covering.specs.Sizes.{together};
-ghost use Rattle.covering.specs.Matched.{uneven};
-ghost use Rattle.covering.specs.Parts.{SoundTable, rowIn, rowWith, togetherSome, togetherAny};
-ghost use Rattle.covering.specs.Parts.{wordsWith, wordsIn, unevenRows, isOther};
+ghost use Rattle.covering.specs.Matched.{together, uneven};
+ghost use Rattle.covering.specs.inner.CoveringContracts.{SoundTable, rowInFrame, rowWith, togetherSome, togetherAny};
+ghost use Rattle.covering.specs.inner.CoveringContracts.{wordsWith, wordsIn, unevenRows, isOther};
 
 // Whether some word and bit match the row in frame g and one with this care mask, these values and this function bit.
 fn meets(table: &[u8], g: usize, care: u16, values: u16, bit: u8) -> bool
     requires { ⌜ g < size (now table) ⌝ }
-    ensures { λ r. ⌜ r ≡ together (rowWith care values bit) (rowIn (now (table .entry)) g) ⌝ }
+    ensures { λ r. ⌜ r ≡ together (rowWith care values bit) (rowInFrame (now (table .entry)) g) ⌝ }
 {
-    let mine = values & pair(table, g, 2);
-    let other = pair(table, g, 4) & care;
+    let mine = values & pair(table, g, CARE);
+    let other = pair(table, g, VALUES) & care;
     if mine != other {
         return false;
     }
-    if bit == 2 {
+    if bit == NO_BIT {
         return true;
     }
-    let second = byte(table, g, 6);
-    if second == 2 {
+    let second = byte(table, g, FUNCTION_BIT);
+    if second == NO_BIT {
         return true;
     }
     bit == second
@@ -38,22 +41,22 @@ fn meets(table: &[u8], g: usize, care: u16, values: u16, bit: u8) -> bool
 // Whether some word and bit match the rows in frames f and g.
 pub fn are_together(table: &[u8], f: usize, g: usize) -> bool
     requires { ⌜ (f < size (now table)) × (g < size (now table)) ⌝ }
-    ensures { λ r. ⌜ r ≡ together (rowIn (now (table .entry)) f) (rowIn (now (table .entry)) g) ⌝ }
+    ensures { λ r. ⌜ r ≡ together (rowInFrame (now (table .entry)) f) (rowInFrame (now (table .entry)) g) ⌝ }
 {
-    let care = pair(table, f, 2);
-    let values = pair(table, f, 4);
-    let bit = byte(table, f, 6);
+    let care = pair(table, f, CARE);
+    let values = pair(table, f, VALUES);
+    let bit = byte(table, f, FUNCTION_BIT);
     meets(table, g, care, values, bit)
 }
 
 // Whether some word and bit match the row in frame f and one in the frames from first up to it.
 fn meets_before(table: &[u8], first: usize, f: usize) -> bool
     requires { ⌜ (first ≤ f) × (f < size (now table)) ⌝ }
-    ensures { λ r. ⌜ r ≡ togetherSome (now (table .entry)) (rowIn (now (table .entry)) f) first (f - first) ⌝ }
+    ensures { λ r. ⌜ r ≡ togetherSome (now (table .entry)) (rowInFrame (now (table .entry)) f) first (f - first) ⌝ }
 {
-    let care = pair(table, f, 2);
-    let values = pair(table, f, 4);
-    let bit = byte(table, f, 6);
+    let care = pair(table, f, CARE);
+    let values = pair(table, f, VALUES);
+    let bit = byte(table, f, FUNCTION_BIT);
     let mut g = first;
     while g < f {
         if meets(table, g, care, values, bit) {
@@ -81,9 +84,9 @@ fn any_together(table: &[u8], first: usize, end: usize) -> bool
 
 // Whether a row with this function bit may match with the bit.
 fn suits(only: u8, bit: u8) -> bool
-    ensures { λ r. ⌜ r ≡ (eqb only 2 || eqb only bit) ⌝ }
+    ensures { λ r. ⌜ r ≡ (eqb only NO-BIT || eqb only bit) ⌝ }
 {
-    if only == 2 {
+    if only == NO_BIT {
         return true;
     }
     only == bit
@@ -92,12 +95,12 @@ fn suits(only: u8, bit: u8) -> bool
 // How many words the row in frame f matches with a bit.
 fn words_of(table: &[u8], f: usize, bit: u8) -> u32
     requires { ⌜ f < size (now table) ⌝ }
-    ensures { λ r. ⌜ (r ≡ wordsWith bit (rowIn (now (table .entry)) f)) × (r ≤ 65536) ⌝ }
+    ensures { λ r. ⌜ (r ≡ wordsWith bit (rowInFrame (now (table .entry)) f)) × (r ≤ 65536) ⌝ }
 {
-    if !suits(byte(table, f, 6), bit) {
+    if !suits(byte(table, f, FUNCTION_BIT), bit) {
         return 0;
     }
-    let care = pair(table, f, 2);
+    let care = pair(table, f, CARE);
     let free = 16 - u16::count_ones(care);
     1 << free
 }
@@ -105,7 +108,7 @@ fn words_of(table: &[u8], f: usize, bit: u8) -> u32
 // The sum over the rows in frames from first up to end.
 fn words_in(table: &[u8], first: usize, end: usize, bit: u8) -> u32
     requires { ⌜ (first ≤ end) × (end ≤ size (now table)) ⌝ }
-    requires { ⌜ end - first ≤ 1024 ⌝ }
+    requires { ⌜ end - first ≤ ROWS ⌝ }
     ensures { λ r. ⌜ r ≡ wordsIn (now (table .entry)) bit first (end - first) ⌝ }
 {
     let mut total: u32 = 0;
@@ -121,7 +124,7 @@ fn words_in(table: &[u8], first: usize, end: usize, bit: u8) -> u32
 // they are the most.
 fn uneven_rows(table: &[u8], first: usize, end: usize) -> bool
     requires { ⌜ (first ≤ end) × (end ≤ size (now table)) ⌝ }
-    requires { ⌜ end - first ≤ 1024 ⌝ }
+    requires { ⌜ end - first ≤ ROWS ⌝ }
     ensures { λ r. ⌜ r ≡ unevenRows (now (table .entry)) first (end - first) ⌝ }
 {
     if words_in(table, first, end, 0) != 65536 {
@@ -138,10 +141,10 @@ fn rows_end(table: &[u8], f: usize, label: u8) -> usize
     requires { ⌜ f ≤ size (now table) ⌝ }
     ensures { λ r. ⌜ r ≡ lowest (isOther (now (table .entry)) label) f (size (now (table .entry)) - f) ⌝ }
 {
-    let end = table.len() / 10;
+    let end = table.len() / FRAME;
     let mut g = f;
     while g < end {
-        if byte(table, g, 1) != label {
+        if byte(table, g, FROM) != label {
             return g;
         }
         g += 1;
@@ -154,7 +157,7 @@ pub fn is_uneven(table: &[u8]) -> bool
     requires { ⌜ SoundTable (now table) ⌝ }
     ensures { λ r. ⌜ r ≡ uneven (decoded (now (table .entry))) ⌝ }
 {
-    let last = byte(table, 0, 2) as usize;
+    let last = byte(table, 0, LAST_LABEL) as usize;
     let mut first = rows_from(table);
     let mut l: usize = 2;
     while l <= last {

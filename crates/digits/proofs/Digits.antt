@@ -16,7 +16,8 @@ use Rattle.lists.proofs.Tests.{and-l, and-r, split, cases, no-pick}
 use Rattle.lists.proofs.Tabulated.{getD-tabulate}
 use Rattle.digits.specs.Digit.{numeralOf, letterOf, digitOf, charOf, capital}
 
--- what each of the 256 characters gives, computed: 48 of them nothing, then 0 to 9, 7 nothing, A to F, 26 nothing, a to f, the others nothing
+-- what each of the 256 characters gives, computed:
+-- 48 of them nothing, then 0 to 9, 7 nothing, A to F, 26 nothing, a to f, the others nothing
 pub digit-each : tabulate digitOf 256
     ≡ replicate 48 255 ++ (range 0 10 ++ (replicate 7 255 ++ (range 10 6 ++ (replicate 26 255 ++ (range 10 6 ++ replicate 153 255)))))
 unfolding tabulate digitOf
@@ -66,7 +67,14 @@ digit-high c h l = simp (lt-leb c 57 (omega arith), le-leb 48 c (omega arith), l
 pub digit-of-small : (c : ℕ) → 97 ≤ c → c ≤ 102 → digitOf c ≡ c - 87
 unfolding digitOf
 digit-of-small c h l =
-    simp (lt-leb c 57 (omega arith), le-leb 48 c (omega arith), le-leb 65 c (omega arith), lt-leb c 70 (omega arith), le-leb 97 c h, le-leb c 102 l)
+    simp (
+      lt-leb c 57 (omega arith),
+      le-leb 48 c (omega arith),
+      le-leb 65 c (omega arith),
+      lt-leb c 70 (omega arith),
+      le-leb 97 c h,
+      le-leb c 102 l,
+    )
 
 pub capital-of-small : (c : ℕ) → 97 ≤ c → c ≤ 102 → capital c ≡ c - 32
 unfolding capital

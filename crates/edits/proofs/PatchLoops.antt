@@ -6,7 +6,7 @@ use native.Mathlib.Numerals.{add-one}
 use native.Mathlib.Omega.{arith}
 use lib.ListN.{length, getD, set, drop, length-set, length-drop}
 use lib.Seq.{drop-cons, set-out}
-use Rattle.edits.specs.Patch.{patched}
+use Rattle.edits.specs.inner.Patch.{patched}
 
 pub record Patching (bytes₀ edits bytes : List ℕ) (i : ℕ) : Type 0 where
   pub inside : i ≤ length edits

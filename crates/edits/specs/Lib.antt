@@ -1,1 +1,1 @@
-pub mod Patch
+pub mod inner

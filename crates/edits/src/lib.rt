@@ -1,6 +1,6 @@
 // Bytes edited at places: how the programs of cases make a faulty input from a good one.
 ghost use mathlib.Core.Path.{_≡_};
-ghost use Rattle.edits.specs.Patch.{patched};
+ghost use Rattle.edits.specs.inner.Patch.{patched};
 
 // Pairs of a place and the byte that is put there.
 pub fn patch(bytes: &mut [u8], edits: &[u8])

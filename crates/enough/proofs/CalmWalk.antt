@@ -1,4 +1,5 @@
--- With as many places as the longest chain has schemes, and every number served by its own scheme, no call of the walk finds as many schemes
+-- With as many places as the longest chain has schemes, and every number served by its own scheme,
+-- no call of the walk finds as many schemes
 -- open: none gets 17, and none is a drop.
 use Prim.Native.Nat.{ℕ, suc, _≤_}
 use mathlib.Core.Bool.{Bool, true, false, _&&_, _||_, not}
@@ -9,19 +10,19 @@ use lib.Dec.{eqb}
 use lib.ListN.{length}
 use native.Mathlib.Omega.{arith}
 use borrow.Author.Tests.{ne-eqb}
-use Rattle.lists.proofs.Joins.{All}
+use Rattle.lists.specs.Sequences.{All}
 use Rattle.lists.proofs.Tests.{no-both, and-no}
-use Rattle.bits.specs.Results.{Results, noResults}
-use Rattle.bits.specs.Binding.{ownBinding, served}
+use Rattle.results.specs.Results.{Results, noResults}
+use Rattle.bindings.specs.Binding.{ownBinding, served}
 use Rattle.charts.specs.Chart.{Chart, kind, argument, handler, schemes}
 use Rattle.walk.specs.Stops.{Stop, stopAt}
 use Rattle.walk.specs.Walk.{Signal, Tick, isDrop, drops, bottom, walk}
 use Rattle.walk.proofs.Facts.{Facts}
 use Rattle.walk.proofs.Views.{View, a-plain, a-call, a-function, a-home, a-back, a-begin, a-condition}
-use Rattle.walk.proofs.Trace.{Open, opens, Position, at, returned, called, movedBy, tickAt, move, trace, atHome}
+use Rattle.walk.proofs.Trace.{Open, opens, WalkPosition, at, positionReturned, positionCalled, movedBy, tickAt, move, trace, positionAtHome}
 use Rattle.walk.proofs.Trace.{Serves, Caller, Under, Good, view-of, moves, home-good}
 use Rattle.walk.proofs.OwnBinding.{served-own, own-serves}
-use Rattle.walk.proofs.Drops.{isCall, drop-exactly}
+use Rattle.walk.proofs.Drops.{isCallStop, drop-exactly}
 use Rattle.walk.proofs.Recursion.{walk-trace}
 use Rattle.chains.specs.Calls.{holdsCall, circular, places}
 use Rattle.chains.specs.Chains.{Calls, Chain, first, on}
@@ -46,10 +47,11 @@ Own k = k .number ≡ k .server
 
 open-chain : (c : Chart) (x : Open) (ks : List Open) → Under c 1 x ks → All Own (x ∷ ks) → Chain c (suc (length ks)) (x .server)
 open-chain c x [] u own = subst (Chain c 1) (sym (u .1)) first
-open-chain c x (k ∷ ks) u own = on (open-chain c k ks (u .1) (own .1)) (subst (Calls c (k .server)) (own .0) (caller-calls c (x .number) k (u .0)))
+open-chain c x (k ∷ ks) u own =
+    on (open-chain c k ks (u .1) (own .1)) (subst (Calls c (k .server)) (own .0) (caller-calls c (x .number) k (u .0)))
 
 -- scheme 1 is the first open one, and all go by their own numbers
-record Plain (y : Position) : Type 0 where
+record Plain (y : WalkPosition) : Type 0 where
   first : y .first ≡ false
   owned : All Own (y .now ∷ y .callers)
 
@@ -72,24 +74,24 @@ module _ (c : Chart) (f : Facts c) (calm : circular c ≡ false) (n : ℕ) (enou
     stays : (u : ℕ) (d : Results) → Plain (at (opens u (x .number) (x .server)) ks d t)
     stays u d = record { first = p .first; owned = p .owned }
 
-    called-by : (h k : ℕ) (d : Results) (u : Bool) → h ≡ k → u ≡ false → Plain (called c x ks h k d t u)
+    called-by : (h k : ℕ) (d : Results) (u : Bool) → h ≡ k → u ≡ false → Plain (positionCalled c x ks h k d t u)
     called-by h k d true e q = no-both true refl q
     called-by h k d false e q = record { first = p .first; owned = (e, p .owned) }
 
     module _ (w : Signal) (told : ToldOwn w) where
       called-plain : (h : ℕ) (d : Results) → (2 ≤ h) × (h ≤ schemes c) → eqb (suc (length ks)) n ≡ false
-          → Plain (called c x ks h (served (w .binding) h) d t (drops n c t (suc (length ks))))
+          → Plain (positionCalled c x ks h (served (w .binding) h) d t (drops n c t (suc (length ks))))
       called-plain h d l q = called-by h (served (w .binding) h) d (drops n c t (suc (length ks)))
           (sym (ap (λ s. served s h) told ∙ served-own h (omega arith) (omega (arith, f .most))))
           (and-no (not t && not (eqb (handler c) 0)) (eqb (suc (length ks)) n) q)
 
-      returned-plain : (ks : List Open) → All Own ks → Plain (returned c ks (w .word) b t)
+      returned-plain : (ks : List Open) → All Own ks → Plain (positionReturned c ks (w .word) b t)
       returned-plain [] own = record { first = refl; owned = (refl, tt) }
       returned-plain (k ∷ ks) own = record { first = p .first; owned = own }
 
       -- a call finds fewer schemes open than places, and the position after it is plain too
       calm-by : {s : Stop} → View c v s
-          → ((isCall s && eqb (suc (length ks)) n) ≡ false) × Plain (movedBy c (drops n c t (suc (length ks))) x ks w b t s)
+          → ((isCallStop s && eqb (suc (length ks)) n) ≡ false) × Plain (movedBy c (drops n c t (suc (length ks))) x ks w b t s)
       calm-by (a-plain k a) = (refl, stays _ _)
       calm-by (a-call k a) =
           let l = f .calls v (g .top .inside) k a in let q = not-full (inl k) (l .0) in (q, called-plain (argument c v) _ l q)
@@ -101,7 +103,7 @@ module _ (c : Chart) (f : Facts c) (calm : circular c ≡ false) (n : ℕ) (enou
       calm-by (a-condition k) = (refl, stays _ b)
 
   -- a tick that gets no 17 and is no drop, and the position after it
-  record Calm (t : Tick) (y : Position) : Type 0 where
+  record Calm (t : Tick) (y : WalkPosition) : Type 0 where
     made : isFullCall n t ≡ false
     quiet : isDrop t ≡ false
     kept : Plain y
@@ -111,10 +113,10 @@ module _ (c : Chart) (f : Facts c) (calm : circular c ≡ false) (n : ℕ) (enou
   both true false q e = refl
   both false p q e = refl
 
-  calm-at : (x : Position) → Plain x → Good c x → (w : Signal) → ToldOwn w → Calm (tickAt n c x) (move n c w x)
+  calm-at : (x : WalkPosition) → Plain x → Good c x → (w : Signal) → ToldOwn w → Calm (tickAt n c x) (move n c w x)
   calm-at x p g w told =
       let o : Bool = eqb (suc (length (x .callers))) n in
-      let k : Bool = isCall (stopAt c (x .now .node)) in
+      let k : Bool = isCallStop (stopAt c (x .now .node)) in
       let r = calm-by (x .now) (x .callers) (x .results) (x .first) p g w told (view-of c f x g) in
       record {
         made = full-exactly c f n x g ∙ both k (x .first || eqb (handler c) 0) o (r .0);
@@ -122,7 +124,7 @@ module _ (c : Chart) (f : Facts c) (calm : circular c ≡ false) (n : ℕ) (enou
         kept = r .1;
       }
 
-  calm-trace : (ws : List Signal) (x : Position) → All ToldOwn ws → Plain x → Good c x
+  calm-trace : (ws : List Signal) (x : WalkPosition) → All ToldOwn ws → Plain x → Good c x
       → (bound n (trace n c ws x) ≡ length ws) × All (λ (t : Tick). isDrop t ≡ false) (trace n c ws x)
   unfolding trace bound
   calm-trace [] x told p g = (refl, tt)
@@ -136,4 +138,4 @@ module _ (c : Chart) (f : Facts c) (calm : circular c ≡ false) (n : ℕ) (enou
       → (bound n (walk n c ws) ≡ length ws) × All (λ (t : Tick). isDrop t ≡ false) (walk n c ws)
   calm-walk ws told =
       subst (λ (ts : List Tick). (bound n ts ≡ length ws) × All (λ (t : Tick). isDrop t ≡ false) ts) (sym (walk-trace n c ws))
-      (calm-trace ws (atHome c noResults) told (record { first = refl; owned = (refl, tt) }) (home-good c f noResults))
+      (calm-trace ws (positionAtHome c noResults) told (record { first = refl; owned = (refl, tt) }) (home-good c f noResults))

@@ -3,35 +3,37 @@ use Prim.Native.Nat.{ℕ, _≤_}
 use mathlib.Core.Path.{_≡_, refl, sym, _∙_, ap, ap₂, subst}
 use mathlib.Core.List.{List, [], _∷_, map}
 use native.Mathlib.Omega.{arith}
-use Rattle.lists.proofs.Joins.{All}
-use Rattle.bits.specs.Binding.{ownBinding}
+use Rattle.lists.specs.Sequences.{All}
+use Rattle.bindings.specs.Binding.{ownBinding}
 use Rattle.frames.specs.Frame.{contents}
 use Rattle.frames.specs.Verdict.{Verdict, fine, refused}
-use Rattle.frames.specs.Answer.{Reply, success, number, count, judged}
-use Rattle.frames.proofs.Refuses.{Refuses, next-refuses, when-refuses}
+use Rattle.frames.specs.Answer.{Reply, success, replyNumber, replyCount, judged}
+use Rattle.frames.proofs.Refuses.{RefusesWith, next-refuses, when-refuses}
 use Rattle.charts.specs.Chart.{Chart}
 use Rattle.walk.specs.Walk.{Signal, Tick, walk}
 use Rattle.translator.specs.Entry.{translateVerdict}
 use Rattle.chains.specs.Calls.{circular, places}
 use Rattle.places.specs.Entry.{placesVerdict, placesNeeded}
 use Rattle.places.proofs.Reported.{needed-is, needed-calm, needed-facts, needed-few}
-use Rattle.agreement.specs.Agreement.{Given, Handed, byRun, byRebinding, joined, bound, walked}
+use Rattle.agreement.specs.Agreement.{CallInput, CallOutput, byRun, byRebinding, joinedWords, bound, walkOutputs}
 use Rattle.agreement.specs.Calls.{Delivered}
-use Rattle.agreement.specs.ForC.{HandedC, handedC, DeliveredC}
+use Rattle.agreement.specs.ForC.{CallOutputC, callOutputC, DeliveredC}
 use Rattle.agreement.proofs.Bounds.{bound-le}
 use Rattle.agreement.proofs.Delivered.{delivered}
 use Rattle.agreement.proofs.ForC.{delivered-c}
 use Rattle.agreement.proofs.Numbers.{Positive, translate-positive}
-use Rattle.enough.specs.Enough.{OwnServed, allMade, replyOf, dropless, AllMade, Enough, numberOfC, countOfC, droplessC, AllMadeC, EnoughC}
+use Rattle.enough.specs.Enough.{OwnServed, allMade, replyOf, dropless, AllMade, Enough}
+use Rattle.enough.specs.Enough.{numberOfC, countOfC, droplessC, AllMadeC, EnoughC}
 use Rattle.enough.proofs.CalmWalk.{calm-walk}
 use Rattle.enough.proofs.Made.{expected-made}
 
 -- ---- what demand 3 expects is then a tick for every word
 module _ (text : List ℕ) (k : ℕ) (needed : placesNeeded text ≡ success k) (size : ℕ) (l : k ≤ size) where
-  pub all-expected : (given : List Given) → OwnServed (contents text) given → AllMade (contents text) given (walked size (contents text) given)
+  pub all-expected : (given : List CallInput) → OwnServed (contents text) given
+      → AllMade (contents text) given (walkOutputs size (contents text) given)
   all-expected given own =
       let c : Chart = contents text in
-      let ws : List Signal = joined c ownBinding given in
+      let ws : List Signal = joinedWords c ownBinding given in
       let ts : List Tick = walk size c ws in
       let q = calm-walk c (needed-facts text k needed) (needed-calm text k needed) size (omega (arith, needed-is text k needed)) ws own in
       expected-made (bound size ts) ts (bound-le size ts) (q .1) c given ownBinding 0 (omega (arith, q .0))
@@ -49,42 +51,43 @@ enough text before after answer lends n done told e k needed size l most made m 
 
 -- ---- for C
 -- success is told by the number 0
-judged-0 : (v : Verdict) → Refuses Positive v → (n : ℕ) → number (judged v n) ≡ 0 → judged v n ≡ success (count (judged v n))
+judged-0 : (v : Verdict) → RefusesWith Positive v → (n : ℕ) → replyNumber (judged v n) ≡ 0 → judged v n ≡ success (replyCount (judged v n))
 judged-0 fine p n e = refl
 judged-0 (refused k i) p n e = absurd (omega (arith, p))
 
-needed-0 : (text : List ℕ) → number (placesNeeded text) ≡ 0 → placesNeeded text ≡ success (count (placesNeeded text))
+needed-0 : (text : List ℕ) → replyNumber (placesNeeded text) ≡ 0 → placesNeeded text ≡ success (replyCount (placesNeeded text))
 unfolding placesNeeded placesVerdict
 needed-0 text e = judged-0 (placesVerdict text)
-    (next-refuses Positive (translateVerdict text) _ (translate-positive text) (when-refuses Positive 20 (circular (contents text)) (omega arith)))
+    (next-refuses Positive (translateVerdict text) _ (translate-positive text)
+    (when-refuses Positive 20 (circular (contents text)) (omega arith)))
     (places (contents text)) e
 
 module _ (c : Chart) where
-  made-c : (given : List Given) (handed : List Handed) → AllMade c given handed → AllMadeC c given (map handedC handed)
+  made-c : (given : List CallInput) (handed : List CallOutput) → AllMade c given handed → AllMadeC c given (map callOutputC handed)
   made-c given handed a = record {
-    numbers = by number numberOfC handed-number handed ∙ ap (map number) (a .replies) ∙ through number given;
-    counts = by count countOfC handed-count handed ∙ ap (map count) (a .replies) ∙ through count given;
+    numbers = by replyNumber numberOfC handed-number handed ∙ ap (map replyNumber) (a .replies) ∙ through replyNumber given;
+    counts = by replyCount countOfC handed-count handed ∙ ap (map replyCount) (a .replies) ∙ through replyCount given;
     drops = quiet handed (a .drops);
   }
     where
-      handed-number : (d : Handed) → numberOfC (handedC d) ≡ number (replyOf d)
+      handed-number : (d : CallOutput) → numberOfC (callOutputC d) ≡ replyNumber (replyOf d)
       handed-number (byRun t) = refl
       handed-number (byRebinding r) = refl
 
-      handed-count : (d : Handed) → countOfC (handedC d) ≡ count (replyOf d)
+      handed-count : (d : CallOutput) → countOfC (callOutputC d) ≡ replyCount (replyOf d)
       handed-count (byRun t) = refl
       handed-count (byRebinding r) = refl
 
-      by : (f : Reply → ℕ) (g : HandedC → ℕ) → ((d : Handed) → g (handedC d) ≡ f (replyOf d)) → (ds : List Handed)
-          → map g (map handedC ds) ≡ map f (map replyOf ds)
+      by : (f : Reply → ℕ) (g : CallOutputC → ℕ) → ((d : CallOutput) → g (callOutputC d) ≡ f (replyOf d)) → (ds : List CallOutput)
+          → map g (map callOutputC ds) ≡ map f (map replyOf ds)
       by f g h [] = refl
       by f g h (d ∷ ds) = ap₂ (λ (x : ℕ) (xs : List ℕ). x ∷ xs) (h d) (by f g h ds)
 
-      through : (f : Reply → ℕ) (rest : List Given) → map f (map (allMade c) rest) ≡ map (λ g. f (allMade c g)) rest
+      through : (f : Reply → ℕ) (rest : List CallInput) → map f (map (allMade c) rest) ≡ map (λ g. f (allMade c g)) rest
       through f [] = refl
       through f (g ∷ rest) = ap (λ (xs : List ℕ). f (allMade c g) ∷ xs) (through f rest)
 
-      quiet : (ds : List Handed) → All dropless ds → All droplessC (map handedC ds)
+      quiet : (ds : List CallOutput) → All dropless ds → All droplessC (map callOutputC ds)
       quiet [] a = tt
       quiet (byRun t ∷ ds) a = (a .0, quiet ds (a .1))
       quiet (byRebinding r ∷ ds) a = (tt, quiet ds (a .1))

@@ -5,7 +5,7 @@ use Rattle.frames.specs.Frame.{textOf}
 use Rattle.frames.specs.Answer.{success}
 use Rattle.charts.specs.Chart.{Chart}
 use Rattle.places.specs.Entry.{placesNeeded}
-use Rattle.agreement.specs.Agreement.{Given, walked}
+use Rattle.agreement.specs.Agreement.{CallInput, walkOutputs}
 use Rattle.enough.specs.Enough.{AllMade}
 
 -- condition 0 is tested twice by one word; the call of scheme 2 stands on the 1 side and then on the 0 side
@@ -19,4 +19,4 @@ chartNever =
 -- its number is 2, and with one place every run of any list makes a tick for every word, whatever the rebindings
 pub record Smaller : Type 0 where
   pub number : placesNeeded (textOf chartNever) ≡ success 2
-  pub one : (given : List Given) → AllMade chartNever given (walked 1 chartNever given)
+  pub one : (given : List CallInput) → AllMade chartNever given (walkOutputs 1 chartNever given)

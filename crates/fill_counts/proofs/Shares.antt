@@ -13,7 +13,7 @@ use Rattle.lists.proofs.Counts.{count-snoc, count-all, count-none, count-alike}
 use Rattle.covering.proofs.Sums.{sum-add, sum-zero, sum-same}
 use Rattle.image.specs.Image.{Image}
 use Rattle.state.specs.declared.State.{State}
-use Rattle.ticks.specs.Tick.{Ticked, ticked, stopped, tick}
+use Rattle.ticks.specs.Tick.{MachineTick, finished, stopped, tick}
 use Rattle.runs.specs.Run.{then, ticks}
 use Rattle.fillings.specs.Counts.{wordsOf, lists, numberOf, met, meeting}
 use Rattle.fillings.proofs.Lists.{lists-suc}
@@ -46,8 +46,8 @@ by-rest p b (suc a) =
     omega (arith, e, s, count-block p (a * b) b, by-rest p b a)
 
 -- ---- how many of the lists that begin alike meet a number
-abbrev pub share : Image → ℕ → ℕ → ℕ → Ticked → ℕ
-share i n k number (ticked m c t) = meeting i t n k number
+abbrev pub share : Image → ℕ → ℕ → ℕ → MachineTick → ℕ
+share i n k number (finished m c t) = meeting i t n k number
 share i n k number (stopped m) = pick (eqb m number) (lists n k) 0
 
 all-or-none : (b : Bool) (m : ℕ) → count (λ q. b) 0 m ≡ pick b m 0
@@ -62,14 +62,14 @@ module _ (i : Image) (s : State) (n k number : ℕ) where
   unfolding wordsOf
   words-more q w l = ap₂ (λ (a : ℕ) (b : ℕ). a ∷ wordsOf n k b) (low q k l) (high q k l)
 
-  by-tick : (w : ℕ) (x : Ticked) → tick i s w ≡ x → count (λ q. meets (w ∷ wordsOf n k q)) 0 (lists n k) ≡ share i n k number x
+  by-tick : (w : ℕ) (x : MachineTick) → tick i s w ≡ x → count (λ q. meets (w ∷ wordsOf n k q)) 0 (lists n k) ≡ share i n k number x
   unfolding ticks meeting
-  by-tick w (ticked m c t) e =
+  by-tick w (finished m c t) e =
       count-alike (λ q. eqb (met i t (wordsOf n k q)) number) (λ q. meets (w ∷ wordsOf n k q)) 0 (lists n k)
-      (λ q l h. ap (λ (y : Ticked). eqb (numberOf (then s (λ u. ticks i u (wordsOf n k q)) y .verdict)) number) e)
+      (λ q l h. ap (λ (y : MachineTick). eqb (numberOf (then s (λ u. ticks i u (wordsOf n k q)) y .verdict)) number) e)
   by-tick w (stopped m) e =
       count-alike (λ q. eqb m number) (λ q. meets (w ∷ wordsOf n k q)) 0 (lists n k)
-      (λ q l h. ap (λ (y : Ticked). eqb (numberOf (then s (λ u. ticks i u (wordsOf n k q)) y .verdict)) number) e)
+      (λ q l h. ap (λ (y : MachineTick). eqb (numberOf (then s (λ u. ticks i u (wordsOf n k q)) y .verdict)) number) e)
       ∙ all-or-none (eqb m number) (lists n k)
 
   pub meeting-more : meeting i s (suc n) k number ≡ sum (λ w. share i n k number (tick i s w)) 0 (2 ^ k)

@@ -1,12 +1,15 @@
 // How the runs of all lists of words end, counted on a prepared table: lists that share a beginning share its ticks.
+use frames::refusals::FULL;
+use frames::refusals::NO_ROW;
 use runs::tick_word;
+use state::layout::STATE_BYTES;
 ghost use mathlib.Core.Path.{_≡_};
 ghost use Prim.Native.Nat.{_*_, _^_, _≤_};
 ghost use Rattle.lists.specs.Pick.{pick};
 ghost use Rattle.tables.specs.Table.{tableImage};
 ghost use Rattle.state.specs.Bytes.{stateOf};
-ghost use Rattle.ticks.specs.Parts.{Stands};
-ghost use Rattle.fill_counts.specs.Parts.{tallyOf, allMeet, added, Few};
+ghost use Rattle.ticks.specs.inner.TickContracts.{TickAsked};
+ghost use Rattle.fill_counts.specs.inner.TallyContracts.{tallyOf, allMeet, added, FewLists};
 
 // Of some lists: how many run to their end, meet 17 and meet 18.
 pub struct Tally {
@@ -37,13 +40,13 @@ fn all_meet(number: u8, lists: u32) -> Tally
 {
     Tally {
         ended: only_if(number == 0, lists),
-        full: only_if(number == 17, lists),
-        unmatched: only_if(number == 18, lists),
+        full: only_if(number == FULL, lists),
+        unmatched: only_if(number == NO_ROW, lists),
     }
 }
 
 fn add(a: Tally, b: Tally) -> Tally
-    requires { ⌜ Few (added a b) ⌝ }
+    requires { ⌜ FewLists (added a b) ⌝ }
     ensures { λ r. ⌜ r ≡ added a b ⌝ }
 {
     Tally {
@@ -54,8 +57,8 @@ fn add(a: Tally, b: Tally) -> Tally
 }
 
 // Words that all are 0: one list, tick by tick.
-pub fn tally_one(table: &[u8], bytes: [u8; 130], n: usize) -> Tally
-    requires { ⌜ Stands (now table) (stateOf bytes) ⌝ }
+pub fn tally_one(table: &[u8], bytes: [u8; STATE_BYTES], n: usize) -> Tally
+    requires { ⌜ TickAsked (now table) (stateOf bytes) ⌝ }
     ensures { λ r. ⌜ r ≡ tallyOf (tableImage (now (table .entry))) (stateOf bytes) n 0 ⌝ }
 {
     let mut state = bytes;
@@ -73,8 +76,8 @@ pub fn tally_one(table: &[u8], bytes: [u8; 130], n: usize) -> Tally
 
 // Each first word has its tick once, and then the rest of the words are tallied from there;
 // a word that is stopped stops all lists that begin so.
-pub fn tally_all(table: &[u8], bytes: &[u8; 130], n: usize, k: usize) -> Tally
-    requires { ⌜ Stands (now table) (stateOf (now bytes)) ⌝ }
+pub fn tally_all(table: &[u8], bytes: &[u8; STATE_BYTES], n: usize, k: usize) -> Tally
+    requires { ⌜ TickAsked (now table) (stateOf (now bytes)) ⌝ }
     requires { ⌜ n * k ≤ 16 ⌝ }
     ensures { λ r. ⌜ r ≡ tallyOf (tableImage (now (table .entry))) (stateOf (now (bytes .entry))) n k ⌝ }
 {

@@ -13,8 +13,8 @@ use Rattle.lists.specs.Sequences.{some}
 use Rattle.lists.proofs.Tests.{or-l}
 use Rattle.lists.proofs.Counts.{count-none, count-alike}
 use Rattle.lists.proofs.Searches.{some-cons}
-use Rattle.bits.specs.Results.{noResults}
-use Rattle.bits.specs.Binding.{ownBinding}
+use Rattle.results.specs.Results.{noResults}
+use Rattle.bindings.specs.Binding.{ownBinding}
 use Rattle.frames.specs.Frame.{contents}
 use Rattle.frames.specs.Verdict.{Verdict, fine, refused, next, when}
 use Rattle.frames.proofs.Verdicts.{next-first, next-rest, when-fine}
@@ -23,7 +23,7 @@ use Rattle.charts.specs.Entry.{readVerdict}
 use Rattle.walk.specs.Walk.{Tick, signals}
 use Rattle.walk.proofs.Facts.{Facts}
 use Rattle.walk.proofs.FactsHold.{facts}
-use Rattle.walk.proofs.Trace.{trace, trace-length, atHome, home-good}
+use Rattle.walk.proofs.Trace.{trace, trace-length, positionAtHome, home-good}
 use Rattle.walk.proofs.Recursion.{walk-trace}
 use Rattle.image.specs.Image.{Image}
 use Rattle.image.specs.Decode.{decoded}
@@ -33,7 +33,7 @@ use Rattle.translator.specs.Entry.{translateVerdict, translate}
 use Rattle.translator.proofs.Translated.{translated-read, translated-fine, translated-image}
 use Rattle.state.specs.declared.State.{State}
 use Rattle.state.specs.State.{fresh, badSize}
-use Rattle.runs.specs.Run.{Ran, ticks}
+use Rattle.runs.specs.Run.{MachineRun, ticks}
 use Rattle.state.proofs.Sizes.{size-most}
 use Rattle.agreement.specs.Agreement.{isFullCall, bound}
 use Rattle.agreement.proofs.TableFacts.{TableFacts}
@@ -41,7 +41,8 @@ use Rattle.agreement.proofs.TableFactsHold.{table-facts}
 use Rattle.agreement.proofs.Bounds.{bound-stop, bound-go}
 use Rattle.agreement.proofs.Ticks.{ticks-are}
 use Rattle.agreement.proofs.Images.{translated-passes, translated-decoded}
-use Rattle.fillings.specs.Counts.{wordsOf, lists, numberOf, met, meeting, tooMany, countVerdict, Counts, countedBy, counted}
+use Rattle.fillings.specs.Counts.{wordsOf, lists, numberOf, met, meeting, tooManyLists, countVerdict}
+use Rattle.fillings.specs.Counts.{FillingsOutcome, fillingsOn, countFillings}
 use Rattle.fill_walks.specs.Promises.{tooDeep, walksDeep, AlwaysCounted, ByTheWalk}
 use Rattle.fillings.proofs.Sums.{counted-fine}
 use Rattle.walk.proofs.OwnBinding.{own-serves}
@@ -75,13 +76,13 @@ never-18 false = refl
 module _ (c : Chart) (f : Facts c) (tableFacts : TableFacts c) (size : ℕ) (low : 1 ≤ size) (high : size ≤ 32) where
   pub met-is : (ws : List ℕ) → met (table c) (fresh size) ws ≡ numberOf (pick (walksDeep size c ws) (refused 17 0) fine)
   met-is ws =
-      let ts : List Tick = trace size c (signals ownBinding ws) (atHome c noResults) in
+      let ts : List Tick = trace size c (signals ownBinding ws) (positionAtHome c noResults) in
       ap (λ (s : State). numberOf (ticks (table c) s ws .verdict)) (home-is c f size)
-      ∙ ap (λ (r : Ran). numberOf (r .verdict))
-      (ticks-are c size ownBinding f (own-serves c f) high tableFacts ws (atHome c noResults)
+      ∙ ap (λ (r : MachineRun). numberOf (r .verdict))
+      (ticks-are c size ownBinding f (own-serves c f) high tableFacts ws (positionAtHome c noResults)
       (record { low = low; good = home-good c f noResults }))
       ∙ ap (λ (m : ℕ). numberOf (pick (ltb (bound size ts) m) (refused 17 0) fine))
-      (sym (trace-length size c (signals ownBinding ws) (atHome c noResults) ∙ signals-length ws))
+      (sym (trace-length size c (signals ownBinding ws) (positionAtHome c noResults) ∙ signals-length ws))
       ∙ ap (λ (b : Bool). numberOf (pick b (refused 17 0) fine)) (sym (deep-bound size ts))
       ∙ ap (λ (us : List Tick). numberOf (pick (tooDeep size us) (refused 17 0) fine)) (sym (walk-trace size c (signals ownBinding ws)))
 
@@ -98,24 +99,25 @@ module _ (c : Chart) (f : Facts c) (tableFacts : TableFacts c) (size : ℕ) (low
 
 size-told : (t : List ℕ) (size n k : ℕ) → countVerdict t size n k ≡ fine → badSize size ≡ false
 unfolding countVerdict
-size-told t size n k v = when-fine 14 (badSize size) (next-first (when 14 (badSize size)) (λ _. when 28 (tooMany n k))
-    (next-rest (imageVerdict t) (λ _. next (when 14 (badSize size)) λ _. when 28 (tooMany n k)) v))
+size-told t size n k v = when-fine 14 (badSize size) (next-first (when 14 (badSize size)) (λ _. when 28 (tooManyLists n k))
+    (next-rest (imageVerdict t) (λ _. next (when 14 (badSize size)) λ _. when 28 (tooManyLists n k)) v))
 
 pub always-counted : AlwaysCounted
-unfolding AlwaysCounted counted countVerdict
+unfolding AlwaysCounted countFillings countVerdict
 always-counted text out m translated size n k s few =
     let ok : translateVerdict text ≡ fine = translated-fine text out m translated in
     let image : List ℕ = take m (translate text out .buffer) in
     let passes : imageVerdict image ≡ fine = ap imageVerdict (translated-image text out m translated)
     ∙ translated-passes text ok (facts text (translated-read text ok)) in
     let size-fine : when 14 (badSize size) ≡ fine = ap (when 14) s in
-    let few-fine : when 28 (tooMany n k) ≡ fine = ap (when 28) few in
-    let v : countVerdict image size n k ≡ fine = ap (λ (w : Verdict). next w λ _. next (when 14 (badSize size)) λ _. when 28 (tooMany n k)) passes
-    ∙ ap (λ (w : Verdict). next w λ _. when 28 (tooMany n k)) size-fine ∙ few-fine in
-    ap (λ (w : Verdict). countedBy (decoded (contents image)) size n k w .reply) v
+    let few-fine : when 28 (tooManyLists n k) ≡ fine = ap (when 28) few in
+    let v : countVerdict image size n k ≡ fine =
+    ap (λ (w : Verdict). next w λ _. next (when 14 (badSize size)) λ _. when 28 (tooManyLists n k)) passes
+    ∙ ap (λ (w : Verdict). next w λ _. when 28 (tooManyLists n k)) size-fine ∙ few-fine in
+    ap (λ (w : Verdict). fillingsOn (decoded (contents image)) size n k w .reply) v
 
 pub by-the-walk : ByTheWalk
-unfolding ByTheWalk counted
+unfolding ByTheWalk countFillings
 by-the-walk text out m translated size n k e =
     let c : Chart = contents text in
     let ok : translateVerdict text ≡ fine = translated-fine text out m translated in
@@ -128,8 +130,8 @@ by-the-walk text out m translated size n k e =
     ∙ translated-decoded text ok f in
     let s : badSize size ≡ false = size-told image size n k v in
     let z : size ≡ 0 → ⊥ = eqb-false size 0 (or-l (eqb size 0) (ltb 32 size) s) in
-    let is : countedBy i size n k (countVerdict image size n k) ≡ countedBy (table c) size n k fine =
-    ap₂ (λ (j : Image) (w : Verdict). countedBy j size n k w) d v in (
-      ap (λ (r : Counts). r .unmatched) is ∙ no-18 c f (table-facts text read) size (omega arith) (size-most size s) n k,
-      ap (λ (r : Counts). r .full) is ∙ deep-17 c f (table-facts text read) size (omega arith) (size-most size s) n k,
+    let is : fillingsOn i size n k (countVerdict image size n k) ≡ fillingsOn (table c) size n k fine =
+    ap₂ (λ (j : Image) (w : Verdict). fillingsOn j size n k w) d v in (
+      ap (λ (r : FillingsOutcome). r .unmatched) is ∙ no-18 c f (table-facts text read) size (omega arith) (size-most size s) n k,
+      ap (λ (r : FillingsOutcome). r .full) is ∙ deep-17 c f (table-facts text read) size (omega arith) (size-most size s) n k,
     )

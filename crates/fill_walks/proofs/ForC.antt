@@ -8,16 +8,16 @@ use Rattle.lists.specs.Numbers.{count}
 use Rattle.frames.specs.Frame.{contents}
 use Rattle.frames.specs.Answer.{success}
 use Rattle.translator.specs.Entry.{translate}
-use Rattle.fillings.specs.Counts.{wordsOf, lists, counted}
+use Rattle.fillings.specs.Counts.{wordsOf, lists, countFillings}
 use Rattle.fillings.specs.Promises.{SumsUp}
 use Rattle.fillings.proofs.Sums.{sums-up}
-use Rattle.fairleadow.specs.Calls.{CountsC}
+use Rattle.fairleadow.specs.Calls.{GivesFillingsC}
 use Rattle.agreement.proofs.Numbers.{counts-success}
 use Rattle.fill_walks.specs.Promises.{walksDeep, ByTheWalk}
 use Rattle.fill_walks.proofs.Deep.{by-the-walk}
 
-module _ (t : List ℕ) (size n k r at made e f u : ℕ) (c : CountsC (counted t size n k) r at made e f u) (z : r ≡ 0) where
-  fine-reply : counted t size n k .reply ≡ success 0
+module _ (t : List ℕ) (size n k r at made e f u : ℕ) (c : GivesFillingsC (countFillings t size n k) r at made e f u) (z : r ≡ 0) where
+  fine-reply : countFillings t size n k .reply ≡ success 0
   fine-reply = counts-success t size n k (sym (c .told .number-is) ∙ z)
 
   pub sums-up-c : e + f + u ≡ lists n k
@@ -25,7 +25,7 @@ module _ (t : List ℕ) (size n k r at made e f u : ℕ) (c : CountsC (counted t
   sums-up-c = (λ j. c .ended j + c .full j + c .unmatched j) ∙ sums-up t size n k fine-reply
 
 pub by-the-walk-c : (text out : List ℕ) (m : ℕ) → translate text out .reply ≡ success m → (size n k r at made e f u : ℕ)
-    → CountsC (counted (take m (translate text out .buffer)) size n k) r at made e f u → r ≡ 0
+    → GivesFillingsC (countFillings (take m (translate text out .buffer)) size n k) r at made e f u → r ≡ 0
     → (u ≡ 0) × (f ≡ count (λ x. walksDeep size (contents text) (wordsOf n k x)) 0 (lists n k))
 unfolding ByTheWalk
 by-the-walk-c text out m translated size n k r at made e f u c z =

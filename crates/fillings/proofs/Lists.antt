@@ -7,15 +7,15 @@ use lib.Arith.{digits-lt}
 use lib.Pow.{pow-add, pow-pos, shr-lt, split, high, low}
 use native.Mathlib.Nat.{suc-mul, zero-mul, mod-lt}
 use native.Mathlib.Omega.{arith}
-use Rattle.lists.proofs.Joins.{All}
+use Rattle.lists.specs.Sequences.{All}
 use Rattle.fillings.specs.Counts.{wordsOf, lists}
-use Rattle.fillings.specs.Promises.{Words, Numbered, AllLists}
+use Rattle.fillings.specs.Promises.{Words, NumberedList, AllLists}
 
 -- one word more
 pub lists-suc : (n k : ℕ) → lists (suc n) k ≡ 2 ^ (n * k + k)
 lists-suc n k = ap (λ (m : ℕ). 2 ^ m) (suc-mul n k)
 
-numbered-more : (n k w : ℕ) (ws : List ℕ) → w < 2 ^ k → Numbered n k ws → Numbered (suc n) k (w ∷ ws)
+numbered-more : (n k w : ℕ) (ws : List ℕ) → w < 2 ^ k → NumberedList n k ws → NumberedList (suc n) k (w ∷ ws)
 unfolding wordsOf
 numbered-more n k w ws l r =
     let x : ℕ = r .number * 2 ^ k + w in
@@ -30,7 +30,7 @@ numbered-more n k w ws l r =
           sym (split y k) ∙ ap₂ (λ (a c : ℕ). a * 2 ^ k + c) d h;
     }
 
-numbered : (n k : ℕ) (ws : List ℕ) → length ws ≡ n → All (λ (w : ℕ). w < 2 ^ k) ws → Numbered n k ws
+numbered : (n k : ℕ) (ws : List ℕ) → length ws ≡ n → All (λ (w : ℕ). w < 2 ^ k) ws → NumberedList n k ws
 unfolding wordsOf
 numbered zero k [] e a = record {
   number = 0;

@@ -4,6 +4,7 @@ use mathlib.Core.Bool.{Bool, _||_}
 use mathlib.Core.List.{List, [], _∷_}
 use lib.Dec.{ltb, eqb}
 use Rattle.lists.specs.Numbers.{count}
+use Rattle.frames.specs.Refusals.{BAD-SIZE, FULL, NO-ROW, MANY-LISTS}
 use Rattle.frames.specs.Frame.{contents}
 use Rattle.frames.specs.Verdict.{Verdict, fine, refused, next, when}
 use Rattle.frames.specs.Answer.{Reply, success, refusal}
@@ -36,24 +37,24 @@ unfoldable pub meeting : Image → State → ℕ → ℕ → ℕ → ℕ
 meeting i s n k number = count (λ x. eqb (met i s (wordsOf n k x)) number) 0 (lists n k)
 
 -- 28
-abbrev pub tooMany : ℕ → ℕ → Bool
-tooMany n k = ltb 16 (n * k) || ltb 16 k || ltb 65536 n
+abbrev pub tooManyLists : ℕ → ℕ → Bool
+tooManyLists n k = ltb 16 (n * k) || ltb 16 k || ltb 65536 n
 
 -- what the image check tries, 14 and 28
 unfoldable pub countVerdict : List ℕ → ℕ → ℕ → ℕ → Verdict
-countVerdict t size n k = next (imageVerdict t) λ _. next (when 14 (badSize size)) λ _. when 28 (tooMany n k)
+countVerdict t size n k = next (imageVerdict t) λ _. next (when BAD-SIZE (badSize size)) λ _. when MANY-LISTS (tooManyLists n k)
 
 -- lists that run to their end, that meet 17 and that meet 18
-pub record Counts : Type 0 where
+pub record FillingsOutcome : Type 0 where
   pub reply : Reply
   pub ended : ℕ
   pub full : ℕ
   pub unmatched : ℕ
 
-abbrev pub countedBy : Image → ℕ → ℕ → ℕ → Verdict → Counts
-countedBy i size n k (refused m j) = record { reply = refusal m j 0; ended = 0; full = 0; unmatched = 0 }
-countedBy i size n k fine = let s = fresh size in
-    record { reply = success 0; ended = meeting i s n k 0; full = meeting i s n k 17; unmatched = meeting i s n k 18 }
+abbrev pub fillingsOn : Image → ℕ → ℕ → ℕ → Verdict → FillingsOutcome
+fillingsOn i size n k (refused m j) = record { reply = refusal m j 0; ended = 0; full = 0; unmatched = 0 }
+fillingsOn i size n k fine = let s = fresh size in
+    record { reply = success 0; ended = meeting i s n k 0; full = meeting i s n k FULL; unmatched = meeting i s n k NO-ROW }
 
-unfoldable pub counted : List ℕ → ℕ → ℕ → ℕ → Counts
-counted t size n k = countedBy (decoded (contents t)) size n k (countVerdict t size n k)
+unfoldable pub countFillings : List ℕ → ℕ → ℕ → ℕ → FillingsOutcome
+countFillings t size n k = fillingsOn (decoded (contents t)) size n k (countVerdict t size n k)

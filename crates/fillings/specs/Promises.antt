@@ -3,9 +3,9 @@ use Prim.Native.Nat.{ℕ, _+_, _^_, _<_}
 use mathlib.Core.Path.{_≡_}
 use mathlib.Core.List.{List}
 use lib.ListN.{length}
-use Rattle.lists.proofs.Joins.{All}
+use Rattle.lists.specs.Sequences.{All}
 use Rattle.frames.specs.Answer.{success}
-use Rattle.fillings.specs.Counts.{wordsOf, lists, counted}
+use Rattle.fillings.specs.Counts.{wordsOf, lists, countFillings}
 
 -- n words below 2 ^ k
 pub record Words (n k : ℕ) (words : List ℕ) : Type 0 where
@@ -13,7 +13,7 @@ pub record Words (n k : ℕ) (words : List ℕ) : Type 0 where
   pub low : All (λ (w : ℕ). w < 2 ^ k) words
 
 -- a list that has just one number below their count
-pub record Numbered (n k : ℕ) (words : List ℕ) : Type 0 where
+pub record NumberedList (n k : ℕ) (words : List ℕ) : Type 0 where
   pub number : ℕ
   pub low : number < lists n k
   pub same : wordsOf n k number ≡ words
@@ -22,10 +22,10 @@ pub record Numbered (n k : ℕ) (words : List ℕ) : Type 0 where
 -- each number stands for n words below 2 ^ k, and each list of such words has its number
 pub record AllLists : Type 0 where
   pub each : (n k x : ℕ) → Words n k (wordsOf n k x)
-  pub once : (n k : ℕ) (words : List ℕ) → Words n k words → Numbered n k words
+  pub once : (n k : ℕ) (words : List ℕ) → Words n k words → NumberedList n k words
 
 -- the three counts are all lists
 unfoldable pub SumsUp : Type 0
 SumsUp =
-    (t : List ℕ) (size n k : ℕ) → let r = counted t size n k in
+    (t : List ℕ) (size n k : ℕ) → let r = countFillings t size n k in
     r .reply ≡ success 0 → r .ended + r .full + r .unmatched ≡ lists n k

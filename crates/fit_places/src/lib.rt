@@ -4,6 +4,7 @@ use fitness::is_astray;
 use fitness::is_first;
 use fitness::is_miscalled;
 use fitness::is_own;
+use state::layout::STATE_BYTES;
 use state_places::depth_of;
 use state_places::number_of;
 use state_places::place_of;
@@ -16,16 +17,18 @@ ghost use mathlib.Core.Path.{_≡_};
 ghost use mathlib.Core.Bool.{_||_};
 ghost use Rattle.lists.specs.Numbers.{any};
 ghost use Rattle.image.specs.Decode.{handlerIn};
-ghost use Rattle.tables.specs.Table.{Whole, tableImage};
+ghost use Rattle.tables.specs.Table.{tableImage};
+ghost use Rattle.tables.specs.inner.Asked.{Whole};
 ghost use Rattle.state.specs.State.{numberAt, serverAt};
 ghost use Rattle.state.specs.Bytes.{stateOf};
 ghost use Rattle.fitness.specs.Fitness.{unfitPlace, badBottom};
-ghost use Rattle.fitness.specs.Parts.{astrayAtBottom, Deep};
+ghost use Rattle.fitness.specs.inner.FitnessContracts.{astrayAtBottom, DeepTable};
 
 // Whether the bottom is not of scheme 1 or the handler by its own number. The handler is read only where it decides.
-fn is_astray_at_bottom(table: &[u8], bytes: &[u8; 130], owner: u8, l: u8) -> bool
+fn is_astray_at_bottom(table: &[u8], bytes: &[u8; STATE_BYTES], owner: u8, l: u8) -> bool
     requires { ⌜ Whole (now table) ⌝ }
-    ensures { λ r. ⌜ r ≡ astrayAtBottom (handlerIn (now (table .entry))) owner l (numberAt (stateOf (now (bytes .entry))) 0) (serverAt (stateOf (now (bytes .entry))) 0) ⌝ }
+    ensures { λ r. ⌜ r ≡ astrayAtBottom (handlerIn (now (table .entry))) owner l (numberAt (stateOf (now (bytes .entry))) 0)
+        (serverAt (stateOf (now (bytes .entry))) 0) ⌝ }
 {
     let number = number_of(bytes, 0);
     let server = server_of(bytes, 0);
@@ -42,11 +45,13 @@ fn is_astray_at_bottom(table: &[u8], bytes: &[u8; 130], owner: u8, l: u8) -> boo
     true
 }
 
-// Whether some place up to the depth does not fit, or the bottom does not. Each label is read once, from the bottom up, with the number that the
+// Whether some place up to the depth does not fit, or the bottom does not.
+// Each label is read once, from the bottom up, with the number that the
 // one below calls.
-pub fn any_unfit(table: &[u8], bytes: &[u8; 130]) -> bool
-    requires { ⌜ Deep (now table) (stateOf (now bytes)) ⌝ }
-    ensures { λ r. ⌜ r ≡ (any (unfitPlace (tableImage (now (table .entry))) (stateOf (now (bytes .entry)))) 0 (stateOf (now (bytes .entry)) .depth) || badBottom (tableImage (now (table .entry))) (stateOf (now (bytes .entry)))) ⌝ }
+pub fn any_unfit(table: &[u8], bytes: &[u8; STATE_BYTES]) -> bool
+    requires { ⌜ DeepTable (now table) (stateOf (now bytes)) ⌝ }
+    ensures { λ r. ⌜ r ≡ (any (unfitPlace (tableImage (now (table .entry))) (stateOf (now (bytes .entry)))) 0
+        (stateOf (now (bytes .entry)) .depth) || badBottom (tableImage (now (table .entry))) (stateOf (now (bytes .entry)))) ⌝ }
 {
     let schemes = scheme_count(table);
     let last = last_label(table);

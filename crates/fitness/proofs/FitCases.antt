@@ -13,7 +13,7 @@ use Rattle.state.specs.declared.State.{State}
 use Rattle.state.specs.State.{badSize}
 use Rattle.state.proofs.Sizes.{size-most}
 use Rattle.fitness.specs.Fitness.{unfitPlace, filledPlace, badBottom, badServed, badDepth, unfit}
-use Rattle.fitness.specs.Parts.{astray, own, miscalled, astrayAtBottom, misserved}
+use Rattle.fitness.specs.inner.FitnessContracts.{astray, own, miscalled, astrayAtBottom, misserved}
 
 both : (a : Bool) → not a ≡ not (a && true)
 both true = refl
@@ -96,7 +96,8 @@ module _ (handler owner l number server : ℕ) where
         bottom-handler e = rw (sym is ∙ other, ne-eqb handler 0 n, sym by ∙ e) (both (eqb l 1 || eqb owner handler))
 
         pub bottom-called : u ≡ false → true ≡ astrayAtBottom handler owner l number server
-        bottom-called e = rw (sym is ∙ other, ne-eqb handler 0 n, sym by ∙ e) (sym (ap not (and-no (eqb l 1 || eqb owner handler) false refl)))
+        bottom-called e = rw (sym is ∙ other, ne-eqb handler 0 n, sym by ∙ e)
+            (sym (ap not (and-no (eqb l 1 || eqb owner handler) false refl)))
 
 -- ---- the depth; n and d stand for size and depth as they were read
 pub depth-most : (s : State) → badDepth s ≡ false → s .depth ≤ 32

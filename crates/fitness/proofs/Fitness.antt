@@ -10,7 +10,7 @@ use Rattle.lists.specs.Pick.{pick}
 use Rattle.lists.specs.Numbers.{any}
 use Rattle.lists.proofs.Tests.{or-r, or-l, or-none, and-l, and-r, and-true, and-false, not-false}
 use Rattle.lists.proofs.Searches.{any-false, any-none}
-use Rattle.bits.specs.Binding.{served}
+use Rattle.bindings.specs.Binding.{served}
 use Rattle.image.specs.Image.{Image}
 use Rattle.state.specs.declared.State.{State}
 use Rattle.state.specs.State.{placeAt, numberAt, serverAt, Sized}
@@ -86,7 +86,8 @@ module _ (i : Image) (s : State) where
         some = omega arith;
         most = ltb-false (s .size) (s .depth) (sizes .4);
         labels = λ k l. leb-false (length (i .labels)) (placeAt s k) (place (none .1) k l .0);
-        carries = λ k l. not-false _ (and-false (ltb (k + 1) (s .depth)) _ (place (none .1) k (omega arith) .1) (lt-ltb (k + 1) (s .depth) l));
+        carries = λ k l. not-false _ (and-false (ltb (k + 1) (s .depth)) _
+            (place (none .1) k (omega arith) .1) (lt-ltb (k + 1) (s .depth) l));
         bottom = none .2;
         above = λ k l m. any-false (filledPlace s) (s .depth) (32 - s .depth) (none .3) k l (omega arith);
         serves = λ h l m. any-false (badServed i s) 2 15 (none .4) h l (omega arith);

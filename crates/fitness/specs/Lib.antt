@@ -1,2 +1,2 @@
 pub mod Fitness
-pub mod Parts
+pub mod inner

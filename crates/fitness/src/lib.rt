@@ -1,15 +1,18 @@
 // Whether the numbers of one place, or of one number that is served, fit.
+use image::layout::FUNCTION_CALL;
+use image::layout::OPERATION_CALL;
 ghost use mathlib.Core.Path.{_≡_};
 ghost use mathlib.Core.Bool.{_&&_, _||_, not};
 ghost use lib.Dec.{eqb};
-ghost use Rattle.fitness.specs.Parts.{astray, own, miscalled, misserved};
+ghost use Rattle.fitness.specs.inner.FitnessContracts.{astray, own, miscalled, misserved};
+ghost use Rattle.image.specs.Layout.{OPERATION-CALL, FUNCTION-CALL};
 
 // Whether a label of that kind may not be kept under another: only a call may.
 pub fn calls_none(kind: u8) -> bool
-    ensures { λ r. ⌜ r ≡ not (eqb kind 1 || eqb kind 2) ⌝ }
+    ensures { λ r. ⌜ r ≡ not (eqb kind OPERATION-CALL || eqb kind FUNCTION-CALL) ⌝ }
 {
     match kind {
-        1..=2 => false,
+        OPERATION_CALL..=FUNCTION_CALL => false,
         _ => true,
     }
 }

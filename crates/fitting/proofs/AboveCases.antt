@@ -42,34 +42,34 @@ none-of a b c = ap not (go (ℕ-discrete (bitOr (bitOr a b) c) 0))
         one (yes x) (yes y) (yes z) = absurd (n (rw (x, y, z)))
 
 -- label, number and server of a place, joined: 0 where all three are
-abbrev pub joined : State → ℕ → ℕ
-joined s k = bitOr (bitOr (placeAt s k) (numberAt s k)) (serverAt s k)
+abbrev pub placeJoined : State → ℕ → ℕ
+placeJoined s k = bitOr (bitOr (placeAt s k) (numberAt s k)) (serverAt s k)
 
 module _ (s : State) where
-  filled-is : (k : ℕ) → filledPlace s k ≡ not (eqb (joined s k) 0)
+  filled-is : (k : ℕ) → filledPlace s k ≡ not (eqb (placeJoined s k) 0)
   filled-is k = none-of (placeAt s k) (numberAt s k) (serverAt s k)
 
   abbrev found : Type 0
   found = any (filledPlace s) (s .depth) (32 - s .depth) ≡ true
 
   -- place k, where it lies above the depth
-  above-is : (d k x : ℕ) → d ≡ s .depth → x ≡ pick (leb d k) (joined s k) 0 → s .depth ≤ k → x ≡ joined s k
-  above-is d k x e q h = q ∙ yes-pick (leb d k) (joined s k) 0 (le-leb d k (omega arith))
+  above-is : (d k x : ℕ) → d ≡ s .depth → x ≡ pick (leb d k) (placeJoined s k) 0 → s .depth ≤ k → x ≡ placeJoined s k
+  above-is d k x e q h = q ∙ yes-pick (leb d k) (placeJoined s k) 0 (le-leb d k (omega arith))
 
-  above-not : (d k x : ℕ) → d ≡ s .depth → x ≡ pick (leb d k) (joined s k) 0 → k < s .depth → x ≡ 0
-  above-not d k x e q h = q ∙ no-pick (leb d k) (joined s k) 0 (lt-leb d k (omega arith))
+  above-not : (d k x : ℕ) → d ≡ s .depth → x ≡ pick (leb d k) (placeJoined s k) 0 → k < s .depth → x ≡ 0
+  above-not d k x e q h = q ∙ no-pick (leb d k) (placeJoined s k) 0 (lt-leb d k (omega arith))
 
   -- after k places, with their bits gathered
   pub record Seen (bits k : ℕ) : Type 0 where
     pub inside : k ≤ 32
-    pub none : bits ≡ 0 → (j : ℕ) → s .depth ≤ j → j < k → joined s j ≡ 0
+    pub none : bits ≡ 0 → (j : ℕ) → s .depth ≤ j → j < k → placeJoined s j ≡ 0
     pub some : (bits ≡ 0 → ⊥) → found
 
   pub seen-first : Seen 0 0
   seen-first = record { inside = omega arith; none = λ e j h g. absurd (omega arith); some = λ n. absurd (n refl) }
 
-  module _ (bits k d x : ℕ) (e : d ≡ s .depth) (h : k < 32) (q : x ≡ pick (leb d k) (joined s k) 0) (t : Seen bits k) where
-    here : x ≡ 0 → s .depth ≤ k → joined s k ≡ 0
+  module _ (bits k d x : ℕ) (e : d ≡ s .depth) (h : k < 32) (q : x ≡ pick (leb d k) (placeJoined s k) 0) (t : Seen bits k) where
+    here : x ≡ 0 → s .depth ≤ k → placeJoined s k ≡ 0
     here z g = sym (above-is d k x e q g) ∙ z
 
     one : (x ≡ 0 → ⊥) → found
@@ -79,7 +79,7 @@ module _ (s : State) where
         go (inl g) = absurd (n (above-not d k x e q g))
         go (inr g) =
             any-true (filledPlace s) (s .depth) (32 - s .depth) k g (omega arith)
-            (filled-is k ∙ ap not (ne-eqb (joined s k) 0 (λ z. n (above-is d k x e q g ∙ z))))
+            (filled-is k ∙ ap not (ne-eqb (placeJoined s k) 0 (λ z. n (above-is d k x e q g ∙ z))))
 
     pub seen-next : Seen (bitOr bits x) (k + 1)
     seen-next = record {
@@ -88,11 +88,11 @@ module _ (s : State) where
       some = λ n. either n (ℕ-discrete bits 0) (ℕ-discrete x 0);
     }
       where
-        last : bitOr bits x ≡ 0 → (j : ℕ) → s .depth ≤ j → (j < k) ⊎ (k ≤ j) → j < k + 1 → joined s j ≡ 0
+        last : bitOr bits x ≡ 0 → (j : ℕ) → s .depth ≤ j → (j < k) ⊎ (k ≤ j) → j < k + 1 → placeJoined s j ≡ 0
         last z j a (inl g) b = t .none (none-left bits x z) j a g
         last z j a (inr g) b =
             let is : k ≡ j = omega arith in
-            ap (joined s) (sym is) ∙ here (none-right bits x z) (omega arith)
+            ap (placeJoined s) (sym is) ∙ here (none-right bits x z) (omega arith)
 
         either : (bitOr bits x ≡ 0 → ⊥) → Dec (bits ≡ 0) → Dec (x ≡ 0) → found
         either n (no a) b = t .some a
@@ -106,5 +106,6 @@ module _ (s : State) where
       go (yes z) =
           ap not (eq-eqb bits 0 z)
           ∙ sym (any-none (filledPlace s) (s .depth) (32 - s .depth)
-          (λ j g. filled-is (s .depth + j) ∙ ap not (eq-eqb (joined s (s .depth + j)) 0 (t .none z (s .depth + j) (omega arith) (omega arith)))))
+          (λ j g. filled-is (s .depth + j)
+          ∙ ap not (eq-eqb (placeJoined s (s .depth + j)) 0 (t .none z (s .depth + j) (omega arith) (omega arith)))))
       go (no n) = ap not (ne-eqb bits 0 n) ∙ sym (t .some n)

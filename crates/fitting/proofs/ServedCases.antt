@@ -6,21 +6,22 @@ use mathlib.Core.List.{List}
 use native.Mathlib.Omega.{arith}
 use Rattle.lists.specs.Numbers.{any}
 use Rattle.lists.proofs.Searches.{any-here, any-on, any-over}
-use Rattle.bits.specs.Binding.{served}
+use Rattle.bindings.specs.Binding.{served}
 use Rattle.image.specs.Image.{Image}
 use Rattle.image.specs.Decode.{schemeCount, handlerIn}
 use Rattle.tables.specs.Table.{tableImage}
 use Rattle.tables.proofs.TableReads.{entries-count, handler-at}
 use Rattle.state.specs.declared.State.{State}
 use Rattle.fitness.specs.Fitness.{badServed}
-use Rattle.fitness.specs.Parts.{misserved}
+use Rattle.fitness.specs.inner.FitnessContracts.{misserved}
 
 -- the numbers from h up hold one that is served amiss where 2 to 16 do
 abbrev pub Left : Image → State → ℕ → Type 0
 Left i s h = any (badServed i s) h (17 - h) ≡ any (badServed i s) 2 15
 
 -- n schemes, the handler g and the scheme k that serves number h were read; t is what the test of h answered
-module _ (b : List ℕ) (s : State) (n g h k : ℕ) (schemes : n ≡ schemeCount b) (handler : g ≡ handlerIn b) (serves : k ≡ served (s .serving) h)
+module _ (b : List ℕ) (s : State) (n g h k : ℕ) (schemes : n ≡ schemeCount b)
+    (handler : g ≡ handlerIn b) (serves : k ≡ served (s .serving) h)
     (t : Bool) (tested : t ≡ misserved n g h k) where
   served-is : badServed (tableImage b) s h ≡ t
   served-is =

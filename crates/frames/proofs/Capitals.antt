@@ -15,10 +15,10 @@ use Rattle.digits.proofs.Digits.{Class, numeral, large, small, other, class-of,
 use Rattle.frames.specs.Frame.{byteAt, contents}
 use Rattle.frames.specs.Verdict.{next, when, atLowest}
 use Rattle.frames.specs.Check.{badLength, badForm, badSum, textVerdict}
-use Rattle.frames.specs.Read.{readInto}
+use Rattle.frames.specs.inner.Read.{readInto}
 
 -- all that is read of a text
-pub record Alike (t u : List ℕ) : Type 0 where
+pub record ReadAlike (t u : List ℕ) : Type 0 where
   pub verdict : (most : ℕ) → textVerdict most t ≡ textVerdict most u
   pub contents : contents t ≡ contents u
   pub buffer : (most : ℕ) (old : List ℕ) → readInto most t old ≡ readInto most u old
@@ -64,7 +64,8 @@ module _ (t : List ℕ) where
   unfolding textVerdict
   verdict-same most =
       ap₂ (λ (form : ℕ → Bool) (sum : ℕ → Bool).
-      next (when 1 (badLength 23 most (length capitals))) λ _. next (atLowest 2 form (length capitals / 23)) λ _. atLowest 3 sum (length capitals / 23))
+      next (when 1 (badLength 23 most (length capitals))) λ _. next
+      (atLowest 2 form (length capitals / 23)) λ _. atLowest 3 sum (length capitals / 23))
       (fun-ext form-same) (fun-ext sum-same)
       ∙ ap (λ (n : ℕ).
       next (when 1 (badLength 23 most n)) λ _. next (atLowest 2 (badForm t) (n / 23)) λ _. atLowest 3 (badSum t) (n / 23))
@@ -75,5 +76,5 @@ module _ (t : List ℕ) where
   buffer-same most old =
       ap₂ (λ (n : ℕ) (b : List ℕ). pick (badLength 23 most n) old (over (map (λ x. x % 256) b) old)) (length-map t capital) contents-same
 
-  pub capitals-alike : Alike capitals t
+  pub capitals-alike : ReadAlike capitals t
   capitals-alike = record { verdict = verdict-same; contents = contents-same; buffer = buffer-same }

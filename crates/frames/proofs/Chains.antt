@@ -8,7 +8,7 @@ use borrow.Author.Tests.{lt-ltb, le-ltb}
 use Rattle.lists.specs.Numbers.{lowest}
 use Rattle.lists.proofs.Tests.{yes-pick, no-pick}
 use Rattle.frames.specs.Verdict.{Verdict, fine, refused, next, when, atLowest}
-use Rattle.frames.specs.Answer.{success, refusal, reply, judged}
+use Rattle.frames.specs.Answer.{success, refusal, replyCount, reply, replied, judged}
 use Rattle.frames.specs.declared.Answer.{Answer}
 use Rattle.frames.specs.declared.Answer.the-variants.{Done, Refused}
 
@@ -37,6 +37,14 @@ module _ (v : Verdict) (rest : Unit {0} → Verdict) where
   -- the first link passes, and the rest decides
   pub next-on : v ≡ fine → next v rest ≡ rest tt
   next-on e = ap (λ w. next w rest) e
+
+-- ---- replies: a refusal is no success, and the count is the one given
+pub no-success : {A : Type 0} (k i m n : ℕ) → refusal k i m ≡ success n → A
+no-success k i m n e = absurd (let z : _≡_ {A = ℕ} 0 1 = cc in omega arith)
+
+pub replied-count : (v : Verdict) (n : ℕ) → replyCount (replied v n) ≡ n
+replied-count fine n = refl
+replied-count (refused k i) n = refl
 
 -- ---- the answer
 pub judged-refused : (v : Verdict) (k i n : ℕ) → v ≡ refused k i → refusal k i 0 ≡ judged v n

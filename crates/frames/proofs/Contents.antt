@@ -1,4 +1,5 @@
--- Texts there and back: the contents of the text of records are those records, and the text of an accepted text's contents is that text in capitals.
+-- Texts there and back: the contents of the text of records are those records,
+-- and the text of an accepted text's contents is that text in capitals.
 use Prim.Native.Nat.{ℕ, zero, suc, _+_, _*_, _/_, _%_, _≤_, _<_}
 use mathlib.Core.Bool.{Bool, false, _||_, not}
 use mathlib.Core.Path.{_≡_, refl, sym, _∙_, ap, ap₂, subst}
@@ -13,10 +14,12 @@ use Rattle.lists.specs.Numbers.{range, any, sum}
 use Rattle.lists.proofs.Tests.{split, or-l, or-r, not-false}
 use Rattle.lists.proofs.Searches.{any-false}
 use Rattle.lists.proofs.Ranges.{length-map-range, getD-map-range}
-use Rattle.lists.proofs.Joins.{All, all-map, all-every, length-concat-range, concat-range-at}
+use Rattle.lists.proofs.Joins.{all-map, all-every, length-concat-range, concat-range-at}
+use Rattle.lists.specs.Sequences.{All}
 use Rattle.digits.specs.Digit.{digitOf, charOf, capital}
 use Rattle.digits.proofs.Digits.{capital-same, capital-at, char-digit}
-use Rattle.frames.specs.Frame.{frameCount, byteAt, contents, size, field, byteText, total, sumByte, frameText, framesText, tenAt, textOf}
+use Rattle.frames.specs.Frame.{frameCount, byteAt, contents, size, field, byteText, total}
+use Rattle.frames.specs.Frame.{sumByte, frameText, framesText, tenAt, textOf}
 use Rattle.frames.specs.Verdict.{Verdict, fine, next, when, atLowest}
 use Rattle.frames.specs.Check.{badLength, badForm, badSum, textVerdict}
 use Rattle.frames.proofs.Verdicts.{next-first, next-rest, when-fine, at-lowest-fine}
@@ -46,7 +49,8 @@ module _ (b : List ℕ) (bytes : (k : ℕ) → getD b k 0 < 256) where
   pub ten-frame : (f : ℕ) → Frame (tenAt b f)
   ten-frame f = record {
     ten = refl;
-    bytes = λ k. ⊎-elim (λ (h : k < 10). subst (λ (x : ℕ). x < 256) (sym (getD-map-range (field b f) 0 0 10 k h)) (bytes (10 * f + (0 + k))))
+    bytes = λ k. ⊎-elim (λ (h : k < 10). subst (λ (x : ℕ). x < 256)
+        (sym (getD-map-range (field b f) 0 0 10 k h)) (bytes (10 * f + (0 + k))))
         (λ (h : 10 ≤ k). subst (λ (x : ℕ). x < 256) (sym (List·getD-eq-default (tenAt b f) 0 h)) (omega arith)) (split k 10);
   }
 
@@ -214,7 +218,8 @@ text-back most t C =
     ∙ textOf-here b bytes (i / 23) (i % 23) (omega (arith, m, n, h)) (omega arith)
     ∙ frame-back t (i / 23) (C .forms (i / 23) (omega (arith, n, h))) (C .sums (i / 23) (omega (arith, n, h)))
     (tenAt b (i / 23)) (ten-frame b bytes (i / 23)) (λ k l.
-    getD-map-range (field b (i / 23)) 0 0 10 k l ∙ ap (λ (j : ℕ). getD b j 0) (omega arith) ∙ any-contents-at t (i / 23) k (omega (arith, n, h)) l)
+    getD-map-range (field b (i / 23)) 0 0 10 k l ∙ ap (λ (j : ℕ). getD b j 0) (omega arith)
+    ∙ any-contents-at t (i / 23) k (omega (arith, n, h)) l)
     (i % 23) (omega arith)
     ∙ ap (λ (j : ℕ). capital (getD t j 0)) (omega arith)
     ∙ sym (capital-at t i))

@@ -16,7 +16,8 @@ use Rattle.frames.proofs.Frames.{sum-places}
 pub length-frame : (bs : List ℕ) → length bs ≡ 10 → length (frameText bs) ≡ 23
 unfolding frameText
 length-frame bs e =
-    let l : length (concatMap byteText bs) ≡ 2 * length bs = length-concat byteText 2 bs (all-every (λ b. length (byteText b) ≡ 2) (λ b. refl) bs) in
+    let l : length (concatMap byteText bs) ≡ 2 * length bs =
+    length-concat byteText 2 bs (all-every (λ b. length (byteText b) ≡ 2) (λ b. refl) bs) in
     simp length-append (omega arith)
 
 -- after k bytes of ten
@@ -35,22 +36,29 @@ module _ (out₀ bs out out′ : List ℕ) (at s k : ℕ) (room : at + 23 ≤ le
   digits-turn h byte n e = record {
     small = omega arith;
     added = sum-turn (λ i. getD bs i 0) s k (getD bs k 0) (d .added) refl;
-    pieces = pieces-turn (λ i. byteText (getD bs i 0)) 2 out₀ at 10 (λ k. refl) out out′ k (at + k * 2) (d .pieces) h (omega arith) (omega arith) n e;
+    pieces = pieces-turn (λ i. byteText (getD bs i 0)) 2 out₀ at 10 (λ k. refl) out out′ k
+        (at + k * 2) (d .pieces) h (omega arith) (omega arith) n e;
   }
 
-  pub digits-end : length bs ≡ 10 → 10 ≤ k → out′ ≡ written out (at + 20) (byteText ((256 - s % 256) % 256)) → set out′ (at + 22) 10 ≡ written out₀ at (frameText bs)
+  pub digits-end : length bs ≡ 10 → 10 ≤ k → out′ ≡ written out (at + 20) (byteText ((256 - s % 256) % 256))
+      → set out′ (at + 22) 10 ≡ written out₀ at (frameText bs)
   unfolding frameText
   digits-end ten h e =
       let k10 : k ≡ length bs = omega (arith, d .pieces .low) in
-      let t : s ≡ total bs = d .added ∙ ap (sum (λ i. getD bs i 0) 0) k10 ∙ sum-places (λ i. getD bs i 0) bs 0 (λ k l. ap (λ (j : ℕ). getD bs j 0) (omega arith)) in
+      let t : s ≡ total bs = d .added ∙ ap (sum (λ i. getD bs i 0) 0) k10
+      ∙ sum-places (λ i. getD bs i 0) bs 0 (λ k l. ap (λ (j : ℕ). getD bs j 0) (omega arith)) in
       let b : out ≡ written out₀ at (concatMap byteText bs) =
       pieces-all (λ i. byteText (getD bs i 0)) 2 out₀ at 10 out k (d .pieces) h
       ∙ ap (λ (n : ℕ). written out₀ at (concatMap (λ i. byteText (getD bs i 0)) (range 0 n))) (sym ten)
-      ∙ ap (written out₀ at) (concat-places (λ i. byteText (getD bs i 0)) byteText 0 bs 0 (λ i l. ap (λ (j : ℕ). byteText (getD bs j 0)) (omega arith))) in
+      ∙ ap (written out₀ at) (concat-places (λ i. byteText (getD bs i 0)) byteText 0 bs 0
+      (λ i l. ap (λ (j : ℕ). byteText (getD bs j 0)) (omega arith))) in
       let vs : List ℕ = concatMap byteText bs ++ byteText (sumByte bs) in
-      let l : length (concatMap byteText bs) ≡ 2 * length bs = length-concat byteText 2 bs (all-every (λ b. length (byteText b) ≡ 2) (λ b. refl) bs) in
+      let l : length (concatMap byteText bs) ≡ 2 * length bs =
+      length-concat byteText 2 bs (all-every (λ b. length (byteText b) ≡ 2) (λ b. refl) bs) in
       let n : length vs ≡ 22 = simp length-append (omega arith) in
       let e′ : out′ ≡ written out (at + 20) (byteText (sumByte bs)) = rw t at e in
-      let all : out′ ≡ written out₀ at vs = written-more out₀ at (concatMap byteText bs) (byteText (sumByte bs)) out out′ (at + 20) (omega arith) (omega arith) b e′ in
+      let all : out′ ≡ written out₀ at vs =
+      written-more out₀ at (concatMap byteText bs) (byteText (sumByte bs)) out out′ (at + 20) (omega arith) (omega arith) b e′ in
       let place : at + 22 ≡ at + length vs = omega arith in
-      rw (all, place) (written-snoc out₀ at vs 10 (omega arith) ∙ ap (written out₀ at) (append-assoc (concatMap byteText bs) (byteText (sumByte bs)) (10 ∷ [])))
+      rw (all, place) (written-snoc out₀ at vs 10 (omega arith)
+      ∙ ap (written out₀ at) (append-assoc (concatMap byteText bs) (byteText (sumByte bs)) (10 ∷ [])))

@@ -10,10 +10,10 @@ use lib.Seq.{getD-append-add}
 use lib.Dec.{leb}
 use borrow.Author.Tests.{lt-leb, eq-eqb}
 use Rattle.lists.specs.Numbers.{sum}
-use Rattle.lists.specs.Sequences.{concatMap}
+use Rattle.lists.specs.Sequences.{concatMap, All}
 use Rattle.lists.proofs.Tests.{split}
 use Rattle.lists.proofs.Searches.{any-none}
-use Rattle.lists.proofs.Joins.{All, all-at, all-every, concat-append, length-concat, getD-concat}
+use Rattle.lists.proofs.Joins.{all-at, all-every, concat-append, length-concat, getD-concat}
 use Rattle.digits.specs.Digit.{digitOf}
 use Rattle.digits.proofs.Digits.{digit-char}
 use Rattle.frames.specs.Frame.{byteAt, byteText, total, sumByte, frameText}

@@ -10,7 +10,7 @@ use Rattle.lists.proofs.Tests.{no-pick}
 use Rattle.frames.specs.Frame.{frameCount, contents}
 use Rattle.frames.specs.Verdict.{Verdict, fine, next, when, atLowest}
 use Rattle.frames.specs.Check.{badLength, badForm, badSum, textVerdict}
-use Rattle.frames.specs.Read.{readInto}
+use Rattle.frames.specs.inner.Read.{readInto}
 use Rattle.frames.proofs.Verdicts.{next-first, when-fine}
 use Rattle.frames.proofs.Contents.{text-told, contents-bytes}
 

@@ -15,11 +15,13 @@ use Rattle.frames.proofs.FrameLoops.{length-frame}
 abbrev pub frameOf : List ℕ → ℕ → List ℕ
 frameOf b f = frameText (tenAt b f)
 
-pub frame-put : (b ten out out′ : List ℕ) (at f : ℕ) → ten ≡ tenAt b f → out′ ≡ written out at (frameText ten) → out′ ≡ written out at (frameOf b f)
+pub frame-put : (b ten out out′ : List ℕ) (at f : ℕ) → ten ≡ tenAt b f
+    → out′ ≡ written out at (frameText ten) → out′ ≡ written out at (frameOf b f)
 frame-put b ten out out′ at f e q = q ∙ ap (λ (xs : List ℕ). written out at (frameText xs)) e
 
 module _ (b out₀ out : List ℕ) (at n f : ℕ) (done : Pieces (frameOf b) 23 out₀ out at n f) where
-  pub text-turn : (out′ : List ℕ) → at + 23 * n ≤ length out₀ → f < n → length out′ ≡ length out → out′ ≡ written out (at + f * 23) (frameOf b f)
+  pub text-turn : (out′ : List ℕ) → at + 23 * n ≤ length out₀ → f < n → length out′ ≡ length out
+      → out′ ≡ written out (at + f * 23) (frameOf b f)
       → Pieces (frameOf b) 23 out₀ out′ at n (f + 1)
   text-turn out′ room h s e =
       let long : (k : ℕ) → length (frameOf b k) ≡ 23 = λ k. length-frame (tenAt b k) (length-map-range (field b k) 0 10) in
@@ -32,7 +34,8 @@ module _ (b out₀ out : List ℕ) (at n f : ℕ) (done : Pieces (frameOf b) 23 
       ∙ ap (written out₀ at) (ap (λ (m : ℕ). concatMap (frameOf b) (range 0 m)) e ∙ sym (concat-map frameText (tenAt b) (range 0 (size b))))
 
 -- a text of one frame
-pub text-one : (b out₀ out : List ℕ) (at : ℕ) → at + 23 * size b ≤ length out₀ → size b ≡ 1 → length out ≡ length out₀ → out ≡ written out₀ at (frameOf b 0)
+pub text-one : (b out₀ out : List ℕ) (at : ℕ) → at + 23 * size b ≤ length out₀ → size b ≡ 1
+    → length out ≡ length out₀ → out ≡ written out₀ at (frameOf b 0)
     → out ≡ written out₀ at (textOf b)
 text-one b out₀ out at room one s e =
     let put : out ≡ written out₀ (at + 0 * 23) (frameOf b 0) = e ∙ ap (λ (p : ℕ). written out₀ p (frameOf b 0)) (omega arith) in

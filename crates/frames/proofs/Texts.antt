@@ -7,9 +7,9 @@ use native.Mathlib.Omega.{arith}
 use lib.ListN.{length, getD}
 use borrow.Author.Tests.{le-ltb, eq-eqb, ne-eqb}
 use Rattle.lists.specs.Numbers.{range}
-use Rattle.lists.specs.Sequences.{concatMap}
+use Rattle.lists.specs.Sequences.{concatMap, All}
 use Rattle.lists.proofs.Ranges.{map-count}
-use Rattle.lists.proofs.Joins.{All, all-at, all-of, length-concat, getD-concat, concat-places}
+use Rattle.lists.proofs.Joins.{all-at, all-of, length-concat, getD-concat, concat-places}
 use Rattle.frames.specs.Frame.{byteAt, frameCount, contents, field, frameText, framesText}
 use Rattle.frames.specs.Verdict.{Verdict, fine, next, when, atLowest}
 use Rattle.frames.specs.Check.{badLength, badForm, badSum, textVerdict}

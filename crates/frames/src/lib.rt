@@ -1,5 +1,8 @@
 // Text of frames, 22 hexadecimal characters and a line feed each: its length, and how it is written; the answer that entry points give.
 mod check;
+pub mod codes;
+pub mod refusals;
+pub mod sizes;
 mod write;
 
 pub use check::bad_length;

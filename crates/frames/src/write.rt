@@ -1,9 +1,11 @@
 // Bytes and frames written into a lent buffer.
+use crate::sizes::*;
 use digits::character;
 ghost use mathlib.Core.Path.{_≡_};
 ghost use Prim.Native.Nat.{_+_, _*_, _≤_, _<_};
 ghost use lib.ListN.{length};
 ghost use Rattle.lists.specs.Sequences.{written};
+ghost use Rattle.frames.specs.Sizes.{LINE, FRAME};
 ghost use Rattle.frames.specs.Frame.{byteText, frameText, tenAt, textOf, size};
 
 // Bytes as they are, from an offset on.
@@ -31,8 +33,8 @@ fn put_byte(out: &mut [u8], at: usize, b: u8)
 // Ten bytes as a frame, from an offset on. The loop goes by the slice's length, so that it is compiled into each caller, and
 // the bytes of a frame just made need not go through memory.
 pub fn put_frame(out: &mut [u8], at: usize, bytes: &[u8])
-    requires { ⌜ at + 23 ≤ length (now out) ⌝ }
-    requires { ⌜ length (now bytes) ≡ 10 ⌝ }
+    requires { ⌜ at + LINE ≤ length (now out) ⌝ }
+    requires { ⌜ length (now bytes) ≡ FRAME ⌝ }
     ensures { λ _. ⌜ now (out .exit) ≡ written (now (out .entry)) at (frameText (now (bytes .entry))) ⌝ }
 {
     let n = bytes.len();
@@ -45,18 +47,18 @@ pub fn put_frame(out: &mut [u8], at: usize, bytes: &[u8])
         k += 1;
     }
     put_byte(out, at + 20, ((256 - sum % 256) % 256) as u8);
-    out[at + 22] = 10;
+    out[at + DIGITS] = LINE_FEED;
 }
 
 // The ten bytes of frame f of contents.
-pub fn ten_at(bytes: &[u8], f: usize) -> [u8; 10]
-    requires { ⌜ 10 * f + 10 ≤ length (now bytes) ⌝ }
+pub fn ten_at(bytes: &[u8], f: usize) -> [u8; FRAME]
+    requires { ⌜ FRAME * f + FRAME ≤ length (now bytes) ⌝ }
     ensures { λ r. ⌜ r ≡ tenAt (now (bytes .entry)) f ⌝ }
 {
-    let mut ten = [0u8; 10];
+    let mut ten = [0u8; FRAME];
     let mut k: usize = 0;
-    while k < 10 {
-        ten[k] = bytes[10 * f + k];
+    while k < FRAME {
+        ten[k] = bytes[FRAME * f + k];
         k += 1;
     }
     ten
@@ -64,8 +66,8 @@ pub fn ten_at(bytes: &[u8], f: usize) -> [u8; 10]
 
 // Frame f of contents. All ten bytes are taken before a character is written, so that the compiler takes several at once.
 fn put_nth(out: &mut [u8], at: usize, bytes: &[u8], f: usize)
-    requires { ⌜ at + 23 ≤ length (now out) ⌝ }
-    requires { ⌜ 10 * f + 10 ≤ length (now bytes) ⌝ }
+    requires { ⌜ at + LINE ≤ length (now out) ⌝ }
+    requires { ⌜ FRAME * f + FRAME ≤ length (now bytes) ⌝ }
     ensures { λ _. ⌜ now (out .exit) ≡ written (now (out .entry)) at (frameText (tenAt (now (bytes .entry)) f)) ⌝ }
 {
     let ten = ten_at(bytes, f);
@@ -75,17 +77,17 @@ fn put_nth(out: &mut [u8], at: usize, bytes: &[u8], f: usize)
 // The text of contents, from an offset on. One frame is put apart: a function that is called at two places is not compiled
 // into the loop, and so the loop is not turned into one over many frames at once, which would take five times as long.
 pub fn put_text(out: &mut [u8], at: usize, bytes: &[u8])
-    requires { ⌜ at + 23 * size (now bytes) ≤ length (now out) ⌝ }
+    requires { ⌜ at + LINE * size (now bytes) ≤ length (now out) ⌝ }
     ensures { λ _. ⌜ now (out .exit) ≡ written (now (out .entry)) at (textOf (now (bytes .entry))) ⌝ }
 {
-    let n = bytes.len() / 10;
+    let n = bytes.len() / FRAME;
     if n == 1 {
         put_nth(out, at, bytes, 0);
         return;
     }
     let mut f: usize = 0;
     while f < n {
-        put_nth(out, at + f * 23, bytes, f);
+        put_nth(out, at + f * LINE, bytes, f);
         f += 1;
     }
 }

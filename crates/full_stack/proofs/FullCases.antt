@@ -6,19 +6,20 @@ use mathlib.Core.List.{List}
 use lib.Dec.{eqb}
 use borrow.Author.Tests.{eq-eqb, ne-eqb}
 use Rattle.lists.proofs.Tests.{yes-pick, no-pick}
-use Rattle.bits.specs.Results.{Results, withResult, cleared}
+use Rattle.results.specs.Results.{Results, withResult, cleared}
 use Rattle.image.specs.Image.{Image, Label}
 use Rattle.image.specs.Decode.{handlerIn}
-use Rattle.tables.specs.Table.{labelOf, entryOf, tableImage}
-use Rattle.tables.specs.Labels.{asLabel}
+use Rattle.tables.specs.Table.{tableLabel, tableImage}
+use Rattle.tables.specs.inner.Asked.{entryOf}
+use Rattle.tables.specs.inner.Labels.{asLabel}
 use Rattle.tables.specs.declared.Label as declared
 use Rattle.tables.proofs.TableReads.{handler-at, handler-inside, label-at, entry-at}
 use Rattle.state.specs.declared.State.{State}
 use Rattle.state.specs.State.{entryAt, placeAt, numberAt}
 use Rattle.state.specs.Changes.{withAlone, afterResult}
 use Rattle.state.specs.Bytes.{stateOf}
-use Rattle.ticks.specs.Tick.{keepsFull, ticked, stopped, alone}
-use Rattle.ticks.specs.Parts.{topOf, TopFull, Steps}
+use Rattle.ticks.specs.Tick.{keepsFull, finished, stopped, alone, topOf}
+use Rattle.ticks.specs.inner.TickContracts.{TopFull, GivesTickEnd}
 use Rattle.ticks.proofs.TickCases.{steps-stopped, steps-ticked, tick-full}
 
 -- ---- whether the stack is kept: h stands for the handler, l for the label at the bottom, z for what was read of it
@@ -26,7 +27,7 @@ module _ (b : List ℕ) (s : State) (h : ℕ) (is : h ≡ handlerIn b) where
   abbrev keeps : ℕ → ℕ → ℕ → Bool
   keeps g l o = eqb g 0 || (not (eqb g 0) && (eqb l 1 || eqb o g))
 
-  keeps-is : (l o : ℕ) → l ≡ placeAt s 0 → o ≡ labelOf b (placeAt s 0) .owner → keeps h l o ≡ keepsFull (tableImage b) s
+  keeps-is : (l o : ℕ) → l ≡ placeAt s 0 → o ≡ tableLabel b (placeAt s 0) .owner → keeps h l o ≡ keepsFull (tableImage b) s
   keeps-is l o p q =
       ap (λ (g : ℕ). keeps g l o) (is ∙ sym (handler-at b))
       ∙ ap₂ (keeps (tableImage b .handler)) p (q ∙ ap (λ (x : Label). x .owner) (sym (label-at b (placeAt s 0))))
@@ -36,7 +37,7 @@ module _ (b : List ℕ) (s : State) (h : ℕ) (is : h ≡ handlerIn b) where
 
   module _ (some : h ≡ 0 → ⊥) (l : ℕ) (place : l ≡ placeAt s 0) where
     abbrev owner : ℕ
-    owner = labelOf b (placeAt s 0) .owner
+    owner = tableLabel b (placeAt s 0) .owner
 
     pub kept-return : l ≡ 1 → true ≡ keepsFull (tableImage b) s
     kept-return e = kept ∙ keeps-is l owner place (λ j. owner)
@@ -44,8 +45,8 @@ module _ (b : List ℕ) (s : State) (h : ℕ) (is : h ≡ handlerIn b) where
         kept : true ≡ keeps h l owner
         kept = rw (ne-eqb h 0 some, eq-eqb l 1 e)
 
-    pub kept-owner : (l ≡ 1 → ⊥) → (z : declared.Label) → asLabel z ≡ labelOf b l → eqb (z .owner) h ≡ keepsFull (tableImage b) s
-    kept-owner n z read = kept ∙ keeps-is l (z .owner) place (ap (λ (x : Label). x .owner) (read ∙ ap (labelOf b) place))
+    pub kept-owner : (l ≡ 1 → ⊥) → (z : declared.Label) → asLabel z ≡ tableLabel b l → eqb (z .owner) h ≡ keepsFull (tableImage b) s
+    kept-owner n z read = kept ∙ keeps-is l (z .owner) place (ap (λ (x : Label). x .owner) (read ∙ ap (tableLabel b) place))
       where
         kept : eqb (z .owner) h ≡ keeps h l (z .owner)
         kept = rw (ne-eqb h 0 some, ne-eqb l 1 n)
@@ -59,7 +60,7 @@ module _ (b before : List ℕ) (w : ℕ) (y : TopFull b (stateOf before)) (t : B
   i = tableImage b
 
   abbrev caller : Label
-  caller = labelOf b (topOf s)
+  caller = tableLabel b (topOf s)
 
   abbrev bits : Results
   bits = withResult (caller .result) (numberAt s (s .depth - 1)) (s .bits)
@@ -67,20 +68,20 @@ module _ (b before : List ℕ) (w : ℕ) (y : TopFull b (stateOf before)) (t : B
   abbrev dropped : State
   dropped = alone s (entryAt i (i .handler)) (i .handler) (cleared (i .handler) bits)
 
-  pub full-kept : t ≡ true → Steps b before w (record { number = 17; mask = 0; code = 0 }) before
+  pub full-kept : t ≡ true → GivesTickEnd b before w (record { number = 17; mask = 0; code = 0 }) before
   full-kept q =
       steps-stopped b before w 17
       (tick-full b s (y .calls .stands) w (y .calls .low) (y .calls .high) (y .full)
-      ∙ yes-pick (keepsFull i s) (stopped 17) (ticked (caller .mask) 96 dropped) (sym e ∙ q))
+      ∙ yes-pick (keepsFull i s) (stopped 17) (finished (caller .mask) 96 dropped) (sym e ∙ q))
 
   -- l is the top, z what was read of it, k its number, h the handler and n its entry; then the bytes after each write
-  pub full-drops : t ≡ false → (l : ℕ) → l ≡ topOf s → (z : declared.Label) → asLabel z ≡ labelOf b l
+  pub full-drops : t ≡ false → (l : ℕ) → l ≡ topOf s → (z : declared.Label) → asLabel z ≡ tableLabel b l
       → (k : ℕ) → k ≡ numberAt s (s .depth - 1) → (h : ℕ) → h ≡ handlerIn b → (n : ℕ) → n ≡ entryOf b h
       → (first second bytes : List ℕ) → stateOf first ≡ afterResult s (z .result) k → stateOf second ≡ afterResult (stateOf first) 1 h
       → stateOf bytes ≡ withAlone (stateOf second) n h
-      → Steps b before w (record { number = 0; mask = z .mask; code = 96 }) bytes
+      → GivesTickEnd b before w (record { number = 0; mask = z .mask; code = 96 }) bytes
   full-drops q l at z read k called h is n p first second bytes e₁ e₂ e₃ =
-      let same : asLabel z ≡ caller = read ∙ ap (labelOf b) at in
+      let same : asLabel z ≡ caller = read ∙ ap (tableLabel b) at in
       let r : z .result ≡ caller .result = ap (λ (u : Label). u .result) same in
       let m : z .mask ≡ caller .mask = ap (λ (u : Label). u .mask) same in
       let g : h ≡ i .handler = is ∙ sym (handler-at b) in
@@ -94,4 +95,4 @@ module _ (b before : List ℕ) (w : ℕ) (y : TopFull b (stateOf before)) (t : B
       rw m
       (steps-ticked b before w (caller .mask) 96 dropped bytes
       (tick-full b s (y .calls .stands) w (y .calls .low) (y .calls .high) (y .full)
-      ∙ no-pick (keepsFull i s) (stopped 17) (ticked (caller .mask) 96 dropped) (sym e ∙ q)) left)
+      ∙ no-pick (keepsFull i s) (stopped 17) (finished (caller .mask) 96 dropped) (sym e ∙ q)) left)

@@ -1,4 +1,7 @@
 // A call that finds the stack full: it drops all open schemes for the handler, or is refused.
+use frames::codes::DROP_CODE;
+use frames::refusals::FULL;
+use state::layout::STATE_BYTES;
 use state_places::depth_of;
 use state_places::number_of;
 use state_places::place_of;
@@ -8,16 +11,17 @@ use tables::entry_of;
 use tables::handler_of;
 use tables::label_of;
 use tables::label_read;
-use ticks::Stepped;
+use ticks::TickEnd;
 ghost use mathlib.Core.Path.{_≡_};
 ghost use Rattle.image.specs.Decode.{schemeCount};
-ghost use Rattle.tables.specs.Table.{Whole, tableImage};
+ghost use Rattle.tables.specs.Table.{tableImage};
+ghost use Rattle.tables.specs.inner.Asked.{Whole};
 ghost use Rattle.state.specs.Bytes.{stateOf};
 ghost use Rattle.ticks.specs.Tick.{keepsFull};
-ghost use Rattle.ticks.specs.Parts.{TopFull, Steps};
+ghost use Rattle.ticks.specs.inner.TickContracts.{TopFull, GivesTickEnd};
 
 // Whether a full stack is kept: there is no handler, or it is at the bottom.
-fn keeps_full(table: &[u8], bytes: &[u8; 130]) -> bool
+fn keeps_full(table: &[u8], bytes: &[u8; STATE_BYTES]) -> bool
     requires { ⌜ Whole (now table) ⌝ }
     ensures { λ r. ⌜ r ≡ keepsFull (tableImage (now (table .entry))) (stateOf (now (bytes .entry))) ⌝ }
 {
@@ -33,16 +37,17 @@ fn keeps_full(table: &[u8], bytes: &[u8; 130]) -> bool
     bottom.owner == handler
 }
 
-// A call at depth Σ: the caller's result is written, then the handler's bit cleared, and its entry is all that the stack holds; a stack that is
+// A call at depth Σ: the caller's result is written, then the handler's bit cleared, and its entry is all that the stack holds;
+// a stack that is
 // kept refuses the call.
-pub fn tick_full(table: &[u8], schemes: u8, bytes: &mut [u8; 130], word: u16) -> Stepped
+pub fn tick_full(table: &[u8], schemes: u8, bytes: &mut [u8; STATE_BYTES], word: u16) -> TickEnd
     requires { ⌜ TopFull (now table) (stateOf (now bytes)) ⌝ }
     requires { ⌜ schemes ≡ schemeCount (now table) ⌝ }
-    ensures { λ r. ⌜ Steps (now (table .entry)) (now (bytes .entry)) word r (now (bytes .exit)) ⌝ }
+    ensures { λ r. ⌜ GivesTickEnd (now (table .entry)) (now (bytes .entry)) word r (now (bytes .exit)) ⌝ }
 {
     if keeps_full(table, bytes) {
-        return Stepped {
-            number: 17,
+        return TickEnd {
+            number: FULL,
             mask: 0,
             code: 0,
         };
@@ -55,9 +60,9 @@ pub fn tick_full(table: &[u8], schemes: u8, bytes: &mut [u8; 130], word: u16) ->
     put_result(bytes, label.result, caller);
     put_result(bytes, 1, handler);
     put_alone(bytes, entry, handler);
-    Stepped {
+    TickEnd {
         number: 0,
         mask: label.mask,
-        code: 0x60,
+        code: DROP_CODE,
     }
 }

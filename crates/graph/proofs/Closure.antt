@@ -68,7 +68,13 @@ module _ (n : ℕ) (arcs : ℕ → List ℕ) where
             (λ (x : any (from ms v) 0 n ≡ true).
             let r = any-some (from ms v) 0 n x in
             let u : ℕ = r .0 in
-            inr (record { node = u; inside = omega (arith, r .2); was = and-l (marked ms u) (member v (arcs u)) (r .3); leads = and-r (marked ms u) (member v (arcs u)) (r .3) }))
+            inr (record {
+              node = u;
+              inside = omega (arith, r .2);
+              was = and-l (marked ms u) (member v (arcs u)) (r .3);
+              leads =
+                  and-r (marked ms u) (member v (arcs u)) (r .3);
+            }))
             (or-cases (marked ms v) (any (from ms v) 0 n) (sym (spread-at ms v l) ∙ m)),
       )
 
@@ -104,14 +110,16 @@ module _ (n : ℕ) (arcs : ℕ → List ℕ) where
   -- a round that adds nothing changes nothing
   same-marks : (ms : List Bool) → length ms ≡ n → many (spread n arcs ms) ≤ many ms → spread n arcs ms ≡ ms
   same-marks ms e l = ext-getD false (spread n arcs ms) ms (spread-long ms ∙ sym e)
-      (λ v h. count-same (marked ms) (marked (spread n arcs ms)) 0 n (λ v x y m. spread-grow ms e v m) l v (omega arith) (omega (arith, spread-long ms)))
+      (λ v h. count-same (marked ms) (marked (spread n arcs ms)) 0 n (λ v x y m. spread-grow ms e v m)
+      l v (omega arith) (omega (arith, spread-long ms)))
 
   reach-suc : (k : ℕ) (ms : List Bool) → reach n arcs (suc k) ms ≡ spread n arcs (reach n arcs k ms)
   unfolding reach
   reach-suc k ms = refl
 
   -- each round adds a node, or no later one does
-  progress : (ms : List Bool) → length ms ≡ n → (k : ℕ) → (spread n arcs (reach n arcs k ms) ≡ reach n arcs k ms) ⊎ (k ≤ many (reach n arcs k ms))
+  progress : (ms : List Bool) → length ms ≡ n → (k : ℕ)
+      → (spread n arcs (reach n arcs k ms) ≡ reach n arcs k ms) ⊎ (k ≤ many (reach n arcs k ms))
   progress ms e zero = inr (omega arith)
   progress ms e (suc k) =
       ⊎-elim (λ f. inl (same f))
@@ -124,12 +132,14 @@ module _ (n : ℕ) (arcs : ℕ → List ℕ) where
       go : k ≤ many (reach n arcs k ms) → Dec (many (spread n arcs (reach n arcs k ms)) ≤ many (reach n arcs k ms))
           → (spread n arcs (reach n arcs (suc k) ms) ≡ reach n arcs (suc k) ms) ⊎ (suc k ≤ many (reach n arcs (suc k) ms))
       go h (yes l) = inl (same (same-marks (reach n arcs k ms) (reach-long k ms e) l))
-      go h (no l) = let q : many (reach n arcs (suc k) ms) ≡ many (spread n arcs (reach n arcs k ms)) = ap (λ (t : List Bool). many t) (reach-suc k ms) in inr (omega arith)
+      go h (no l) = let q : many (reach n arcs (suc k) ms) ≡ many (spread n arcs (reach n arcs k ms)) =
+          ap (λ (t : List Bool). many t) (reach-suc k ms) in inr (omega arith)
 
   pub reach-fixed : (ms : List Bool) → length ms ≡ n → spread n arcs (reach n arcs n ms) ≡ reach n arcs n ms
   reach-fixed ms e =
       ⊎-elim (λ f. f)
-      (λ (h : n ≤ many (reach n arcs n ms)). same-marks (reach n arcs n ms) (reach-long n ms e) (omega (arith, count-le (marked (spread n arcs (reach n arcs n ms))) 0 n)))
+      (λ (h : n ≤ many (reach n arcs n ms)). same-marks (reach n arcs n ms) (reach-long n ms e)
+      (omega (arith, count-le (marked (spread n arcs (reach n arcs n ms))) 0 n)))
       (progress ms e n)
 
   pub reach-closed : (ms : List Bool) → length ms ≡ n → Closed (marked (reach n arcs n ms))
@@ -151,6 +161,7 @@ module _ (n : ℕ) (arcs : ℕ → List ℕ) where
     pub joined-closed : Closed (marked (joinedFrom n arcs vs))
     joined-closed = reach-closed (only n vs) (only-long n vs)
 
-    pub joined-least : (t : ℕ → Bool) → Closed t → ((v : ℕ) → v < n → member v vs ≡ true → t v ≡ true) → (v : ℕ) → marked (joinedFrom n arcs vs) v ≡ true → t v ≡ true
+    pub joined-least : (t : ℕ → Bool) → Closed t → ((v : ℕ) → v < n → member v vs ≡ true → t v ≡ true)
+        → (v : ℕ) → marked (joinedFrom n arcs vs) v ≡ true → t v ≡ true
     joined-least t c h = reach-least t c n (only n vs)
         (λ v m. let l : v < n = marked-below n (only n vs) v (only-long n vs) m in h v l (sym (only-at n vs v l) ∙ m))

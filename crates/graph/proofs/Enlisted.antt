@@ -13,7 +13,7 @@ use borrow.Author.Tests.{ltb-true, lt-ltb, le-ltb}
 use Rattle.lists.proofs.Tests.{no-both, and-l, and-r, and-true, and-no, not-true, cases, split}
 use Rattle.lists.proofs.Counts.{count-le}
 use Rattle.graph.specs.Reach.{marked, only}
-use Rattle.graph.specs.Listed.{many, Listing, listing, unmarked, enlist, enlistAll, Among, Listed}
+use Rattle.graph.specs.inner.Listed.{many, Listing, listing, unmarked, enlist, enlistAll, Among, Listed}
 use Rattle.graph.proofs.Marking.{markAll, set-hit, set-grow, set-back, set-many, all-only}
 use Rattle.graph.proofs.Lists.{Longer, longer-same, longer-on, listed-none}
 
@@ -106,7 +106,8 @@ pub record Enlisted (s : Listing) (us : List ℕ) (t : Listing) : Type 0 where
   pub listed : Listed (t .marks) (t .list) (t .count)
   pub longer : Longer (s .list) (t .list) (s .count) (t .count)
 
-enlisted-one : (s : Listing) (u : ℕ) → length (s .marks) ≤ length (s .list) → Listed (s .marks) (s .list) (s .count) → Enlisted s (u ∷ []) (enlist s u)
+enlisted-one : (s : Listing) (u : ℕ) → length (s .marks) ≤ length (s .list)
+    → Listed (s .marks) (s .list) (s .count) → Enlisted s (u ∷ []) (enlist s u)
 unfolding markAll
 enlisted-one s u fits is = go (cases (unmarked (s .marks) u))
   where
@@ -129,7 +130,8 @@ enlist-fits s u fits = go (cases (unmarked (s .marks) u))
     go (inl t) = subst (λ (x : Listing). length (x .marks) ≤ length (x .list)) (sym (enlist-new s u t)) (simp length-set fits)
     go (inr t) = subst (λ (x : Listing). length (x .marks) ≤ length (x .list)) (sym (enlist-same s u t)) fits
 
-enlisted-each : (us : List ℕ) (s : Listing) → length (s .marks) ≤ length (s .list) → Listed (s .marks) (s .list) (s .count) → Enlisted s us (enlistAll s us)
+enlisted-each : (us : List ℕ) (s : Listing) → length (s .marks) ≤ length (s .list)
+    → Listed (s .marks) (s .list) (s .count) → Enlisted s us (enlistAll s us)
 unfolding enlistAll markAll
 enlisted-each [] s fits is = record { marks = refl; listed = is; longer = longer-same (s .list) (s .count) }
 enlisted-each (u ∷ us) s fits is =
@@ -141,7 +143,8 @@ enlisted-each (u ∷ us) s fits is =
       longer = longer-on _ _ _ _ _ _ (one .longer) (rest .longer);
     }
 
-pub enlisted-all : (us : List ℕ) (s t : Listing) → length (s .marks) ≤ length (s .list) → Listed (s .marks) (s .list) (s .count) → t ≡ enlistAll s us → Enlisted s us t
+pub enlisted-all : (us : List ℕ) (s t : Listing) → length (s .marks) ≤ length (s .list)
+    → Listed (s .marks) (s .list) (s .count) → t ≡ enlistAll s us → Enlisted s us t
 enlisted-all us s t fits is e = subst (λ (x : Listing). Enlisted s us x) (sym e) (enlisted-each us s fits is)
 
 -- on no marks at all

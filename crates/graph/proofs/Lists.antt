@@ -10,7 +10,7 @@ use lib.ListN.{length, getD, replicate, length-replicate, getD-replicate}
 use Rattle.lists.proofs.Tests.{no-both}
 use Rattle.lists.proofs.Counts.{count-le, count-none}
 use Rattle.graph.specs.Reach.{member, marked}
-use Rattle.graph.specs.Listed.{Among, Listed}
+use Rattle.graph.specs.inner.Listed.{Among, Listed}
 use Rattle.graph.proofs.Closure.{marked-below, Closed, reach-closed}
 use Rattle.graph.proofs.Marking.{markAll, all-long, all-grow, all-hit, all-back, Joining}
 
@@ -57,13 +57,15 @@ module _ (n : ℕ) (arcs : ℕ → List ℕ) where
   followed-none ms list = record { led = λ j l v lv s. absurd (omega arith) }
 
   -- one node more
-  pub followed-more : (ms out : List Bool) (list on : List ℕ) (i k j : ℕ) → length ms ≡ n → i < k → Longer list on k j → out ≡ markAll (arcs (getD list i 0)) ms
+  pub followed-more : (ms out : List Bool) (list on : List ℕ) (i k j : ℕ) → length ms ≡ n → i < k
+      → Longer list on k j → out ≡ markAll (arcs (getD list i 0)) ms
       → Followed n arcs ms list i → Followed n arcs out on (i + 1)
   followed-more ms out list on i k j e b longer o f = record { led = λ m l v lv s. go m l v lv s (ℕ-discrete m i) }
     where
       go : (m : ℕ) → m < i + 1 → (v : ℕ) → v < n → member v (arcs (getD on m 0)) ≡ true → Dec (m ≡ i) → marked out v ≡ true
       go m l v lv s (yes q) =
-          let t : member v (arcs (getD list i 0)) ≡ true = ap (λ (x : ℕ). member v (arcs x)) (sym (ap (λ (x : ℕ). getD on x 0) q ∙ longer .kept i b)) ∙ s in
+          let t : member v (arcs (getD list i 0)) ≡ true =
+          ap (λ (x : ℕ). member v (arcs x)) (sym (ap (λ (x : ℕ). getD on x 0) q ∙ longer .kept i b)) ∙ s in
           ap (λ (xs : List Bool). marked xs v) o ∙ all-hit (arcs (getD list i 0)) ms v (omega arith) t
       go m l v lv s (no q) =
           let t : member v (arcs (getD list m 0)) ≡ true = ap (λ (x : ℕ). member v (arcs x)) (sym (longer .kept m (omega arith))) ∙ s in

@@ -8,14 +8,14 @@ use native.Mathlib.Numerals.{add-one}
 use native.Mathlib.Omega.{arith}
 use lib.ListN.{length, getD, set, drop, length-set, List·getD-append}
 use Rattle.lists.specs.Numbers.{range, count}
-use Rattle.lists.specs.Sequences.{filter, over, written}
+use Rattle.lists.specs.Sequences.{filter, over, written, All}
 use Rattle.lists.proofs.Counts.{count-le, count-below, count-yes, count-pass}
 use Rattle.lists.proofs.Ranges.{range-snoc, filter-yes, filter-no, length-filter, getD-filter}
 use Rattle.lists.proofs.Filters.{filter-none, filter-append}
-use Rattle.lists.proofs.Joins.{All, all-at, all-every, all-filter}
+use Rattle.lists.proofs.Joins.{all-at, all-every, all-filter}
 use Rattle.lists.proofs.Written.{written-none, written-snoc, written-front}
 use Rattle.graph.specs.Reach.{marked}
-use Rattle.graph.specs.Listed.{many, markedNodes, Listed}
+use Rattle.graph.specs.inner.Listed.{many, markedNodes, Listed}
 use Rattle.graph.proofs.Closure.{marked-below}
 
 -- the marked nodes below v
@@ -33,16 +33,19 @@ lower-more ms v =
     ∙ ap (λ (u : ℕ). lower ms v ++ filter (marked ms) (u ∷ [])) (zero-add v)
 
 lower-yes : (ms : List Bool) (v : ℕ) → marked ms v ≡ true → lower ms (v + 1) ≡ lower ms v ++ (v ∷ [])
-lower-yes ms v m = lower-more ms v ∙ ap (λ (us : List ℕ). lower ms v ++ us) (filter-yes (marked ms) v [] m ∙ ap (λ (us : List ℕ). v ∷ us) (filter-none (marked ms)))
+lower-yes ms v m = lower-more ms v
+    ∙ ap (λ (us : List ℕ). lower ms v ++ us) (filter-yes (marked ms) v [] m ∙ ap (λ (us : List ℕ). v ∷ us) (filter-none (marked ms)))
 
 lower-no : (ms : List Bool) (v : ℕ) → marked ms v ≡ false → lower ms (v + 1) ≡ lower ms v
-lower-no ms v m = lower-more ms v ∙ ap (λ (us : List ℕ). lower ms v ++ us) (filter-no (marked ms) v [] m ∙ filter-none (marked ms)) ∙ append-nil (lower ms v)
+lower-no ms v m = lower-more ms v ∙ ap (λ (us : List ℕ). lower ms v ++ us) (filter-no (marked ms) v [] m ∙ filter-none (marked ms))
+    ∙ append-nil (lower ms v)
 
 -- ---- the list that has them at its front
 pub listed-lowest : (ms : List Bool) (old list : List ℕ) (k : ℕ) → (list ≡ over (markedNodes ms) old) × (k ≡ many ms) → Listed ms list k
 listed-lowest ms old list k (e, c) = record {
   counted = c;
-  are = λ i l. ap (marked ms) (at i (omega arith)) ∙ all-at (λ u. Unit {0} × (marked ms u ≡ true)) 0 (markedNodes ms) passed i (omega (arith, long)) .1;
+  are = λ i l. ap (marked ms) (at i (omega arith))
+      ∙ all-at (λ u. Unit {0} × (marked ms u ≡ true)) 0 (markedNodes ms) passed i (omega (arith, long)) .1;
   all = λ v m.
       let l : v < length ms = marked-below (length ms) ms v refl m in
       let b : count (marked ms) 0 v < many ms = count-below (marked ms) v (length ms) l m in
@@ -63,7 +66,8 @@ listed-lowest ms old list k (e, c) = record {
     passed = all-filter (λ u. Unit {0}) (marked ms) (range 0 (length ms)) (all-every (λ u. Unit {0}) (λ u. tt) (range 0 (length ms)))
 
     at : (i : ℕ) → i < many ms → getD list i 0 ≡ getD (markedNodes ms) i 0
-    at i l = ap (λ (us : List ℕ). getD us i 0) e ∙ List·getD-append (markedNodes ms) (drop (length (markedNodes ms)) old) 0 i (omega (arith, long))
+    at i l = ap (λ (us : List ℕ). getD us i 0) e
+        ∙ List·getD-append (markedNodes ms) (drop (length (markedNodes ms)) old) 0 i (omega (arith, long))
 
 -- ---- the loop: those below v are written
 pub record Writing (ms : List Bool) (old list : List ℕ) (k v : ℕ) : Type 0 where

@@ -15,7 +15,7 @@ use Rattle.lists.specs.Sequences.{some}
 use Rattle.lists.proofs.Tests.{no-both, or-cases, or-true-l, or-true-r, cases}
 use Rattle.lists.proofs.Counts.{count-add}
 use Rattle.graph.specs.Reach.{member, marked, only, reach}
-use Rattle.graph.specs.Listed.{many}
+use Rattle.graph.specs.inner.Listed.{many}
 use Rattle.graph.proofs.Closure.{marked-below, only-long, only-at, Closed, reach-long, reach-grow, reach-least}
 
 -- ---- one mark
@@ -27,7 +27,8 @@ module _ (ms : List Bool) (u : ℕ) where
   set-grow v m = go (ℕ-discrete v u)
     where
       go : Dec (v ≡ u) → marked (set ms u true) v ≡ true
-      go (yes e) = subst (λ (k : ℕ). marked (set ms u true) k ≡ true) (sym e) (set-hit (subst (λ (k : ℕ). k < length ms) e (marked-below (length ms) ms v refl m)))
+      go (yes e) = subst (λ (k : ℕ). marked (set ms u true) k ≡ true) (sym e)
+          (set-hit (subst (λ (k : ℕ). k < length ms) e (marked-below (length ms) ms v refl m)))
       go (no e) = getD-set-other ms u v true false e ∙ m
 
   pub set-back : (v : ℕ) → marked (set ms u true) v ≡ true → (v ≡ u) ⊎ (marked ms v ≡ true)
@@ -40,7 +41,8 @@ module _ (ms : List Bool) (u : ℕ) where
   pub set-many : u < length ms → marked ms u ≡ false → many (set ms u true) ≡ many ms + 1
   set-many l m =
       ap (λ (n : ℕ). count (marked (set ms u true)) 0 n) (length-set ms u true)
-      ∙ count-add (marked ms) (marked (set ms u true)) 0 (length ms) u (omega arith) (omega arith) m (set-hit l) (λ k n. getD-set-other ms u k true false n)
+      ∙ count-add (marked ms) (marked (set ms u true)) 0 (length ms) u (omega arith) (omega arith)
+      m (set-hit l) (λ k n. getD-set-other ms u k true false n)
 
 -- ---- the nodes of a list
 -- all are marked, where they are nodes
@@ -75,7 +77,8 @@ unfolding markAll
 all-hit [] ms v l s = no-both (member v []) s (unfold some in refl)
 all-hit (u ∷ us) ms v l s = go (some-cons v u us s) (all-hit us (set ms u true) v (omega (arith, length-set ms u true)))
   where
-    go : (v ≡ u) ⊎ (member v us ≡ true) → (member v us ≡ true → marked (markAll us (set ms u true)) v ≡ true) → marked (markAll us (set ms u true)) v ≡ true
+    go : (v ≡ u) ⊎ (member v us ≡ true) → (member v us ≡ true → marked (markAll us (set ms u true)) v ≡ true)
+        → marked (markAll us (set ms u true)) v ≡ true
     go (inl e) ih = all-grow us (set ms u true) v (subst (λ (k : ℕ). marked (set ms k true) v ≡ true) e (set-hit ms v l))
     go (inr t) ih = ih t
 
@@ -84,12 +87,14 @@ unfolding markAll
 all-back [] ms v m = inr m
 all-back (u ∷ us) ms v m =
     ⊎-elim (λ (t : member v us ≡ true). inl (some-later v u us t))
-    (λ (t : marked (set ms u true) v ≡ true). ⊎-elim (λ (e : v ≡ u). inl (some-first v u us e)) (λ (x : marked ms v ≡ true). inr x) (set-back ms u v t))
+    (λ (t : marked (set ms u true) v ≡ true). ⊎-elim (λ (e : v ≡ u). inl (some-first v u us e))
+    (λ (x : marked ms v ≡ true). inr x) (set-back ms u v t))
     (all-back us (set ms u true) v m)
 
 -- on no marks at all
 pub all-only : (n : ℕ) (us : List ℕ) → markAll us (replicate n false) ≡ only n us
-all-only n us = ext-getD false (markAll us (replicate n false)) (only n us) (long ∙ sym (only-long n us)) (λ v l. same v (omega (arith, long)) (cases (member v us)))
+all-only n us = ext-getD false (markAll us (replicate n false)) (only n us) (long ∙ sym (only-long n us))
+    (λ v l. same v (omega (arith, long)) (cases (member v us)))
   where
     long : length (markAll us (replicate n false)) ≡ n
     long = all-long us (replicate n false) ∙ length-replicate n false
@@ -98,7 +103,8 @@ all-only n us = ext-getD false (markAll us (replicate n false)) (only n us) (lon
     same v l (inl t) = all-hit us (replicate n false) v (omega (arith, length-replicate n false)) t ∙ sym (only-at n us v l ∙ t)
     same v l (inr t) = ⊎-elim
         (λ (m : marked (markAll us (replicate n false)) v ≡ true). ⊎-elim (λ (x : member v us ≡ true). no-both (member v us) x t)
-        (λ (x : marked (replicate n false) v ≡ true). no-both (marked (replicate n false) v) x (getD-replicate n v false false l)) (all-back us (replicate n false) v m))
+        (λ (x : marked (replicate n false) v ≡ true). no-both (marked (replicate n false) v) x (getD-replicate n v false false l))
+        (all-back us (replicate n false) v m))
         (λ (m : marked (markAll us (replicate n false)) v ≡ false). m ∙ sym (only-at n us v l ∙ t))
         (cases (marked (markAll us (replicate n false)) v))
 
@@ -114,11 +120,13 @@ module _ (n : ℕ) (arcs : ℕ → List ℕ) (first : List Bool) (e : length fir
   joining-first = record { long = e; from = λ v m. m; within = reach-grow n arcs n first e }
 
   pub joining-done : (now : List Bool) → Joining n arcs first now → Closed n arcs (marked now) → now ≡ reach n arcs n first
-  joining-done now j k = ext-getD false now (reach n arcs n first) (j .long ∙ sym (reach-long n arcs n first e)) (λ v l. go v (cases (marked now v)))
+  joining-done now j k = ext-getD false now (reach n arcs n first) (j .long ∙ sym (reach-long n arcs n first e))
+      (λ v l. go v (cases (marked now v)))
     where
       go : (v : ℕ) → (marked now v ≡ true) ⊎ (marked now v ≡ false) → marked now v ≡ marked (reach n arcs n first) v
       go v (inl m) = m ∙ sym (j .within v m)
       go v (inr m) = ⊎-elim
-          (λ (x : marked (reach n arcs n first) v ≡ true). no-both (marked now v) (reach-least n arcs (marked now) k n first (j .from) v x) m)
+          (λ (x : marked (reach n arcs n first) v ≡ true). no-both (marked now v)
+          (reach-least n arcs (marked now) k n first (j .from) v x) m)
           (λ (x : marked (reach n arcs n first) v ≡ false). m ∙ sym x)
           (cases (marked (reach n arcs n first) v))

@@ -6,7 +6,7 @@ ghost use lib.ListN.{length};
 ghost use Rattle.lists.specs.Numbers.{lowest};
 ghost use Rattle.lists.specs.Sequences.{over};
 ghost use Rattle.graph.specs.Reach.{marked};
-ghost use Rattle.graph.specs.Listed.{many, listing, enlist, markedNodes};
+ghost use Rattle.graph.specs.inner.Listed.{many, listing, enlist, markedNodes};
 
 // Node u has a mark; a number that is no node has none.
 pub fn is_marked(marks: &[bool], u: usize) -> bool
@@ -21,7 +21,8 @@ pub fn is_marked(marks: &[bool], u: usize) -> bool
 // Node u is marked, if it is one, and listed after the first `count`, if it had no mark; how many are listed then.
 pub fn enlist(marks: &mut [bool], list: &mut [u8], count: usize, u: u8) -> usize
     requires { ⌜ (length (now marks) ≤ length (now list)) × (count ≡ many (now marks)) ⌝ }
-    ensures { λ r. ⌜ listing (now (marks .exit)) (now (list .exit)) r ≡ enlist (listing (now (marks .entry)) (now (list .entry)) count) u ⌝ }
+    ensures { λ r. ⌜ listing (now (marks .exit)) (now (list .exit)) r ≡ enlist
+        (listing (now (marks .entry)) (now (list .entry)) count) u ⌝ }
 {
     let v = u as usize;
     if marks.len() <= v {

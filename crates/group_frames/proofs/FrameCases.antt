@@ -7,8 +7,8 @@ use lib.ListN.{getD}
 use Rattle.frames.specs.Frame.{field, pair, quad, pairAt, quadAt}
 use Rattle.image.specs.Image.{labelFrame, rowFrame}
 use Rattle.image.specs.Decode.{labelsFrom, labelIn}
-use Rattle.covering.specs.Parts.{rowIn}
-use Rattle.group_frames.specs.Parts.{ledBy}
+use Rattle.covering.specs.inner.CoveringContracts.{rowInFrame}
+use Rattle.group_frames.specs.inner.GroupFrames.{ledBy}
 
 pairs-back : (x y : ℕ) → y < 256 → ((x * 256 + y) / 256 ≡ x) × ((x * 256 + y) % 256 ≡ y)
 pairs-back x y h = (omega arith, omega arith)
@@ -40,12 +40,13 @@ module _ (b : List ℕ) (bytes : (k : ℕ) → getD b k 0 < 256) where
 
   pub row-bytes : (numbers : List ℕ) (f y₁ y₇ x₂ x₃ x₄ x₅ x₆ : ℕ) → y₁ ≡ field b f 1 → y₇ ≡ field b f 7
       → x₂ ≡ field b f 2 → x₃ ≡ field b f 3 → x₄ ≡ field b f 4 → x₅ ≡ field b f 5 → x₆ ≡ field b f 6
-      → 18 ∷ getD numbers y₁ 0 ∷ x₂ ∷ x₃ ∷ x₄ ∷ x₅ ∷ x₆ ∷ getD numbers y₇ 0 ∷ 0 ∷ 0 ∷ [] ≡ rowFrame (ledBy numbers (rowIn b f))
+      → 18 ∷ getD numbers y₁ 0 ∷ x₂ ∷ x₃ ∷ x₄ ∷ x₅ ∷ x₆ ∷ getD numbers y₇ 0 ∷ 0 ∷ 0 ∷ [] ≡ rowFrame (ledBy numbers (rowInFrame b f))
   row-bytes numbers f y₁ y₇ x₂ x₃ x₄ x₅ x₆ d₁ d₇ e₂ e₃ e₄ e₅ e₆ =
       let all : 18 ∷ getD numbers y₁ 0 ∷ x₂ ∷ x₃ ∷ x₄ ∷ x₅ ∷ x₆ ∷ getD numbers y₇ 0 ∷ 0 ∷ 0 ∷ []
       ≡ 18 ∷ getD numbers (field b f 1) 0 ∷ field b f 2 ∷ field b f 3 ∷ field b f 4 ∷ field b f 5 ∷ field b f 6 ∷ getD numbers
       (field b f 7) 0 ∷ 0 ∷ 0 ∷ [] =
       λ j. 18 ∷ getD numbers (d₁ j) 0 ∷ e₂ j ∷ e₃ j ∷ e₄ j ∷ e₅ j ∷ e₆ j ∷ getD numbers (d₇ j) 0 ∷ 0 ∷ 0 ∷ [] in
       all
-      ∙ ap₂ (λ (xs ys : List ℕ). 18 ∷ getD numbers (field b f 1) 0 ∷ xs ++ (ys ++ (field b f 6 ∷ getD numbers (field b f 7) 0 ∷ 0 ∷ 0 ∷ [])))
+      ∙ ap₂ (λ (xs ys : List ℕ). 18 ∷ getD numbers (field b f 1)
+      0 ∷ xs ++ (ys ++ (field b f 6 ∷ getD numbers (field b f 7) 0 ∷ 0 ∷ 0 ∷ [])))
       (sym (pair-back f 2)) (sym (pair-back f 4))

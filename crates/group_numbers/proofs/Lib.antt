@@ -1,4 +1,4 @@
 pub mod Numbering
 pub mod Led
 pub mod NumberCases
-pub mod Cases
+pub mod GroupCases

@@ -17,7 +17,7 @@ use Rattle.lists.proofs.Tests.{yes-pick, no-pick, split}
 use Rattle.lists.proofs.Counts.{count-snoc, count-le}
 use Rattle.grouping.specs.Classes.{classOf, isFirst}
 use Rattle.group_numbers.specs.Smaller.{renumbered}
-use Rattle.group_numbers.specs.Parts.{Lowest, Numbers}
+use Rattle.group_numbers.specs.inner.NumberContracts.{LowestOfClass, GroupNumbers}
 
 -- ---- first_at, number_at
 module _ (c : List ℕ) (l : ℕ) where
@@ -34,20 +34,20 @@ module _ (c : List ℕ) (l : ℕ) where
   number-old x y e = sym (no-pick (isFirst c l) x y (ne-eqb (getD c l 0) l e))
 
 -- ---- count_kept
-pub record Counting (p : ℕ → Bool) (first end total f : ℕ) : Type 0 where
+pub record CountingKept (p : ℕ → Bool) (first end total f : ℕ) : Type 0 where
   pub low : first ≤ f
   pub high : f ≤ end
   pub is : total ≡ count p first (f - first)
   pub small : total ≤ f - first
 
 module _ (p : ℕ → Bool) (first end : ℕ) where
-  pub counting-start : first ≤ end → Counting p first end 0 first
+  pub counting-start : first ≤ end → CountingKept p first end 0 first
   counting-start h =
       let e : first - first ≡ 0 = omega arith in
       record { low = omega arith; high = h; is = sym (ap (count p first) e ∙ omega (arith, count-le p first 0)); small = omega arith }
 
-  pub counting-on : (total f x : ℕ) → Counting p first end total f → f < end → (x ≡ pick (p f) 1 0) × (x ≤ 1)
-      → Counting p first end (total + x) (f + 1)
+  pub counting-on : (total f x : ℕ) → CountingKept p first end total f → f < end → (x ≡ pick (p f) 1 0) × (x ≤ 1)
+      → CountingKept p first end (total + x) (f + 1)
   counting-on total f x t h w =
       let low : first ≤ f = t .low in
       let e : f + 1 - first ≡ suc (f - first) = omega arith in
@@ -59,7 +59,8 @@ module _ (p : ℕ → Bool) (first end : ℕ) where
         small = omega (arith, t .small, w .1);
       }
 
-  pub counting-all : (total f : ℕ) → Counting p first end total f → end ≤ f → (total ≡ count p first (end - first)) × (total ≤ end - first)
+  pub counting-all : (total f : ℕ) → CountingKept p first end total f → end ≤ f
+      → (total ≡ count p first (end - first)) × (total ≤ end - first)
   counting-all total f t h =
       let e : f ≡ end = omega (arith, t .high) in
       (t .is ∙ ap (λ (k : ℕ). count p first (k - first)) e, omega (arith, t .small))
@@ -72,14 +73,14 @@ less-of a b k ne = go (split a b)
     go (inr x) = absurd (ne (omega arith))
 
 -- ---- number_groups: the labels below l have their numbers
-pub record Turn (c numbers : List ℕ) (n groups l : ℕ) : Type 0 where
+pub record NumberTurn (c numbers : List ℕ) (n groups l : ℕ) : Type 0 where
   pub high : l ≤ n
   pub room : length numbers ≡ 256
   pub is : groups ≡ count (isFirst c) 0 l
   pub few : groups ≤ l
   pub at : (k : ℕ) → k < l → getD numbers k 0 ≡ renumbered c k
 
-pub turn-start : (c numbers : List ℕ) (n : ℕ) → length numbers ≡ 256 → Turn c numbers n 0 0
+pub turn-start : (c numbers : List ℕ) (n : ℕ) → length numbers ≡ 256 → NumberTurn c numbers n 0 0
 turn-start c numbers n e = record {
   high = omega arith;
   room = e;
@@ -88,7 +89,8 @@ turn-start c numbers n e = record {
   at = λ k h. absurd (omega arith);
 }
 
-module _ (c numbers : List ℕ) (n groups l : ℕ) (low : Lowest c n) (t : Turn c numbers n groups l) (h : l < n) (small : n ≤ 256) where
+module _ (c numbers : List ℕ) (n groups l : ℕ) (low : LowestOfClass c n)
+    (t : NumberTurn c numbers n groups l) (h : l < n) (small : n ≤ 256) where
   abbrev number : ℕ
   number = pick (isFirst c l) groups (getD numbers (getD c l 0) 0)
 
@@ -101,7 +103,7 @@ module _ (c numbers : List ℕ) (n groups l : ℕ) (low : Lowest c n) (t : Turn 
       ∙ t .at (getD c l 0) (less-of (getD c l 0) l (low .below l h) (eqb-false (getD c l 0) l e))
       ∙ ap (λ (x : ℕ). count (isFirst c) 0 x) (low .own l h)
 
-  pub turn-on : (v x : ℕ) → v ≡ number → (x ≡ pick (isFirst c l) 1 0) × (x ≤ 1) → Turn c (set numbers l v) n (groups + x) (l + 1)
+  pub turn-on : (v x : ℕ) → v ≡ number → (x ≡ pick (isFirst c l) 1 0) × (x ≤ 1) → NumberTurn c (set numbers l v) n (groups + x) (l + 1)
   turn-on v x e w = record {
     high = omega arith;
     room = length-set numbers l v ∙ t .room;
@@ -117,7 +119,7 @@ module _ (c numbers : List ℕ) (n groups l : ℕ) (low : Lowest c n) (t : Turn 
           ∙ number-is (isFirst c l) refl ∙ ap (renumbered c) (sym q)
       go k j (no q) = getD-set-other numbers l k v 0 q ∙ t .at k (less-of k l (omega arith) q)
 
-pub turn-all : (c numbers : List ℕ) (n groups l : ℕ) → Turn c numbers n groups l → n ≤ l → Numbers c numbers n groups
+pub turn-all : (c numbers : List ℕ) (n groups l : ℕ) → NumberTurn c numbers n groups l → n ≤ l → GroupNumbers c numbers n groups
 turn-all c numbers n groups l t h =
     let e : l ≡ n = omega (arith, t .high) in
     record {

@@ -11,19 +11,19 @@ use lib.ListN.{length, getD, length-map}
 use borrow.Author.Tests.{eqb-true, eq-eqb}
 use Rattle.lists.specs.Pick.{pick}
 use Rattle.lists.specs.Numbers.{range, count}
-use Rattle.lists.specs.Sequences.{filter}
+use Rattle.lists.specs.Sequences.{filter, All}
 use Rattle.lists.proofs.Tests.{split, yes-pick}
 use Rattle.lists.proofs.Counts.{count-snoc, count-le, count-mono, count-below}
 use Rattle.lists.proofs.Ranges.{length-filter, getD-filter, getD-map, filter-yes, filter-no}
 use Rattle.lists.proofs.Filters.{filter-none}
-use Rattle.lists.proofs.Joins.{All, all-at, all-places, all-map, all-of, all-filter}
-use Rattle.image.specs.Image.{Image, Label, Row}
-use Rattle.image.proofs.Sound.{noLabel, noRow, nthLabel, nthRow, endOf, Reaches, SoundLabel, SoundRow, Sound}
+use Rattle.lists.proofs.Joins.{all-at, all-places, all-map, all-of, all-filter}
+use Rattle.image.specs.Image.{Image, Label, Row, noRow, nthRow}
+use Rattle.image.specs.inner.Sound.{noLabel, nthLabel, endOf, Reaches, SoundLabel, SoundRow, SoundImage}
 use Rattle.state.specs.State.{labelAt}
 use Rattle.grouping.specs.Classes.{classOf, isFirst}
-use Rattle.group_numbers.specs.Smaller.{renumbered, led, joined}
+use Rattle.group_numbers.specs.Smaller.{renumbered, renumberedRow, joinedLabels}
 use Rattle.grouping.proofs.Onward.{low-same}
-use Rattle.grouping.proofs.Rounds.{Round}
+use Rattle.grouping.proofs.Rounds.{ClassRound}
 
 -- ---- the number that passes with k others below it
 pub record Nth (p : ℕ → Bool) (n k : ℕ) : Type 0 where
@@ -74,7 +74,7 @@ length-filtered p (x ∷ xs) = go (p x) refl (length-filtered p xs)
     go true e ih = omega (arith, ap (λ ys. length ys) (filter-yes p x xs e))
     go false e ih = omega (arith, ap (λ ys. length ys) (filter-no p x xs e))
 
-module _ (i : Image) (S : Sound i) (c : List ℕ) (R : Round i c) where
+module _ (i : Image) (S : SoundImage i) (c : List ℕ) (R : ClassRound i c) where
   abbrev n : ℕ
   n = length (i .labels)
 
@@ -137,26 +137,26 @@ module _ (i : Image) (S : Sound i) (c : List ℕ) (R : Round i c) where
   new-first l t = ap (λ (x : ℕ). count (isFirst c) 0 x) (eqb-true (classOf c l) l t)
 
   -- ---- the smaller image by number
-  pub labels-count : length (joined i c .labels) ≡ count (isFirst c) 0 n
-  unfolding joined
+  pub labels-count : length (joinedLabels i c .labels) ≡ count (isFirst c) 0 n
+  unfolding joinedLabels
   labels-count = length-map (filter (isFirst c) (range 0 n)) (labelAt i) ∙ length-filter (isFirst c) 0 n
 
-  pub entries-count : length (joined i c .entries) ≡ length (i .entries)
-  unfolding joined
+  pub entries-count : length (joinedLabels i c .entries) ≡ length (i .entries)
+  unfolding joinedLabels
   entries-count = length-map (i .entries) new
 
-  pub new-inside : (l : ℕ) → l < n → new l < length (joined i c .labels)
+  pub new-inside : (l : ℕ) → l < n → new l < length (joinedLabels i c .labels)
   new-inside l h = omega (arith, labels-count, count-below (isFirst c) (classOf c l) n (class-inside l h) (class-first l h))
 
-  pub label-new : (l : ℕ) → l < n → labelAt (joined i c) (new l) ≡ labelAt i l
-  unfolding joined
+  pub label-new : (l : ℕ) → l < n → labelAt (joinedLabels i c) (new l) ≡ labelAt i l
+  unfolding joinedLabels
   label-new l h =
       getD-filter (labelAt i) noLabel (isFirst c) 0 n (classOf c l) (class-inside l h)
       (ap (isFirst c) (zero-add (classOf c l)) ∙ class-first l h)
       ∙ ap (labelAt i) (zero-add (classOf c l)) ∙ class-label l h
 
-  pub entry-new : (h : ℕ) → h < length (i .entries) → getD (joined i c .entries) h 0 ≡ new (getD (i .entries) h 0)
-  unfolding joined
+  pub entry-new : (h : ℕ) → h < length (i .entries) → getD (joinedLabels i c .entries) h 0 ≡ new (getD (i .entries) h 0)
+  unfolding joinedLabels
   entry-new h l = getD-map new (i .entries) h 0 0 l
 
   -- ---- it is sound
@@ -167,17 +167,17 @@ module _ (i : Image) (S : Sound i) (c : List ℕ) (R : Round i c) where
       go true = new-zero
       go false = new-one
 
-  pub reaches-new : (h l : ℕ) → Reaches i h l → Reaches (joined i c) h (new l)
+  pub reaches-new : (h l : ℕ) → Reaches i h l → Reaches (joinedLabels i c) h (new l)
   reaches-new h l r = record { inside = new-inside l (r .inside); belongs = go (r .belongs) }
     where
-      go : (nthLabel i l .owner ≡ h) ⊎ (l ≡ endOf h) → (nthLabel (joined i c) (new l) .owner ≡ h) ⊎ (new l ≡ endOf h)
+      go : (nthLabel i l .owner ≡ h) ⊎ (l ≡ endOf h) → (nthLabel (joinedLabels i c) (new l) .owner ≡ h) ⊎ (new l ≡ endOf h)
       go (inl e) = inl (ap (λ (x : Label). x .owner) (label-new l (r .inside)) ∙ e)
       go (inr e) = inr (ap new e ∙ end-new h)
 
-  row-sound : (r : Row) → SoundRow i r × (isFirst c (r .from) ≡ true) → SoundRow (joined i c) (led c r)
+  row-sound : (r : Row) → SoundRow i r × (isFirst c (r .from) ≡ true) → SoundRow (joinedLabels i c) (renumberedRow c r)
   row-sound r x =
       let s : SoundRow i r = x .0 in
-      let e : labelAt (joined i c) (new (r .from)) ≡ labelAt i (r .from) = label-new (r .from) (s .high) in
+      let e : labelAt (joinedLabels i c) (new (r .from)) ≡ labelAt i (r .from) = label-new (r .from) (s .high) in
       record {
         low = new-high (r .from) (s .high) (s .low);
         high = new-inside (r .from) (s .high);
@@ -186,71 +186,77 @@ module _ (i : Image) (S : Sound i) (c : List ℕ) (R : Round i c) where
         within = s .within;
         bits = s .bits;
         function = λ b. ap (λ (y : Label). y .kind) e ∙ s .function b;
-        leading = subst (λ (h : ℕ). Reaches (joined i c) h (new (r .next))) (sym (ap (λ (y : Label). y .owner) e))
+        leading = subst (λ (h : ℕ). Reaches (joinedLabels i c) h (new (r .next))) (sym (ap (λ (y : Label). y .owner) e))
             (reaches-new (labelAt i (r .from) .owner) (r .next) (s .leading));
       }
 
-  rows-sound : All (SoundRow (joined i c)) (map (led c) (filter (λ r. isFirst c (r .from)) (i .rows)))
+  rows-sound : All (SoundRow (joinedLabels i c)) (map (renumberedRow c) (filter (λ r. isFirst c (r .from)) (i .rows)))
   rows-sound =
-      all-map (SoundRow (joined i c)) (led c) (filter (λ r. isFirst c (r .from)) (i .rows))
-      (all-of (λ r. SoundRow i r × (isFirst c (r .from) ≡ true)) (λ r. SoundRow (joined i c) (led c r)) row-sound
+      all-map (SoundRow (joinedLabels i c)) (renumberedRow c) (filter (λ r. isFirst c (r .from)) (i .rows))
+      (all-of (λ r. SoundRow i r × (isFirst c (r .from) ≡ true)) (λ r. SoundRow (joinedLabels i c) (renumberedRow c r)) row-sound
       (filter (λ r. isFirst c (r .from)) (i .rows))
       (all-filter (SoundRow i) (λ r. isFirst c (r .from)) (i .rows) (all-places (SoundRow i) noRow (i .rows) (S .each))))
 
   rising-led : (m k : ℕ) (rs : List Row) → Rising m rs → ((x : ℕ) → m ≤ x → isFirst c x ≡ true → k ≤ new x)
-      → Rising k (map (led c) (filter (λ r. isFirst c (r .from)) rs))
-  rising-led m k [] a h = subst (λ (rs : List Row). Rising k (map (led c) rs)) (sym (filter-none (λ r. isFirst c (r .from)))) tt
-  rising-led m k (r ∷ rs) a h = go (isFirst c (r .from)) refl (rising-led (r .from) (new (r .from)) rs (a .1)) (rising-led (r .from) k rs (a .1))
+      → Rising k (map (renumberedRow c) (filter (λ r. isFirst c (r .from)) rs))
+  rising-led m k [] a h = subst (λ (rs : List Row). Rising k (map (renumberedRow c) rs)) (sym (filter-none (λ r. isFirst c (r .from)))) tt
+  rising-led m k (r ∷ rs) a h = go (isFirst c (r .from)) refl (rising-led (r .from) (new (r .from)) rs (a .1))
+      (rising-led (r .from) k rs (a .1))
     where
       test : Row → Bool
       test = λ s. isFirst c (s .from)
 
       go : (t : Bool) → isFirst c (r .from) ≡ t
           → (((x : ℕ) → r .from ≤ x → isFirst c x ≡ true → new (r .from) ≤ new x)
-          → Rising (new (r .from)) (map (led c) (filter (λ s. isFirst c (s .from)) rs)))
-          → (((x : ℕ) → r .from ≤ x → isFirst c x ≡ true → k ≤ new x) → Rising k (map (led c) (filter (λ s. isFirst c (s .from)) rs)))
-          → Rising k (map (led c) (filter (λ s. isFirst c (s .from)) (r ∷ rs)))
-      go true e ih _ = subst (λ (ss : List Row). Rising k (map (led c) ss)) (sym (filter-yes (λ s. isFirst c (s .from)) r rs e))
+          → Rising (new (r .from)) (map (renumberedRow c) (filter (λ s. isFirst c (s .from)) rs)))
+          → (((x : ℕ) → r .from ≤ x → isFirst c x ≡ true → k ≤ new x)
+          → Rising k (map (renumberedRow c) (filter (λ s. isFirst c (s .from)) rs)))
+          → Rising k (map (renumberedRow c) (filter (λ s. isFirst c (s .from)) (r ∷ rs)))
+      go true e ih _ = subst (λ (ss : List Row). Rising k (map (renumberedRow c) ss)) (sym (filter-yes (λ s. isFirst c (s .from)) r rs e))
           (h (r .from) (a .0) e, ih (λ x l t. omega (arith, new-first (r .from) e, new-first x t, count-rises (r .from) x l)))
-      go false e _ ih = subst (λ (ss : List Row). Rising k (map (led c) ss)) (sym (filter-no (λ s. isFirst c (s .from)) r rs e))
+      go false e _ ih = subst (λ (ss : List Row). Rising k (map (renumberedRow c) ss)) (sym (filter-no (λ s. isFirst c (s .from)) r rs e))
           (ih (λ x l t. h x (omega (arith, a .0)) t))
 
-  rows-rising : (k : ℕ) → suc k < length (joined i c .rows) → nthRow (joined i c) k .from ≤ nthRow (joined i c) (suc k) .from
-  unfolding joined
-  rows-rising = rising-at 0 (map (led c) (filter (λ r. isFirst c (r .from)) (i .rows)))
+  rows-rising : (k : ℕ) → suc k < length (joinedLabels i c .rows)
+      → nthRow (joinedLabels i c) k .from ≤ nthRow (joinedLabels i c) (suc k) .from
+  unfolding joinedLabels
+  rows-rising = rising-at 0 (map (renumberedRow c) (filter (λ r. isFirst c (r .from)) (i .rows)))
       (rising-led 0 0 (i .rows) (rising-of 0 (i .rows) (λ l. omega arith) (S .rising)) (λ x l t. omega arith))
 
-  rows-few : length (joined i c .rows) ≤ 1024
-  unfolding joined
+  rows-few : length (joinedLabels i c .rows) ≤ 1024
+  unfolding joinedLabels
   rows-few = omega (
     arith,
-    length-map (filter (λ r. isFirst c (r .from)) (i .rows)) (led c),
+    length-map (filter (λ r. isFirst c (r .from)) (i .rows)) (renumberedRow c),
     length-filtered (λ (r : Row). isFirst c (r .from)) (i .rows),
     S .few,
   )
 
-  each-sound : (k : ℕ) → k < length (joined i c .rows) → SoundRow (joined i c) (nthRow (joined i c) k)
-  unfolding joined
-  each-sound k h = all-at (SoundRow (joined i c)) noRow (map (led c) (filter (λ r. isFirst c (r .from)) (i .rows))) rows-sound k h
+  each-sound : (k : ℕ) → k < length (joinedLabels i c .rows) → SoundRow (joinedLabels i c) (nthRow (joinedLabels i c) k)
+  unfolding joinedLabels
+  each-sound k h = all-at (SoundRow (joinedLabels i c)) noRow
+      (map (renumberedRow c) (filter (λ r. isFirst c (r .from)) (i .rows))) rows-sound k h
 
   -- a member with at least two groups below it is from 2 up
   member-high : (m : ℕ) → 2 ≤ count (isFirst c) 0 m → 2 ≤ m
   member-high m h = omega (arith, count-le (isFirst c) 0 m)
 
-  label-sound : (l : ℕ) → 2 ≤ l → l < length (joined i c .labels) → SoundLabel (length (joined i c .entries)) (nthLabel (joined i c) l)
+  label-sound : (l : ℕ) → 2 ≤ l → l < length (joinedLabels i c .labels)
+      → SoundLabel (length (joinedLabels i c .entries)) (nthLabel (joinedLabels i c) l)
   label-sound l low high =
       let x : Nth (isFirst c) n l = nth (isFirst c) n l (omega (arith, labels-count)) in
       let e : new (x .member) ≡ l = new-first (x .member) (x .passes) ∙ x .number in
       let big : 2 ≤ x .member = member-high (x .member) (omega (arith, x .number)) in
-      subst (λ (k : ℕ). SoundLabel (length (joined i c .entries)) (nthLabel (joined i c) k)) e
-      (subst (λ (y : Label). SoundLabel (length (joined i c .entries)) y) (sym (label-new (x .member) (x .inside)))
+      subst (λ (k : ℕ). SoundLabel (length (joinedLabels i c .entries)) (nthLabel (joinedLabels i c) k)) e
+      (subst (λ (y : Label). SoundLabel (length (joinedLabels i c .entries)) y) (sym (label-new (x .member) (x .inside)))
       (subst (λ (k : ℕ). SoundLabel k (labelAt i (x .member))) (sym entries-count) (S .others (x .member) big (x .inside))))
 
-  handler-new : (joined i c .handler ≡ 0 → ⊥) → (2 ≤ joined i c .handler) × (joined i c .handler ≤ length (joined i c .entries))
-  unfolding joined
+  handler-new : (joinedLabels i c .handler ≡ 0 → ⊥) → (2 ≤ joinedLabels i c .handler)
+      × (joinedLabels i c .handler ≤ length (joinedLabels i c .entries))
+  unfolding joinedLabels
   handler-new z = (S .handled z .0, omega (arith, S .handled z .1, entries-count))
 
-  pub joined-sound : Sound (joined i c)
+  pub joined-sound : SoundImage (joinedLabels i c)
   joined-sound = record {
     first = omega (arith, entries-count, S .first);
     most = omega (arith, entries-count, S .most);
@@ -259,9 +265,10 @@ module _ (i : Image) (S : Sound i) (c : List ℕ) (R : Round i c) where
     few = rows-few;
     handled = handler-new;
     starts = λ h l. let m : h < length (i .entries) = omega (arith, entries-count) in
-        subst (λ (x : ℕ). Reaches (joined i c) (suc h) x) (sym (entry-new h m)) (reaches-new (suc h) (getD (i .entries) h 0) (S .starts h m));
-    home = ap (nthLabel (joined i c)) (sym new-zero) ∙ label-new 0 (omega (arith, S .two)) ∙ S .home;
-    back = ap (nthLabel (joined i c)) (sym new-one) ∙ label-new 1 (omega (arith, S .two)) ∙ S .back;
+        subst (λ (x : ℕ). Reaches (joinedLabels i c) (suc h) x) (sym (entry-new h m))
+        (reaches-new (suc h) (getD (i .entries) h 0) (S .starts h m));
+    home = ap (nthLabel (joinedLabels i c)) (sym new-zero) ∙ label-new 0 (omega (arith, S .two)) ∙ S .home;
+    back = ap (nthLabel (joinedLabels i c)) (sym new-one) ∙ label-new 1 (omega (arith, S .two)) ∙ S .back;
     others = label-sound;
     each = each-sound;
     rising = rows-rising;

@@ -1,2 +1,2 @@
 pub mod Smaller
-pub mod Parts
+pub mod inner

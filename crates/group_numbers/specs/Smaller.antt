@@ -13,16 +13,23 @@ use Rattle.grouping.specs.Classes.{classOf, isFirst, grouping}
 abbrev pub renumbered : List ℕ → ℕ → ℕ
 renumbered c l = count (isFirst c) 0 (classOf c l)
 
-abbrev pub led : List ℕ → Row → Row
-led c r = record { from = renumbered c (r .from); care = r .care; values = r .values; bit = r .bit; next = renumbered c (r .next) }
+abbrev pub renumberedRow : List ℕ → Row → Row
+renumberedRow c r = record {
+  from = renumbered c (r .from);
+  care = r .care;
+  values =
+      r .values;
+  bit = r .bit;
+  next = renumbered c (r .next);
+}
 
-unfoldable pub joined : Image → List ℕ → Image
-joined i c = record {
+unfoldable pub joinedLabels : Image → List ℕ → Image
+joinedLabels i c = record {
   handler = i .handler;
   entries = map (renumbered c) (i .entries);
   labels = map (labelAt i) (filter (isFirst c) (range 0 (length (i .labels))));
-  rows = map (led c) (filter (λ r. isFirst c (r .from)) (i .rows));
+  rows = map (renumberedRow c) (filter (λ r. isFirst c (r .from)) (i .rows));
 }
 
 abbrev pub smaller : Image → Image
-smaller i = joined i (grouping i)
+smaller i = joinedLabels i (grouping i)

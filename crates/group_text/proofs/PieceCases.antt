@@ -13,31 +13,32 @@ use Rattle.frames.proofs.FrameLoops.{length-frame}
 use Rattle.image.specs.Image.{Row, entryFrame, labelFrame, rowFrame}
 use Rattle.image.specs.Decode as decode
 use Rattle.image.specs.Decode.{schemeCount, lastLabel, rowCount, handlerIn, labelsFrom, rowsFrom, labelIn, decoded}
-use Rattle.image.specs.Check.{labelAt, positionOf}
-use Rattle.image.proofs.Sound.{SoundRow}
+use Rattle.image.specs.Check.{labelPosition, positionOf}
+use Rattle.image.specs.inner.Sound.{SoundRow}
 use Rattle.image.proofs.Accepted.{entries-count, labels-count, rows-count, entry-read, row-read}
 use Rattle.image.proofs.Accepted.{position-of-entry, position-of-label, position-of-row}
-use Rattle.label_text.specs.Parts.{headerBytes, upTo, Put}
+use Rattle.label_text.specs.inner.LabelBytes.{headerBytes, upTo, Put}
 use Rattle.label_text.proofs.Puts.{Appended, appended-start, appended-room, appended-on, appended-done}
-use Rattle.covering.specs.Parts.{rowIn}
+use Rattle.covering.specs.inner.CoveringContracts.{rowInFrame}
 use Rattle.grouping.specs.Classes.{isFirst}
-use Rattle.group_numbers.specs.Smaller.{renumbered, led}
-use Rattle.group_frames.specs.Parts.{headerPiece, ledBy}
-use Rattle.group_text.specs.Pieces.{groupsIn, rowsKept, pieceAt, piece, allPieces}
-use Rattle.group_text.specs.Parts.{Numbered}
+use Rattle.group_numbers.specs.Smaller.{renumbered, renumberedRow}
+use Rattle.group_frames.specs.inner.GroupFrames.{headerPiece, ledBy}
+use Rattle.group_text.specs.inner.Pieces.{groupsIn, rowsKept, pieceAt, piece, allPieces}
+use Rattle.group_text.specs.inner.TextContracts.{NumberedGroups}
 
 -- ---- a piece that is one frame
 module _ (t frame : List ℕ) (out : List ℕ) (at : ℕ) where
   pub frame-room : t ≡ frameText frame → length frame ≡ 10 → (m : ℕ) → at + length t ≤ m → at + 23 ≤ m
   frame-room e h m r = omega (arith, ap (λ (xs : List ℕ). length xs) e, length-frame frame h)
 
-  pub frame-put : t ≡ frameText frame → length frame ≡ 10 → (out′ : List ℕ) → out′ ≡ written out at (frameText frame) → Put out at t (at + 23) out′
+  pub frame-put : t ≡ frameText frame → length frame ≡ 10 → (out′ : List ℕ)
+      → out′ ≡ written out at (frameText frame) → Put out at t (at + 23) out′
   frame-put e h out′ q = record {
     ends = omega (arith, ap (λ (xs : List ℕ). length xs) e, length-frame frame h);
     holds = q ∙ ap (written out at) (sym e);
   }
 
-module _ (b c numbers : List ℕ) (N : Numbered b c numbers) (f : ℕ) where
+module _ (b c numbers : List ℕ) (N : NumberedGroups b c numbers) (f : ℕ) where
   pub table-all : size b ≡ rowsFrom b + rowCount b
   table-all = N .table .all
 
@@ -55,7 +56,7 @@ module _ (b c numbers : List ℕ) (N : Numbered b c numbers) (f : ℕ) where
     pub label-frame : f < size b
     label-frame = omega (arith, table-all)
 
-    at-label : positionOf b f ≡ labelAt l
+    at-label : positionOf b f ≡ labelPosition l
     at-label = ap (positionOf b) (let z : f ≡ labelsFrom b + l = omega arith in z) ∙ position-of-label b l label-low
 
     pub label-skip : (getD c l 0 ≡ l → ⊥) → piece b c f ≡ []
@@ -75,30 +76,31 @@ module _ (b c numbers : List ℕ) (N : Numbered b c numbers) (f : ℕ) where
     inside : k < rowCount b
     inside = omega (arith, table-all)
 
-    row-is : decode.rowIn b k ≡ rowIn b f
-    row-is = ap (rowIn b) (let z : rowsFrom b + k ≡ f = omega arith in z)
+    row-is : decode.rowIn b k ≡ rowInFrame b f
+    row-is = ap (rowInFrame b) (let z : rowsFrom b + k ≡ f = omega arith in z)
 
-    sound-row : SoundRow (decoded b) (rowIn b f)
+    sound-row : SoundRow (decoded b) (rowInFrame b f)
     sound-row = subst (SoundRow (decoded b)) (row-read b k inside ∙ row-is) (N .table .image .each k (omega (arith, inside, rows-count b)))
 
-    led-is : ledBy numbers (rowIn b f) ≡ led c (rowIn b f)
+    led-is : ledBy numbers (rowInFrame b f) ≡ renumberedRow c (rowInFrame b f)
     led-is =
-        let p : getD numbers (field b f 1) 0 ≡ renumbered c (field b f 1) = N .at (field b f 1) (omega (arith, sound-row .high, labels-count b)) in
+        let p : getD numbers (field b f 1) 0 ≡ renumbered c (field b f 1) =
+        N .at (field b f 1) (omega (arith, sound-row .high, labels-count b)) in
         let q : getD numbers (field b f 7) 0 ≡ renumbered c (field b f 7) = N .at (field b f 7)
         (omega (arith, sound-row .leading .inside, labels-count b)) in
         λ j. record { from = p j; care = pairAt b f 2; values = pairAt b f 4; bit = field b f 6; next = q j }
 
-    at-row : pieceAt b c (positionOf b f) ≡ pick (isFirst c x) (frameText (rowFrame (led c (rowIn b f)))) []
+    at-row : pieceAt b c (positionOf b f) ≡ pick (isFirst c x) (frameText (rowFrame (renumberedRow c (rowInFrame b f)))) []
     at-row =
         ap (pieceAt b c) (ap (positionOf b) (let z : f ≡ rowsFrom b + k = omega arith in z) ∙ position-of-row b k)
-        ∙ ap (λ (r : Row). pick (isFirst c (r .from)) (frameText (rowFrame (led c r))) []) row-is
-        ∙ ap (λ (y : ℕ). pick (isFirst c y) (frameText (rowFrame (led c (rowIn b f)))) []) (sym e)
+        ∙ ap (λ (r : Row). pick (isFirst c (r .from)) (frameText (rowFrame (renumberedRow c r))) []) row-is
+        ∙ ap (λ (y : ℕ). pick (isFirst c y) (frameText (rowFrame (renumberedRow c (rowInFrame b f)))) []) (sym e)
 
     pub row-skip : (getD c x 0 ≡ x → ⊥) → piece b c f ≡ []
-    row-skip n = at-row ∙ no-pick (isFirst c x) (frameText (rowFrame (led c (rowIn b f)))) [] (ne-eqb (getD c x 0) x n)
+    row-skip n = at-row ∙ no-pick (isFirst c x) (frameText (rowFrame (renumberedRow c (rowInFrame b f)))) [] (ne-eqb (getD c x 0) x n)
 
-    pub row-kept : getD c x 0 ≡ x → piece b c f ≡ frameText (rowFrame (ledBy numbers (rowIn b f)))
-    row-kept q = at-row ∙ yes-pick (isFirst c x) (frameText (rowFrame (led c (rowIn b f)))) [] (eq-eqb (getD c x 0) x q)
+    pub row-kept : getD c x 0 ≡ x → piece b c f ≡ frameText (rowFrame (ledBy numbers (rowInFrame b f)))
+    row-kept q = at-row ∙ yes-pick (isFirst c x) (frameText (rowFrame (renumberedRow c (rowInFrame b f)))) [] (eq-eqb (getD c x 0) x q)
         ∙ ap (λ (r : Row). frameText (rowFrame r)) (sym led-is)
 
   -- ---- put_piece
@@ -122,7 +124,8 @@ module _ (b c numbers : List ℕ) (N : Numbered b c numbers) (f : ℕ) where
         ∙ ap (λ (k : ℕ). frameText (entryFrame f k)) (sym (ap (λ (k : ℕ). getD numbers k 0) q ∙ N .at (field b f 2) entry-inside))
 
 -- ---- put_pieces
-module _ (b c numbers : List ℕ) (N : Numbered b c numbers) (s g r h : ℕ) (e₁ : s ≡ schemeCount b) (e₂ : g ≡ groupsIn b c) (e₃ : r ≡ rowsKept b c)
+module _ (b c numbers : List ℕ) (N : NumberedGroups b c numbers) (s g r h : ℕ) (e₁ : s ≡ schemeCount b)
+    (e₂ : g ≡ groupsIn b c) (e₃ : r ≡ rowsKept b c)
     (e₄ : h ≡ handlerIn b) where
   header-kept : piece b c 0 ≡ headerPiece s g r h
   unfolding positionOf

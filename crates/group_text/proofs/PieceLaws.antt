@@ -12,24 +12,26 @@ use Rattle.lists.specs.Numbers.{range, count}
 use Rattle.lists.specs.Sequences.{filter, concatMap, mapFrom}
 use Rattle.lists.proofs.Tests.{yes-pick, no-pick}
 use Rattle.lists.proofs.Counts.{count-snoc, count-le}
-use Rattle.lists.proofs.Ranges.{filter-yes, filter-no, length-filter}
+use Rattle.lists.proofs.Ranges.{mapFrom-cons, filter-yes, filter-no, length-filter}
 use Rattle.lists.proofs.Filters.{filter-none}
 use Rattle.lists.proofs.Joins.{concat-cons, concat-append}
 use Rattle.frames.specs.Frame.{size, field, frameText, framesText}
 use Rattle.image.specs.Image.{Image, Label, Row, headerFrame, entryFrame, labelFrame, rowFrame, imageFrames, imageText}
 use Rattle.image.specs.Decode.{schemeCount, lastLabel, rowCount, handlerIn, labelsFrom, rowsFrom, entryIn, labelIn, rowIn, decoded}
-use Rattle.image.specs.Check.{labelAt, positionOf}
+use Rattle.image.specs.Check.{labelPosition, positionOf}
 use Rattle.image.proofs.Accepted.{entries-count, labels-count, label-read, position-of-entry, position-of-label, position-of-row}
 use Rattle.state.specs.State as machine
 use Rattle.grouping.specs.Classes.{classOf, isFirst}
-use Rattle.group_numbers.specs.Smaller.{renumbered, led, joined}
-use Rattle.group_frames.specs.Parts.{headerPiece}
-use Rattle.group_text.specs.Pieces.{groupsIn, rowsKept, pieceAt, piece}
+use Rattle.group_numbers.specs.Smaller.{renumbered, renumberedRow, joinedLabels}
+use Rattle.group_frames.specs.inner.GroupFrames.{headerPiece}
+use Rattle.group_text.specs.inner.Pieces.{groupsIn, rowsKept, pieceAt, piece}
 
 -- ---- joined lists over ranges
-concat-split : {B : Type 0} (f : ℕ → List B) (a m n : ℕ) → concatMap f (range a (m + n)) ≡ concatMap f (range a m) ++ concatMap f (range (a + m) n)
+concat-split : {B : Type 0} (f : ℕ → List B) (a m n : ℕ)
+    → concatMap f (range a (m + n)) ≡ concatMap f (range a m) ++ concatMap f (range (a + m) n)
 unfolding concatMap
-concat-split f a zero n = ap₂ (λ (x y : ℕ). concatMap f (range x y)) (let e : a ≡ a + 0 = omega arith in e) (let e : 0 + n ≡ n = omega arith in e)
+concat-split f a zero n = ap₂ (λ (x y : ℕ). concatMap f (range x y)) (let e : a ≡ a + 0 = omega arith in e)
+    (let e : 0 + n ≡ n = omega arith in e)
 concat-split f a (suc m) n =
     ap (λ (x : ℕ). concatMap f (range a x)) (let e : suc m + n ≡ suc (m + n) = omega arith in e)
     ∙ ap (λ ys. f a ++ ys) (concat-split f (suc a) m n
@@ -49,13 +51,10 @@ concat-moved f g s a (suc m) h =
     (ap (λ (x : ℕ). concatMap f (range x m)) (let e : suc (s + a) ≡ s + suc a = omega arith in e)
     ∙ concat-moved f g s (suc a) m (λ k l u. h k (omega arith) (omega arith)))
 
-mapFrom-cons : {A B : Type 0} (f : ℕ → A → B) (i : ℕ) (x : A) (xs : List A) → mapFrom f i (x ∷ xs) ≡ f i x ∷ mapFrom f (suc i) xs
-unfolding mapFrom
-mapFrom-cons f i x xs = refl
-
 module _ (c : List ℕ) where
   entries-text : (e : ℕ → ℕ) (a m : ℕ)
-      → framesText (mapFrom entryFrame a (map (renumbered c) (map e (range a m)))) ≡ concatMap (λ h. frameText (entryFrame h (renumbered c (e h))))
+      → framesText (mapFrom entryFrame a (map (renumbered c) (map e (range a m)))) ≡ concatMap
+      (λ h. frameText (entryFrame h (renumbered c (e h))))
       (range a m)
   unfolding mapFrom concatMap
   entries-text e a zero = refl
@@ -78,7 +77,8 @@ module _ (c : List ℕ) where
           → framesText (mapFrom labelFrame (suc s) (map x (filter (isFirst c) (range (suc a) m)))) ≡ concatMap (kept x) (range (suc a) m))
           → (s ≡ count (isFirst c) 0 (suc a)
           → framesText (mapFrom labelFrame s (map x (filter (isFirst c) (range (suc a) m)))) ≡ concatMap (kept x) (range (suc a) m))
-          → framesText (mapFrom labelFrame s (map x (filter (isFirst c) (range a (suc m))))) ≡ kept x a ++ concatMap (kept x) (range (suc a) m)
+          → framesText (mapFrom labelFrame s (map x (filter (isFirst c) (range a (suc m))))) ≡ kept
+          x a ++ concatMap (kept x) (range (suc a) m)
       go true q ih _ =
           ap (λ (ls : List ℕ). framesText (mapFrom labelFrame s (map x ls))) (filter-yes (isFirst c) a (range (suc a) m) q)
           ∙ ap₂ (λ (xs ys : List ℕ). xs ++ ys)
@@ -92,30 +92,36 @@ module _ (c : List ℕ) where
           (labelFrame (count (isFirst c) 0 a) (x a))) [] q))
 
   abbrev rowPiece : Row → List ℕ
-  rowPiece r = pick (isFirst c (r .from)) (frameText (rowFrame (led c r))) []
+  rowPiece r = pick (isFirst c (r .from)) (frameText (rowFrame (renumberedRow c r))) []
 
   rows-text : (x : ℕ → Row) (a m : ℕ)
-      → framesText (map rowFrame (map (led c) (filter (λ r. isFirst c (r .from)) (map x (range a m))))) ≡ concatMap (λ k. rowPiece (x k)) (range a m)
+      → framesText (map rowFrame (map (renumberedRow c) (filter (λ r. isFirst c (r .from)) (map x (range a m))))) ≡ concatMap
+      (λ k. rowPiece (x k)) (range a m)
   unfolding concatMap
-  rows-text x a zero = ap (λ (rs : List Row). framesText (map rowFrame (map (led c) rs))) (filter-none (λ r. isFirst c (r .from)))
+  rows-text x a zero = ap (λ (rs : List Row). framesText (map rowFrame (map (renumberedRow c) rs))) (filter-none (λ r. isFirst c (r .from)))
   rows-text x a (suc m) = go (isFirst c (x a .from)) refl (rows-text x (suc a) m)
     where
       test : Row → Bool
       test r = isFirst c (r .from)
 
       go : (t : Bool) → isFirst c (x a .from) ≡ t
-          → framesText (map rowFrame (map (led c) (filter test (map x (range (suc a) m))))) ≡ concatMap (λ k. rowPiece (x k)) (range (suc a) m)
-          → framesText (map rowFrame (map (led c) (filter test (map x (range a (suc m)))))) ≡ rowPiece (x a) ++ concatMap (λ k. rowPiece (x k))
+          → framesText (map rowFrame (map (renumberedRow c) (filter test (map x (range (suc a) m))))) ≡ concatMap
+          (λ k. rowPiece (x k)) (range (suc a) m)
+          → framesText (map rowFrame (map (renumberedRow c) (filter test (map x (range a (suc m)))))) ≡ rowPiece
+          (x a) ++ concatMap (λ k. rowPiece (x k))
           (range (suc a) m)
       go true q ih =
-          ap (λ (rs : List Row). framesText (map rowFrame (map (led c) rs))) (filter-yes test (x a) (map x (range (suc a) m)) q)
-          ∙ ap₂ (λ (xs ys : List ℕ). xs ++ ys) (sym (yes-pick (isFirst c (x a .from)) (frameText (rowFrame (led c (x a)))) [] q)) ih
+          ap (λ (rs : List Row). framesText (map rowFrame (map (renumberedRow c) rs))) (filter-yes test (x a) (map x (range (suc a) m)) q)
+          ∙ ap₂ (λ (xs ys : List ℕ). xs ++ ys)
+          (sym (yes-pick (isFirst c (x a .from)) (frameText (rowFrame (renumberedRow c (x a)))) [] q)) ih
       go false q ih =
-          ap (λ (rs : List Row). framesText (map rowFrame (map (led c) rs))) (filter-no test (x a) (map x (range (suc a) m)) q)
-          ∙ ih ∙ ap (λ (xs : List ℕ). xs ++ concatMap (λ k. rowPiece (x k)) (range (suc a) m)) (sym (no-pick (isFirst c (x a .from)) (frameText
-          (rowFrame (led c (x a)))) [] q))
+          ap (λ (rs : List Row). framesText (map rowFrame (map (renumberedRow c) rs))) (filter-no test (x a) (map x (range (suc a) m)) q)
+          ∙ ih ∙ ap (λ (xs : List ℕ). xs ++ concatMap (λ k. rowPiece (x k)) (range (suc a) m))
+          (sym (no-pick (isFirst c (x a .from)) (frameText
+          (rowFrame (renumberedRow c (x a)))) [] q))
 
-  rows-number : (x : ℕ → Row) (a m : ℕ) → length (filter (λ r. isFirst c (r .from)) (map x (range a m))) ≡ count (λ k. isFirst c (x k .from)) a m
+  rows-number : (x : ℕ → Row) (a m : ℕ)
+      → length (filter (λ r. isFirst c (r .from)) (map x (range a m))) ≡ count (λ k. isFirst c (x k .from)) a m
   unfolding count
   rows-number x a zero = ap (λ (rs : List Row). length rs) (filter-none (λ r. isFirst c (r .from)))
   rows-number x a (suc m) = go (isFirst c (x a .from)) refl (rows-number x (suc a) m)
@@ -123,7 +129,8 @@ module _ (c : List ℕ) where
       test : Row → Bool
       test r = isFirst c (r .from)
 
-      go : (t : Bool) → isFirst c (x a .from) ≡ t → length (filter test (map x (range (suc a) m))) ≡ count (λ k. isFirst c (x k .from)) (suc a) m
+      go : (t : Bool) → isFirst c (x a .from) ≡ t
+          → length (filter test (map x (range (suc a) m))) ≡ count (λ k. isFirst c (x k .from)) (suc a) m
           → length (filter test (map x (range a (suc m)))) ≡ pick (isFirst c (x a .from)) 1 0 + count (λ k. isFirst c (x k .from)) (suc a) m
       go true q ih = ap (λ (rs : List Row). length rs) (filter-yes test (x a) (map x (range (suc a) m)) q)
           ∙ omega (arith, ih) ∙ sym (ap (λ (t : Bool). pick t 1 0 + count (λ k. isFirst c (x k .from)) (suc a) m) q)
@@ -152,63 +159,65 @@ module _ (b c : List ℕ) (all : size b ≡ rowsFrom b + rowCount b) where
   R = rowCount b
 
   -- ---- the four parts of the text
-  entries-part : framesText (mapFrom entryFrame 1 (joined i c .entries)) ≡ concatMap (piece b c) (range 1 H)
-  unfolding joined decoded
+  entries-part : framesText (mapFrom entryFrame 1 (joinedLabels i c .entries)) ≡ concatMap (piece b c) (range 1 H)
+  unfolding joinedLabels decoded
   entries-part =
       entries-text c (entryIn b) 1 H
       ∙ sym (concat-moved (piece b c) (λ h. frameText (entryFrame h (renumbered c (entryIn b h)))) 0 1 H (λ h l u.
       ap (pieceAt b c) (ap (positionOf b) (zero-add h) ∙ position-of-entry b h l (omega arith))))
 
-  label-piece : (l : ℕ) → l ≤ lastLabel b → kept c (machine.labelAt i) l ≡ pieceAt b c (labelAt l)
+  label-piece : (l : ℕ) → l ≤ lastLabel b → kept c (machine.labelAt i) l ≡ pieceAt b c (labelPosition l)
   label-piece l h = go (isFirst c l) refl
     where
-      go : (t : Bool) → isFirst c l ≡ t → kept c (machine.labelAt i) l ≡ pieceAt b c (labelAt l)
+      go : (t : Bool) → isFirst c l ≡ t → kept c (machine.labelAt i) l ≡ pieceAt b c (labelPosition l)
       go true q =
           yes-pick (isFirst c l) (frameText (labelFrame (count (isFirst c) 0 l) (machine.labelAt i l))) [] q
-          ∙ ap₂ (λ (k : ℕ) (x : Label). frameText (labelFrame k x)) (ap (λ (k : ℕ). count (isFirst c) 0 k) (sym (eqb-true (classOf c l) l q)))
+          ∙ ap₂ (λ (k : ℕ) (x : Label). frameText (labelFrame k x))
+          (ap (λ (k : ℕ). count (isFirst c) 0 k) (sym (eqb-true (classOf c l) l q)))
           (label-read b l h)
           ∙ sym (yes-pick (isFirst c l) (frameText (labelFrame (renumbered c l) (labelIn b l))) [] q)
       go false q =
           no-pick (isFirst c l) (frameText (labelFrame (count (isFirst c) 0 l) (machine.labelAt i l))) [] q
           ∙ sym (no-pick (isFirst c l) (frameText (labelFrame (renumbered c l) (labelIn b l))) [] q)
 
-  labels-part : framesText (mapFrom labelFrame 0 (joined i c .labels)) ≡ concatMap (piece b c) (range (labelsFrom b + 0) n)
-  unfolding joined
+  labels-part : framesText (mapFrom labelFrame 0 (joinedLabels i c .labels)) ≡ concatMap (piece b c) (range (labelsFrom b + 0) n)
+  unfolding joinedLabels
   labels-part =
       ap (λ (m : ℕ). framesText (mapFrom labelFrame 0 (map (machine.labelAt i) (filter (isFirst c) (range 0 m))))) (labels-count b)
       ∙ labels-text c (machine.labelAt i) 0 n 0 (omega (arith, count-le (isFirst c) 0 0))
       ∙ sym (concat-moved (piece b c) (kept c (machine.labelAt i)) (labelsFrom b) 0 n (λ l a u.
       ap (pieceAt b c) (position-of-label b l (omega arith)) ∙ sym (label-piece l (omega arith))))
 
-  rows-part : framesText (map rowFrame (joined i c .rows)) ≡ concatMap (piece b c) (range (rowsFrom b + 0) R)
-  unfolding joined decoded
+  rows-part : framesText (map rowFrame (joinedLabels i c .rows)) ≡ concatMap (piece b c) (range (rowsFrom b + 0) R)
+  unfolding joinedLabels decoded
   rows-part =
       rows-text c (rowIn b) 0 R
       ∙ sym (concat-moved (piece b c) (λ k. rowPiece c (rowIn b k)) (rowsFrom b) 0 R (λ k a u. ap (pieceAt b c) (position-of-row b k)))
 
-  pub groups-are : length (joined i c .labels) ≡ groupsIn b c
-  unfolding joined
-  groups-are = length-map (filter (isFirst c) (range 0 (length (i .labels)))) (machine.labelAt i) ∙ length-filter (isFirst c) 0 (length (i .labels))
+  pub groups-are : length (joinedLabels i c .labels) ≡ groupsIn b c
+  unfolding joinedLabels
+  groups-are = length-map (filter (isFirst c) (range 0 (length (i .labels)))) (machine.labelAt i)
+      ∙ length-filter (isFirst c) 0 (length (i .labels))
       ∙ ap (λ (m : ℕ). count (isFirst c) 0 m) (labels-count b)
 
-  pub rows-are : length (joined i c .rows) ≡ rowsKept b c
-  unfolding joined decoded
-  rows-are = length-map (filter (λ r. isFirst c (r .from)) (map (rowIn b) (range 0 R))) (led c) ∙ rows-number c (rowIn b) 0 R
+  pub rows-are : length (joinedLabels i c .rows) ≡ rowsKept b c
+  unfolding joinedLabels decoded
+  rows-are = length-map (filter (λ r. isFirst c (r .from)) (map (rowIn b) (range 0 R))) (renumberedRow c) ∙ rows-number c (rowIn b) 0 R
       ∙ sym (ap (λ (x : ℕ). count (λ f. isFirst c (field b f 1)) x R) (let e : rowsFrom b ≡ rowsFrom b + 0 = omega arith in e)
       ∙ count-moved (λ f. isFirst c (field b f 1)) (λ k. isFirst c (rowIn b k .from)) (rowsFrom b) 0 R (λ k a u. refl))
 
-  pub entries-are : length (joined i c .entries) ≡ H
-  unfolding joined
+  pub entries-are : length (joinedLabels i c .entries) ≡ H
+  unfolding joinedLabels
   entries-are = length-map (i .entries) (renumbered c) ∙ entries-count b
 
-  header-part : frameText (headerFrame (joined i c)) ≡ piece b c 0
-  unfolding positionOf joined decoded
+  header-part : frameText (headerFrame (joinedLabels i c)) ≡ piece b c 0
+  unfolding positionOf joinedLabels decoded
   header-part =
-      ap (λ (k : ℕ). headerPiece k (length (joined i c .labels)) (length (joined i c .rows)) (handlerIn b)) entries-are
+      ap (λ (k : ℕ). headerPiece k (length (joinedLabels i c .labels)) (length (joinedLabels i c .rows)) (handlerIn b)) entries-are
       ∙ ap₂ (λ (g r : ℕ). headerPiece H g r (handlerIn b)) groups-are rows-are
 
   -- ---- all of it
-  pub pieces-are : concatMap (piece b c) (range 0 (size b)) ≡ imageText (joined i c)
+  pub pieces-are : concatMap (piece b c) (range 0 (size b)) ≡ imageText (joinedLabels i c)
   unfolding imageText imageFrames
   pieces-are =
       let p : ℕ → List ℕ = piece b c in
@@ -222,8 +231,9 @@ module _ (b c : List ℕ) (all : size b ≡ rowsFrom b + rowCount b) where
       ∙ ap₂ (λ (xs ys : List ℕ). xs ++ ys)
       (ap (λ (x : ℕ). concatMap p (range x n)) (let e : 1 + H ≡ labelsFrom b + 0 = omega arith in e) ∙ sym labels-part)
       (ap (λ (x : ℕ). concatMap p (range x R)) (let e : 1 + H + n ≡ rowsFrom b + 0 = omega arith in e) ∙ sym rows-part)
-      ∙ sym (concat-append frameText (mapFrom labelFrame 0 (joined i c .labels)) (map rowFrame (joined i c .rows))))
-      ∙ sym (concat-append frameText (mapFrom entryFrame 1 (joined i c .entries)) (mapFrom labelFrame 0 (joined i c .labels) ++ map rowFrame
-      (joined i c .rows))))
-      ∙ sym (concat-cons frameText (headerFrame (joined i c)) (mapFrom entryFrame 1 (joined i c .entries) ++
-      (mapFrom labelFrame 0 (joined i c .labels) ++ map rowFrame (joined i c .rows))))
+      ∙ sym (concat-append frameText (mapFrom labelFrame 0 (joinedLabels i c .labels)) (map rowFrame (joinedLabels i c .rows))))
+      ∙ sym (concat-append frameText (mapFrom entryFrame 1 (joinedLabels i c .entries))
+      (mapFrom labelFrame 0 (joinedLabels i c .labels) ++ map rowFrame
+      (joinedLabels i c .rows))))
+      ∙ sym (concat-cons frameText (headerFrame (joinedLabels i c)) (mapFrom entryFrame 1 (joinedLabels i c .entries) ++
+      (mapFrom labelFrame 0 (joinedLabels i c .labels) ++ map rowFrame (joinedLabels i c .rows))))

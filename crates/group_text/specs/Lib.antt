@@ -1,2 +1,1 @@
-pub mod Pieces
-pub mod Parts
+pub mod inner

@@ -1,20 +1,24 @@
 // The smaller image, written frame by frame of the given one.
+use frames::sizes::FRAME;
+use frames::sizes::LINE;
 use group_frames::put_entry;
 use group_frames::put_header;
 use group_frames::put_label;
 use group_frames::put_row;
 use image::byte;
 use image::labels_from;
+use image::layout::*;
 use image::rows_from;
 ghost use mathlib.Core.Path.{_≡_};
 ghost use Prim.Native.Nat.{_+_, _≤_, _<_};
 ghost use lib.ListN.{length};
 ghost use Rattle.lists.specs.Sequences.{written};
+ghost use Rattle.frames.specs.Sizes.{LABELS, ROWS};
 ghost use Rattle.frames.specs.Frame.{size};
 ghost use Rattle.image.specs.Decode.{labelsFrom, rowsFrom};
-ghost use Rattle.label_text.specs.Parts.{Put};
-ghost use Rattle.group_text.specs.Pieces.{groupsIn, rowsKept, piece, allPieces};
-ghost use Rattle.group_text.specs.Parts.{Numbered};
+ghost use Rattle.label_text.specs.inner.LabelBytes.{Put};
+ghost use Rattle.group_text.specs.inner.Pieces.{groupsIn, rowsKept, piece, allPieces};
+ghost use Rattle.group_text.specs.inner.TextContracts.{NumberedGroups};
 
 fn put_kept_label(
     table: &[u8],
@@ -24,7 +28,7 @@ fn put_kept_label(
     out: &mut [u8],
     at: usize,
 ) -> usize
-    requires { ⌜ Numbered (now table) (now classes) (now numbers) ⌝ }
+    requires { ⌜ NumberedGroups (now table) (now classes) (now numbers) ⌝ }
     requires { ⌜ (labelsFrom (now table) ≤ f) × (f < rowsFrom (now table)) ⌝ }
     requires { ⌜ at + length (piece (now table) (now classes) f) ≤ length (now out) ⌝ }
     ensures { λ r. ⌜ Put (now (out .entry)) at (piece (now (table .entry)) (now (classes .entry)) f) r (now (out .exit)) ⌝ }
@@ -34,7 +38,7 @@ fn put_kept_label(
         return at;
     }
     put_label(table, f, numbers[l], out, at);
-    at + 23
+    at + LINE
 }
 
 fn put_kept_row(
@@ -45,17 +49,17 @@ fn put_kept_row(
     out: &mut [u8],
     at: usize,
 ) -> usize
-    requires { ⌜ Numbered (now table) (now classes) (now numbers) ⌝ }
+    requires { ⌜ NumberedGroups (now table) (now classes) (now numbers) ⌝ }
     requires { ⌜ (rowsFrom (now table) ≤ f) × (f < size (now table)) ⌝ }
     requires { ⌜ at + length (piece (now table) (now classes) f) ≤ length (now out) ⌝ }
     ensures { λ r. ⌜ Put (now (out .entry)) at (piece (now (table .entry)) (now (classes .entry)) f) r (now (out .exit)) ⌝ }
 {
-    let from = byte(table, f, 1) as usize;
+    let from = byte(table, f, FROM) as usize;
     if classes[from] as usize != from {
         return at;
     }
     put_row(table, numbers, f, out, at);
-    at + 23
+    at + LINE
 }
 
 // The piece of a frame after the header, and the offset after it.
@@ -67,15 +71,15 @@ fn put_piece(
     out: &mut [u8],
     at: usize,
 ) -> usize
-    requires { ⌜ Numbered (now table) (now classes) (now numbers) ⌝ }
+    requires { ⌜ NumberedGroups (now table) (now classes) (now numbers) ⌝ }
     requires { ⌜ (1 ≤ f) × (f < size (now table)) ⌝ }
     requires { ⌜ at + length (piece (now table) (now classes) f) ≤ length (now out) ⌝ }
     ensures { λ r. ⌜ Put (now (out .entry)) at (piece (now (table .entry)) (now (classes .entry)) f) r (now (out .exit)) ⌝ }
 {
     if f < labels_from(table) {
-        let entry = byte(table, f, 2) as usize;
+        let entry = byte(table, f, ENTRY_LABEL) as usize;
         put_entry(out, at, f as u8, numbers[entry]);
-        return at + 23;
+        return at + LINE;
     }
     if f < rows_from(table) {
         return put_kept_label(table, classes, numbers, f, out, at);
@@ -91,17 +95,17 @@ pub fn put_pieces(
     rows: usize,
     out: &mut [u8],
 )
-    requires { ⌜ Numbered (now table) (now classes) (now numbers) ⌝ }
+    requires { ⌜ NumberedGroups (now table) (now classes) (now numbers) ⌝ }
     requires { ⌜ (groups ≡ groupsIn (now table) (now classes)) × (rows ≡ rowsKept (now table) (now classes)) ⌝ }
-    requires { ⌜ (1 ≤ groups) × (groups ≤ 256) × (rows ≤ 1024) ⌝ }
+    requires { ⌜ (1 ≤ groups) × (groups ≤ LABELS) × (rows ≤ ROWS) ⌝ }
     requires { ⌜ length (allPieces (now table) (now classes)) ≤ length (now out) ⌝ }
     ensures { λ _. ⌜ now (out .exit) ≡ written (now (out .entry)) 0 (allPieces (now (table .entry)) (now (classes .entry))) ⌝ }
 {
-    let n = table.len() / 10;
-    let schemes = byte(table, 0, 1);
-    let handler = byte(table, 0, 5);
+    let n = table.len() / FRAME;
+    let schemes = byte(table, 0, SCHEME_COUNT);
+    let handler = byte(table, 0, HANDLER);
     put_header(out, schemes, groups, rows, handler);
-    let mut place: usize = 23;
+    let mut place: usize = LINE;
     let mut f: usize = 1;
     while f < n {
         place = put_piece(table, classes, numbers, f, out, place);

@@ -13,32 +13,32 @@ use Rattle.lists.proofs.Tests.{and-l, split, not-true}
 use Rattle.lists.proofs.Searches.{any-false, any-none}
 use Rattle.lists.proofs.Counts.{count-within}
 use Rattle.image.specs.Image.{Image}
-use Rattle.image.proofs.Sound.{Sound}
+use Rattle.image.specs.inner.Sound.{SoundImage}
 use Rattle.state.specs.State.{labelAt}
-use Rattle.rows.specs.Rows.{matches, isOwn}
-use Rattle.covering.specs.Matched.{uneven}
-use Rattle.covering.specs.Sizes.{rowAt}
+use Rattle.rows.specs.Rows.{matches, isCandidate}
+use Rattle.covering.specs.Matched.{uneven, rowAt}
 use Rattle.covering.proofs.Hits.{OneRow, one-row}
 use Rattle.grouping.specs.Rule.{Grouping, Meets, isLowest, groups}
 use Rattle.grouping.specs.Classes.{classOf, isFirst, staysWith, classes, grouping}
-use Rattle.grouping.proofs.Onward.{same-fields, onward, onward-inside, low-same, onward-is, the-hit}
+use Rattle.grouping.proofs.Onward.{same-fields, onwardLabel, onward-inside, low-same, onward-is, the-hit}
 use Rattle.grouping.proofs.Rounds.{holdsSame, first-alike, class-same, stays-made, stays-alike, rounds, group-round, group-leads}
 
-bit-of : (b : ℕ) → b < 2 → (t : Bool) × (pick t 1 0 ≡ b)
+pub bit-of : (b : ℕ) → b < 2 → (t : Bool) × (pick t 1 0 ≡ b)
 bit-of zero h = (false, refl)
 bit-of (suc zero) h = (true, refl)
 bit-of (suc (suc b)) h = absurd (omega arith)
 
-module _ (i : Image) (S : Sound i) (one : OneRow i) where
+module _ (i : Image) (S : SoundImage i) (one : OneRow i) where
   abbrev n : ℕ
   n = length (i .labels)
 
   -- a row that matches leads where its label leads
-  row-leads : (l w b j : ℕ) → j < length (i .rows) → isOwn l w b (rowAt i j) ≡ true → (t : Bool) → pick t 1 0 ≡ b → rowAt i j .next ≡ onward i l w t
+  row-leads : (l w b j : ℕ) → j < length (i .rows) → isCandidate l w b (rowAt i j) ≡ true → (t : Bool)
+      → pick t 1 0 ≡ b → rowAt i j .next ≡ onwardLabel i l w t
   row-leads l w b j h e t q =
       let f : rowAt i j .from ≡ l = eqb-true (rowAt i j .from) l (and-l (eqb (rowAt i j .from) l) (matches w b (rowAt i j)) e) in
       sym (onward-is i S one l w t (omega (arith, S .each j h .low)) (omega (arith, S .each j h .high)) j h
-      (subst (λ (x : ℕ). isOwn l w x (rowAt i j) ≡ true) (sym q) e))
+      (subst (λ (x : ℕ). isCandidate l w x (rowAt i j) ≡ true) (sym q) e))
 
   -- (i)
   pub grouping-meets : Meets i (classOf (grouping i))
@@ -57,13 +57,14 @@ module _ (i : Image) (S : Sound i) (one : OneRow i) where
     pick-low true = omega arith
     pick-low false = omega arith
 
-    meets-onward : (l m : ℕ) → l < n → m < n → g l ≡ g m → (w : ℕ) (b : Bool) → w < 65536 → g (onward i l w b) ≡ g (onward i m w b)
+    meets-onward : (l m : ℕ) → l < n → m < n → g l ≡ g m → (w : ℕ) (b : Bool) → w < 65536
+        → g (onwardLabel i l w b) ≡ g (onwardLabel i m w b)
     meets-onward l m hl hm e w b hw = go (split l 2) (split m 2)
       where
-        low : l ≡ m → g (onward i l w b) ≡ g (onward i m w b)
-        low q = ap (λ (x : ℕ). g (onward i x w b)) q
+        low : l ≡ m → g (onwardLabel i l w b) ≡ g (onwardLabel i m w b)
+        low q = ap (λ (x : ℕ). g (onwardLabel i x w b)) q
 
-        go : (l < 2) ⊎ (2 ≤ l) → (m < 2) ⊎ (2 ≤ m) → g (onward i l w b) ≡ g (onward i m w b)
+        go : (l < 2) ⊎ (2 ≤ l) → (m < 2) ⊎ (2 ≤ m) → g (onwardLabel i l w b) ≡ g (onwardLabel i m w b)
         go (inl x) y = low (low-same i S l m hl hm (M .same l m hl hm e) x)
         go (inr x) (inl y) = low (sym (low-same i S m l hm hl (sym (M .same l m hl hm e)) y))
         go (inr x) (inr y) =
@@ -80,7 +81,7 @@ module _ (i : Image) (S : Sound i) (one : OneRow i) where
     within-classes (suc k) l m hl hm e =
         class-same i (staysWith i (classes i k)) (stays-alike i S one (classes i k) (rounds i S one k)) l m hl hm
         (stays-made i S one (classes i k) (rounds i S one k) l m (within-classes k l m hl hm e) (λ w b hw.
-        within-classes k (onward i l w b) (onward i m w b) (onward-inside i S l w b hl) (onward-inside i S m w b hm)
+        within-classes k (onwardLabel i l w b) (onwardLabel i m w b) (onward-inside i S l w b hl) (onward-inside i S m w b hm)
         (meets-onward l m hl hm e w b hw)))
 
     pub within-grouping : (l m : ℕ) → l < n → m < n → g l ≡ g m → classOf (grouping i) l ≡ classOf (grouping i) m
@@ -110,7 +111,8 @@ module _ (i : Image) (S : Sound i) (one : OneRow i) where
       go : (classOf (grouping i) l < l) ⊎ (l ≤ classOf (grouping i) l) → classOf (grouping i) l ≡ l
       go (inl x) = absurd (eqb-false (classOf (grouping i) (classOf (grouping i) l)) (classOf (grouping i) l)
           (any-false (λ k. eqb (classOf (grouping i) k) (classOf (grouping i) l)) 0 l
-          (not-true (any (λ k. eqb (classOf (grouping i) k) (classOf (grouping i) l)) 0 l) t) (classOf (grouping i) l) (omega arith) (omega arith))
+          (not-true (any (λ k. eqb (classOf (grouping i) k) (classOf (grouping i) l)) 0 l) t)
+          (classOf (grouping i) l) (omega arith) (omega arith))
           (group-round i S one .own l h))
       go (inr x) = omega (arith, group-round i S one .below l h)
 
@@ -121,7 +123,7 @@ module _ (i : Image) (S : Sound i) (one : OneRow i) where
       count-within (isLowest (classOf (grouping i))) (isFirst (grouping i)) 0 n (λ l a h t. lowest-first l (omega arith) t) in omega arith
 
 -- ---- both where 23 does not apply
-module _ (i : Image) (S : Sound i) (even : uneven i ≡ false) where
+module _ (i : Image) (S : SoundImage i) (even : uneven i ≡ false) where
   pub even-meets : Meets i (classOf (grouping i))
   even-meets = grouping-meets i S (one-row i S even)
 

@@ -20,11 +20,12 @@ use Rattle.image.specs.Image.{Image, Row}
 use Rattle.image.specs.Decode.{lastLabel}
 use Rattle.tables.specs.Table.{firstOn, endOn, rowOn, tableImage}
 use Rattle.tables.proofs.TableReads.{labels-count}
-use Rattle.covering.specs.Sizes.{noRow, together}
-use Rattle.covering.specs.Parts.{rowIn}
+use Rattle.covering.specs.Matched.{noRow, together}
+use Rattle.covering.specs.inner.CoveringContracts.{rowInFrame}
 use Rattle.covering.proofs.Together.{together-turned}
 use Rattle.grouping.specs.Classes.{classes}
-use Rattle.grouping.specs.Parts.{Even, Classed, partsIn, partsAny, partedOn, isMarked, partedBy, Unmarked, Marks, Touched, Kept}
+use Rattle.grouping.specs.inner.GroupingContracts.{Even, Classed, partsIn, partsAny, partedOn, isMarked}
+use Rattle.grouping.specs.inner.GroupingContracts.{partedBy, Unmarked, Marks, Touched, KeptClasses}
 use Rattle.grouping.proofs.Onward.{some-none}
 use Rattle.grouping.proofs.Partings.{some-own}
 use Rattle.grouping.proofs.TableRounds.{unparted-before}
@@ -38,8 +39,8 @@ same-truth false false f g = refl
 module _ (b c : List ℕ) where
   parts-turned : (f g : ℕ) → partsIn b c f g ≡ true → partsIn b c g f ≡ true
   parts-turned f g e =
-      and-true (not (eqb y x)) (together (rowIn b g) (rowIn b f)) (apart (and-l (not (eqb x y)) t e))
-      (go (together (rowIn b g) (rowIn b f)) refl)
+      and-true (not (eqb y x)) (together (rowInFrame b g) (rowInFrame b f)) (apart (and-l (not (eqb x y)) t e))
+      (go (together (rowInFrame b g) (rowInFrame b f)) refl)
     where
       x : ℕ
       x = getD c (field b f 7) 0
@@ -48,14 +49,14 @@ module _ (b c : List ℕ) where
       y = getD c (field b g 7) 0
 
       t : Bool
-      t = together (rowIn b f) (rowIn b g)
+      t = together (rowInFrame b f) (rowInFrame b g)
 
       apart : not (eqb x y) ≡ true → not (eqb y x) ≡ true
       apart h = ap not (ne-eqb y x (λ z. no-both (eqb x y) (eq-eqb x y (sym z)) (not-true (eqb x y) h)))
 
-      go : (u : Bool) → together (rowIn b g) (rowIn b f) ≡ u → together (rowIn b g) (rowIn b f) ≡ true
+      go : (u : Bool) → together (rowInFrame b g) (rowInFrame b f) ≡ u → together (rowInFrame b g) (rowInFrame b f) ≡ true
       go true h = h
-      go false h = no-both t (and-r (not (eqb x y)) t e) (together-turned (rowIn b g) (rowIn b f) h)
+      go false h = no-both t (and-r (not (eqb x y)) t e) (together-turned (rowInFrame b g) (rowInFrame b f) h)
 
   -- rows that part two labels
   record Parting (m l : ℕ) : Type 0 where
@@ -91,7 +92,8 @@ module _ (b c : List ℕ) where
   turned : (m l : ℕ) → partedOn b c l m ≡ true → partedOn b c m l ≡ true
   turned m l e =
       let p : Parting l m = found l m e in
-      parted-one m l (p .g) (p .low-g) (p .high-g) (parts-one l (p .g) (p .f) (p .low-f) (p .high-f) (parts-turned (p .f) (p .g) (p .parting)))
+      parted-one m l (p .g) (p .low-g) (p .high-g)
+      (parts-one l (p .g) (p .f) (p .low-f) (p .high-f) (parts-turned (p .f) (p .g) (p .parting)))
 
   module _ (marks : List ℕ) where
     abbrev marked : ℕ → ℕ → ℕ → Bool
@@ -122,7 +124,8 @@ module _ (b c : List ℕ) where
         sym (ap (λ (t : Bool). t && partsAny b c f first end)
         (ap (λ (x : ℕ). leb least (getD marks x 0)) (sym e) ∙ lt-leb least (getD marks next 0) h))
 
-    pub marked-by : (least f next first end : ℕ) → next ≡ field b f 7 → least ≤ getD marks next 0 → (t : Bool) → t ≡ partsAny b c f first end
+    pub marked-by : (least f next first end : ℕ) → next ≡ field b f 7 → least ≤ getD marks next 0
+        → (t : Bool) → t ≡ partsAny b c f first end
         → t ≡ (isMarked b marks least f && partsAny b c f first end)
     marked-by least f next first end e h t q =
         q ∙ sym (ap (λ (t : Bool). t && partsAny b c f first end)
@@ -170,7 +173,8 @@ module _ (b c : List ℕ) where
 pub ones-long : (xs : List ℕ) → xs ≡ replicate 256 1 → length xs ≡ 256
 ones-long xs e = ap length e ∙ length-replicate {A = ℕ} 256 1
 
-pub first-marks : (b c : List ℕ) → ((k : ℕ) → getD b k 0 < 256) → (marks touched : List ℕ) → marks ≡ replicate 256 1 → touched ≡ replicate 256 1
+pub first-marks : (b c : List ℕ) → ((k : ℕ) → getD b k 0 < 256) → (marks touched : List ℕ)
+    → marks ≡ replicate 256 1 → touched ≡ replicate 256 1
     → Marks b c marks touched
 first-marks b c bytes marks touched p q = record {
   long = ones-long marks p;
@@ -186,11 +190,12 @@ first-marks b c bytes marks touched p q = record {
 
 -- ---- mark, touch
 module _ (former c kept : List ℕ) where
-  pub kept-start : (marks : List ℕ) → length marks ≡ 256 → Kept 0 former c kept marks
+  pub kept-start : (marks : List ℕ) → length marks ≡ 256 → KeptClasses 0 former c kept marks
   kept-start marks h = record { long = h; one = λ l z. absurd (omega arith) }
 
-  pub kept-on : (marks : List ℕ) (l v : ℕ) → Kept l former c kept marks → l < 256 → (v < 2 → getD c l 0 ≡ getD kept (getD former l 0) 0)
-      → Kept (l + 1) former c kept (set marks l v)
+  pub kept-on : (marks : List ℕ) (l v : ℕ) → KeptClasses l former c kept marks → l < 256
+      → (v < 2 → getD c l 0 ≡ getD kept (getD former l 0) 0)
+      → KeptClasses (l + 1) former c kept (set marks l v)
   kept-on marks l v K h e = record { long = length-set marks l v ∙ K .long; one = λ k z s. go k s (eq-or-lt-of-le (below k z)) }
     where
       below : (k : ℕ) → k < l + 1 → k ≤ l
@@ -247,7 +252,8 @@ module _ (b : List ℕ) (x : Even b) where
       (ap not (lt-ltb (getD (i .rows) j noRow .next) (length (i .labels)) (x .sound .each j h .leading .inside)))) in
       let here : outside (rowOn b m f) ≡ false =
       any-false (λ f. outside (rowOn b m f)) (firstOn b m) (endOn b m - firstOn b m)
-      (sym (some-own b outside m (λ k g h. ap (λ (t : Bool). t && not (ltb (field b g 7) (length (i .labels)))) (ne-eqb k m h)) am hm) ∙ none)
+      (sym (some-own b outside m (λ k g h. ap (λ (t : Bool). t && not (ltb (field b g 7) (length (i .labels)))) (ne-eqb k m h)) am hm)
+      ∙ none)
       f u (omega arith) in
       omega (
         arith,
@@ -260,7 +266,7 @@ module _ (b : List ℕ) (x : Even b) where
       outside r = eqb (r .from) m && not (ltb (r .next) (length (i .labels)))
 
   module _ (k : ℕ) (former : List ℕ) (h : Classed b (classes i k) former) (c : List ℕ) (h′ : Classed b (classes i (suc k)) c)
-      (n : ℕ) (count : n ≡ lastLabel b + 1) (kept marks : List ℕ) (K : Kept n former c kept marks) where
+      (n : ℕ) (count : n ≡ lastLabel b + 1) (kept marks : List ℕ) (K : KeptClasses n former c kept marks) where
     -- rows that match one word and bit led to one class before: where they part labels now, one of the two next labels is marked
     seen : (m l f g : ℕ) → 2 ≤ m → m ≤ lastLabel b → 2 ≤ l → l ≤ lastLabel b → getD c m 0 ≡ getD c l 0
         → firstOn b m ≤ f → f < endOn b m → firstOn b l ≤ g → g < endOn b l → partsIn b c f g ≡ true
@@ -274,7 +280,7 @@ module _ (b : List ℕ) (x : Even b) where
         z = field b g 7
 
         meet : Bool
-        meet = together (rowIn b f) (rowIn b g)
+        meet = together (rowInFrame b f) (rowInFrame b g)
 
         before : partsIn b former f g ≡ false
         before =

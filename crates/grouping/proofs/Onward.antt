@@ -8,14 +8,14 @@ use lib.Dec.{eqb}
 use lib.ListN.{length, getD}
 use borrow.Author.Tests.{eqb-true, eq-eqb}
 use Rattle.lists.specs.Pick.{pick}
-use Rattle.lists.specs.Sequences.{some, filter}
+use Rattle.lists.specs.Sequences.{some, filter, All}
 use Rattle.lists.proofs.Tests.{no-both, and-l, and-r, and-true, and-false, or-l, or-r, not-false}
-use Rattle.lists.proofs.Joins.{All, all-places, all-filter}
+use Rattle.lists.proofs.Joins.{all-places, all-filter}
 use Rattle.image.specs.Image.{Image, Label, Row}
-use Rattle.image.proofs.Sound.{SoundRow, Sound}
+use Rattle.image.specs.inner.Sound.{SoundRow, SoundImage}
 use Rattle.state.specs.State.{labelAt}
-use Rattle.rows.specs.Rows.{matches, isOwn, bestRow, found, leads}
-use Rattle.covering.specs.Sizes.{noRow, rowAt, together}
+use Rattle.rows.specs.Rows.{matches, isCandidate, bestRow, found, leads}
+use Rattle.covering.specs.Matched.{noRow, rowAt, together}
 use Rattle.grouping.specs.Classes.{sameFields, classOf, parts, parted}
 use Rattle.covering.proofs.Together.{Common, common-together, together-common}
 use Rattle.covering.proofs.Hits.{Hit, OneRow, only-row, the-place, hit-is, the-row}
@@ -60,19 +60,19 @@ abbrev pub leadsTo : ℕ → List Row → ℕ
 leadsTo l [] = l
 leadsTo l (r ∷ rs) = r .next
 
-abbrev pub onward : Image → ℕ → ℕ → Bool → ℕ
-onward i l w b = leadsTo l (filter (isOwn l w (pick b 1 0)) (i .rows))
+abbrev pub onwardLabel : Image → ℕ → ℕ → Bool → ℕ
+onwardLabel i l w b = leadsTo l (filter (isCandidate l w (pick b 1 0)) (i .rows))
 
-module _ (i : Image) (S : Sound i) where
+module _ (i : Image) (S : SoundImage i) where
   abbrev n : ℕ
   n = length (i .labels)
 
-  pub onward-inside : (l w : ℕ) (b : Bool) → l < n → onward i l w b < n
+  pub onward-inside : (l w : ℕ) (b : Bool) → l < n → onwardLabel i l w b < n
   onward-inside l w b h =
-      go (filter (isOwn l w (pick b 1 0)) (i .rows))
-      (all-filter (SoundRow i) (isOwn l w (pick b 1 0)) (i .rows) (all-places (SoundRow i) noRow (i .rows) (S .each)))
+      go (filter (isCandidate l w (pick b 1 0)) (i .rows))
+      (all-filter (SoundRow i) (isCandidate l w (pick b 1 0)) (i .rows) (all-places (SoundRow i) noRow (i .rows) (S .each)))
     where
-      go : (rs : List Row) → All (λ r. SoundRow i r × (isOwn l w (pick b 1 0) r ≡ true)) rs → leadsTo l rs < n
+      go : (rs : List Row) → All (λ r. SoundRow i r × (isCandidate l w (pick b 1 0) r ≡ true)) rs → leadsTo l rs < n
       go [] a = h
       go (r ∷ rs) a = a .0 .0 .leading .inside
 
@@ -97,8 +97,8 @@ module _ (i : Image) (S : Sound i) where
 
   module _ (one : OneRow i) where
     -- a row of a label that matches is the one that leads on
-    pub onward-is : (l w : ℕ) (b : Bool) → 2 ≤ l → l < n → (j : ℕ) → j < length (i .rows) → isOwn l w (pick b 1 0) (rowAt i j) ≡ true
-        → onward i l w b ≡ rowAt i j .next
+    pub onward-is : (l w : ℕ) (b : Bool) → 2 ≤ l → l < n → (j : ℕ) → j < length (i .rows) → isCandidate l w (pick b 1 0) (rowAt i j) ≡ true
+        → onwardLabel i l w b ≡ rowAt i j .next
     onward-is l w b low high j h e = let x = the-row i one l w b low high in
         ap (leadsTo l) (x .1) ∙ ap (λ (r : Row). r .next) (sym (hit-is l w (pick b 1 0) (x .0) (i .rows) (x .1) j h e))
 
@@ -106,26 +106,29 @@ module _ (i : Image) (S : Sound i) where
     the-hit l w b low high = let x = the-row i one l w b low high in the-place l w (pick b 1 0) (x .0) (i .rows) (x .1)
 
     -- and the machine goes there
-    pub best-found : (l w : ℕ) (b : Bool) → 2 ≤ l → l < n → (k : ℕ) → leads (bestRow l w (pick b 1 0) k (i .rows)) ≡ found (onward i l w b)
+    pub best-found : (l w : ℕ) (b : Bool) → 2 ≤ l → l < n → (k : ℕ)
+        → leads (bestRow l w (pick b 1 0) k (i .rows)) ≡ found (onwardLabel i l w b)
     best-found l w b low high k = let x = the-row i one l w b low high in
         only-row l w (pick b 1 0) (x .0) k (i .rows) (x .1) ∙ ap found (sym (ap (leadsTo l) (x .1)))
 
     module _ (c : List ℕ) where
       pub unparted : (l m : ℕ) → 2 ≤ l → l < n → 2 ≤ m → m < n → parted i c l m ≡ false
-          → (w : ℕ) (b : Bool) → classOf c (onward i l w b) ≡ classOf c (onward i m w b)
+          → (w : ℕ) (b : Bool) → classOf c (onwardLabel i l w b) ≡ classOf c (onwardLabel i m w b)
       unfolding parted
       unparted l m al hl am hm e w b =
           let x = the-hit l w b al hl in
           let y = the-hit m w b am hm in
           let r : Row = rowAt i (x .place) in
           let s : Row = rowAt i (y .place) in
-          let p : some (parts c l m r) (i .rows) ≡ false = some-at (λ r. some (parts c l m r) (i .rows)) noRow (i .rows) e (x .place) (x .inside) in
+          let p : some (parts c l m r) (i .rows) ≡ false =
+          some-at (λ r. some (parts c l m r) (i .rows)) noRow (i .rows) e (x .place) (x .inside) in
           let q : parts c l m r s ≡ false = some-at (parts c l m r) noRow (i .rows) p (y .place) (y .inside) in
           let f : eqb (r .from) l ≡ true = and-l (eqb (r .from) l) (matches w (pick b 1 0) r) (x .holding) in
           let g : eqb (s .from) m ≡ true = and-l (eqb (s .from) m) (matches w (pick b 1 0) s) (y .holding) in
           let t : together r s ≡ true =
           common-together r s w (pick b 1 0) (S .each (x .place) (x .inside) .small) (S .each (y .place) (y .inside) .small)
-          (and-r (eqb (r .from) l) (matches w (pick b 1 0) r) (x .holding)) (and-r (eqb (s .from) m) (matches w (pick b 1 0) s) (y .holding)) in
+          (and-r (eqb (r .from) l) (matches w (pick b 1 0) r) (x .holding))
+          (and-r (eqb (s .from) m) (matches w (pick b 1 0) s) (y .holding)) in
           let z : not (eqb (classOf c (r .next)) (classOf c (s .next))) ≡ false =
           and-false (eqb (r .from) l && eqb (s .from) m && together r s) (not (eqb (classOf c (r .next)) (classOf c (s .next)))) q
           (and-true (eqb (r .from) l && eqb (s .from) m) (together r s) (and-true (eqb (r .from) l) (eqb (s .from) m) f g) t) in
@@ -134,7 +137,8 @@ module _ (i : Image) (S : Sound i) where
           ∙ ap (classOf c) (sym (onward-is m w b am hm (y .place) (y .inside) (y .holding)))
 
       parts-not : (l m j k : ℕ) → j < length (i .rows) → k < length (i .rows)
-          → ((w : ℕ) (b : Bool) → w < 65536 → classOf c (onward i l w b) ≡ classOf c (onward i m w b)) → parts c l m (rowAt i j) (rowAt i k) ≡ false
+          → ((w : ℕ) (b : Bool) → w < 65536 → classOf c (onwardLabel i l w b) ≡ classOf c (onwardLabel i m w b))
+          → parts c l m (rowAt i j) (rowAt i k) ≡ false
       parts-not l m j k hj hk h = go (parts c l m (rowAt i j) (rowAt i k)) refl
         where
           r : Row
@@ -154,17 +158,18 @@ module _ (i : Image) (S : Sound i) where
               let f : r .from ≡ l = eqb-true (r .from) l (and-l x y e₂) in
               let g : s .from ≡ m = eqb-true (s .from) m (and-r x y e₂) in
               let C : Common r s = together-common r s (S .each j hj) (S .each k hk) (and-r (x && y) (together r s) e₁) in
-              let p : onward i l (C .word) (C .bit) ≡ r .next =
+              let p : onwardLabel i l (C .word) (C .bit) ≡ r .next =
               onward-is l (C .word) (C .bit) (omega (arith, S .each j hj .low)) (omega (arith, S .each j hj .high)) j hj
               (and-true x (matches (C .word) (pick (C .bit) 1 0) r) (and-l x y e₂) (C .first)) in
-              let q : onward i m (C .word) (C .bit) ≡ s .next =
+              let q : onwardLabel i m (C .word) (C .bit) ≡ s .next =
               onward-is m (C .word) (C .bit) (omega (arith, S .each k hk .low)) (omega (arith, S .each k hk .high)) k hk
               (and-true y (matches (C .word) (pick (C .bit) 1 0) s) (and-r x y e₂) (C .second)) in
               let same : classOf c (r .next) ≡ classOf c (s .next) =
               ap (classOf c) (sym p) ∙ h (C .word) (C .bit) (C .low) ∙ ap (classOf c) q in
               no-both z (and-r (x && y && together r s) z e) (ap not (eq-eqb (classOf c (r .next)) (classOf c (s .next)) same))
 
-      pub not-parted : (l m : ℕ) → ((w : ℕ) (b : Bool) → w < 65536 → classOf c (onward i l w b) ≡ classOf c (onward i m w b)) → parted i c l m ≡ false
+      pub not-parted : (l m : ℕ) → ((w : ℕ) (b : Bool) → w < 65536 → classOf c (onwardLabel i l w b) ≡ classOf c (onwardLabel i m w b))
+          → parted i c l m ≡ false
       unfolding parted
       not-parted l m h = some-none (λ r. some (parts c l m r) (i .rows)) noRow (i .rows) (λ j hj.
           some-none (parts c l m (rowAt i j)) noRow (i .rows) (λ k hk. parts-not l m j k hj hk h))

@@ -17,22 +17,22 @@ use Rattle.frames.specs.Frame.{field, pairAt}
 use Rattle.image.specs.Image.{Row}
 use Rattle.image.specs.Decode.{lastLabel}
 use Rattle.tables.specs.Table.{firstOn, endOn, rowOn, rowsOn, tableImage}
-use Rattle.covering.specs.Sizes.{together}
-use Rattle.covering.specs.Parts.{rowIn}
+use Rattle.covering.specs.Matched.{together}
+use Rattle.covering.specs.inner.CoveringContracts.{rowInFrame}
 use Rattle.grouping.specs.Classes.{classOf, parts, parted}
-use Rattle.grouping.specs.Parts.{Even, partsIn, partsAny, partedOn}
+use Rattle.grouping.specs.inner.GroupingContracts.{Even, partsIn, partsAny, partedOn}
 
 -- ---- parts, parts_any
 module _ (b c : List ℕ) (f g : ℕ) where
   pub parts-not : (class next : ℕ) → class ≡ getD c (field b f 7) 0 → next ≡ field b g 7 → class ≡ getD c next 0 → false ≡ partsIn b c f g
   parts-not class next p q e =
-      sym (ap (λ (t : Bool). not t && together (rowIn b f) (rowIn b g))
+      sym (ap (λ (t : Bool). not t && together (rowInFrame b f) (rowInFrame b g))
       (eq-eqb (getD c (field b f 7) 0) (getD c (field b g 7) 0) (sym p ∙ e ∙ ap (λ (x : ℕ). getD c x 0) q)))
 
   pub parts-by : (class next : ℕ) → class ≡ getD c (field b f 7) 0 → next ≡ field b g 7 → (class ≡ getD c next 0 → ⊥) → (t : Bool)
-      → t ≡ together (rowIn b f) (rowIn b g) → t ≡ partsIn b c f g
+      → t ≡ together (rowInFrame b f) (rowInFrame b g) → t ≡ partsIn b c f g
   parts-by class next p q e t h =
-      h ∙ sym (ap (λ (t : Bool). not t && together (rowIn b f) (rowIn b g))
+      h ∙ sym (ap (λ (t : Bool). not t && together (rowInFrame b f) (rowInFrame b g))
       (ne-eqb (getD c (field b f 7) 0) (getD c (field b g 7) 0) (λ z. e (p ∙ z ∙ sym (ap (λ (x : ℕ). getD c x 0) q)))))
 
 -- ---- lists
@@ -90,7 +90,8 @@ module _ (b : List ℕ) (p : Row → Bool) (l : ℕ) (never : (m f : ℕ) → (m
   over-own i zero u v = absurd (omega arith)
   over-own i (suc n) u v = go (ℕ-discrete i l) (over-own (suc i) n)
     where
-      go : Dec (i ≡ l) → (suc i ≤ l → l < suc i + n → some p (over (suc i) n) ≡ some p (rowsOn b l)) → some p (over i (suc n)) ≡ some p (rowsOn b l)
+      go : Dec (i ≡ l) → (suc i ≤ l → l < suc i + n → some p (over (suc i) n) ≡ some p (rowsOn b l))
+          → some p (over i (suc n)) ≡ some p (rowsOn b l)
       go (yes e) ih =
           ap (some p) (concat-cons (rowsOn b) i (range (suc i) n))
           ∙ some-last p (rowsOn b i) (over (suc i) n) (over-none (suc i) n (λ m x y z. omega arith)) ∙ ap (λ (m : ℕ). some p (rowsOn b m)) e
@@ -110,7 +111,8 @@ module _ (b c : List ℕ) (x : Even b) (l m : ℕ) (al : 2 ≤ l) (hl : l ≤ la
       let s : ℕ = field b g 6 in
       let words : Bool = eqb (bitAnd (pairAt b f 4) (pairAt b g 2)) (bitAnd (pairAt b g 4) (pairAt b f 2)) in
       let other : Bool = not (eqb (getD c (field b f 7) 0) (getD c (field b g 7) 0)) in
-      ap₂ (λ (p q : ℕ). eqb l l && eqb m m && (words && (eqb p 2 || eqb q 2 || eqb p q)) && other) (x .bits l f al hl u v) (x .bits m g am hm w z)
+      ap₂ (λ (p q : ℕ). eqb l l && eqb m m && (words && (eqb p 2 || eqb q 2 || eqb p q)) && other)
+      (x .bits l f al hl u v) (x .bits m g am hm w z)
       ∙ ap₂ (λ (p q : Bool). p && q && (words && (eqb r 2 || eqb s 2 || eqb r s)) && other) (eq-eqb l l refl) (eq-eqb m m refl)
       ∙ turned (words && (eqb r 2 || eqb s 2 || eqb r s)) other
     where
@@ -122,7 +124,8 @@ module _ (b c : List ℕ) (x : Even b) (l m : ℕ) (al : 2 ≤ l) (hl : l ≤ la
 
   first-only : (r : Row) → (k f : ℕ) → (k ≡ m → ⊥) → parts c l m r (rowOn b k f) ≡ false
   first-only r k f h =
-      ap (λ (t : Bool). eqb (r .from) l && t && together r (rowOn b k f) && not (eqb (classOf c (r .next)) (classOf c (field b f 7)))) (ne-eqb k m h)
+      ap (λ (t : Bool). eqb (r .from) l && t && together r (rowOn b k f) && not (eqb (classOf c (r .next)) (classOf c (field b f 7))))
+      (ne-eqb k m h)
       ∙ gone (eqb (r .from) l) (together r (rowOn b k f)) (not (eqb (classOf c (r .next)) (classOf c (field b f 7))))
     where
       gone : (p q t : Bool) → (p && false && q && t) ≡ false
@@ -131,7 +134,8 @@ module _ (b c : List ℕ) (x : Even b) (l m : ℕ) (al : 2 ≤ l) (hl : l ≤ la
 
   second-only : (k f : ℕ) → (k ≡ l → ⊥) → some (parts c l m (rowOn b k f)) (tableImage b .rows) ≡ false
   second-only k f h = some-never (parts c l m (rowOn b k f)) (tableImage b .rows) (λ r.
-      ap (λ (t : Bool). t && eqb (r .from) m && together (rowOn b k f) r && not (eqb (classOf c (field b f 7)) (classOf c (r .next)))) (ne-eqb k l h))
+      ap (λ (t : Bool). t && eqb (r .from) m && together (rowOn b k f) r && not (eqb (classOf c (field b f 7)) (classOf c (r .next))))
+      (ne-eqb k l h))
 
   pub parted-is : parted (tableImage b) c l m ≡ partedOn b c l m
   unfolding parted

@@ -10,18 +10,18 @@ use Rattle.lists.proofs.Ranges.{getD-map-range}
 use Rattle.frames.specs.Frame.{field, contents}
 use Rattle.frames.specs.Verdict.{fine}
 use Rattle.frames.proofs.Contents.{any-contents-length}
-use Rattle.image.specs.Image.{Row}
+use Rattle.image.specs.Image.{Row, noRow}
 use Rattle.image.specs.Decode.{lastLabel, decoded}
 use Rattle.image.specs.Check.{tableVerdict}
-use Rattle.image.proofs.Sound.{noRow, Sound}
+use Rattle.image.specs.inner.Sound.{SoundImage}
 use Rattle.image.proofs.Accepted.{accepted-sound, image-table, image-bytes}
 use Rattle.tables.specs.Prepare.{firstFrame, noted}
 use Rattle.tables.specs.Table.{firstOn, endOn, rowOn, rowsOn}
 use Rattle.tables.proofs.Noted.{noted-last, noted-late}
-use Rattle.tables.proofs.PreparedImage.{rowAt, noted-whole, first-noted, end-noted, rows-own, prepared-image}
-use Rattle.tables.proofs.Made.{Made}
+use Rattle.tables.proofs.PreparedImage.{rowInTable, noted-whole, first-noted, end-noted, rows-own, prepared-image}
+use Rattle.tables.proofs.Made.{MadeTable}
 use Rattle.covering.specs.Matched.{uneven}
-use Rattle.grouping.specs.Parts.{Even}
+use Rattle.grouping.specs.inner.GroupingContracts.{Even}
 
 module _ (b : List ℕ) (ok : tableVerdict b ≡ fine) (bytes : (k : ℕ) → getD b k 0 < 256) where
   noted-bits : (l f : ℕ) → 2 ≤ l → l ≤ lastLabel (noted b) → firstOn (noted b) l ≤ f → f < endOn (noted b) l
@@ -33,13 +33,14 @@ module _ (b : List ℕ) (ok : tableVerdict b ≡ fine) (bytes : (k : ℕ) → ge
       let k : ℕ = f - firstOn (noted b) l in
       let mine : getD (rowsOn (noted b) l) k noRow ≡ rowOn (noted b) l (firstOn (noted b) l + k) =
       getD-map-range (rowOn (noted b) l) noRow (firstOn (noted b) l) (endOn (noted b) l - firstOn (noted b) l) k (omega arith) in
-      let its : getD (map (rowAt b) (range (firstFrame b l) (firstFrame b (l + 1) - firstFrame b l))) k noRow ≡ rowAt b (firstFrame b l + k) =
-      getD-map-range (rowAt b) noRow (firstFrame b l) (firstFrame b (l + 1) - firstFrame b l) k (omega arith) in
+      let its : getD (map (rowInTable b) (range (firstFrame b l) (firstFrame b (l + 1) - firstFrame b l)))
+      k noRow ≡ rowInTable b (firstFrame b l + k) =
+      getD-map-range (rowInTable b) noRow (firstFrame b l) (firstFrame b (l + 1) - firstFrame b l) k (omega arith) in
       let at : firstOn (noted b) l + k ≡ f = omega arith in
       let at′ : firstFrame b l + k ≡ f = omega arith in
       ap (λ (r : Row). r .bit)
       (ap (rowOn (noted b) l) (sym at) ∙ sym mine ∙ ap (λ (rs : List Row). getD rs k noRow) (rows-own b ok bytes l (omega arith) hl) ∙ its
-      ∙ ap (rowAt b) at′)
+      ∙ ap (rowInTable b) at′)
       ∙ sym (noted-late b f 6 (omega arith) (omega arith))
 
   pub noted-even : length b % 10 ≡ 0 → uneven (decoded b) ≡ false → Even (noted b)
@@ -47,12 +48,12 @@ module _ (b : List ℕ) (ok : tableVerdict b ≡ fine) (bytes : (k : ℕ) → ge
       let holds = prepared-image b ok bytes in
       record {
         whole = noted-whole b ok h;
-        sound = subst Sound (sym holds) (accepted-sound b ok bytes);
+        sound = subst SoundImage (sym holds) (accepted-sound b ok bytes);
         bits = noted-bits;
         covered = ap uneven holds ∙ e;
       }
 
-pub made-even : (t b : List ℕ) → Made t b → uneven (decoded (contents t)) ≡ false → Even b
+pub made-even : (t b : List ℕ) → MadeTable t b → uneven (decoded (contents t)) ≡ false → Even b
 made-even t b made e =
     subst Even (sym (made .is))
     (noted-even (contents t) (image-table t (made .accepted)) (image-bytes t (made .accepted)) (omega (arith, any-contents-length t)) e)

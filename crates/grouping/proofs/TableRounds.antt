@@ -19,17 +19,18 @@ use Rattle.image.specs.Image.{Image, Row}
 use Rattle.image.specs.Decode.{lastLabel}
 use Rattle.tables.specs.Table.{tableImage}
 use Rattle.tables.proofs.TableReads.{labels-count, label-at}
-use Rattle.covering.specs.Sizes.{noRow, together}
+use Rattle.covering.specs.Matched.{noRow, together}
 use Rattle.covering.proofs.Hits.{OneRow, one-row}
 use Rattle.grouping.specs.Classes.{sameFields, classOf, parts, parted, staysWith, classesBy, classes}
-use Rattle.grouping.specs.Parts.{Even, Classed, holdsSameOn, partedOn, leadsClass, nextClass}
+use Rattle.grouping.specs.inner.GroupingContracts.{Even, Classed, holdsSameOn, partedOn, leadsClass, nextClass}
 use Rattle.grouping.proofs.Representatives.{lowestAlike, alike-le, tabulated, lowest-own}
 use Rattle.grouping.proofs.Onward.{low-same}
-use Rattle.grouping.proofs.Rounds.{Round, holdsSame, same-class, rounds, stays-alike}
+use Rattle.grouping.proofs.Rounds.{ClassRound, holdsSame, same-class, rounds, stays-alike}
 use Rattle.grouping.proofs.Partings.{parted-is}
 
 -- ---- the first number that passes, told by what stands before it
-lowest-is : (p : ℕ → Bool) (i n x : ℕ) → i ≤ x → x ≤ i + n → (x < i + n → p x ≡ true) → ((k : ℕ) → i ≤ k → k < x → p k ≡ false) → lowest p i n ≡ x
+lowest-is : (p : ℕ → Bool) (i n x : ℕ) → i ≤ x → x ≤ i + n → (x < i + n → p x ≡ true)
+    → ((k : ℕ) → i ≤ k → k < x → p k ≡ false) → lowest p i n ≡ x
 lowest-is p i n x a b hit before = go (split (lowest p i n) x) (split x (lowest p i n))
   where
     go : (lowest p i n < x) ⊎ (x ≤ lowest p i n) → (x < lowest p i n) ⊎ (lowest p i n ≤ x) → lowest p i n ≡ x
@@ -54,7 +55,7 @@ module _ (b : List ℕ) where
   last = lastLabel b
 
   -- a buffer whose first l places hold what a test gives
-  pub record Filling (alike : ℕ → ℕ → Bool) (buffer : List ℕ) (m l : ℕ) : Type 0 where
+  pub record FillingClasses (alike : ℕ → ℕ → Bool) (buffer : List ℕ) (m l : ℕ) : Type 0 where
     pub long : length buffer ≡ 256
     pub small : m < 256
     pub is : m ≡ lastLabel b
@@ -62,14 +63,21 @@ module _ (b : List ℕ) where
     pub each : (k : ℕ) → k < l → getD buffer k 0 ≡ lowestAlike alike k
 
   module _ (alike : ℕ → ℕ → Bool) (buffer : List ℕ) (m : ℕ) where
-    pub fill-start : ((k : ℕ) → getD b k 0 < 256) → length buffer ≡ 256 → m ≡ lastLabel b → Filling alike buffer m 0
-    fill-start bytes h e = record { long = h; small = omega (arith, bytes 2); is = e; high = omega arith; each = λ k z. absurd (omega arith) }
+    pub fill-start : ((k : ℕ) → getD b k 0 < 256) → length buffer ≡ 256 → m ≡ lastLabel b → FillingClasses alike buffer m 0
+    fill-start bytes h e = record {
+      long = h;
+      small = omega (arith, bytes 2);
+      is =
+          e;
+      high = omega arith;
+      each = λ k z. absurd (omega arith);
+    }
 
-    module _ (l : ℕ) (t : Filling alike buffer m l) where
+    module _ (l : ℕ) (t : FillingClasses alike buffer m l) where
       pub value-small : l ≤ m → (x : ℕ) → x ≡ lowestAlike alike l → x < 256
       value-small h x e = omega (arith, alike-le alike l, t .small)
 
-      pub fill-on : l ≤ m → (x : ℕ) → x ≡ lowestAlike alike l → Filling alike (set buffer l x) m (l + 1)
+      pub fill-on : l ≤ m → (x : ℕ) → x ≡ lowestAlike alike l → FillingClasses alike (set buffer l x) m (l + 1)
       fill-on h x e = record {
         long = length-set buffer l x ∙ t .long;
         small = t .small;
@@ -98,7 +106,7 @@ module _ (b : List ℕ) where
   same-alike l = lowest-alike (λ m. holdsSameOn b m l) (λ m. holdsSame i m l) 0 l (λ m u v.
       ap₂ sameFields (sym (label-at b m)) (sym (label-at b l)))
 
-  pub first-all : (buffer : List ℕ) (m l : ℕ) → Filling (holdsSame i) buffer m l → m < l → Classed b (classes i 0) buffer
+  pub first-all : (buffer : List ℕ) (m l : ℕ) → FillingClasses (holdsSame i) buffer m l → m < l → Classed b (classes i 0) buffer
   unfolding classes
   first-all buffer m l t h = fill-all (holdsSame i) buffer m l t h
 
@@ -119,7 +127,7 @@ module _ (b : List ℕ) where
       inside : (l : ℕ) → l < n → getD buffer l 0 ≡ classOf c l
       inside l z = h .at l (omega (arith, labels-count b))
 
-      R : Round i c
+      R : ClassRound i c
       R = rounds i (x .sound) one k
 
       -- classes of labels from 2 up are from 2 up
@@ -142,7 +150,8 @@ module _ (b : List ℕ) where
 
       -- the buffer parts as the classes do
       parts-same : (l m j g : ℕ) → j < length (i .rows) → g < length (i .rows)
-          → parts buffer l m (getD (i .rows) j noRow) (getD (i .rows) g noRow) ≡ parts c l m (getD (i .rows) j noRow) (getD (i .rows) g noRow)
+          → parts buffer l m (getD (i .rows) j noRow) (getD (i .rows) g noRow) ≡ parts c l
+          m (getD (i .rows) j noRow) (getD (i .rows) g noRow)
       parts-same l m j g hj hg =
           let r : Row = getD (i .rows) j noRow in
           let s : Row = getD (i .rows) g noRow in
@@ -191,7 +200,8 @@ module _ (b : List ℕ) where
               absurd (omega (arith, low-same i (x .sound) 0 1 h₀ h₁ (R .same 0 1 h₀ h₁ e) (omega arith)))
 
       -- the lowest of the next class is found among those that are lowest of theirs
-      module _ (next : List ℕ) (l : ℕ) (a : 2 ≤ l) (z : l ≤ lastLabel b) (each : (m : ℕ) → m < l → getD next m 0 ≡ lowestAlike stays m) where
+      module _ (next : List ℕ) (l : ℕ) (a : 2 ≤ l) (z : l ≤ lastLabel b)
+          (each : (m : ℕ) → m < l → getD next m 0 ≡ lowestAlike stays m) where
         hl : l < n
         hl = omega (arith, labels-count b)
 

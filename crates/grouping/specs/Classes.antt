@@ -9,7 +9,7 @@ use Rattle.lists.specs.Numbers.{tabulate, lowest}
 use Rattle.lists.specs.Sequences.{some}
 use Rattle.image.specs.Image.{Image, Label, Row}
 use Rattle.state.specs.State.{labelAt}
-use Rattle.covering.specs.Sizes.{together}
+use Rattle.covering.specs.Matched.{together}
 
 abbrev pub sameFields : Label → Label → Bool
 sameFields x y =

@@ -1,3 +1,3 @@
 pub mod Rule
 pub mod Classes
-pub mod Parts
+pub mod inner

@@ -6,9 +6,9 @@ use lib.Dec.{eqb}
 use lib.ListN.{length}
 use Rattle.lists.specs.Numbers.{any, count}
 use Rattle.image.specs.Image.{Image}
-use Rattle.rows.specs.Rows.{isOwn}
+use Rattle.rows.specs.Rows.{isCandidate}
 use Rattle.state.specs.State.{labelAt}
-use Rattle.covering.specs.Sizes.{rowAt}
+use Rattle.covering.specs.Matched.{rowAt}
 
 -- each label with the number of its group
 abbrev pub Grouping : Type 0
@@ -19,7 +19,7 @@ pub record Meets (i : Image) (g : Grouping) : Type 0 where
   pub same : (l m : ℕ) → l < length (i .labels) → m < length (i .labels) → g l ≡ g m → labelAt i l ≡ labelAt i m
   pub leads : (l m : ℕ) → l < length (i .labels) → m < length (i .labels) → g l ≡ g m
       → (w b : ℕ) → w < 65536 → b < 2 → (j k : ℕ) → j < length (i .rows) → k < length (i .rows)
-      → isOwn l w b (rowAt i j) ≡ true → isOwn m w b (rowAt i k) ≡ true → g (rowAt i j .next) ≡ g (rowAt i k .next)
+      → isCandidate l w b (rowAt i j) ≡ true → isCandidate m w b (rowAt i k) ≡ true → g (rowAt i j .next) ≡ g (rowAt i k .next)
 
 -- a group is counted at its lowest member
 abbrev pub isLowest : Grouping → ℕ → Bool

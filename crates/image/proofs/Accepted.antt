@@ -16,11 +16,13 @@ use Rattle.frames.specs.Verdict.{fine, next, when, atLowest}
 use Rattle.frames.specs.Check.{textVerdict}
 use Rattle.frames.proofs.Verdicts.{next-first, next-rest, when-fine, at-lowest-fine}
 use Rattle.frames.proofs.Contents.{text-told, contents-bytes}
-use Rattle.image.specs.Image.{Label, Row}
+use Rattle.image.specs.Image.{Label, Row, noRow, nthRow}
 use Rattle.image.specs.Decode.{schemeCount, lastLabel, rowCount, handlerIn, labelsFrom, rowsFrom, entryIn, labelIn, rowIn, decoded}
-use Rattle.image.specs.Check.{filled, badHandler, badCounts, badHeader, entryAt, labelAt, rowAt, positionOf, falls, strayFrame, stray, within}
-use Rattle.image.specs.Check.{isLabel, badEntry, badCalled, badLabel, badBit, badRow, badFrame, badContent, tableVerdict, imageVerdict}
-use Rattle.image.proofs.Sound.{noLabel, noRow, nthLabel, nthRow, endOf, Reaches, SoundLabel, SoundRow, Sound}
+use Rattle.image.specs.Check.{filled, badHandler, badCounts, badHeader, entryPosition, labelPosition}
+use Rattle.image.specs.Check.{rowPosition, positionOf, falls, strayFrame, stray, within}
+use Rattle.image.specs.Check.{isLabel, badEntry, badCalled, badLabel, badBit, badRow}
+use Rattle.image.specs.Check.{badFrame, badContent, tableVerdict, imageVerdict}
+use Rattle.image.specs.inner.Sound.{noLabel, nthLabel, endOf, Reaches, SoundLabel, SoundRow, SoundImage}
 
 -- ---- what the image that contents hold has at each number
 module _ (b : List ℕ) where
@@ -50,11 +52,11 @@ module _ (b : List ℕ) where
   row-read k h = getD-map-range (rowIn b) noRow 0 (rowCount b) k h ∙ ap (rowIn b) (omega arith)
 
   -- ---- the place of each frame
-  pub position-of-entry : (h : ℕ) → 1 ≤ h → h ≤ schemeCount b → positionOf b h ≡ entryAt h
+  pub position-of-entry : (h : ℕ) → 1 ≤ h → h ≤ schemeCount b → positionOf b h ≡ entryPosition h
   unfolding positionOf
   position-of-entry h l m = rw (ne-eqb h 0 (λ z. omega arith), lt-ltb h (labelsFrom b) (omega arith))
 
-  pub position-of-label : (l : ℕ) → l ≤ lastLabel b → positionOf b (labelsFrom b + l) ≡ labelAt l
+  pub position-of-label : (l : ℕ) → l ≤ lastLabel b → positionOf b (labelsFrom b + l) ≡ labelPosition l
   unfolding positionOf
   position-of-label l h =
       rw (
@@ -62,9 +64,9 @@ module _ (b : List ℕ) where
         le-ltb (labelsFrom b + l) (labelsFrom b) (omega arith),
         lt-ltb (labelsFrom b + l) (rowsFrom b) (omega arith),
       )
-      (ap labelAt (omega arith))
+      (ap labelPosition (omega arith))
 
-  pub position-of-row : (k : ℕ) → positionOf b (rowsFrom b + k) ≡ rowAt k
+  pub position-of-row : (k : ℕ) → positionOf b (rowsFrom b + k) ≡ rowPosition k
   unfolding positionOf
   position-of-row k =
       rw (
@@ -72,12 +74,13 @@ module _ (b : List ℕ) where
         le-ltb (rowsFrom b + k) (labelsFrom b) (omega arith),
         le-ltb (rowsFrom b + k) (rowsFrom b) (omega arith),
       )
-      (ap rowAt (omega arith))
+      (ap rowPosition (omega arith))
 
   -- a label that passes for scheme h is one that h reaches
   pub within-reaches : (h l : ℕ) → within b h l ≡ true → Reaches (decoded b) h l
   within-reaches h l e =
-      let low : l ≤ lastLabel b = leb-true l (lastLabel b) (and-l (leb l (lastLabel b)) (eqb (labelIn b l .owner) h || eqb l (endOf h)) e) in
+      let low : l ≤ lastLabel b = leb-true l (lastLabel b)
+      (and-l (leb l (lastLabel b)) (eqb (labelIn b l .owner) h || eqb l (endOf h)) e) in
       record {
         inside = omega (arith, labels-count);
         belongs = go low (or-cases (eqb (labelIn b l .owner) h) (eqb l (endOf h))
@@ -120,7 +123,8 @@ called-told b x e n =
 plain-told : (b : List ℕ) (x : Label) → badCalled b x ≡ false → x .kind ≡ 0 → x .called ≡ 0
 plain-told b x e k =
     eqb-true (x .called) 0 (not-false (eqb (x .called) 0)
-    (sym (yes-pick (eqb (x .kind) 0) (not (eqb (x .called) 0)) (ltb (x .called) 2 || ltb (schemeCount b) (x .called)) (eq-eqb (x .kind) 0 k)) ∙ e))
+    (sym (yes-pick (eqb (x .kind) 0) (not (eqb (x .called) 0)) (ltb (x .called) 2 || ltb (schemeCount b) (x .called))
+    (eq-eqb (x .kind) 0 k)) ∙ e))
 
 label-told : (b : List ℕ) (l : ℕ) (x : Label) → x .mask < 4294967296 → badLabel b (suc (suc l)) x ≡ false → SoundLabel (schemeCount b) x
 label-told b l x small e =
@@ -164,7 +168,8 @@ row-told b f r small tiny e =
       high = omega (arith, labels-count b);
       cares = small;
       small = tiny;
-      within = eqb-true (bitAnd (r .values) (r .care)) (r .values) (not-false (eqb (bitAnd (r .values) (r .care)) (r .values)) (or-r (a₁ || a₂) a₃ e₃));
+      within = eqb-true (bitAnd (r .values) (r .care)) (r .values)
+          (not-false (eqb (bitAnd (r .values) (r .care)) (r .values)) (or-r (a₁ || a₂) a₃ e₃));
       bits = ltb-false 2 (r .bit) (or-l (ltb 2 (r .bit)) (ltb (r .bit) 2 && not (eqb (labelIn b (r .from) .kind) 2)) bit);
       function = λ h.
           ap (λ (x : Label). x .kind) same
@@ -185,7 +190,7 @@ handler-told b e n =
     (ltb-false (handlerIn b) 2 (or-l low high t), ltb-false (schemeCount b) (handlerIn b) (or-r low high t))
 
 -- ---- the whole table
-pub record Counted (b : List ℕ) : Type 0 where
+pub record CountedTable (b : List ℕ) : Type 0 where
   pub first : 1 ≤ schemeCount b
   pub most : schemeCount b ≤ 16
   pub two : 1 ≤ lastLabel b
@@ -205,12 +210,14 @@ module _ (b : List ℕ) (ok : tableVerdict b ≡ fine) where
   frames-good = next-rest (when 11 (badHeader b)) (λ _. next (atLowest 12 (stray b) (size b)) λ _. atLowest 13 (badContent b) (size b)) ok
 
   pub none-stray : (f : ℕ) → f < size b → stray b f ≡ false
-  none-stray = at-lowest-fine 12 (stray b) (size b) (next-first (atLowest 12 (stray b) (size b)) (λ _. atLowest 13 (badContent b) (size b)) frames-good)
+  none-stray = at-lowest-fine 12 (stray b) (size b)
+      (next-first (atLowest 12 (stray b) (size b)) (λ _. atLowest 13 (badContent b) (size b)) frames-good)
 
   pub none-bad : (f : ℕ) → f < size b → badContent b f ≡ false
-  none-bad = at-lowest-fine 13 (badContent b) (size b) (next-rest (atLowest 12 (stray b) (size b)) (λ _. atLowest 13 (badContent b) (size b)) frames-good)
+  none-bad = at-lowest-fine 13 (badContent b) (size b)
+      (next-rest (atLowest 12 (stray b) (size b)) (λ _. atLowest 13 (badContent b) (size b)) frames-good)
 
-  pub counted : Counted b
+  pub counted : CountedTable b
   unfolding badHeader
   counted =
       let k : Bool = not (eqb (field b 0 0) 15) in
@@ -242,7 +249,8 @@ module _ (b : List ℕ) (ok : tableVerdict b ≡ fine) where
 
   label-good : (l : ℕ) → l ≤ lastLabel b → badLabel b l (labelIn b l) ≡ false
   unfolding badContent
-  label-good l h = sym (ap (badFrame b (labelsFrom b + l)) (position-of-label b l h)) ∙ none-bad (labelsFrom b + l) (omega (arith, counted .all))
+  label-good l h = sym (ap (badFrame b (labelsFrom b + l)) (position-of-label b l h))
+      ∙ none-bad (labelsFrom b + l) (omega (arith, counted .all))
 
   row-good : (k : ℕ) → k < rowCount b → badRow b (rowsFrom b + k) (rowIn b k) ≡ false
   unfolding badContent
@@ -274,7 +282,7 @@ module _ (b : List ℕ) (ok : tableVerdict b ≡ fine) where
     unfolding decoded
     handled e n = let r = handler-told b (counted .handler) n in (r .0, omega arith)
 
-    pub accepted-sound : Sound (decoded b)
+    pub accepted-sound : SoundImage (decoded b)
     accepted-sound =
         let n : length (decoded b .entries) ≡ schemeCount b = entries-count b in
         let m : length (decoded b .labels) ≡ lastLabel b + 1 = labels-count b in
@@ -288,15 +296,19 @@ module _ (b : List ℕ) (ok : tableVerdict b ≡ fine) where
           handled = handled n;
           starts = λ h l. subst (λ (e : ℕ). Reaches (decoded b) (suc h) e) (sym (entry-read b h (omega arith)))
               (entry-good (suc h) (omega arith) (omega arith));
-          home = label-read b 0 (omega arith) ∙ label-as 4 1 (labelIn b 0) (not-false (isLabel 4 1 (labelIn b 0)) (label-good 0 (omega arith)));
-          back = label-read b 1 (counted .two) ∙ label-as 3 0 (labelIn b 1) (not-false (isLabel 3 0 (labelIn b 1)) (label-good 1 (counted .two)));
+          home = label-read b 0 (omega arith)
+              ∙ label-as 4 1 (labelIn b 0) (not-false (isLabel 4 1 (labelIn b 0)) (label-good 0 (omega arith)));
+          back = label-read b 1 (counted .two)
+              ∙ label-as 3 0 (labelIn b 1) (not-false (isLabel 3 0 (labelIn b 1)) (label-good 1 (counted .two)));
           others = λ l h k. subst (λ (x : Label). SoundLabel (length (decoded b .entries)) x) (sym (label-read b l (omega arith)))
               (subst (λ (c : ℕ). SoundLabel c (labelIn b l)) (sym n) (other-good l h (omega arith)));
           each = λ k h. subst (λ (x : Row). SoundRow (decoded b) x) (sym (row-read b k (omega arith)))
-              (row-told b (rowsFrom b + k) (rowIn b k) (pair-small (rowsFrom b + k) 2) (pair-small (rowsFrom b + k) 4) (row-good k (omega arith)));
+              (row-told b (rowsFrom b + k) (rowIn b k) (pair-small (rowsFrom b + k) 2)
+              (pair-small (rowsFrom b + k) 4) (row-good k (omega arith)));
           rising = λ k h.
               let p : nthRow (decoded b) k .from ≡ rowIn b k .from = ap (λ (x : Row). x .from) (row-read b k (omega arith)) in
-              let q : nthRow (decoded b) (suc k) .from ≡ rowIn b (suc k) .from = ap (λ (x : Row). x .from) (row-read b (suc k) (omega arith)) in
+              let q : nthRow (decoded b) (suc k) .from ≡ rowIn b (suc k) .from =
+              ap (λ (x : Row). x .from) (row-read b (suc k) (omega arith)) in
               omega (arith, row-rises k (omega arith));
         }
 
@@ -309,5 +321,5 @@ pub image-table : (t : List ℕ) → imageVerdict t ≡ fine → tableVerdict (c
 unfolding imageVerdict
 image-table t e = next-rest (textVerdict 29831 t) (λ _. tableVerdict (contents t)) e
 
-pub image-sound : (t : List ℕ) → imageVerdict t ≡ fine → Sound (decoded (contents t))
+pub image-sound : (t : List ℕ) → imageVerdict t ≡ fine → SoundImage (decoded (contents t))
 image-sound t e = accepted-sound (contents t) (image-table t e) (image-bytes t e)

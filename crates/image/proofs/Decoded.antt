@@ -7,12 +7,12 @@ use lib.ListN.{length, getD}
 use Rattle.lists.specs.Numbers.{range}
 use Rattle.lists.proofs.Ranges.{map-count}
 use Rattle.frames.specs.Frame.{field, pairAt, quadAt, contents}
-use Rattle.image.specs.Image.{Image, Label, Row, labelFrame, rowFrame, imageText}
+use Rattle.image.specs.Image.{Image, Label, Row, labelFrame, rowFrame, imageText, noRow, nthRow}
 use Rattle.image.specs.Decode.{schemeCount, lastLabel, rowCount, handlerIn, labelsFrom, rowsFrom, entryIn, labelIn, rowIn, decoded}
-use Rattle.image.proofs.Sound.{noLabel, noRow, nthLabel, nthRow, Sound}
+use Rattle.image.specs.inner.Sound.{noLabel, nthLabel, SoundImage}
 use Rattle.image.proofs.Written.{Reads, image-reads}
 
-module _ (i : Image) (b : List ℕ) (S : Sound i) (R : Reads i b) where
+module _ (i : Image) (b : List ℕ) (S : SoundImage i) (R : Reads i b) where
   pub schemes-is : schemeCount b ≡ length (i .entries)
   schemes-is = R .head 1 (omega arith)
 
@@ -40,7 +40,14 @@ module _ (i : Image) (b : List ℕ) (S : Sound i) (R : Reads i b) where
       let p₃ : field b f 4 ≡ x .owner = label-at l 4 h (omega arith) in
       let p₄ : field b f 5 ≡ x .result = label-at l 5 h (omega arith) in
       let p₅ : quadAt b f 6 ≡ x .mask =
-      omega (arith, label-at l 6 h (omega arith), label-at l 7 h (omega arith), label-at l 8 h (omega arith), label-at l 9 h (omega arith)) in
+      omega (
+        arith,
+        label-at l 6 h (omega arith),
+        label-at l 7 h (omega arith),
+        label-at
+            l 8 h (omega arith),
+        label-at l 9 h (omega arith),
+      ) in
       λ j. record { kind = p₁ j; called = p₂ j; owner = p₃ j; result = p₄ j; mask = p₅ j }
 
   pub row-is : (k : ℕ) → k < length (i .rows) → rowIn b k ≡ nthRow i k
@@ -57,13 +64,15 @@ module _ (i : Image) (b : List ℕ) (S : Sound i) (R : Reads i b) where
   decoded-is : decoded b ≡ i
   unfolding decoded
   decoded-is =
-      let e : map (entryIn b) (range 1 (schemeCount b)) ≡ i .entries = map-count (entryIn b) 0 (i .entries) 1 (schemeCount b) schemes-is (λ h l.
+      let e : map (entryIn b) (range 1 (schemeCount b)) ≡ i .entries =
+      map-count (entryIn b) 0 (i .entries) 1 (schemeCount b) schemes-is (λ h l.
       ap (entryIn b) (omega arith) ∙ R .entry h 2 l (omega arith)) in
       let l : map (labelIn b) (range 0 (lastLabel b + 1)) ≡ i .labels =
-      map-count (labelIn b) noLabel (i .labels) 0 (lastLabel b + 1) (omega (arith, last-is, S .two)) (λ l h. ap (labelIn b) (omega arith) ∙ label-is l h) in
+      map-count (labelIn b) noLabel (i .labels) 0 (lastLabel b + 1) (omega (arith, last-is, S .two))
+      (λ l h. ap (labelIn b) (omega arith) ∙ label-is l h) in
       let r : map (rowIn b) (range 0 (rowCount b)) ≡ i .rows =
       map-count (rowIn b) noRow (i .rows) 0 (rowCount b) rows-is (λ k h. ap (rowIn b) (omega arith) ∙ row-is k h) in
       λ j. record { handler = handler-is j; entries = e j; labels = l j; rows = r j }
 
-pub image-decoded : (i : Image) → Sound i → decoded (contents (imageText i)) ≡ i
+pub image-decoded : (i : Image) → SoundImage i → decoded (contents (imageText i)) ≡ i
 image-decoded i S = decoded-is i (contents (imageText i)) S (image-reads i S)

@@ -1,8 +1,7 @@
-pub mod Sound
 pub mod Written
 pub mod Decoded
 pub mod Passes
 pub mod Accepted
 pub mod Refuses
-pub mod Cases
+pub mod HeaderCases
 pub mod Alike

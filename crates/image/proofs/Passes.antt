@@ -16,24 +16,23 @@ use Rattle.lists.proofs.Searches.{any-none}
 use Rattle.frames.specs.Frame.{size, field, pair, contents}
 use Rattle.frames.specs.Verdict.{Verdict, fine, next, when, atLowest}
 use Rattle.frames.proofs.Verdicts.{at-none}
-use Rattle.image.specs.Image.{Image, Label, Row, imageText}
+use Rattle.image.specs.Image.{Image, Label, Row, imageText, nthRow}
 use Rattle.image.specs.Decode.{schemeCount, lastLabel, rowCount, handlerIn, rowsFrom, labelIn, rowIn}
-use Rattle.image.specs.Check.{filled, badHandler, badCounts, badHeader, entryAt, labelAt, rowAt, positionOf, falls, strayFrame, stray}
+use Rattle.image.specs.Check.{filled, badHandler, badCounts, badHeader, entryPosition, labelPosition}
+use Rattle.image.specs.Check.{rowPosition, positionOf, falls, strayFrame, stray}
 use Rattle.image.specs.Check.{within, badEntry, badCalled, badLabel, badBit, badRow, badFrame, badContent, tableVerdict, imageVerdict}
-use Rattle.image.proofs.Sound.{nthLabel, nthRow, endOf, Reaches, SoundLabel, SoundRow, Sound}
+use Rattle.image.specs.inner.Sound.{nthLabel, endOf, Reaches, SoundLabel, SoundRow, SoundImage}
 use Rattle.image.proofs.Written.{Reads, image-reads, image-text-fine}
 use Rattle.image.proofs.Accepted.{position-of-entry, position-of-label, position-of-row}
+use Rattle.image.proofs.HeaderCases.{equal}
 use Rattle.image.proofs.Decoded.{schemes-is, last-is, rows-is, handler-is, label-is, row-is}
-
-not-eq : (a b : ℕ) → a ≡ b → not (eqb a b) ≡ false
-not-eq a b e = ap not (eq-eqb a b e)
 
 -- the n bytes behind xs are 0
 zeros : (xs : List ℕ) (n k : ℕ) → k < n → getD (xs ++ replicate n 0) (length xs + k) 0 ≡ 0
 zeros xs n k h = getD-append-add xs (replicate n 0) k 0 ∙ getD-replicate n k 0 0 h
 
 empty : (b : List ℕ) (f k n : ℕ) → ((j : ℕ) → j < n → field b f (k + j) ≡ 0) → filled b f k n ≡ false
-empty b f k n h = any-none (λ j. not (eqb (field b f j) 0)) k n (λ j l. not-eq (field b f (k + j)) 0 (h j l))
+empty b f k n h = any-none (λ j. not (eqb (field b f j) 0)) k n (λ j l. equal (field b f (k + j)) 0 (h j l))
 
 -- a frame is the header, an entry, a label or a row
 frame-cases : (P : ℕ → Type 0) (e l r : ℕ) → P 0 → ((h : ℕ) → h < e → P (suc h)) → ((k : ℕ) → k < l → P (suc (e + k)))
@@ -47,7 +46,7 @@ frame-cases P e l r p₀ p₁ p₂ p₃ (suc f) h =
     (split f (e + l)))
     (split f e)
 
-module _ (i : Image) (b : List ℕ) (S : Sound i) (R : Reads i b) where
+module _ (i : Image) (b : List ℕ) (S : SoundImage i) (R : Reads i b) where
   h-is : schemeCount b ≡ length (i .entries)
   h-is = schemes-is i b S R
 
@@ -83,21 +82,21 @@ module _ (i : Image) (b : List ℕ) (S : Sound i) (R : Reads i b) where
   unfolding badHeader
   header-fine =
       ap₂ _||_ (ap₂ _||_ (ap₂ _||_ (ap₂ _||_
-      (not-eq (field b 0 0) 15 (R .head 0 (omega arith)))
+      (equal (field b 0 0) 15 (R .head 0 (omega arith)))
       (empty b 0 6 4 (λ k h. R .head (6 + k) (omega arith)
       ∙ zeros (15 ∷ length (i .entries) ∷ (length (i .labels) - 1) ∷ pair (length (i .rows)) ++ (i .handler ∷ [])) 4 k h)))
       handler-fine)
       counts-fine)
-      (not-eq (size b) (rowsFrom b + rowCount b) (omega (arith, R .count, h-is, m-is, rows-is i b S R, S .two)))
+      (equal (size b) (rowsFrom b + rowCount b) (omega (arith, R .count, h-is, m-is, rows-is i b S R, S .two)))
 
   -- the place of each frame
-  position-entry : (h : ℕ) → h < length (i .entries) → positionOf b (suc h) ≡ entryAt (suc h)
+  position-entry : (h : ℕ) → h < length (i .entries) → positionOf b (suc h) ≡ entryPosition (suc h)
   position-entry h l = position-of-entry b (suc h) (omega arith) (omega (arith, h-is))
 
-  position-label : (l : ℕ) → l < length (i .labels) → positionOf b (labelFrom l) ≡ labelAt l
+  position-label : (l : ℕ) → l < length (i .labels) → positionOf b (labelFrom l) ≡ labelPosition l
   position-label l h = ap (positionOf b) (omega (arith, h-is)) ∙ position-of-label b l (omega (arith, m-is))
 
-  position-row : (k : ℕ) → k < length (i .rows) → positionOf b (rowFrom k) ≡ rowAt k
+  position-row : (k : ℕ) → k < length (i .rows) → positionOf b (rowFrom k) ≡ rowPosition k
   position-row k h = ap (positionOf b) (omega (arith, h-is, m-is, S .two)) ∙ position-of-row b k
 
   -- 12
@@ -120,7 +119,8 @@ module _ (i : Image) (b : List ℕ) (S : Sound i) (R : Reads i b) where
       ∙ numbered (field b (suc h) 0) 16 (field b (suc h) 1) (suc h) (R .entry h 0 l (omega arith)) (R .entry h 1 l (omega arith)))
       (λ l h. ap (strayFrame b (labelFrom l)) (position-label l h)
       ∙ numbered (field b (labelFrom l) 0) 17 (field b (labelFrom l) 1) l (R .label l 0 h (omega arith)) (R .label l 1 h (omega arith)))
-      (λ k h. ap (strayFrame b (rowFrom k)) (position-row k h) ∙ ap₂ _||_ (not-eq (field b (rowFrom k) 0) 18 (R .row k 0 h (omega arith))) (rows-rise k h))
+      (λ k h. ap (strayFrame b (rowFrom k)) (position-row k h)
+      ∙ ap₂ _||_ (equal (field b (rowFrom k) 0) 18 (R .row k 0 h (omega arith))) (rows-rise k h))
       f (omega (arith, R .count))
 
   -- 13
@@ -143,7 +143,7 @@ module _ (i : Image) (b : List ℕ) (S : Sound i) (R : Reads i b) where
   called-fine x L = go (x .kind) refl
     where
       go : (k : ℕ) → x .kind ≡ k → pick (eqb k 0) (not (eqb (x .called) 0)) (ltb (x .called) 2 || ltb (schemeCount b) (x .called)) ≡ false
-      go zero e = not-eq (x .called) 0 (L .plain e)
+      go zero e = equal (x .called) 0 (L .plain e)
       go (suc k) e =
           let c : (2 ≤ x .called) × (x .called ≤ length (i .entries)) = L .calls (λ z. omega arith) in
           rw (ne-eqb (suc k) 0 (λ z. omega arith))
@@ -172,7 +172,7 @@ module _ (i : Image) (b : List ℕ) (S : Sound i) (R : Reads i b) where
     bit-fine =
         let k : ℕ = labelIn b (r .from) .kind in
         ap₂ _||_ (le-ltb 2 (r .bit) (s .bits))
-        (⊎-elim (λ (h : r .bit < 2). ap₂ _&&_ (lt-ltb (r .bit) 2 h) (not-eq k 2 (ap (λ (x : Label). x .kind) from-is ∙ s .function h)))
+        (⊎-elim (λ (h : r .bit < 2). ap₂ _&&_ (lt-ltb (r .bit) 2 h) (equal k 2 (ap (λ (x : Label). x .kind) from-is ∙ s .function h)))
         (λ (h : 2 ≤ r .bit). ap (λ (t : Bool). t && not (eqb k 2)) (le-ltb (r .bit) 2 h))
         (split (r .bit) 2))
 
@@ -181,9 +181,10 @@ module _ (i : Image) (b : List ℕ) (S : Sound i) (R : Reads i b) where
         ap₂ _||_ (ap₂ _||_ (ap₂ _||_ (ap₂ _||_ (ap₂ _||_
         (le-ltb (r .from) 2 (s .low))
         (le-ltb (lastLabel b) (r .from) (omega (arith, s .high, m-is))))
-        (not-eq (bitAnd (r .values) (r .care)) (r .values) (s .within)))
+        (equal (bitAnd (r .values) (r .care)) (r .values) (s .within)))
         bit-fine)
-        (ap not (ap (λ (x : Label). within b (x .owner) (r .next)) from-is ∙ within-true (nthLabel i (r .from) .owner) (r .next) (s .leading))))
+        (ap not (ap (λ (x : Label). within b (x .owner) (r .next)) from-is
+        ∙ within-true (nthLabel i (r .from) .owner) (r .next) (s .leading))))
         z
 
   tail-empty : (k : ℕ) → k < length (i .rows) → filled b (rowFrom k) 8 2 ≡ false
@@ -212,7 +213,7 @@ module _ (i : Image) (b : List ℕ) (S : Sound i) (R : Reads i b) where
       ∙ ap (λ (v : Verdict). next v λ _. atLowest 13 (badContent b) (size b)) (at-none 12 (stray b) (size b) stray-none)
       ∙ at-none 13 (badContent b) (size b) content-good
 
-pub image-fine : (i : Image) → Sound i → imageVerdict (imageText i) ≡ fine
+pub image-fine : (i : Image) → SoundImage i → imageVerdict (imageText i) ≡ fine
 unfolding imageVerdict
 image-fine i S =
     let b : List ℕ = contents (imageText i) in

@@ -5,16 +5,16 @@ use mathlib.Core.List.{List, [], _++_, map}
 use native.Mathlib.Omega.{arith}
 use lib.ListN.{length, getD, length-append, length-map, List·getD-append}
 use lib.Seq.{getD-append-add}
-use Rattle.lists.specs.Sequences.{mapFrom}
+use Rattle.lists.specs.Sequences.{mapFrom, All}
 use Rattle.lists.proofs.Ranges.{getD-map, length-mapFrom, getD-mapFrom}
-use Rattle.lists.proofs.Joins.{All, all-append, all-places}
+use Rattle.lists.proofs.Joins.{all-append, all-places}
 use Rattle.frames.specs.Frame.{contents, field}
 use Rattle.frames.specs.Verdict.{fine}
 use Rattle.frames.specs.Check.{textVerdict}
 use Rattle.frames.proofs.Frames.{Frame, frame-by}
 use Rattle.frames.proofs.Texts.{text-fine, contents-length, contents-at}
-use Rattle.image.specs.Image.{Image, Label, headerFrame, entryFrame, labelFrame, rowFrame, imageFrames, imageText}
-use Rattle.image.proofs.Sound.{noLabel, noRow, nthLabel, nthRow, SoundLabel, SoundRow, Sound}
+use Rattle.image.specs.Image.{Image, Label, headerFrame, entryFrame, labelFrame, rowFrame, imageFrames, imageText, noRow, nthRow}
+use Rattle.image.specs.inner.Sound.{noLabel, nthLabel, SoundLabel, SoundRow, SoundImage}
 
 -- ---- the frames by place
 module _ (i : Image) where
@@ -56,7 +56,8 @@ module _ (i : Image) where
       ∙ getD-append-add es (ls ++ rs) l [] ∙ List·getD-append ls rs [] l (omega (arith, ls-count))
       ∙ getD-mapFrom labelFrame 0 (i .labels) noLabel [] l h ∙ ap (λ (x : ℕ). labelFrame x (nthLabel i l)) (omega arith)
 
-  pub frame-row : (k : ℕ) → k < length (i .rows) → getD (imageFrames i) (suc (length (i .entries) + length (i .labels) + k)) [] ≡ rowFrame (nthRow i k)
+  pub frame-row : (k : ℕ) → k < length (i .rows)
+      → getD (imageFrames i) (suc (length (i .entries) + length (i .labels) + k)) [] ≡ rowFrame (nthRow i k)
   unfolding imageFrames
   frame-row k h =
       ap (λ (n : ℕ). getD (es ++ (ls ++ rs)) n []) (omega (arith, es-count, ls-count))
@@ -71,14 +72,14 @@ called-small n x h L = go (x .kind) refl
     go zero e = omega (arith, L .plain e)
     go (suc k) e = omega (arith, L .calls (λ z. omega arith))
 
-handler-small : (i : Image) → Sound i → i .handler < 256
+handler-small : (i : Image) → SoundImage i → i .handler < 256
 handler-small i S = go (i .handler) refl
   where
     go : (h : ℕ) → i .handler ≡ h → i .handler < 256
     go zero e = omega arith
     go (suc h) e = omega (arith, S .handled (λ z. omega arith), S .most)
 
-label-small : (i : Image) → Sound i → (l : ℕ) → l < length (i .labels) → All (λ x. x < 256) (labelFrame l (nthLabel i l))
+label-small : (i : Image) → SoundImage i → (l : ℕ) → l < length (i .labels) → All (λ x. x < 256) (labelFrame l (nthLabel i l))
 label-small i S zero h = subst (λ (x : Label). All (λ y. y < 256) (labelFrame 0 x)) (sym (S .home)) (omega arith)
 label-small i S (suc zero) h = subst (λ (x : Label). All (λ y. y < 256) (labelFrame 1 x)) (sym (S .back)) (omega arith)
 label-small i S (suc (suc l)) h =
@@ -87,7 +88,7 @@ label-small i S (suc (suc l)) h =
     let c : x .called < 256 = called-small (length (i .entries)) x (S .most) L in
     omega (arith, S .last, S .most)
 
-module _ (i : Image) (S : Sound i) where
+module _ (i : Image) (S : SoundImage i) where
   entry-frames : All Frame (es i)
   entry-frames = all-places Frame [] (es i) (λ h l.
       let m : h < length (i .entries) = omega (arith, es-count i) in
@@ -105,7 +106,8 @@ module _ (i : Image) (S : Sound i) where
   row-frames = all-places Frame [] (rs i) (λ k h.
       let m : k < length (i .rows) = omega (arith, rs-count i) in
       let R : SoundRow i (nthRow i k) = S .each k m in
-      subst Frame (sym (getD-map rowFrame (i .rows) k noRow [] m)) (frame-by (rowFrame (nthRow i k)) refl (omega (arith, R .leading .inside, S .last))))
+      subst Frame (sym (getD-map rowFrame (i .rows) k noRow [] m))
+      (frame-by (rowFrame (nthRow i k)) refl (omega (arith, R .leading .inside, S .last))))
 
   pub image-frames : All Frame (imageFrames i)
   unfolding imageFrames
@@ -116,18 +118,20 @@ module _ (i : Image) (S : Sound i) where
 
   pub image-text-fine : textVerdict 29831 (imageText i) ≡ fine
   unfolding imageText
-  image-text-fine = text-fine (imageFrames i) image-frames 29831 (omega (arith, frames-length i)) (omega (arith, frames-length i, S .most, S .last, S .few))
+  image-text-fine = text-fine (imageFrames i) image-frames 29831 (omega (arith, frames-length i))
+      (omega (arith, frames-length i, S .most, S .last, S .few))
 
 -- ---- b is the contents of the image's text, byte by byte
 pub record Reads (i : Image) (b : List ℕ) : Type 0 where
   pub count : length b ≡ 10 * (1 + length (i .entries) + length (i .labels) + length (i .rows))
   pub head : (k : ℕ) → k < 10 → field b 0 k ≡ getD (headerFrame i) k 0
   pub entry : (h k : ℕ) → h < length (i .entries) → k < 10 → field b (suc h) k ≡ getD (entryFrame (suc h) (getD (i .entries) h 0)) k 0
-  pub label : (l k : ℕ) → l < length (i .labels) → k < 10 → field b (suc (length (i .entries) + l)) k ≡ getD (labelFrame l (nthLabel i l)) k 0
+  pub label : (l k : ℕ) → l < length (i .labels) → k < 10
+      → field b (suc (length (i .entries) + l)) k ≡ getD (labelFrame l (nthLabel i l)) k 0
   pub row : (j k : ℕ) → j < length (i .rows) → k < 10
       → field b (suc (length (i .entries) + length (i .labels) + j)) k ≡ getD (rowFrame (nthRow i j)) k 0
 
-pub image-reads : (i : Image) → Sound i → Reads i (contents (imageText i))
+pub image-reads : (i : Image) → SoundImage i → Reads i (contents (imageText i))
 unfolding imageText
 image-reads i S =
     let fs : List (List ℕ) = imageFrames i in

@@ -3,20 +3,22 @@ use Prim.Native.Nat.{ℕ, _+_}
 use mathlib.Core.List.{List, map}
 use Rattle.lists.specs.Numbers.{range}
 use Rattle.frames.specs.Frame.{field, pairAt, quadAt}
+use Rattle.image.specs.Layout.{SCHEME-COUNT, LAST-LABEL, ROW-COUNT, HANDLER, ENTRY-LABEL}
+use Rattle.image.specs.Layout.{TICK-KIND, CALLED, OWNER, LABEL-RESULT, LABEL-MASK, FROM, CARE, VALUES, FUNCTION-BIT, NEXT}
 use Rattle.image.specs.Image.{Image, Label, Row}
 
 -- H, M, the row count and the handler's scheme of the header
 abbrev pub schemeCount : List ℕ → ℕ
-schemeCount b = field b 0 1
+schemeCount b = field b 0 SCHEME-COUNT
 
 abbrev pub lastLabel : List ℕ → ℕ
-lastLabel b = field b 0 2
+lastLabel b = field b 0 LAST-LABEL
 
 abbrev pub rowCount : List ℕ → ℕ
-rowCount b = pairAt b 0 3
+rowCount b = pairAt b 0 ROW-COUNT
 
 abbrev pub handlerIn : List ℕ → ℕ
-handlerIn b = field b 0 5
+handlerIn b = field b 0 HANDLER
 
 -- the frames of entries start at 1, those of labels and of rows where the ones before end
 abbrev pub labelsFrom : List ℕ → ℕ
@@ -26,13 +28,25 @@ abbrev pub rowsFrom : List ℕ → ℕ
 rowsFrom b = 2 + schemeCount b + lastLabel b
 
 abbrev pub entryIn : List ℕ → ℕ → ℕ
-entryIn b h = field b h 2
+entryIn b h = field b h ENTRY-LABEL
 
 abbrev pub labelIn : List ℕ → ℕ → Label
-labelIn b l = let f = labelsFrom b + l in record { kind = field b f 2; called = field b f 3; owner = field b f 4; result = field b f 5; mask = quadAt b f 6 }
+labelIn b l = let f = labelsFrom b + l in record {
+  kind = field b f TICK-KIND;
+  called = field b f CALLED;
+  owner = field b f OWNER;
+  result = field b f LABEL-RESULT;
+  mask = quadAt b f LABEL-MASK;
+}
 
 abbrev pub rowIn : List ℕ → ℕ → Row
-rowIn b k = let f = rowsFrom b + k in record { from = field b f 1; care = pairAt b f 2; values = pairAt b f 4; bit = field b f 6; next = field b f 7 }
+rowIn b k = let f = rowsFrom b + k in record {
+  from = field b f FROM;
+  care = pairAt b f CARE;
+  values = pairAt b f VALUES;
+  bit = field b f FUNCTION-BIT;
+  next = field b f NEXT;
+}
 
 unfoldable pub decoded : List ℕ → Image
 decoded b = record {

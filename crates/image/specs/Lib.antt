@@ -1,4 +1,5 @@
+pub mod Layout
 pub mod Image
 pub mod Decode
 pub mod Check
-pub mod Parts
+pub mod inner

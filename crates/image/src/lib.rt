@@ -1,5 +1,6 @@
 // The image: entries, labels and rows as frames, and what stands in a decoded table.
 mod counts;
+pub mod layout;
 mod table;
 
 pub use counts::bad_counts;

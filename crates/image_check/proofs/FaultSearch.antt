@@ -9,8 +9,9 @@ use Rattle.lists.specs.Numbers.{lowest}
 use Rattle.lists.proofs.Searches.{lowest-here, lowest-on, lowest-over, lowest-start}
 use Rattle.frames.specs.Frame.{size}
 use Rattle.image.specs.Decode.{labelsFrom, rowsFrom, labelIn, rowIn}
-use Rattle.image.specs.Check.{Position, entryAt, labelAt, rowAt, positionOf, strayFrame, stray, badEntry, badLabel, badRow, badFrame, badContent}
-use Rattle.image_check.specs.Parts.{faulty}
+use Rattle.image.specs.Check.{Position, entryPosition, labelPosition, rowPosition, positionOf, strayFrame}
+use Rattle.image.specs.Check.{stray, badEntry, badLabel, badRow, badFrame, badContent}
+use Rattle.image_check.specs.inner.CheckedFrames.{faulty}
 use Rattle.image.proofs.Accepted.{position-of-entry, position-of-label, position-of-row}
 
 -- ---- a loop over the frames from first up to end
@@ -50,17 +51,17 @@ unfolding stray badContent
 at-place b f p e = sym (ap (λ (p : Position). strayFrame b f p || badFrame b f p) e)
 
 module _ (b : List ℕ) (f : ℕ) where
-  pub entry-tests : 1 ≤ f → f < labelsFrom b → (strayFrame b f (entryAt f) || badEntry b f) ≡ faulty b f
-  entry-tests l m = at-place b f (entryAt f) (position-of-entry b f l (omega arith))
+  pub entry-tests : 1 ≤ f → f < labelsFrom b → (strayFrame b f (entryPosition f) || badEntry b f) ≡ faulty b f
+  entry-tests l m = at-place b f (entryPosition f) (position-of-entry b f l (omega arith))
 
   pub label-tests : (y : ℕ) → y ≡ labelsFrom b → y ≤ f → f < rowsFrom b
-      → (strayFrame b (labelsFrom b + (f - y)) (labelAt (f - y)) || badLabel b (f - y) (labelIn b (f - y))) ≡ faulty b f
+      → (strayFrame b (labelsFrom b + (f - y)) (labelPosition (f - y)) || badLabel b (f - y) (labelIn b (f - y))) ≡ faulty b f
   label-tests y q l m =
-      at-place b (labelsFrom b + (f - y)) (labelAt (f - y)) (position-of-label b (f - y) (omega arith)) ∙ ap (faulty b) (omega arith)
+      at-place b (labelsFrom b + (f - y)) (labelPosition (f - y)) (position-of-label b (f - y) (omega arith)) ∙ ap (faulty b) (omega arith)
 
   pub row-tests : (y : ℕ) → y ≡ rowsFrom b → y ≤ f
-      → (strayFrame b (rowsFrom b + (f - y)) (rowAt (f - y)) || badRow b (rowsFrom b + (f - y)) (rowIn b (f - y))) ≡ faulty b f
-  row-tests y q l = at-place b (rowsFrom b + (f - y)) (rowAt (f - y)) (position-of-row b (f - y)) ∙ ap (faulty b) (omega arith)
+      → (strayFrame b (rowsFrom b + (f - y)) (rowPosition (f - y)) || badRow b (rowsFrom b + (f - y)) (rowIn b (f - y))) ≡ faulty b f
+  row-tests y q l = at-place b (rowsFrom b + (f - y)) (rowPosition (f - y)) (position-of-row b (f - y)) ∙ ap (faulty b) (omega arith)
 
 -- ---- the parts together
 next-sum : (k m : ℕ) → suc k + m ≡ suc (k + m)
@@ -71,7 +72,8 @@ unfolding lowest
 more-found p i zero m h = absurd (omega arith)
 more-found p i (suc k) m h = ap (λ (j : ℕ). lowest p i j) (next-sum k m) ∙ go (p i) refl h (more-found p (suc i) k m)
   where
-    go : (t : Bool) → p i ≡ t → lowest p i (suc k) < i + suc k → (lowest p (suc i) k < suc i + k → lowest p (suc i) (k + m) ≡ lowest p (suc i) k)
+    go : (t : Bool) → p i ≡ t → lowest p i (suc k) < i + suc k
+        → (lowest p (suc i) k < suc i + k → lowest p (suc i) (k + m) ≡ lowest p (suc i) k)
         → lowest p i (suc (k + m)) ≡ lowest p i (suc k)
     go true e h ih = rw (lowest, e)
     go false e h ih = rw (lowest, e) (ih (omega (arith, rw (lowest, e) at h)))
@@ -81,10 +83,12 @@ unfolding lowest
 more-past p i zero m h = ap (λ (j : ℕ). lowest p i j) (zero-add m) ∙ ap (λ (j : ℕ). lowest p j m) (let e : i ≡ i + 0 = omega arith in e)
 more-past p i (suc k) m h = ap (λ (j : ℕ). lowest p i j) (next-sum k m) ∙ go (p i) refl h (more-past p (suc i) k m)
   where
-    go : (t : Bool) → p i ≡ t → i + suc k ≤ lowest p i (suc k) → (suc i + k ≤ lowest p (suc i) k → lowest p (suc i) (k + m) ≡ lowest p (suc i + k) m)
+    go : (t : Bool) → p i ≡ t → i + suc k ≤ lowest p i (suc k)
+        → (suc i + k ≤ lowest p (suc i) k → lowest p (suc i) (k + m) ≡ lowest p (suc i + k) m)
         → lowest p i (suc (k + m)) ≡ lowest p (i + suc k) m
     go true e h ih = absurd (omega (arith, rw (lowest, e) at h))
-    go false e h ih = rw (lowest, e) (ih (omega (arith, rw (lowest, e) at h)) ∙ ap (λ (j : ℕ). lowest p j m) (let e : suc i + k ≡ i + suc k = omega arith in e))
+    go false e h ih = rw (lowest, e) (ih (omega (arith, rw (lowest, e) at h))
+        ∙ ap (λ (j : ℕ). lowest p j m) (let e : suc i + k ≡ i + suc k = omega arith in e))
 
 module _ (p : ℕ → Bool) (i m n r : ℕ) (low : i ≤ m) (high : m ≤ n) (e : r ≡ lowest p i (m - i)) where
   longer : lowest p i (n - i) ≡ lowest p i ((m - i) + (n - m))

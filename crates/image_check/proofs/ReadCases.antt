@@ -8,7 +8,7 @@ use lib.Seq.{take-at}
 use Rattle.frames.specs.Frame.{size, frameCount, contents}
 use Rattle.frames.specs.Verdict.{fine, refused}
 use Rattle.frames.specs.Check.{textVerdict}
-use Rattle.frames.specs.Read.{readInto}
+use Rattle.frames.specs.inner.Read.{readInto}
 use Rattle.frames.specs.Answer.{reply, judged}
 use Rattle.frames.specs.declared.Answer.{Answer}
 use Rattle.frames.specs.declared.Answer.the-variants.{Done, Refused}

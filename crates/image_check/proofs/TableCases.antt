@@ -13,7 +13,7 @@ use Rattle.frames.specs.Frame.{size, field}
 use Rattle.frames.specs.Answer.{success, refusal, judged}
 use Rattle.image.specs.Decode.{rowCount, rowsFrom}
 use Rattle.image.specs.Check.{filled, badHandler, badCounts, badHeader, stray, badContent, tableVerdict}
-use Rattle.image_check.specs.Parts.{faulty}
+use Rattle.image_check.specs.inner.CheckedFrames.{faulty}
 
 -- a good header tells how many frames there are
 pub header-size : (b : List ℕ) → badHeader b ≡ false → size b ≡ rowsFrom b + rowCount b
@@ -39,7 +39,12 @@ module _ (b : List ℕ) where
         lowest-none (stray b) 0 (size b) (λ k m. or-l (stray b (0 + k)) (badContent b (0 + k)) (none l (0 + k) (omega arith))) in
         let c : lowest (badContent b) 0 (size b) ≡ 0 + size b =
         lowest-none (badContent b) 0 (size b) (λ k m. or-r (stray b (0 + k)) (badContent b (0 + k)) (none l (0 + k) (omega arith))) in
-        simp (h, le-ltb (lowest (stray b) 0 (size b)) (size b) (omega arith), le-ltb (lowest (badContent b) 0 (size b)) (size b) (omega arith))
+        simp (
+          h,
+          le-ltb (lowest (stray b) 0 (size b)) (size b) (omega arith),
+          le-ltb
+              (lowest (badContent b) 0 (size b)) (size b) (omega arith),
+        )
 
     module _ (s : ℕ) (p : s ≡ lowest (stray b) 0 (size b)) where
       pub table-stray : s < size b → refusal 12 s 0 ≡ judged (tableVerdict b) 0
@@ -54,4 +59,9 @@ module _ (b : List ℕ) where
           q ∙ lowest-alike (faulty b) (badContent b) 0 (size b)
           (λ k a e. ap (λ (x : Bool). x || badContent b k) (lowest-past (stray b) 0 (size b) (omega arith) k a e)) in
           ap (λ (n : ℕ). refusal 13 n 0) same
-          ∙ simp (h, le-ltb (lowest (stray b) 0 (size b)) (size b) (omega arith), lt-ltb (lowest (badContent b) 0 (size b)) (size b) (omega arith))
+          ∙ simp (
+            h,
+            le-ltb (lowest (stray b) 0 (size b)) (size b) (omega arith),
+            lt-ltb
+                (lowest (badContent b) 0 (size b)) (size b) (omega arith),
+          )

@@ -3,7 +3,11 @@ use crate::faults::lowest_fault;
 use crate::positions::bad_header;
 use crate::positions::lowest_stray;
 use frames::Answer;
+use frames::refusals::BAD_CONTENT;
+use frames::refusals::BAD_HEADER;
+use frames::refusals::STRAY_FRAME;
 use frames::refused;
+use frames::sizes::FRAME;
 ghost use mathlib.Core.Path.{_≡_};
 ghost use Prim.Native.Nat.{_<_};
 ghost use Rattle.frames.specs.Frame.{size};
@@ -16,16 +20,16 @@ pub fn check_table(table: &[u8]) -> Answer
     ensures { λ r. ⌜ reply r ≡ judged (tableVerdict (now (table .entry))) 0 ⌝ }
 {
     if bad_header(table) {
-        return refused(11, 0);
+        return refused(BAD_HEADER, 0);
     }
-    let frames = table.len() / 10;
+    let frames = table.len() / FRAME;
     let fault = lowest_fault(table);
     if frames <= fault {
         return Answer::Done(0);
     }
     let stray = lowest_stray(table, frames);
     if stray < frames {
-        return refused(12, stray);
+        return refused(STRAY_FRAME, stray);
     }
-    refused(13, fault)
+    refused(BAD_CONTENT, fault)
 }

@@ -1,4 +1,5 @@
 // Refusals 12 and 13 together, in one pass: entries, then labels, then rows.
+use frames::sizes::FRAME;
 use image::labels_from;
 use image::rows_from;
 use image_fields::bad_entry;
@@ -12,7 +13,7 @@ ghost use Prim.Native.Nat.{_-_, _≤_};
 ghost use Rattle.lists.specs.Numbers.{lowest};
 ghost use Rattle.frames.specs.Frame.{size};
 ghost use Rattle.image.specs.Decode.{labelsFrom, rowsFrom};
-ghost use Rattle.image_check.specs.Parts.{faulty};
+ghost use Rattle.image_check.specs.inner.CheckedFrames.{faulty};
 
 // The lowest entry at fault, or the first label; frames are counted.
 fn lowest_entry(table: &[u8], end: usize) -> usize
@@ -83,5 +84,5 @@ pub fn lowest_fault(table: &[u8]) -> usize
     if label < rows {
         return label;
     }
-    lowest_row(table, rows, table.len() / 10)
+    lowest_row(table, rows, table.len() / FRAME)
 }

@@ -1,9 +1,11 @@
 // Refusals 11 and 12: the header, and what each frame has to be by its position.
+use frames::sizes::FRAME;
 use image::bad_counts;
 use image::bad_handler;
 use image::byte;
 use image::filled_to;
 use image::labels_from;
+use image::layout::*;
 use image::pair;
 use image::rows_from;
 use image_fields::stray_entry;
@@ -14,17 +16,17 @@ ghost use Prim.Native.Nat.{_<_, _≤_};
 ghost use Rattle.lists.specs.Numbers.{lowest};
 ghost use Rattle.frames.specs.Frame.{size};
 ghost use Rattle.image.specs.Check.{badHeader, positionOf, stray};
-ghost use Rattle.image_check.specs.Parts.{kindOf};
+ghost use Rattle.image_check.specs.inner.CheckedFrames.{positionKind};
 
 // 11
 pub fn bad_header(table: &[u8]) -> bool
     requires { ⌜ 0 < size (now table) ⌝ }
     ensures { λ r. ⌜ r ≡ badHeader (now (table .entry)) ⌝ }
 {
-    if byte(table, 0, 0) != 15 {
+    if byte(table, 0, FRAME_KIND) != HEADER {
         return true;
     }
-    if filled_to(table, 0, 6, 10) {
+    if filled_to(table, 0, 6, FRAME) {
         return true;
     }
     if bad_handler(table) {
@@ -33,24 +35,24 @@ pub fn bad_header(table: &[u8]) -> bool
     if bad_counts(table) {
         return true;
     }
-    table.len() / 10 != rows_from(table) + (pair(table, 0, 3) as usize)
+    table.len() / FRAME != rows_from(table) + (pair(table, 0, ROW_COUNT) as usize)
 }
 
 // The kind byte of frame f by its position.
 fn kind_at(table: &[u8], f: usize) -> u8
     requires { ⌜ f < size (now table) ⌝ }
-    ensures { λ r. ⌜ r ≡ kindOf (positionOf (now (table .entry)) f) ⌝ }
+    ensures { λ r. ⌜ r ≡ positionKind (positionOf (now (table .entry)) f) ⌝ }
 {
     if f == 0 {
-        return 15;
+        return HEADER;
     }
     if f < labels_from(table) {
-        return 16;
+        return ENTRY;
     }
     if f < rows_from(table) {
-        return 17;
+        return LABEL;
     }
-    18
+    ROW
 }
 
 // 12, of one frame
@@ -60,9 +62,9 @@ fn stray_at(table: &[u8], f: usize) -> bool
 {
     let kind = kind_at(table, f);
     match kind {
-        16 => stray_entry(table, f),
-        17 => stray_label(table, f - labels_from(table)),
-        18 => stray_row(table, f - rows_from(table)),
+        ENTRY => stray_entry(table, f),
+        LABEL => stray_label(table, f - labels_from(table)),
+        ROW => stray_row(table, f - rows_from(table)),
         _ => false,
     }
 }

@@ -12,7 +12,7 @@ use Rattle.frames.specs.Frame.{field}
 use Rattle.image.specs.Image.{Label, Row}
 use Rattle.image.specs.Decode.{schemeCount, lastLabel, labelsFrom, rowsFrom, entryIn, labelIn, rowIn}
 use Rattle.image.specs.Check.{filled, within, badEntry, isLabel, badCalled, badLabel, badBit, badRow}
-use Rattle.image_fields.specs.Parts.{badKind, badTest}
+use Rattle.image_fields.specs.inner.FieldTests.{badKind, badTest}
 
 -- ---- labels of a scheme
 module _ (b : List ℕ) (h l : ℕ) where
@@ -36,7 +36,8 @@ pub row-within : (b : List ℕ) (r : Row) (from owner next : ℕ) (x : Bool) →
     → owner ≡ field b (labelsFrom b + from) 4 → next ≡ r .next
     → x ≡ within b owner next → x ≡ within b (labelIn b (r .from) .owner) (r .next)
 row-within b r from owner next x p q s e =
-    e ∙ ap (λ (n : ℕ). within b n next) (q ∙ ap (λ (n : ℕ). labelIn b n .owner) p) ∙ ap (λ (n : ℕ). within b (labelIn b (r .from) .owner) n) s
+    e ∙ ap (λ (n : ℕ). within b n next) (q ∙ ap (λ (n : ℕ). labelIn b n .owner) p)
+    ∙ ap (λ (n : ℕ). within b (labelIn b (r .from) .owner) n) s
 
 -- ---- labels
 module _ (k h : ℕ) (x : Label) where
@@ -94,10 +95,13 @@ module _ (b : List ℕ) (x : Label) where
       go t p q = rw (p, q) (or-false (o || h || r))
 
   pub label-kind : (l : ℕ) → 2 ≤ l → badKind b x ≡ true → true ≡ badLabel b l x
-  label-kind l h e = first-last (ltb 2 (x .kind)) (eqb (x .owner) 0) (ltb (schemeCount b) (x .owner)) (ltb 2 (x .result)) (badCalled b x) e ∙ is-tests l h
+  label-kind l h e = first-last (ltb 2 (x .kind)) (eqb (x .owner) 0) (ltb (schemeCount b) (x .owner)) (ltb 2 (x .result)) (badCalled b x) e
+      ∙ is-tests l h
 
-  label-rest : (l : ℕ) → 2 ≤ l → badKind b x ≡ false → (eqb (x .owner) 0 || ltb (schemeCount b) (x .owner) || ltb 2 (x .result)) ≡ badLabel b l x
-  label-rest l h e = rest (ltb 2 (x .kind)) (eqb (x .owner) 0) (ltb (schemeCount b) (x .owner)) (ltb 2 (x .result)) (badCalled b x) e ∙ is-tests l h
+  label-rest : (l : ℕ) → 2 ≤ l → badKind b x ≡ false
+      → (eqb (x .owner) 0 || ltb (schemeCount b) (x .owner) || ltb 2 (x .result)) ≡ badLabel b l x
+  label-rest l h e = rest (ltb 2 (x .kind)) (eqb (x .owner) 0) (ltb (schemeCount b) (x .owner)) (ltb 2 (x .result)) (badCalled b x) e
+      ∙ is-tests l h
 
   pub label-unowned : (l : ℕ) → 2 ≤ l → badKind b x ≡ false → x .owner ≡ 0 → true ≡ badLabel b l x
   label-unowned l h e o = sym (simp (eq-eqb (x .owner) 0 o)) ∙ label-rest l h e

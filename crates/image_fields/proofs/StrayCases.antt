@@ -13,7 +13,8 @@ use Rattle.image.specs.Check.{falls}
 pub falls-later : (b : List ℕ) (k x y : ℕ) → (k ≡ 0 → ⊥) → x ≡ field b (rowsFrom b + k) 1
     → y ≡ field b (rowsFrom b + (k - 1)) 1 → ltb x y ≡ falls b k
 falls-later b zero x y n p q = absurd (n refl)
-falls-later b (suc k) x y n p q = rw (p, q) (ap (λ (j : ℕ). ltb (field b (rowsFrom b + suc k) 1) (field b (rowsFrom b + j) 1)) (omega arith))
+falls-later b (suc k) x y n p q =
+    rw (p, q) (ap (λ (j : ℕ). ltb (field b (rowsFrom b + suc k) 1) (field b (rowsFrom b + j) 1)) (omega arith))
 
 -- a frame of another kind, or of another number
 module _ (x k n m : ℕ) where

@@ -17,10 +17,10 @@ use Rattle.charts.specs.Chart.{Chart, kind, scheme, argument, next0, result, ma
 use Rattle.walk.specs.Stops.{stops, start}
 use Rattle.walk.proofs.Facts.{Facts}
 use Rattle.image.specs.Image.{Label, entryFrame, labelFrame}
-use Rattle.chart_labels.specs.Labels.{numbered, label, entry, labelOf}
-use Rattle.chart_labels.specs.Ready.{Labelled, OfKind, AtNode}
-use Rattle.label_text.specs.Ready.{OfScheme}
-use Rattle.label_text.specs.Parts.{entryBytes, nodeLabelBytes, Put}
+use Rattle.chart_labels.specs.Labels.{numbered, label, entry, stopLabel}
+use Rattle.chart_labels.specs.inner.ChartContracts.{Labelled, OfKind, AtNode}
+use Rattle.label_text.specs.inner.LabelContracts.{OfScheme}
+use Rattle.label_text.specs.inner.LabelBytes.{entryBytes, nodeLabelBytes, Put}
 use Rattle.chart_labels.proofs.ReadyLaws.{ready-facts}
 use Rattle.chart_labels.proofs.LabelSteps.{own-label, no-own-label}
 
@@ -97,19 +97,20 @@ abbrev labelWith : ℕ → ℕ → ℕ → ℕ → ℕ → Label
 labelWith k g o r m = record { kind = k; called = g; owner = o; result = r; mask = m }
 
 module _ (c : Chart) (v l : ℕ) where
-  operation-label : kind c v ≡ 2 → labelOf c v ≡ labelWith (pick (not (eqb (argument c v) 0)) 1 0) (argument c v) (scheme c v) (result c v) (mask c v)
+  operation-label : kind c v ≡ 2
+      → stopLabel c v ≡ labelWith (pick (not (eqb (argument c v) 0)) 1 0) (argument c v) (scheme c v) (result c v) (mask c v)
   operation-label k = rw (ne-eqb (kind c v) 4 (λ q. omega arith), eq-eqb (kind c v) 2 k)
 
-  function-label : kind c v ≡ 4 → labelOf c v ≡ labelWith 2 (argument c v) (scheme c v) 0 0
+  function-label : kind c v ≡ 4 → stopLabel c v ≡ labelWith 2 (argument c v) (scheme c v) 0 0
   function-label k = rw (eq-eqb (kind c v) 4 k, ne-eqb (kind c v) 2 (λ q. omega arith))
 
-  other-label : (kind c v ≡ 2 → ⊥) → (kind c v ≡ 4 → ⊥) → labelOf c v ≡ labelWith 0 0 (scheme c v) 0 0
+  other-label : (kind c v ≡ 2 → ⊥) → (kind c v ≡ 4 → ⊥) → stopLabel c v ≡ labelWith 0 0 (scheme c v) 0 0
   other-label n m = rw (ne-eqb (kind c v) 4 m, ne-eqb (kind c v) 2 n)
 
   pub operation-bytes : OfKind c 2 v → (t g o r m0 m1 m2 m3 : ℕ) → t ≡ pick (not (eqb g 0)) 1 0 → g ≡ argument c v
       → o ≡ scheme c v → r ≡ result c v
       → m0 ≡ getD c (10 * v + 6) 0 → m1 ≡ getD c (10 * v + 7) 0 → m2 ≡ getD c (10 * v + 8) 0 → m3 ≡ getD c (10 * v + 9) 0
-      → (17 ∷ l ∷ t ∷ g ∷ o ∷ r ∷ m0 ∷ m1 ∷ m2 ∷ m3 ∷ []) ≡ labelFrame l (labelOf c v)
+      → (17 ∷ l ∷ t ∷ g ∷ o ∷ r ∷ m0 ∷ m1 ∷ m2 ∷ m3 ∷ []) ≡ labelFrame l (stopLabel c v)
   operation-bytes node t g o r m0 m1 m2 m3 et eg eo er e0 e1 e2 e3 =
       let B : (j : ℕ) → getD c j 0 < 256 = node .ready .bytes in
       let q : quad (mask c v) ≡ m0 ∷ m1 ∷ m2 ∷ m3 ∷ [] =
@@ -123,12 +124,12 @@ module _ (c : Chart) (v l : ℕ) where
       ∙ ap (labelFrame l) (sym (operation-label (node .kind)))
 
   pub function-bytes : kind c v ≡ 4 → (g o : ℕ) → g ≡ argument c v → o ≡ scheme c v
-      → (17 ∷ l ∷ 2 ∷ g ∷ o ∷ 0 ∷ 0 ∷ 0 ∷ 0 ∷ 0 ∷ []) ≡ labelFrame l (labelOf c v)
+      → (17 ∷ l ∷ 2 ∷ g ∷ o ∷ 0 ∷ 0 ∷ 0 ∷ 0 ∷ 0 ∷ []) ≡ labelFrame l (stopLabel c v)
   function-bytes k g o eg eo =
       ap₂ (λ (x y : ℕ). 17 ∷ l ∷ 2 ∷ x ∷ y ∷ 0 ∷ 0 ∷ 0 ∷ 0 ∷ 0 ∷ []) eg eo ∙ ap (labelFrame l) (sym (function-label k))
 
   pub other-bytes : (kind c v ≡ 2 → ⊥) → (kind c v ≡ 4 → ⊥) → (o : ℕ) → o ≡ scheme c v
-      → (17 ∷ l ∷ 0 ∷ 0 ∷ o ∷ 0 ∷ 0 ∷ 0 ∷ 0 ∷ 0 ∷ []) ≡ labelFrame l (labelOf c v)
+      → (17 ∷ l ∷ 0 ∷ 0 ∷ o ∷ 0 ∷ 0 ∷ 0 ∷ 0 ∷ 0 ∷ []) ≡ labelFrame l (stopLabel c v)
   other-bytes n m o eo = ap (λ (x : ℕ). 17 ∷ l ∷ 0 ∷ 0 ∷ x ∷ 0 ∷ 0 ∷ 0 ∷ 0 ∷ 0 ∷ []) eo ∙ ap (labelFrame l) (sym (other-label n m))
 
 module _ {c : Chart} {labels : List ℕ} {v : ℕ} (node : AtNode c labels v) where
@@ -137,11 +138,11 @@ module _ {c : Chart} {labels : List ℕ} {v : ℕ} (node : AtNode c labels v) wh
 
   pub label-none : getD labels v 0 < 2 → nodeLabelBytes c v ≡ []
   label-none h =
-      no-pick (numbered c v) (labelFrame (label c v) (labelOf c v)) [] (no-own-label c v (omega (arith, read)))
+      no-pick (numbered c v) (labelFrame (label c v) (stopLabel c v)) [] (no-own-label c v (omega (arith, read)))
 
-  label-one : 2 ≤ getD labels v 0 → nodeLabelBytes c v ≡ labelFrame (label c v) (labelOf c v)
+  label-one : 2 ≤ getD labels v 0 → nodeLabelBytes c v ≡ labelFrame (label c v) (stopLabel c v)
   label-one h =
-      yes-pick (numbered c v) (labelFrame (label c v) (labelOf c v)) [] (own-label c v (omega (arith, read)))
+      yes-pick (numbered c v) (labelFrame (label c v) (stopLabel c v)) [] (own-label c v (omega (arith, read)))
 
   label-long : 2 ≤ getD labels v 0 → length (nodeLabelBytes c v) ≡ 10
   label-long h = ap (λ (x : List ℕ). length x) (label-one h)
@@ -150,9 +151,9 @@ module _ {c : Chart} {labels : List ℕ} {v : ℕ} (node : AtNode c labels v) wh
   label-room h at n r = omega (arith, label-long h)
 
   pub label-done : 2 ≤ getD labels v 0 → (out out′ : List ℕ) (at : ℕ)
-      → out′ ≡ written out at (labelFrame (getD labels v 0) (labelOf c v))
+      → out′ ≡ written out at (labelFrame (getD labels v 0) (stopLabel c v))
       → Put out at (nodeLabelBytes c v) (at + 10) out′
   label-done h out out′ at e = record {
     ends = omega (arith, label-long h);
-    holds = e ∙ ap (λ (x : ℕ). written out at (labelFrame x (labelOf c v))) read ∙ ap (written out at) (sym (label-one h));
+    holds = e ∙ ap (λ (x : ℕ). written out at (labelFrame x (stopLabel c v))) read ∙ ap (written out at) (sym (label-one h));
   }

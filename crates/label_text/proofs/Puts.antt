@@ -9,7 +9,7 @@ use lib.ListN.{length, length-append}
 use Rattle.lists.specs.Sequences.{concatMap, written}
 use Rattle.lists.proofs.Joins.{concat-range-snoc}
 use Rattle.lists.proofs.Written.{written-none, written-length, written-more}
-use Rattle.label_text.specs.Parts.{upTo, Put}
+use Rattle.label_text.specs.inner.LabelBytes.{upTo, Put}
 
 -- ---- bytes put, and others put after them
 pub put-length : {out out′ t : List ℕ} {at r : ℕ} → at + length t ≤ length out → Put out at t r out′ → length out′ ≡ length out

@@ -1,6 +1,10 @@
 // The labels of an image, written as frames of ten bytes: 0 and 1, and those of the nodes that have one of their own.
 use charts::field;
+use charts::layout::*;
 use frames::put_bytes;
+use frames::sizes::FRAME;
+use frames::sizes::RECORD;
+use image::layout::*;
 ghost use mathlib.Core.Path.{_≡_};
 ghost use mathlib.Core.Bool.{not};
 ghost use Prim.Native.Nat.{_+_, _≤_};
@@ -8,39 +12,49 @@ ghost use lib.Dec.{eqb};
 ghost use lib.ListN.{length};
 ghost use Rattle.lists.specs.Pick.{pick};
 ghost use Rattle.lists.specs.Sequences.{written};
+ghost use Rattle.frames.specs.Sizes.{FRAME};
 ghost use Rattle.frames.specs.Frame.{size};
+ghost use Rattle.charts.specs.Layout.{OPERATION};
+ghost use Rattle.image.specs.Layout.{PLAIN, OPERATION-CALL};
 ghost use Rattle.image.specs.Image.{labelFrame};
-ghost use Rattle.chart_labels.specs.Labels.{labelOf};
-ghost use Rattle.chart_labels.specs.Ready.{Inner, OfKind, Charted, AtNode};
-ghost use Rattle.label_text.specs.Parts.{fixedBytes, nodeLabelBytes, upTo, Put};
+ghost use Rattle.chart_labels.specs.Labels.{stopLabel};
+ghost use Rattle.chart_labels.specs.inner.ChartContracts.{Inner, OfKind, Charted, AtNode};
+ghost use Rattle.label_text.specs.inner.LabelBytes.{fixedBytes, nodeLabelBytes, upTo, Put};
+
+// The bytes of a mask behind its first.
+const MASK1: usize = MASK + 1;
+
+const MASK2: usize = MASK + 2;
+
+const MASK3: usize = MASK + 3;
 
 // Labels 0 and 1.
 pub fn put_fixed(out: &mut [u8], at: usize)
     requires { ⌜ at + 20 ≤ length (now out) ⌝ }
     ensures { λ _. ⌜ now (out .exit) ≡ written (now (out .entry)) at fixedBytes ⌝ }
 {
-    let home = [17, 0, 4, 0, 1, 0, 0, 0, 0, 0];
+    let home = [LABEL, 0, HOME, 0, 1, 0, 0, 0, 0, 0];
     put_bytes(out, at, &home);
-    let back = [17, 1, 3, 0, 0, 0, 0, 0, 0, 0];
-    put_bytes(out, at + 10, &back);
+    let back = [LABEL, 1, RETURN, 0, 0, 0, 0, 0, 0, 0];
+    put_bytes(out, at + FRAME, &back);
 }
 
 // The label of an operation: with a call its kind is 1.
 fn put_operation(records: &[u8], v: usize, label: u8, out: &mut [u8], at: usize)
-    requires { ⌜ OfKind (now records) 2 v ⌝ }
-    requires { ⌜ at + 10 ≤ length (now out) ⌝ }
-    ensures { λ _. ⌜ now (out .exit) ≡ written (now (out .entry)) at (labelFrame label (labelOf (now (records .entry)) v)) ⌝ }
+    requires { ⌜ OfKind (now records) OPERATION v ⌝ }
+    requires { ⌜ at + FRAME ≤ length (now out) ⌝ }
+    ensures { λ _. ⌜ now (out .exit) ≡ written (now (out .entry)) at (labelFrame label (stopLabel (now (records .entry)) v)) ⌝ }
 {
-    let called = field(records, v, 2);
+    let called = field(records, v, ARGUMENT);
     let tick = call_kind(called);
-    let owner = field(records, v, 1);
-    let result = field(records, v, 5);
-    let mask0 = field(records, v, 6);
-    let mask1 = field(records, v, 7);
-    let mask2 = field(records, v, 8);
-    let mask3 = field(records, v, 9);
+    let owner = field(records, v, SCHEME);
+    let result = field(records, v, RESULT);
+    let mask0 = field(records, v, MASK);
+    let mask1 = field(records, v, MASK1);
+    let mask2 = field(records, v, MASK2);
+    let mask3 = field(records, v, MASK3);
     let bytes = [
-        17,
+        LABEL,
         label,
         tick,
         called,
@@ -56,27 +70,27 @@ fn put_operation(records: &[u8], v: usize, label: u8, out: &mut [u8], at: usize)
 
 // The kind of an operation's tick: 1 with a call, else 0.
 fn call_kind(called: u8) -> u8
-    ensures { λ r. ⌜ r ≡ pick (not (eqb called 0)) 1 0 ⌝ }
+    ensures { λ r. ⌜ r ≡ pick (not (eqb called 0)) OPERATION-CALL PLAIN ⌝ }
 {
-    if called == 0 { 0 } else { 1 }
+    if called == 0 { PLAIN } else { OPERATION_CALL }
 }
 
 // The label of a stop: an operation's, a function's, or that of a Begin or a condition.
 fn put_label(records: &[u8], v: usize, label: u8, out: &mut [u8], at: usize)
     requires { ⌜ Inner (now records) v ⌝ }
-    requires { ⌜ at + 10 ≤ length (now out) ⌝ }
-    ensures { λ _. ⌜ now (out .exit) ≡ written (now (out .entry)) at (labelFrame label (labelOf (now (records .entry)) v)) ⌝ }
+    requires { ⌜ at + FRAME ≤ length (now out) ⌝ }
+    ensures { λ _. ⌜ now (out .exit) ≡ written (now (out .entry)) at (labelFrame label (stopLabel (now (records .entry)) v)) ⌝ }
 {
-    let owner = field(records, v, 1);
-    match field(records, v, 0) {
-        2 => put_operation(records, v, label, out, at),
-        4 => {
-            let called = field(records, v, 2);
-            let bytes = [17, label, 2, called, owner, 0, 0, 0, 0, 0];
+    let owner = field(records, v, SCHEME);
+    match field(records, v, KIND) {
+        OPERATION => put_operation(records, v, label, out, at),
+        FUNCTION => {
+            let called = field(records, v, ARGUMENT);
+            let bytes = [LABEL, label, FUNCTION_CALL, called, owner, 0, 0, 0, 0, 0];
             put_bytes(out, at, &bytes);
         }
         _ => {
-            let bytes = [17, label, 0, 0, owner, 0, 0, 0, 0, 0];
+            let bytes = [LABEL, label, PLAIN, 0, owner, 0, 0, 0, 0, 0];
             put_bytes(out, at, &bytes);
         }
     }
@@ -93,16 +107,17 @@ fn put_node_label(records: &[u8], labels: &[u8], v: usize, out: &mut [u8], at: u
         return at;
     }
     put_label(records, v, label, out, at);
-    at + 10
+    at + FRAME
 }
 
 // The labels of all nodes that have one of their own.
 pub fn put_labels(records: &[u8], labels: &[u8], out: &mut [u8], at: usize)
     requires { ⌜ Charted (now records) (now labels) ⌝ }
     requires { ⌜ at + length (upTo (nodeLabelBytes (now records)) (size (now records))) ≤ length (now out) ⌝ }
-    ensures { λ _. ⌜ now (out .exit) ≡ written (now (out .entry)) at (upTo (nodeLabelBytes (now (records .entry))) (size (now (records .entry)))) ⌝ }
+    ensures { λ _. ⌜ now (out .exit) ≡ written (now (out .entry)) at
+        (upTo (nodeLabelBytes (now (records .entry))) (size (now (records .entry)))) ⌝ }
 {
-    let n = records.len() / 10;
+    let n = records.len() / RECORD;
     let mut place = at;
     let mut v: usize = 0;
     while v < n {

@@ -11,26 +11,24 @@ use Rattle.lists.specs.Sequences.{over}
 use Rattle.lists.proofs.Tabulated.{length-tabulate, getD-tabulate}
 use Rattle.frames.specs.Frame.{contents}
 use Rattle.frames.specs.Verdict.{Verdict, fine, refused, next, when}
-use Rattle.frames.specs.Answer.{success, refusal}
+use Rattle.frames.specs.Answer.{success}
+use Rattle.frames.proofs.Chains.{no-success}
 use Rattle.image.specs.Image.{Image}
 use Rattle.image.specs.Decode.{lastLabel, decoded}
 use Rattle.image.specs.Check.{imageVerdict}
-use Rattle.listing.specs.Listing.{howMany, firstOf, firstRows, rowCounts, Listed, listedOn, noRoomFor, list}
+use Rattle.listing.specs.Listing.{howMany, firstOf, firstRows, rowCounts, ListingOutcome, listingOn, noRoomFor, list}
 use Rattle.listing.specs.Exact.{Own, Exactly, Held}
 use Rattle.listing.proofs.Laws.{exactly}
-
-no-success : {A : Type 0} (k i m n : ℕ) → refusal k i m ≡ success n → A
-no-success k i m n e = absurd (let z : _≡_ {A = ℕ} 0 1 = cc in omega arith)
 
 front : (f : ℕ → ℕ) (n : ℕ) (old : List ℕ) (l : ℕ) → l < n → getD (over (tabulate f n) old) l 0 ≡ f l
 front f n old l h =
     List·getD-append (tabulate f n) (drop (length (tabulate f n)) old) 0 l (omega (arith, length-tabulate f n)) ∙ getD-tabulate f n l h
 
 -- the image check's verdict, and whether a buffer has too little room
-abbrev answer : Image → List ℕ → List ℕ → Verdict → Bool → Listed
-answer i xs ys v u = listedOn (next v λ _. when 16 u) (λ _. i) xs ys
+abbrev answer : Image → List ℕ → List ℕ → Verdict → Bool → ListingOutcome
+answer i xs ys v u = listingOn (next v λ _. when 16 u) (λ _. i) xs ys
 
-record Succeeded (i : Image) (v : Verdict) (x : Listed) (n : ℕ) : Type 0 where
+record Succeeded (i : Image) (v : Verdict) (x : ListingOutcome) (n : ℕ) : Type 0 where
   passes : v ≡ fine
   labels : n ≡ length (i .labels)
   first : (l : ℕ) → l < n → getD (x .firsts) l 0 ≡ firstOf i l

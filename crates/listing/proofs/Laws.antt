@@ -14,17 +14,16 @@ use Rattle.lists.proofs.Counts.{count-none}
 use Rattle.lists.proofs.Ranges.{length-map-range, getD-map-range}
 use Rattle.frames.specs.Frame.{size, field, contents}
 use Rattle.frames.specs.Verdict.{fine}
-use Rattle.image.specs.Image.{Image, Row}
+use Rattle.image.specs.Image.{Image, Row, nthRow, noRow}
 use Rattle.image.specs.Decode.{lastLabel, rowsFrom, decoded}
 use Rattle.image.specs.Check.{tableVerdict}
-use Rattle.image.proofs.Sound.{nthRow, noRow}
 use Rattle.image.proofs.Accepted.{rows-count, row-read, counted, accepted-sound, image-table, image-bytes}
 use Rattle.tables.specs.Prepare.{firstFrame, noted}
 use Rattle.tables.specs.Table.{firstOn, endOn, rowsOn}
 use Rattle.tables.proofs.Noted.{noted-rows-from}
 use Rattle.tables.proofs.FirstFrames.{first-low, first-inside, first-rises, from-read, at-least, below}
-use Rattle.tables.proofs.PreparedImage.{first-noted, end-noted, rows-own, rowAt}
-use Rattle.listing.specs.Listing.{leaves, howMany, firstOf}
+use Rattle.tables.proofs.PreparedImage.{first-noted, end-noted, rows-own, rowInTable}
+use Rattle.listing.specs.Listing.{rowLeaves, howMany, firstOf}
 use Rattle.listing.specs.Exact.{Own, Exactly, EmptyZero, LowZero, LooksAt, ListedFrames}
 use Rattle.listing.proofs.Between.{Between, count-between, lowest-between}
 
@@ -33,8 +32,8 @@ module _ (i : Image) (l : ℕ) where
   pub none-first : howMany i l ≡ 0 → firstOf i l ≡ 0
   none-first e = yes-pick (eqb (howMany i l) 0) 0 _ (eq-eqb (howMany i l) 0 e)
 
-  pub some-first : (howMany i l ≡ 0 → ⊥) → firstOf i l ≡ lowest (leaves i l) 0 (length (i .rows))
-  some-first h = no-pick (eqb (howMany i l) 0) 0 (lowest (leaves i l) 0 (length (i .rows))) (ne-eqb (howMany i l) 0 h)
+  pub some-first : (howMany i l ≡ 0 → ⊥) → firstOf i l ≡ lowest (rowLeaves i l) 0 (length (i .rows))
+  some-first h = no-pick (eqb (howMany i l) 0) 0 (lowest (rowLeaves i l) 0 (length (i .rows))) (ne-eqb (howMany i l) 0 h)
 
 -- ---- an accepted table
 module _ (b : List ℕ) (ok : tableVerdict b ≡ fine) (bytes : (k : ℕ) → getD b k 0 < 256) (l : ℕ) where
@@ -56,7 +55,7 @@ module _ (b : List ℕ) (ok : tableVerdict b ≡ fine) (bytes : (k : ℕ) → ge
       ap (λ (n : ℕ). nthRow i n .from) (let e : k ≡ rowsFrom b + k - rowsFrom b = omega arith in e)
       ∙ from-read b ok bytes (rowsFrom b + k) (omega arith) (omega (arith, rows-all))
 
-  between : Between (leaves i l) (length (i .rows)) first end
+  between : Between (rowLeaves i l) (length (i .rows)) first end
   between = record {
     order = omega (arith, first-rises b ok l);
     most = omega (arith, first-inside b ok (l + 1), rows-all);
@@ -76,19 +75,19 @@ module _ (b : List ℕ) (ok : tableVerdict b ≡ fine) (bytes : (k : ℕ) → ge
       away k h (inr g) q = omega (arith, from-is k h, at-least b ok bytes (l + 1) (rowsFrom b + k) (omega arith) (omega (arith, rows-all)))
 
   number-is : howMany i l ≡ end - first
-  number-is = count-between (leaves i l) (length (i .rows)) first end between
+  number-is = count-between (rowLeaves i l) (length (i .rows)) first end between
 
   first-is : (howMany i l ≡ 0 → ⊥) → firstOf i l ≡ first
-  first-is h = some-first i l h ∙ lowest-between (leaves i l) (length (i .rows)) first end between (omega (arith, number-is))
+  first-is h = some-first i l h ∙ lowest-between (rowLeaves i l) (length (i .rows)) first end between (omega (arith, number-is))
 
   -- ---- the rows of label l
   own-inside : (k : ℕ) → Own i l k → (first ≤ k) × (k < end)
   own-inside k (h, q) = go (split k first) (split k end)
     where
       go : (k < first) ⊎ (first ≤ k) → (k < end) ⊎ (end ≤ k) → (first ≤ k) × (k < end)
-      go (inl g) x = no-both (leaves i l k) (eq-eqb (nthRow i k .from) l q) (between .outer k h (inl g))
+      go (inl g) x = no-both (rowLeaves i l k) (eq-eqb (nthRow i k .from) l q) (between .outer k h (inl g))
       go (inr g) (inl m) = (g, m)
-      go (inr g) (inr m) = no-both (leaves i l k) (eq-eqb (nthRow i k .from) l q) (between .outer k h (inr m))
+      go (inr g) (inr m) = no-both (rowLeaves i l k) (eq-eqb (nthRow i k .from) l q) (between .outer k h (inr m))
 
   pub exactly-own : (k : ℕ) → Own i l k ↔ ((firstOf i l ≤ k) × (k < firstOf i l + howMany i l))
   exactly-own k = (into, back)
@@ -120,7 +119,15 @@ module _ (b : List ℕ) (ok : tableVerdict b ≡ fine) (bytes : (k : ℕ) → ge
 
     frames-end : endOn (noted b) l ≡ firstOn (noted b) l + howMany i l
     frames-end =
-        omega (arith, first-noted b ok bytes l (omega arith) high, end-noted b ok bytes l high, number-is, first-low b ok l, first-rises b ok l)
+        omega (
+          arith,
+          first-noted b ok bytes l (omega arith) high,
+          end-noted b ok bytes l
+              high,
+          number-is,
+          first-low b ok l,
+          first-rises b ok l,
+        )
 
     frames-rows : rowsOn (noted b) l ≡ take (howMany i l) (drop (firstOf i l) (i .rows))
     frames-rows =
@@ -131,7 +138,7 @@ module _ (b : List ℕ) (ok : tableVerdict b ≡ fine) (bytes : (k : ℕ) → ge
         n = firstFrame b (l + 1) - firstFrame b l
 
         own : List Row
-        own = map (rowAt b) (range (firstFrame b l) n)
+        own = map (rowInTable b) (range (firstFrame b l) n)
 
         listed : List Row
         listed = take (howMany i l) (drop (firstOf i l) (i .rows))
@@ -143,7 +150,7 @@ module _ (b : List ℕ) (ok : tableVerdict b ≡ fine) (bytes : (k : ℕ) → ge
         most = between .most
 
         own-length : length own ≡ n
-        own-length = length-map-range (rowAt b) (firstFrame b l) n
+        own-length = length-map-range (rowInTable b) (firstFrame b l) n
 
         listed-length : length listed ≡ n
         listed-length = go (split 0 n)
@@ -163,8 +170,8 @@ module _ (b : List ℕ) (ok : tableVerdict b ≡ fine) (bytes : (k : ℕ) → ge
         same : (j : ℕ) → j < n → getD own j noRow ≡ getD listed j noRow
         same j h =
             let e : firstOf i l ≡ first = first-is (λ z. omega (arith, count-is)) in
-            getD-map-range (rowAt b) noRow (firstFrame b l) n j h
-            ∙ ap (rowAt b) (let z : firstFrame b l + j ≡ rowsFrom b + (firstOf i l + j) = omega (arith, first-low b ok l) in z)
+            getD-map-range (rowInTable b) noRow (firstFrame b l) n j h
+            ∙ ap (rowInTable b) (let z : firstFrame b l + j ≡ rowsFrom b + (firstOf i l + j) = omega (arith, first-low b ok l) in z)
             ∙ sym (row-read b (firstOf i l + j) (omega (arith, most, count-is, number-is, rows-count b)))
             ∙ sym (getD-take (howMany i l) (drop (firstOf i l) (i .rows)) j noRow (omega (arith, count-is))
             ∙ getD-drop (firstOf i l) (i .rows) j noRow)
@@ -175,7 +182,7 @@ module _ (b : List ℕ) (ok : tableVerdict b ≡ fine) (bytes : (k : ℕ) → ge
 -- ---- of every accepted image
 pub low-none : (b : List ℕ) → tableVerdict b ≡ fine → ((k : ℕ) → getD b k 0 < 256) → (l : ℕ) → l < 2 → howMany (decoded b) l ≡ 0
 low-none b ok bytes l h =
-    count-none (leaves (decoded b) l) 0 (length (decoded b .rows))
+    count-none (rowLeaves (decoded b) l) 0 (length (decoded b .rows))
     (λ k p q. ne-eqb (nthRow (decoded b) k .from) l (λ e. omega (arith, accepted-sound b ok bytes .each k (omega arith) .low)))
 
 pub exactly : Exactly
@@ -186,7 +193,8 @@ pub empty-zero : EmptyZero
 unfolding EmptyZero
 empty-zero t l h =
     let i : Image = decoded (contents t) in
-    let e : howMany i l ≡ 0 = count-none (leaves i l) 0 (length (i .rows)) (λ k p q. ne-eqb (nthRow i k .from) l (λ z. h k (omega arith, z))) in
+    let e : howMany i l ≡ 0 = count-none (rowLeaves i l) 0 (length (i .rows))
+    (λ k p q. ne-eqb (nthRow i k .from) l (λ z. h k (omega arith, z))) in
     (none-first i l e, e)
 
 pub low-zero : LowZero

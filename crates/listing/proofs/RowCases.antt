@@ -11,10 +11,10 @@ use Rattle.tables.specs.Table.{firstOn, endOn, tableImage}
 use Rattle.tables.proofs.TableReads.{counts-told}
 use Rattle.listing.specs.Listing.{howMany}
 use Rattle.listing.specs.Exact.{LooksAt}
-use Rattle.listing.specs.Parts.{Asked, RowsOf}
+use Rattle.listing.specs.inner.ListingContracts.{ListingAsked, RowsOf}
 use Rattle.listing.proofs.Laws.{none-first}
 
-module _ (b : List ℕ) (h l : ℕ) (asked : Asked b h l) where
+module _ (b : List ℕ) (h l : ℕ) (asked : ListingAsked b h l) where
   abbrev i : Image
   i = tableImage b
 

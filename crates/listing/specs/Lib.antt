@@ -1,3 +1,3 @@
 pub mod Listing
 pub mod Exact
-pub mod Parts
+pub mod inner

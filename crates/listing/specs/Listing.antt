@@ -8,24 +8,24 @@ use lib.ListN.{length}
 use Rattle.lists.specs.Pick.{pick}
 use Rattle.lists.specs.Numbers.{tabulate, lowest, count}
 use Rattle.lists.specs.Sequences.{over}
+use Rattle.frames.specs.Refusals.{NO-ROOM}
 use Rattle.frames.specs.Frame.{contents}
 use Rattle.frames.specs.Verdict.{Verdict, fine, refused, next, when}
 use Rattle.frames.specs.Answer.{Reply, success, refusal, reply}
 use Rattle.frames.specs.declared.Answer.{Answer}
-use Rattle.image.specs.Image.{Image}
+use Rattle.image.specs.Image.{Image, nthRow}
 use Rattle.image.specs.Decode.{lastLabel, decoded}
 use Rattle.image.specs.Check.{imageVerdict}
-use Rattle.image.proofs.Sound.{nthRow}
 
 -- row k leaves label l
-abbrev pub leaves : Image → ℕ → ℕ → Bool
-leaves i l k = eqb (nthRow i k .from) l
+abbrev pub rowLeaves : Image → ℕ → ℕ → Bool
+rowLeaves i l k = eqb (nthRow i k .from) l
 
 abbrev pub howMany : Image → ℕ → ℕ
-howMany i l = count (leaves i l) 0 (length (i .rows))
+howMany i l = count (rowLeaves i l) 0 (length (i .rows))
 
 abbrev pub firstOf : Image → ℕ → ℕ
-firstOf i l = pick (eqb (howMany i l) 0) 0 (lowest (leaves i l) 0 (length (i .rows)))
+firstOf i l = pick (eqb (howMany i l) 0) 0 (lowest (rowLeaves i l) 0 (length (i .rows)))
 
 -- of the labels 0 to M
 unfoldable pub firstRows : Image → List ℕ
@@ -35,14 +35,14 @@ unfoldable pub rowCounts : Image → List ℕ
 rowCounts i = tabulate (howMany i) (length (i .labels))
 
 -- what the entry point answers, counting labels, and what the two buffers then hold
-pub record Listed : Type 0 where
+pub record ListingOutcome : Type 0 where
   pub reply : Reply
   pub firsts : List ℕ
   pub counts : List ℕ
 
-abbrev pub listedOn : Verdict → (Unit {0} → Image) → List ℕ → List ℕ → Listed
-listedOn (refused k n) go old₁ old₂ = record { reply = refusal k n 0; firsts = old₁; counts = old₂ }
-listedOn fine go old₁ old₂ = let i = go tt in record {
+abbrev pub listingOn : Verdict → (Unit {0} → Image) → List ℕ → List ℕ → ListingOutcome
+listingOn (refused k n) go old₁ old₂ = record { reply = refusal k n 0; firsts = old₁; counts = old₂ }
+listingOn fine go old₁ old₂ = let i = go tt in record {
   reply = success (length (i .labels));
   firsts = over (firstRows i) old₁;
   counts = over (rowCounts i) old₂;
@@ -53,11 +53,12 @@ abbrev pub noRoomFor : ℕ → List ℕ → List ℕ → Bool
 noRoomFor n old₁ old₂ = ltb (length old₁) n || ltb (length old₂) n
 
 -- what the image check tries, then 16
-unfoldable pub list : List ℕ → List ℕ → List ℕ → Listed
+unfoldable pub list : List ℕ → List ℕ → List ℕ → ListingOutcome
 list t old₁ old₂ =
-    listedOn (next (imageVerdict t) λ _. when 16 (noRoomFor (lastLabel (contents t) + 1) old₁ old₂)) (λ _. decoded (contents t)) old₁ old₂
+    listingOn (next (imageVerdict t) λ _. when NO-ROOM (noRoomFor (lastLabel (contents t) + 1) old₁ old₂))
+    (λ _. decoded (contents t)) old₁ old₂
 
-pub record Lists (x : Listed) (a : Answer) (xs ys : List ℕ) : Type 0 where
+pub record GivesListing (x : ListingOutcome) (a : Answer) (xs ys : List ℕ) : Type 0 where
   pub answered : reply a ≡ x .reply
   pub firsts : xs ≡ x .firsts
   pub counts : ys ≡ x .counts

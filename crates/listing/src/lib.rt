@@ -1,11 +1,14 @@
 // The rows of each label of an image: the number of the first and how many there are, read off the frames at which a tick looks.
 use frames::Answer;
+use frames::refusals::NO_ROOM;
 use frames::refused;
+use frames::sizes::FRAME;
+use frames::sizes::LINE;
+use frames::sizes::TABLE;
 use image::rows_from;
 use preparing::prepare_table;
 use rows::end_of;
 use rows::first_of;
-use tables::LARGEST;
 use tables::last_label;
 use tables::scheme_count;
 ghost use mathlib.Core.Path.{_≡_};
@@ -14,8 +17,8 @@ ghost use lib.ListN.{length};
 ghost use Rattle.lists.specs.Sequences.{over};
 ghost use Rattle.image.specs.Decode.{lastLabel};
 ghost use Rattle.tables.specs.Table.{tableImage};
-ghost use Rattle.listing.specs.Listing.{firstRows, rowCounts, list, Lists};
-ghost use Rattle.listing.specs.Parts.{Listable, Asked, RowsOf, listTable};
+ghost use Rattle.listing.specs.Listing.{firstRows, rowCounts, list, GivesListing};
+ghost use Rattle.listing.specs.inner.ListingContracts.{Listable, ListingAsked, RowsOf, listTable};
 
 // The number of a label's first row and how many it has.
 struct Rows {
@@ -25,7 +28,7 @@ struct Rows {
 
 // The rows of label l, 0 and 0 where there are none; labels 0 and 1 have none.
 fn rows_of(table: &[u8], schemes: u8, l: usize) -> Rows
-    requires { ⌜ Asked (now table) schemes l ⌝ }
+    requires { ⌜ ListingAsked (now table) schemes l ⌝ }
     ensures { λ r. ⌜ RowsOf (tableImage (now (table .entry))) l r ⌝ }
 {
     if l < 2 {
@@ -46,7 +49,8 @@ fn rows_of(table: &[u8], schemes: u8, l: usize) -> Rows
 fn fill_listing(table: &[u8], firsts: &mut [u16], counts: &mut [u16])
     requires { ⌜ Listable (now table) ⌝ }
     requires { ⌜ (lastLabel (now table) < length (now firsts)) × (lastLabel (now table) < length (now counts)) ⌝ }
-    ensures { λ _. ⌜ (now (firsts .exit) ≡ over (firstRows (tableImage (now (table .entry)))) (now (firsts .entry))) × (now (counts .exit) ≡ over (rowCounts (tableImage (now (table .entry)))) (now (counts .entry))) ⌝ }
+    ensures { λ _. ⌜ (now (firsts .exit) ≡ over (firstRows (tableImage (now (table .entry)))) (now (firsts .entry)))
+        × (now (counts .exit) ≡ over (rowCounts (tableImage (now (table .entry)))) (now (counts .entry))) ⌝ }
 {
     let schemes = scheme_count(table);
     let last = last_label(table) as usize;
@@ -62,14 +66,15 @@ fn fill_listing(table: &[u8], firsts: &mut [u16], counts: &mut [u16])
 // 16, then the listing; counts the labels.
 fn list_table(table: &[u8], firsts: &mut [u16], counts: &mut [u16]) -> Answer
     requires { ⌜ Listable (now table) ⌝ }
-    ensures { λ r. ⌜ Lists (listTable (now (table .entry)) (now (firsts .entry)) (now (counts .entry))) r (now (firsts .exit)) (now (counts .exit)) ⌝ }
+    ensures { λ r. ⌜ GivesListing (listTable (now (table .entry)) (now (firsts .entry)) (now (counts .entry)))
+        r (now (firsts .exit)) (now (counts .exit)) ⌝ }
 {
     let labels = last_label(table) as usize + 1;
     if firsts.len() < labels {
-        return refused(16, 0);
+        return refused(NO_ROOM, 0);
     }
     if counts.len() < labels {
-        return refused(16, 0);
+        return refused(NO_ROOM, 0);
     }
     fill_listing(table, firsts, counts);
     Answer::Done(labels)
@@ -77,13 +82,14 @@ fn list_table(table: &[u8], firsts: &mut [u16], counts: &mut [u16]) -> Answer
 
 // What the image check tries, then 16. A refusal leaves both buffers as they were.
 pub fn list_rows(image: &[u8], firsts: &mut [u16], counts: &mut [u16]) -> Answer
-    ensures { λ r. ⌜ Lists (list (now (image .entry)) (now (firsts .entry)) (now (counts .entry))) r (now (firsts .exit)) (now (counts .exit)) ⌝ }
+    ensures { λ r. ⌜ GivesListing (list (now (image .entry)) (now (firsts .entry)) (now (counts .entry)))
+        r (now (firsts .exit)) (now (counts .exit)) ⌝ }
 {
-    let mut table = [0u8; LARGEST];
+    let mut table = [0u8; TABLE];
     let answer = prepare_table(image, &mut table);
     let Answer::Done(_) = answer else {
         return answer;
     };
-    let n = 10 * (image.len() / 23);
+    let n = FRAME * (image.len() / LINE);
     list_table(&table[..n], firsts, counts)
 }

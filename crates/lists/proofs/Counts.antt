@@ -43,7 +43,8 @@ unfolding count
 count-within p q i zero h = omega arith
 count-within p q i (suc n) h = go (p i) (q i) refl refl (count-within p q (suc i) n (λ k a b. h k (omega arith) (omega arith)))
   where
-    go : (a b : Bool) → p i ≡ a → q i ≡ b → count p (suc i) n ≤ count q (suc i) n → pick (p i) 1 0 + count p (suc i) n ≤ pick (q i) 1 0 + count q (suc i) n
+    go : (a b : Bool) → p i ≡ a → q i ≡ b → count p (suc i) n ≤ count q (suc i) n
+        → pick (p i) 1 0 + count p (suc i) n ≤ pick (q i) 1 0 + count q (suc i) n
     go true true e f l = rw (e, f) (omega arith)
     go true false e f l = no-both (q i) (h i (omega arith) (omega arith) e) f
     go false true e f l = rw (e, f) (omega arith)
@@ -62,7 +63,8 @@ count-less p q i (suc n) h j a b x y =
     (λ (l : i < j). go (p i) (q i) refl refl (count-less p q (suc i) n (λ k a b. h k (omega arith) (omega arith)) j l (omega arith) x y))
     (eq-or-lt-of-le a)
   where
-    go : (a b : Bool) → p i ≡ a → q i ≡ b → count p (suc i) n < count q (suc i) n → pick (p i) 1 0 + count p (suc i) n < pick (q i) 1 0 + count q (suc i) n
+    go : (a b : Bool) → p i ≡ a → q i ≡ b → count p (suc i) n < count q (suc i) n
+        → pick (p i) 1 0 + count p (suc i) n < pick (q i) 1 0 + count q (suc i) n
     go true true e f l = rw (e, f) (omega arith)
     go true false e f l = no-both (q i) (h i (omega arith) (omega arith) e) f
     go false true e f l = rw (e, f) (omega arith)
@@ -117,7 +119,8 @@ count-some p n j l e = go (count p 0 n) refl
 pub count-none : (p : ℕ → Bool) (i n : ℕ) → ((k : ℕ) → i ≤ k → k < i + n → p k ≡ false) → count p i n ≡ 0
 unfolding count
 count-none p i zero h = refl
-count-none p i (suc n) h = rw (h i (omega arith) (omega arith)) (omega (arith, count-none p (suc i) n (λ k a b. h k (omega arith) (omega arith))))
+count-none p i (suc n) h = rw (h i (omega arith) (omega arith))
+    (omega (arith, count-none p (suc i) n (λ k a b. h k (omega arith) (omega arith))))
 
 pub count-lowest : (p : ℕ → Bool) (n : ℕ) → 1 ≤ count p 0 n → lowest p 0 n < n
 count-lowest p n l = go (decLt (lowest p 0 n) n)
@@ -129,13 +132,15 @@ count-lowest p n l = go (decLt (lowest p 0 n) n)
 -- the counts below two numbers that pass are different
 pub count-mono : (p : ℕ → Bool) (u d : ℕ) → count p 0 u ≤ count p 0 (u + d)
 count-mono p u zero = omega (arith, ap (λ (k : ℕ). count p 0 k) (native.Mathlib.Nat.add-zero u))
-count-mono p u (suc d) = omega (arith, count-mono p u d, count-snoc p 0 (u + d), ap (λ (k : ℕ). count p 0 k) (native.Mathlib.Nat.add-suc u d))
+count-mono p u (suc d) = omega
+    (arith, count-mono p u d, count-snoc p 0 (u + d), ap (λ (k : ℕ). count p 0 k) (native.Mathlib.Nat.add-suc u d))
 
 pub count-below : (p : ℕ → Bool) (u v : ℕ) → u < v → p u ≡ true → count p 0 u < count p 0 v
 count-below p u v l e =
     let m : count p 0 (suc u) ≤ count p 0 (suc u + (v - suc u)) = count-mono p (suc u) (v - suc u) in
     let s : count p 0 (suc u + (v - suc u)) ≡ count p 0 v = ap (λ (k : ℕ). count p 0 k) (omega arith) in
-    let t : pick {A = ℕ} (p (0 + u)) 1 0 ≡ 1 = ap (λ (k : ℕ). pick {A = ℕ} (p k) 1 0) (native.Mathlib.Nat.zero-add u) ∙ yes-pick (p u) 1 0 e in
+    let t : pick {A = ℕ} (p (0 + u)) 1 0 ≡ 1 = ap (λ (k : ℕ). pick {A = ℕ} (p k) 1 0) (native.Mathlib.Nat.zero-add u)
+    ∙ yes-pick (p u) 1 0 e in
     omega (arith, m, s, t, count-snoc p 0 u)
 
 pub count-apart : (p : ℕ → Bool) (u v : ℕ) → p u ≡ true → p v ≡ true → count p 0 u ≡ count p 0 v → u ≡ v
@@ -148,10 +153,12 @@ count-apart p u v a b e = go (decLt u v) (decLt v u)
 
 -- one more at a loop's index that passes, or not
 pub count-yes : (p : ℕ → Bool) (n : ℕ) → p n ≡ true → count p 0 (n + 1) ≡ count p 0 n + 1
-count-yes p n e = ap (λ (k : ℕ). count p 0 k) (add-one n) ∙ count-snoc p 0 n ∙ ap (λ (k : ℕ). count p 0 n + k) (ap (λ (k : ℕ). pick {A = ℕ} (p k) 1 0) (zero-add n) ∙ yes-pick (p n) 1 0 e)
+count-yes p n e = ap (λ (k : ℕ). count p 0 k) (add-one n) ∙ count-snoc p 0 n
+    ∙ ap (λ (k : ℕ). count p 0 n + k) (ap (λ (k : ℕ). pick {A = ℕ} (p k) 1 0) (zero-add n) ∙ yes-pick (p n) 1 0 e)
 
 pub count-pass : (p : ℕ → Bool) (n : ℕ) → p n ≡ false → count p 0 (n + 1) ≡ count p 0 n
-count-pass p n e = ap (λ (k : ℕ). count p 0 k) (add-one n) ∙ count-snoc p 0 n ∙ ap (λ (k : ℕ). count p 0 n + k) (ap (λ (k : ℕ). pick {A = ℕ} (p k) 1 0) (zero-add n) ∙ no-pick (p n) 1 0 e) ∙ add-zero (count p 0 n)
+count-pass p n e = ap (λ (k : ℕ). count p 0 k) (add-one n) ∙ count-snoc p 0 n
+    ∙ ap (λ (k : ℕ). count p 0 n + k) (ap (λ (k : ℕ). pick {A = ℕ} (p k) 1 0) (zero-add n) ∙ no-pick (p n) 1 0 e) ∙ add-zero (count p 0 n)
 
 -- where just one passes, two that pass are the same
 pub count-one : (p : ℕ → Bool) (n u v : ℕ) → count p 0 n ≡ 1 → u < n → v < n → p u ≡ true → p v ≡ true → u ≡ v

@@ -22,7 +22,8 @@ module _ {A : Type 0} (p : A → Bool) where
   filter-append [] ys = ap (λ zs. zs ++ filter p ys) (sym filter-none)
   filter-append (x ∷ xs) ys = go (filter-append xs ys) (p x) refl
     where
-      go : filter p (xs ++ ys) ≡ filter p xs ++ filter p ys → (b : Bool) → p x ≡ b → filter p (x ∷ (xs ++ ys)) ≡ filter p (x ∷ xs) ++ filter p ys
+      go : filter p (xs ++ ys) ≡ filter p xs ++ filter p ys → (b : Bool) → p x ≡ b
+          → filter p (x ∷ (xs ++ ys)) ≡ filter p (x ∷ xs) ++ filter p ys
       go ih true e = filter-yes p x (xs ++ ys) e ∙ ap (λ zs. x ∷ zs) ih ∙ ap (λ zs. zs ++ filter p ys) (sym (filter-yes p x xs e))
       go ih false e = filter-no p x (xs ++ ys) e ∙ ih ∙ ap (λ zs. zs ++ filter p ys) (sym (filter-no p x xs e))
 
@@ -31,7 +32,8 @@ module _ {A : Type 0} (p : A → Bool) where
   none-passes d [] e i l = absurd (omega arith)
   none-passes d (x ∷ xs) e i l = go (p x) refl i l (none-passes d xs)
     where
-      go : (b : Bool) → p x ≡ b → (i : ℕ) → i < length (x ∷ xs) → (length (filter p xs) ≡ 0 → (i : ℕ) → i < length xs → p (getD xs i d) ≡ false) → p (getD (x ∷ xs) i d) ≡ false
+      go : (b : Bool) → p x ≡ b → (i : ℕ) → i < length (x ∷ xs)
+          → (length (filter p xs) ≡ 0 → (i : ℕ) → i < length xs → p (getD xs i d) ≡ false) → p (getD (x ∷ xs) i d) ≡ false
       go true q i l ih = absurd (omega (arith, e, ap (λ (zs : List A). length zs) (filter-yes p x xs q)))
       go false q zero l ih = q
       go false q (suc i) l ih = ih (omega (arith, e, ap (λ (zs : List A). length zs) (filter-no p x xs q))) i (omega arith)
@@ -42,13 +44,17 @@ module _ {A : Type 0} (p : A → Bool) where
   one-passes d [] e i j li lj a b = absurd (omega arith)
   one-passes d (x ∷ xs) e i j li lj a b = go (p x) refl i j li lj a b (one-passes d xs)
     where
-      go : (t : Bool) → p x ≡ t → (i j : ℕ) → i < length (x ∷ xs) → j < length (x ∷ xs) → p (getD (x ∷ xs) i d) ≡ true → p (getD (x ∷ xs) j d) ≡ true
-          → (length (filter p xs) ≤ 1 → (i j : ℕ) → i < length xs → j < length xs → p (getD xs i d) ≡ true → p (getD xs j d) ≡ true → i ≡ j) → i ≡ j
+      go : (t : Bool) → p x ≡ t → (i j : ℕ) → i < length (x ∷ xs) → j < length (x ∷ xs)
+          → p (getD (x ∷ xs) i d) ≡ true → p (getD (x ∷ xs) j d) ≡ true
+          → (length (filter p xs) ≤ 1 → (i j : ℕ) → i < length xs → j < length xs → p (getD xs i d) ≡ true → p (getD xs j d) ≡ true → i ≡ j)
+          → i ≡ j
       go t q zero zero li lj a b ih = refl
       go true q (suc i) j li lj a b ih =
-          no-both (p (getD xs i d)) a (none-passes d xs (omega (arith, e, ap (λ (zs : List A). length zs) (filter-yes p x xs q))) i (omega arith))
+          no-both (p (getD xs i d)) a (none-passes d xs
+          (omega (arith, e, ap (λ (zs : List A). length zs) (filter-yes p x xs q))) i (omega arith))
       go true q zero (suc j) li lj a b ih =
-          no-both (p (getD xs j d)) b (none-passes d xs (omega (arith, e, ap (λ (zs : List A). length zs) (filter-yes p x xs q))) j (omega arith))
+          no-both (p (getD xs j d)) b (none-passes d xs
+          (omega (arith, e, ap (λ (zs : List A). length zs) (filter-yes p x xs q))) j (omega arith))
       go false q zero (suc j) li lj a b ih = no-both (p x) a q
       go false q (suc i) zero li lj a b ih = no-both (p x) b q
       go false q (suc i) (suc j) li lj a b ih =
@@ -74,12 +80,16 @@ module _ {B : Type 0} (f : ℕ → List B) (p : ℕ → Bool) where
       → ((u : ℕ) → i ≤ u → u < i + n → p u ≡ true → (u ≡ v → ⊥) → f u ≡ []) → concatMap f (filter p (range i n)) ≡ f v
   concat-only v i zero lo hi t h = absurd (omega arith)
   concat-only v i (suc n) lo hi t h =
-      go (cases (p i)) (eq-or-lt-of-le lo) (λ (q : suc i ≤ v). concat-only v (suc i) n q (omega arith) t (λ u a b. h u (omega arith) (omega arith)))
+      go (cases (p i)) (eq-or-lt-of-le lo)
+      (λ (q : suc i ≤ v). concat-only v (suc i) n q (omega arith) t (λ u a b. h u (omega arith) (omega arith)))
     where
       go : (p i ≡ true) ⊎ (p i ≡ false) → (i ≡ v) ⊎ (i < v) → (suc i ≤ v → concatMap f (filter p (range (suc i) n)) ≡ f v)
           → concatMap f (filter p (range i (suc n))) ≡ f v
       go (inl e) (inl q) ih =
-          kept i n e ∙ ap₂ _++_ (ap f q) (concat-nothing (suc i) n (λ u a b y. h u (omega arith) (omega arith) y (λ z. omega arith))) ∙ append-nil (f v)
-      go (inl e) (inr q) ih = kept i n e ∙ ap (λ (zs : List B). zs ++ concatMap f (filter p (range (suc i) n))) (h i (omega arith) (omega arith) e (λ z. omega arith)) ∙ ih q
+          kept i n e ∙ ap₂ _++_ (ap f q) (concat-nothing (suc i) n (λ u a b y. h u (omega arith) (omega arith) y (λ z. omega arith)))
+          ∙ append-nil (f v)
+      go (inl e) (inr q) ih = kept i n e
+          ∙ ap (λ (zs : List B). zs ++ concatMap f (filter p (range (suc i) n))) (h i (omega arith) (omega arith) e (λ z. omega arith))
+          ∙ ih q
       go (inr e) (inl q) ih = no-both (p v) t (subst (λ (u : ℕ). p u ≡ false) q e)
       go (inr e) (inr q) ih = left i n e ∙ ih q

@@ -8,13 +8,8 @@ use native.Mathlib.Omega.{arith}
 use lib.ListN.{length, getD, length-append, List·getD-append}
 use lib.Seq.{getD-append-add}
 use Rattle.lists.specs.Numbers.{range}
-use Rattle.lists.specs.Sequences.{filter, concatMap}
+use Rattle.lists.specs.Sequences.{filter, concatMap, All}
 use Rattle.lists.proofs.Ranges.{length-range, getD-range, range-snoc}
-
--- every element
-abbrev pub All : {A : Type 0} → (A → Type 0) → List A → Type 0
-All P [] = Unit {0}
-All P (x ∷ xs) = P x × All P xs
 
 pub all-at : {A : Type 0} (P : A → Type 0) (d : A) (xs : List A) → All P xs → (i : ℕ) → i < length xs → P (getD xs i d)
 all-at P d [] a i h = absurd (omega arith)
@@ -85,15 +80,18 @@ module _ {A B : Type 0} (f : A → List B) (m : ℕ) where
   unfolding concatMap
   getD-concat d e [] a i k h l = absurd (omega arith)
   getD-concat d e (x ∷ xs) a zero k h l =
-      ap (λ (j : ℕ). getD (f x ++ concatMap f xs) j e) (omega (arith, mul-zero m)) ∙ List·getD-append (f x) (concatMap f xs) e k (omega (arith, a .0))
+      ap (λ (j : ℕ). getD (f x ++ concatMap f xs) j e) (omega (arith, mul-zero m))
+      ∙ List·getD-append (f x) (concatMap f xs) e k (omega (arith, a .0))
   getD-concat d e (x ∷ xs) a (suc i) k h l =
       ap (λ (j : ℕ). getD (f x ++ concatMap f xs) j e) (omega (arith, mul-suc m i, a .0))
       ∙ getD-append-add (f x) (concatMap f xs) (m * i + k) e ∙ getD-concat d e xs (a .1) i k (omega arith) l
 
-pub length-concat-range : {B : Type 0} (f : ℕ → List B) (m i n : ℕ) → ((k : ℕ) → length (f k) ≡ m) → length (concatMap f (range i n)) ≡ m * n
+pub length-concat-range : {B : Type 0} (f : ℕ → List B) (m i n : ℕ) → ((k : ℕ) → length (f k) ≡ m)
+    → length (concatMap f (range i n)) ≡ m * n
 unfolding concatMap
 length-concat-range f m i zero h = omega arith
-length-concat-range f m i (suc n) h = length-append (f i) (concatMap f (range (suc i) n)) ∙ omega (arith, h i, length-concat-range f m (suc i) n h, mul-suc m n)
+length-concat-range f m i (suc n) h = length-append (f i) (concatMap f (range (suc i) n))
+    ∙ omega (arith, h i, length-concat-range f m (suc i) n h, mul-suc m n)
 
 -- ---- one more at the far end
 pub concat-range-snoc : {B : Type 0} (f : ℕ → List B) (i n : ℕ) → concatMap f (range i (suc n)) ≡ concatMap f (range i n) ++ f (i + n)

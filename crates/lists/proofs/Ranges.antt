@@ -39,7 +39,8 @@ map-places f d (x ∷ xs) a h =
     ap₂ (λ y ys. y ∷ ys) (ap f (omega arith) ∙ h 0 (omega arith))
     (map-places f d xs (suc a) (λ i l. ap f (omega arith) ∙ h (suc i) (omega arith)))
 
-pub map-count : {A : Type 0} (f : ℕ → A) (d : A) (xs : List A) (a n : ℕ) → n ≡ length xs → ((i : ℕ) → i < length xs → f (a + i) ≡ getD xs i d)
+pub map-count : {A : Type 0} (f : ℕ → A) (d : A) (xs : List A) (a n : ℕ) → n ≡ length xs
+    → ((i : ℕ) → i < length xs → f (a + i) ≡ getD xs i d)
     → map f (range a n) ≡ xs
 map-count f d xs a n e h = ap (λ (m : ℕ). map f (range a m)) e ∙ map-places f d xs a h
 
@@ -56,7 +57,8 @@ pub length-filter : (p : ℕ → Bool) (i n : ℕ) → length (filter p (range i
 length-filter p i zero = unfold filter count in refl
 length-filter p i (suc n) = go (p i) refl (length-filter p (suc i) n)
   where
-    go : (b : Bool) → p i ≡ b → length (filter p (range (suc i) n)) ≡ count p (suc i) n → length (filter p (range i (suc n))) ≡ count p i (suc n)
+    go : (b : Bool) → p i ≡ b → length (filter p (range (suc i) n)) ≡ count p (suc i) n
+        → length (filter p (range i (suc n))) ≡ count p i (suc n)
     go true e h = ap (λ (l : List ℕ). length l) (filter-yes p i (range (suc i) n) e) ∙ rw (count-suc, e) (omega arith)
     go false e h = ap (λ (l : List ℕ). length l) (filter-no p i (range (suc i) n) e) ∙ rw (count-suc, e) (omega arith)
 
@@ -92,6 +94,10 @@ map-append f (x ∷ xs) ys = ap (λ zs. f x ∷ zs) (map-append f xs ys)
 
 pub map-range-snoc : {B : Type 0} (f : ℕ → B) (i n : ℕ) → map f (range i (suc n)) ≡ map f (range i n) ++ (f (i + n) ∷ [])
 map-range-snoc f i n = ap (map f) (range-snoc i n) ∙ map-append f (range i n) ((i + n) ∷ [])
+
+pub mapFrom-cons : {A B : Type 0} (f : ℕ → A → B) (i : ℕ) (x : A) (xs : List A) → mapFrom f i (x ∷ xs) ≡ f i x ∷ mapFrom f (suc i) xs
+unfolding mapFrom
+mapFrom-cons f i x xs = refl
 
 -- ---- numbered elements
 pub length-mapFrom : {A B : Type 0} (f : ℕ → A → B) (i : ℕ) (xs : List A) → length (mapFrom f i xs) ≡ length xs

@@ -17,7 +17,8 @@ unfolding lowest
 lowest-hit p i zero l = absurd (omega arith)
 lowest-hit p i (suc n) l = go (p i) refl l (lowest-hit p (suc i) n)
   where
-    go : (b : Bool) → p i ≡ b → lowest p i (suc n) < i + suc n → (lowest p (suc i) n < suc i + n → p (lowest p (suc i) n) ≡ true) → p (lowest p i (suc n)) ≡ true
+    go : (b : Bool) → p i ≡ b → lowest p i (suc n) < i + suc n → (lowest p (suc i) n < suc i + n → p (lowest p (suc i) n) ≡ true)
+        → p (lowest p i (suc n)) ≡ true
     go true e l ih = rw (lowest, e) e
     go false e l ih = rw (lowest, e) (ih (omega (arith, rw (lowest, e) at l)))
 
@@ -27,9 +28,11 @@ unfolding lowest
 lowest-past p i zero l k a b = absurd (omega arith)
 lowest-past p i (suc n) l k a b = go (p i) refl l (lowest-past p (suc i) n)
   where
-    go : (b : Bool) → p i ≡ b → i + suc n ≤ lowest p i (suc n) → (suc i + n ≤ lowest p (suc i) n → (k : ℕ) → suc i ≤ k → k < suc i + n → p k ≡ false) → p k ≡ false
+    go : (b : Bool) → p i ≡ b → i + suc n ≤ lowest p i (suc n)
+        → (suc i + n ≤ lowest p (suc i) n → (k : ℕ) → suc i ≤ k → k < suc i + n → p k ≡ false) → p k ≡ false
     go true e l ih = absurd (omega (arith, rw (lowest, e) at l))
-    go false e l ih = ⊎-elim (λ (q : i ≡ k). ap p (sym q) ∙ e) (λ (q : i < k). ih (omega (arith, rw (lowest, e) at l)) k q (omega arith)) (eq-or-lt-of-le a)
+    go false e l ih = ⊎-elim (λ (q : i ≡ k). ap p (sym q) ∙ e)
+        (λ (q : i < k). ih (omega (arith, rw (lowest, e) at l)) k q (omega arith)) (eq-or-lt-of-le a)
 
 pub lowest-none : (p : ℕ → Bool) (i n : ℕ) → ((k : ℕ) → k < n → p (i + k) ≡ false) → lowest p i n ≡ i + n
 unfolding lowest
@@ -79,7 +82,8 @@ any-snoc p i zero = go (p i) refl
     go false e = ap (λ (a : Bool). a || false) e ∙ sym (ap p (omega arith) ∙ e)
 any-snoc p i (suc n) = go (p i) (any-snoc p (suc i) n ∙ ap (λ (k : ℕ). any p (suc i) n || p k) (omega arith))
   where
-    go : (b : Bool) → any p (suc i) (suc n) ≡ (any p (suc i) n || p (i + suc n)) → (b || any p (suc i) (suc n)) ≡ ((b || any p (suc i) n) || p (i + suc n))
+    go : (b : Bool) → any p (suc i) (suc n) ≡ (any p (suc i) n || p (i + suc n))
+        → (b || any p (suc i) (suc n)) ≡ ((b || any p (suc i) n) || p (i + suc n))
     go true e = refl
     go false e = e
 
@@ -106,7 +110,8 @@ highest-of P f i (suc n) z h =
 pub highest-le : (f : ℕ → ℕ) (m i n : ℕ) → ((k : ℕ) → i ≤ k → k < i + n → f k ≤ m) → highest f i n ≤ m
 unfolding highest
 highest-le f m i zero h = omega arith
-highest-le f m i (suc n) h = omega (arith, h i (omega arith) (omega arith), highest-le f m (suc i) n (λ k a b. h k (omega arith) (omega arith)))
+highest-le f m i (suc n) h = omega
+    (arith, h i (omega arith) (omega arith), highest-le f m (suc i) n (λ k a b. h k (omega arith) (omega arith)))
 
 -- ---- a loop from i up to n: what is left of the search
 left-more : (n i : ℕ) → i < n → n - i ≡ suc (n - (i + 1))
@@ -161,6 +166,11 @@ module _ (p : ℕ → Bool) (n i : ℕ) (s : Searching p n i) where
   pub searching-over : n ≤ i → i ≡ lowest p 0 n
   searching-over h = sym (lowest-over p n i h) ∙ s .left
 
+pub sum-shift : (f : ℕ → ℕ) (i n : ℕ) → sum f (suc i) n ≡ sum (λ k. f (suc k)) i n
+unfolding sum
+sum-shift f i zero = refl
+sum-shift f i (suc n) = ap (λ (x : ℕ). f (suc i) + x) (sum-shift f (suc i) n)
+
 -- ---- a loop that adds or compares one more at the far end
 pub sum-snoc : (f : ℕ → ℕ) (i n : ℕ) → sum f i (suc n) ≡ sum f i n + f (i + n)
 unfolding sum
@@ -204,11 +214,17 @@ some-both p q (x ∷ xs) e f =
 pub highest-next : (f : ℕ → ℕ) (n : ℕ) → highest f 0 (n + 1) ≡ max (highest f 0 n) (f n)
 highest-next f n = ap (λ (k : ℕ). highest f 0 k) (add-one n) ∙ highest-snoc f 0 n ∙ ap (λ (k : ℕ). max (highest f 0 n) (f k)) (zero-add n)
 
+pub any-alike : (p q : ℕ → Bool) (i n : ℕ) → ((j : ℕ) → i ≤ j → j < i + n → p j ≡ q j) → any p i n ≡ any q i n
+unfolding any
+any-alike p q i zero h = refl
+any-alike p q i (suc n) h = rw (h i (omega arith) (omega arith), any-alike p q (suc i) n (λ j a b. h j (omega arith) (omega arith)))
+
 -- two tests that agree
 pub lowest-alike : (p q : ℕ → Bool) (i n : ℕ) → ((k : ℕ) → i ≤ k → k < i + n → p k ≡ q k) → lowest p i n ≡ lowest q i n
 unfolding lowest
 lowest-alike p q i zero h = refl
-lowest-alike p q i (suc n) h = go (q i) (h i (omega arith) (omega arith)) refl (lowest-alike p q (suc i) n (λ k a b. h k (omega arith) (omega arith)))
+lowest-alike p q i (suc n) h =
+    go (q i) (h i (omega arith) (omega arith)) refl (lowest-alike p q (suc i) n (λ k a b. h k (omega arith) (omega arith)))
   where
     go : (b : Bool) → p i ≡ q i → q i ≡ b → lowest p (suc i) n ≡ lowest q (suc i) n → lowest p i (suc n) ≡ lowest q i (suc n)
     go true e t ih = rw (lowest, e ∙ t, lowest, t)
@@ -234,7 +250,8 @@ lowest-before p i (suc n) k a b = go (p i) refl b (lowest-before p (suc i) n k)
     go false e b ih = ⊎-elim (λ (q : i ≡ k). ap p (sym q) ∙ e) (λ (q : i < k). ih q (rw (lowest, e) at b)) (eq-or-lt-of-le a)
 
 -- a test that fails wherever another one fails: its search may start where the other one's ends
-pub lowest-later : (p q : ℕ → Bool) → ((k : ℕ) → p k ≡ false → q k ≡ false) → (i n : ℕ) → lowest q (lowest p i n) (i + n - lowest p i n) ≡ lowest q i n
+pub lowest-later : (p q : ℕ → Bool) → ((k : ℕ) → p k ≡ false → q k ≡ false) → (i n : ℕ)
+    → lowest q (lowest p i n) (i + n - lowest p i n) ≡ lowest q i n
 unfolding lowest
 lowest-later p q h i zero = ap (λ (m : ℕ). lowest q i m) (let e : i + 0 - i ≡ 0 = omega arith in e)
 lowest-later p q h i (suc n) = go (p i) refl (lowest-later p q h (suc i) n)
@@ -248,7 +265,8 @@ lowest-later p q h i (suc n) = go (p i) refl (lowest-later p q h (suc i) n)
         let on : lowest p i (suc n) ≡ lowest p (suc i) n = rw (lowest, e) in
         let past : lowest q i (suc n) ≡ lowest q (suc i) n = rw (lowest, h i e) in
         ap (λ (x : ℕ). lowest q x (i + suc n - x)) on
-        ∙ ap (λ (m : ℕ). lowest q (lowest p (suc i) n) m) (let z : i + suc n - lowest p (suc i) n ≡ suc i + n - lowest p (suc i) n = omega arith in z)
+        ∙ ap (λ (m : ℕ). lowest q (lowest p (suc i) n) m)
+        (let z : i + suc n - lowest p (suc i) n ≡ suc i + n - lowest p (suc i) n = omega arith in z)
         ∙ ih ∙ sym past
 
 -- the same by the end of the search
@@ -256,7 +274,9 @@ module _ (p : ℕ → Bool) (i end : ℕ) (h : i ≤ end) where
   pub lowest-inside : lowest p i (end - i) ≤ end
   lowest-inside = omega (arith, lowest-most p i (end - i))
 
-  pub lowest-from : (q : ℕ → Bool) → ((k : ℕ) → p k ≡ false → q k ≡ false) → lowest q (lowest p i (end - i)) (end - lowest p i (end - i)) ≡ lowest q i (end - i)
+  pub lowest-from : (q : ℕ → Bool) → ((k : ℕ) → p k ≡ false → q k ≡ false)
+      → lowest q (lowest p i (end - i)) (end - lowest p i (end - i)) ≡ lowest q i (end - i)
   lowest-from q f =
-      ap (λ (m : ℕ). lowest q (lowest p i (end - i)) m) (let e : end - lowest p i (end - i) ≡ i + (end - i) - lowest p i (end - i) = omega arith in e)
+      ap (λ (m : ℕ). lowest q (lowest p i (end - i)) m)
+      (let e : end - lowest p i (end - i) ≡ i + (end - i) - lowest p i (end - i) = omega arith in e)
       ∙ lowest-later p q f i (end - i)

@@ -36,7 +36,8 @@ module _ (out : List ℕ) (at : ℕ) (vs : List ℕ) (room : at + length vs ≤ 
   unfolding written
   written-written ws =
       let d : drop (at + length vs + length ws) (written out at vs) ≡ drop (at + length vs + length ws) out =
-      sym (drop-drop (length ws) (at + length vs) (written out at vs)) ∙ ap (λ (l : List ℕ). drop (length ws) l) written-drop ∙ drop-drop (length ws) (at + length vs) out in
+      sym (drop-drop (length ws) (at + length vs) (written out at vs)) ∙ ap (λ (l : List ℕ). drop (length ws) l) written-drop
+      ∙ drop-drop (length ws) (at + length vs) out in
       let n : at + length vs + length ws ≡ at + length (vs ++ ws) = simp length-append (omega arith) in
       ap (λ (l : List ℕ). l ++ (ws ++ drop (at + length vs + length ws) (written out at vs))) written-take
       ∙ ap (λ (l : List ℕ). (take at out ++ vs) ++ (ws ++ l)) d
@@ -50,7 +51,8 @@ unfolding written
 written-one out at v h = rw (add-one) (lib.Seq.set-split out at v h)
 
 -- one value after a run
-pub written-snoc : (out : List ℕ) (at : ℕ) (vs : List ℕ) (v : ℕ) → at + length vs < length out → set (written out at vs) (at + length vs) v ≡ written out at (vs ++ (v ∷ []))
+pub written-snoc : (out : List ℕ) (at : ℕ) (vs : List ℕ) (v : ℕ) → at + length vs < length out
+    → set (written out at vs) (at + length vs) v ≡ written out at (vs ++ (v ∷ []))
 written-snoc out at vs v h =
     let room : at + length vs ≤ length out = omega arith in
     let n : length (written out at vs) ≡ length out = written-length out at vs room in
@@ -60,7 +62,8 @@ written-snoc out at vs v h =
 pub written-more : (out₀ : List ℕ) (at : ℕ) (done more out out′ : List ℕ) (place : ℕ) → place ≡ at + length done → place ≤ length out₀
     → out ≡ written out₀ at done → out′ ≡ written out place more → out′ ≡ written out₀ at (done ++ more)
 written-more out₀ at done more out out′ place p room e e′ =
-    e′ ∙ ap (λ (o : List ℕ). written o place more) e ∙ ap (λ (k : ℕ). written (written out₀ at done) k more) p ∙ written-written out₀ at done (omega arith) more
+    e′ ∙ ap (λ (o : List ℕ). written o place more) e ∙ ap (λ (k : ℕ). written (written out₀ at done) k more) p
+    ∙ written-written out₀ at done (omega arith) more
 
 -- a buffer written from its first place on
 pub written-front : (out vs : List ℕ) → written out 0 vs ≡ over vs out

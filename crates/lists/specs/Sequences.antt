@@ -28,3 +28,8 @@ over xs old = xs ++ drop (length xs) old
 -- a buffer after xs was written from offset i on
 unfoldable pub written : {A : Type 0} → List A → ℕ → List A → List A
 written old i xs = take i old ++ (xs ++ drop (i + length xs) old)
+
+-- every element
+abbrev pub All : {A : Type 0} → (A → Type 0) → List A → Type 0
+All P [] = Unit {0}
+All P (x ∷ xs) = P x × All P xs

@@ -10,7 +10,8 @@ use Rattle.lists.specs.Numbers.{range, any}
 use Rattle.lists.proofs.Tests.{no-both, not-true, not-false}
 use Rattle.lists.proofs.Searches.{any-false, any-none}
 use Rattle.lists.proofs.Ranges.{length-map-range, map-count}
-use Rattle.lists.proofs.Joins.{All, all-at, all-of, all-map, all-concat, all-filter, all-range}
+use Rattle.lists.proofs.Joins.{all-at, all-of, all-map, all-concat, all-filter, all-range}
+use Rattle.lists.specs.Sequences.{All}
 use Rattle.frames.specs.Frame.{contents, size, field, tenAt, framesText, frameText, textOf}
 use Rattle.frames.specs.Verdict.{Verdict, fine, refused, next}
 use Rattle.frames.specs.Check.{textVerdict}
@@ -23,26 +24,26 @@ use Rattle.charts.specs.Entry.{readVerdict}
 use Rattle.charts.proofs.Accepted.{Accepted, accepted, accepted-bytes, read-text}
 use Rattle.frames.proofs.Verdicts.{next-rest}
 use Rattle.little_charts.specs.Little.{littleNode, nodes, listsOf, chartOf, passes, littleCharts, littleText}
-use Rattle.little_charts.specs.Promises.{before, total, Wanted, AllWanted, Listed, NoneMissing, InOrder, EachOnce}
+use Rattle.little_charts.specs.Promises.{before, littleTotal, Wanted, AllWanted, NumberedText, NoneMissing, InOrder, EachOnce}
 use Rattle.little_charts.proofs.Members.{In, here, in-map, in-concat, in-filter, in-all, all-in, Place, in-place}
 use Rattle.little_charts.proofs.Order.{before-self, Ascends, ascends-at, ascends-filter, ascends-as, ascends-map, lists-up}
 use Rattle.little_charts.proofs.Nodes.{Fine, NodesFine, nodes-fine, record-in}
 
 -- ---- lists of m records
-pub record Made (rs : List (List ℕ)) (m : ℕ) (fs : List (List ℕ)) : Type 0 where
+pub record MadeOf (rs : List (List ℕ)) (m : ℕ) (fs : List (List ℕ)) : Type 0 where
   pub each : All (λ r. In r rs) fs
   pub count : length fs ≡ m
 
-made-more : (rs : List (List ℕ)) (m : ℕ) (r : List ℕ) (fs : List (List ℕ)) → In r rs → Made rs m fs → Made rs (suc m) (r ∷ fs)
+made-more : (rs : List (List ℕ)) (m : ℕ) (r : List ℕ) (fs : List (List ℕ)) → In r rs → MadeOf rs m fs → MadeOf rs (suc m) (r ∷ fs)
 made-more rs m r fs i d = record { each = (i, d .each); count = ap suc (d .count) }
 
-pub lists-made : (rs : List (List ℕ)) (m : ℕ) → All (Made rs m) (listsOf rs m)
+pub lists-made : (rs : List (List ℕ)) (m : ℕ) → All (MadeOf rs m) (listsOf rs m)
 unfolding listsOf
 lists-made rs zero = (record { each = tt; count = refl }, tt)
-lists-made rs (suc m) = all-concat (Made rs (suc m)) (λ r. map (λ fs. r ∷ fs) (listsOf rs m)) rs
-    (all-in (λ r. All (Made rs (suc m)) (map (λ fs. r ∷ fs) (listsOf rs m))) rs
-    (λ r i. all-map (Made rs (suc m)) (λ fs. r ∷ fs) (listsOf rs m)
-    (all-of (Made rs m) (λ fs. Made rs (suc m) (r ∷ fs)) (λ fs d. made-more rs m r fs i d) (listsOf rs m) (lists-made rs m))))
+lists-made rs (suc m) = all-concat (MadeOf rs (suc m)) (λ r. map (λ fs. r ∷ fs) (listsOf rs m)) rs
+    (all-in (λ r. All (MadeOf rs (suc m)) (map (λ fs. r ∷ fs) (listsOf rs m))) rs
+    (λ r i. all-map (MadeOf rs (suc m)) (λ fs. r ∷ fs) (listsOf rs m)
+    (all-of (MadeOf rs m) (λ fs. MadeOf rs (suc m) (r ∷ fs)) (λ fs d. made-more rs m r fs i d) (listsOf rs m) (lists-made rs m))))
 
 made-listed : (rs fs : List (List ℕ)) → All (λ r. In r rs) fs → In fs (listsOf rs (length fs))
 unfolding listsOf
@@ -84,13 +85,13 @@ module _ (n : ℕ) (a : 2 ≤ n) (b : n ≤ 4) where
   fine-nodes : NodesFine n
   fine-nodes = nodes-fine n a b
 
-  pub made-fine : (fs : List (List ℕ)) → Made (nodes n) n fs → All Fine fs
+  pub made-fine : (fs : List (List ℕ)) → MadeOf (nodes n) n fs → All Fine fs
   made-fine fs d = all-of (λ r. In r (nodes n)) Fine (λ r i. in-all Fine r (nodes n) i (fine-nodes .each)) fs (d .each)
 
-  pub made-frames : (fs : List (List ℕ)) → Made (nodes n) n fs → All Frame fs
+  pub made-frames : (fs : List (List ℕ)) → MadeOf (nodes n) n fs → All Frame fs
   made-frames fs d = all-of Fine Frame (λ r q. q .frame) fs (made-fine fs d)
 
-  made-text : (fs : List (List ℕ)) → Made (nodes n) n fs → textOf (chartOf fs) ≡ framesText fs
+  made-text : (fs : List (List ℕ)) → MadeOf (nodes n) n fs → textOf (chartOf fs) ≡ framesText fs
   made-text fs d = chart-text fs (made-frames fs d)
 
   -- ---- in order
@@ -99,19 +100,19 @@ module _ (n : ℕ) (a : 2 ≤ n) (b : n ≤ 4) where
   charts-up = ascends-filter textOf (λ c. passes (chartVerdict c)) (map chartOf (listsOf (nodes n) n))
       (ascends-map chartOf textOf (listsOf (nodes n) n)
       (ascends-as framesText (λ fs. textOf (chartOf fs)) (listsOf (nodes n) n)
-      (all-of (Made (nodes n) n) (λ fs. framesText fs ≡ textOf (chartOf fs)) (λ fs d. sym (made-text fs d)) (listsOf (nodes n) n)
+      (all-of (MadeOf (nodes n) n) (λ fs. framesText fs ≡ textOf (chartOf fs)) (λ fs d. sym (made-text fs d)) (listsOf (nodes n) n)
       (lists-made (nodes n) n))
       (lists-up (nodes n) (all-of Fine (λ r. length (frameText r) ≡ 23) (λ r q. frame-length r (q .frame)) (nodes n) (fine-nodes .each))
       (fine-nodes .up) n)))
 
-  order : (i j : ℕ) → i < j → j < total n → before (littleText n i) (littleText n j) ≡ true
+  order : (i j : ℕ) → i < j → j < littleTotal n → before (littleText n i) (littleText n j) ≡ true
   order i j l m = ascends-at textOf [] (littleCharts n) charts-up i j l m
 
-  apart : (i j : ℕ) → i < j → j < total n → littleText n i ≡ littleText n j → ⊥
+  apart : (i j : ℕ) → i < j → j < littleTotal n → littleText n i ≡ littleText n j → ⊥
   apart i j l m e = no-both (before (littleText n i) (littleText n j)) (order i j l m)
       (ap (λ (t : List ℕ). before t (littleText n j)) e ∙ before-self (littleText n j))
 
-  once : (i j : ℕ) → i < total n → j < total n → littleText n i ≡ littleText n j → i ≡ j
+  once : (i j : ℕ) → i < littleTotal n → j < littleTotal n → littleText n i ≡ littleText n j → i ≡ j
   once i j l m e = go (decLt i j) (decLt j i)
     where
       go : Dec (i < j) → Dec (j < i) → i ≡ j
@@ -122,23 +123,23 @@ module _ (n : ℕ) (a : 2 ≤ n) (b : n ≤ 4) where
   -- ---- all are wanted
   record Kept (c : Chart) : Type 0 where
     frames : List (List ℕ)
-    made : Made (nodes n) n frames
+    made : MadeOf (nodes n) n frames
     is : chartOf frames ≡ c
 
   all-kept : All (λ c. Kept c × (passes (chartVerdict c) ≡ true)) (littleCharts n)
   unfolding littleCharts
   all-kept = all-filter Kept (λ c. passes (chartVerdict c)) (map chartOf (listsOf (nodes n) n))
       (all-map Kept chartOf (listsOf (nodes n) n)
-      (all-of (Made (nodes n) n) (λ fs. Kept (chartOf fs)) (λ fs d. record { frames = fs; made = d; is = refl }) (listsOf (nodes n) n)
+      (all-of (MadeOf (nodes n) n) (λ fs. Kept (chartOf fs)) (λ fs d. record { frames = fs; made = d; is = refl }) (listsOf (nodes n) n)
       (lists-made (nodes n) n)))
 
   -- every node is of the form
-  pub made-formed : (fs : List (List ℕ)) → Made (nodes n) n fs → (v : ℕ) → v < n → littleNode (chartOf fs) v ≡ true
+  pub made-formed : (fs : List (List ℕ)) → MadeOf (nodes n) n fs → (v : ℕ) → v < n → littleNode (chartOf fs) v ≡ true
   made-formed fs d v l =
       let m : v < length fs = omega (arith, d .count) in
       ap (λ (x : List ℕ). littleNode x 0) (chart-ten fs (made-frames fs d) v m) ∙ all-at Fine [] fs (made-fine fs d) v m .formed
 
-  wanted-text : (fs : List (List ℕ)) → Made (nodes n) n fs → chartVerdict (chartOf fs) ≡ fine → Wanted n (framesText fs)
+  wanted-text : (fs : List (List ℕ)) → MadeOf (nodes n) n fs → chartVerdict (chartOf fs) ≡ fine → Wanted n (framesText fs)
   unfolding readVerdict
   wanted-text fs d v =
       let F : All Frame fs = made-frames fs d in
@@ -152,18 +153,18 @@ module _ (n : ℕ) (a : 2 ≤ n) (b : n ≤ 4) where
             ∙ ap not (made-formed fs d (0 + v) (omega (arith, contents-length fs F, d .count)))));
       }
 
-  wanted : (k : ℕ) → k < total n → Wanted n (littleText n k) × (textOf (contents (littleText n k)) ≡ littleText n k)
+  wanted : (k : ℕ) → k < littleTotal n → Wanted n (littleText n k) × (textOf (contents (littleText n k)) ≡ littleText n k)
   wanted k l =
       let c : Chart = getD (littleCharts n) k [] in
       let q = all-at (λ c. Kept c × (passes (chartVerdict c) ≡ true)) [] (littleCharts n) all-kept k l in
-      let d : Made (nodes n) n (q .0 .frames) = q .0 .made in
+      let d : MadeOf (nodes n) n (q .0 .frames) = q .0 .made in
       let e : framesText (q .0 .frames) ≡ textOf c = sym (made-text (q .0 .frames) d) ∙ ap textOf (q .0 .is) in (
         subst (Wanted n) e (wanted-text (q .0 .frames) d (ap chartVerdict (q .0 .is) ∙ passes-fine (chartVerdict c) (q .1))),
         ap textOf (ap contents (sym e) ∙ chart-contents (q .0 .frames) (made-frames (q .0 .frames) d) ∙ q .0 .is),
       )
 
   -- ---- none is missing
-  listed : (t : List ℕ) → Wanted n t → Listed n t
+  listed : (t : List ℕ) → Wanted n t → NumberedText n t
   unfolding littleCharts readVerdict
   listed t w =
       let c : Chart = contents t in

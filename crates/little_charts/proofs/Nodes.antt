@@ -10,16 +10,17 @@ use lib.Dec.{leb, ltb, eqb}
 use lib.ListN.{length}
 use borrow.Author.Tests.{eqb-true, eq-eqb, leb-true, leb-false}
 use Rattle.lists.specs.Numbers.{range}
-use Rattle.lists.specs.Sequences.{some, concatMap}
+use Rattle.lists.specs.Sequences.{some, concatMap, All}
 use Rattle.lists.proofs.Tests.{no-both, or-l, or-r, and-l, and-r, not-false, not-true, or-cases}
 use Rattle.lists.proofs.Searches.{any-false, highest-le, some-cons}
-use Rattle.lists.proofs.Joins.{All, all-of}
+use Rattle.lists.proofs.Joins.{all-of}
 use Rattle.digits.specs.Digit.{charOf}
 use Rattle.frames.specs.Frame.{size, field, tenAt, total, frameText}
 use Rattle.frames.proofs.Frames.{Frame, frame-by}
 use Rattle.charts.specs.Chart.{Chart, kind, scheme, argument, next0, next1, result, mask, is, schemes}
+use Rattle.charts.specs.Layout.{kindOf}
 use Rattle.charts.specs.Check.{filledFrom, badUse, badField}
-use Rattle.charts.proofs.Accepted.{Sound}
+use Rattle.charts.proofs.Accepted.{SoundChart}
 use Rattle.charts.proofs.Nodes.{arc0, arc1, calls}
 use Rattle.little_charts.specs.Little.{littleNode, beginNode, endNode, operationNode, conditionNode, nodes}
 use Rattle.little_charts.specs.Promises.{before}
@@ -126,7 +127,7 @@ ten : (a b c d e f g h i j a′ b′ c′ d′ e′ f′ g′ h′ i′ j′ : �
 ten a b c d e f g h i j a′ b′ c′ d′ e′ f′ g′ h′ i′ j′ p q r s t u v w x y = cc
 
 -- ---- a node of an accepted little chart
-module _ (c : Chart) (s : Sound c) (formed : (v : ℕ) → v < size c → littleNode c v ≡ true) where
+module _ (c : Chart) (s : SoundChart c) (formed : (v : ℕ) → v < size c → littleNode c v ≡ true) where
   one-scheme : schemes c ≤ 1
   one-scheme = highest-le (scheme c) 1 0 (size c) (λ v a b. let e : scheme c v ≡ 1 = scheme-one v (omega arith) in omega arith)
     where
@@ -155,10 +156,10 @@ module _ (c : Chart) (s : Sound c) (formed : (v : ℕ) → v < size c → little
     implied true d e q = e
     implied false d e q = no-both false q refl
 
-    used : (k : ℕ) → kind c v ≡ k → badUse c v k ≡ false
+    used : (k : ℕ) → kind c v ≡ k → badUse c v (kindOf k) ≡ false
     unfolding badField
-    used k q = subst (λ (k : ℕ). badUse c v k ≡ false) q
-        (or-r (eqb (scheme c v) 0 || ltb 16 (scheme c v)) (badUse c v (kind c v)) (s .goodField v l))
+    used k q = subst (λ (k : ℕ). badUse c v (kindOf k) ≡ false) q
+        (or-r (eqb (scheme c v) 0 || ltb 16 (scheme c v)) (badUse c v (kindOf (kind c v))) (s .goodField v l))
 
     zeros : (i : ℕ) → i ≤ 10 → filledFrom c v i ≡ false → (k : ℕ) → i ≤ k → k < 10 → field c v k ≡ 0
     zeros i m e k a b = eqb-true (field c v k) 0

@@ -8,10 +8,10 @@ use native.Mathlib.Omega.{arith}
 use lib.Dec.{ltb, eqb}
 use lib.ListN.{length, getD}
 use borrow.Author.Tests.{eq-eqb, le-ltb}
-use Rattle.lists.specs.Sequences.{filter, concatMap}
+use Rattle.lists.specs.Sequences.{filter, concatMap, All}
 use Rattle.lists.proofs.Tests.{or-cases, or-true-l, or-true-r, or-none, and-l, and-r, and-true, and-no}
 use Rattle.lists.proofs.Ranges.{filter-yes, filter-no}
-use Rattle.lists.proofs.Joins.{All, all-at, all-every, all-append, all-map, all-of, all-concat, all-filter, concat-cons}
+use Rattle.lists.proofs.Joins.{all-at, all-every, all-append, all-map, all-of, all-concat, all-filter, concat-cons}
 use Rattle.frames.specs.Frame.{frameText, framesText}
 use Rattle.little_charts.specs.Little.{listsOf}
 use Rattle.little_charts.specs.Promises.{before}

@@ -7,34 +7,36 @@ use lib.Dec.{leb, ltb, eqb}
 use lib.ListN.{length, getD, replicate}
 use Rattle.lists.specs.Numbers.{range, any}
 use Rattle.lists.specs.Sequences.{filter, concatMap}
+use Rattle.frames.specs.Refusals.{NO-LITTLE-CHART}
 use Rattle.frames.specs.Frame.{size, textOf}
 use Rattle.frames.specs.Verdict.{Verdict, fine, refused, when}
-use Rattle.frames.specs.Answer.{Lent, lent}
+use Rattle.frames.specs.Answer.{BufferOutcome, bufferOn}
+use Rattle.charts.specs.Layout.{BEGIN, END, OPERATION, CONDITION}
 use Rattle.charts.specs.Chart.{Chart, kind, scheme, argument, result, mask, is}
 use Rattle.charts.specs.Check.{chartVerdict}
 
 -- ---- the form
 abbrev pub littleNode : Chart → ℕ → Bool
 littleNode c v =
-    eqb (scheme c v) 1 && leb (kind c v) 3
-    && (is c 2 v || eqb (argument c v) 0)
-    && (not (is c 2 v) || (eqb (result c v) 0 && leb (mask c v) 1))
+    eqb (scheme c v) 1 && leb (kind c v) CONDITION
+    && (is c OPERATION v || eqb (argument c v) 0)
+    && (not (is c OPERATION v) || (eqb (result c v) 0 && leb (mask c v) 1))
 
 abbrev pub little : Chart → Bool
 little c = not (any (λ v. not (littleNode c v)) 0 (size c))
 
 -- ---- the records of such nodes in a chart of n frames, in increasing order
 abbrev pub beginNode : ℕ → List ℕ
-beginNode u = 0 ∷ 1 ∷ 0 ∷ u ∷ replicate 6 0
+beginNode u = BEGIN ∷ 1 ∷ 0 ∷ u ∷ replicate 6 0
 
 abbrev pub endNode : List ℕ
-endNode = 1 ∷ 1 ∷ replicate 8 0
+endNode = END ∷ 1 ∷ replicate 8 0
 
 abbrev pub operationNode : ℕ → ℕ → List ℕ
-operationNode u m = 2 ∷ 1 ∷ 0 ∷ u ∷ 0 ∷ 0 ∷ 0 ∷ 0 ∷ 0 ∷ m ∷ []
+operationNode u m = OPERATION ∷ 1 ∷ 0 ∷ u ∷ 0 ∷ 0 ∷ 0 ∷ 0 ∷ 0 ∷ m ∷ []
 
 abbrev pub conditionNode : ℕ → ℕ → List ℕ
-conditionNode u w = 3 ∷ 1 ∷ 0 ∷ u ∷ w ∷ replicate 5 0
+conditionNode u w = CONDITION ∷ 1 ∷ 0 ∷ u ∷ w ∷ replicate 5 0
 
 unfoldable pub nodes : ℕ → List (List ℕ)
 nodes n =
@@ -62,7 +64,7 @@ abbrev pub littleText : ℕ → ℕ → List ℕ
 littleText n k = textOf (getD (littleCharts n) k [])
 
 unfoldable pub littleVerdict : ℕ → ℕ → Verdict
-littleVerdict n k = when 24 (ltb n 2 || ltb 4 n || leb (length (littleCharts n)) k)
+littleVerdict n k = when NO-LITTLE-CHART (ltb n 2 || ltb 4 n || leb (length (littleCharts n)) k)
 
-unfoldable pub littleChart : ℕ → ℕ → List ℕ → Lent
-littleChart n k old = lent (littleVerdict n k) 1 (λ _. littleText n k) old
+unfoldable pub littleChart : ℕ → ℕ → List ℕ → BufferOutcome
+littleChart n k old = bufferOn (littleVerdict n k) 1 (λ _. littleText n k) old

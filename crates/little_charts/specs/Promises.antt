@@ -18,8 +18,8 @@ before [] (y ∷ ys) = true
 before (x ∷ xs) [] = false
 before (x ∷ xs) (y ∷ ys) = ltb x y || (eqb x y && before xs ys)
 
-abbrev pub total : ℕ → ℕ
-total n = length (littleCharts n)
+abbrev pub littleTotal : ℕ → ℕ
+littleTotal n = length (littleCharts n)
 
 -- a text of n frames that the reader accepts, of the form, be its letters small or large
 pub record Wanted (n : ℕ) (t : List ℕ) : Type 0 where
@@ -29,19 +29,20 @@ pub record Wanted (n : ℕ) (t : List ℕ) : Type 0 where
 
 -- each is such a text, and is what the writer gives for its records
 unfoldable pub AllWanted : Type 0
-AllWanted = (n k : ℕ) → 2 ≤ n → n ≤ 4 → k < total n → Wanted n (littleText n k) × (textOf (contents (littleText n k)) ≡ littleText n k)
+AllWanted = (n k : ℕ) → 2 ≤ n → n ≤ 4 → k < littleTotal n
+    → Wanted n (littleText n k) × (textOf (contents (littleText n k)) ≡ littleText n k)
 
 -- the number of a text, which is listed in capitals
-pub record Listed (n : ℕ) (t : List ℕ) : Type 0 where
+pub record NumberedText (n : ℕ) (t : List ℕ) : Type 0 where
   pub number : ℕ
-  pub low : number < total n
+  pub low : number < littleTotal n
   pub text : littleText n number ≡ map capital t
 
 unfoldable pub NoneMissing : Type 0
-NoneMissing = (n : ℕ) (t : List ℕ) → 2 ≤ n → n ≤ 4 → Wanted n t → Listed n t
+NoneMissing = (n : ℕ) (t : List ℕ) → 2 ≤ n → n ≤ 4 → Wanted n t → NumberedText n t
 
 unfoldable pub InOrder : Type 0
-InOrder = (n i j : ℕ) → 2 ≤ n → n ≤ 4 → i < j → j < total n → before (littleText n i) (littleText n j) ≡ true
+InOrder = (n i j : ℕ) → 2 ≤ n → n ≤ 4 → i < j → j < littleTotal n → before (littleText n i) (littleText n j) ≡ true
 
 unfoldable pub EachOnce : Type 0
-EachOnce = (n i j : ℕ) → 2 ≤ n → n ≤ 4 → i < total n → j < total n → littleText n i ≡ littleText n j → i ≡ j
+EachOnce = (n i j : ℕ) → 2 ≤ n → n ≤ 4 → i < littleTotal n → j < littleTotal n → littleText n i ≡ littleText n j → i ≡ j

@@ -8,7 +8,7 @@ use lib.Dec.{leb, ltb, eqb}
 use borrow.Author.Tests.{lt-ltb, le-ltb, le-leb, lt-leb, eq-eqb, ne-eqb}
 use Rattle.lists.specs.Pick.{pick}
 use Rattle.lists.proofs.Tests.{yes-pick, no-pick}
-use Rattle.little_search.specs.Search.{nodeCount, nodeAt}
+use Rattle.little_search.specs.inner.Search.{nodeCount, nodeAt}
 
 -- ---- arcs are small
 pub condition-small : (n i : ℕ) → 1 ≤ n → n ≤ 4 → i < nodeCount n → ((i - (3 * n + 1)) / n < 256) × ((i - (3 * n + 1)) % n < 256)

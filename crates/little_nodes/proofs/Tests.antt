@@ -9,25 +9,25 @@ use Rattle.lists.specs.Numbers.{any}
 use Rattle.frames.specs.Frame.{size}
 use Rattle.lists.proofs.Tests.{or-true-l, or-true-r, or-none}
 use Rattle.charts.specs.Chart.{Chart, kind, next0, next1}
-use Rattle.little_search.specs.Search.{has, leads, enters, clashes, repeats, barred, leadsOther, lonely}
+use Rattle.little_search.specs.inner.Search.{has, arcLeads, enters, clashes, repeats, barredNode, leadsOther, lonely}
 
 or-no : (b : Bool) → (b || false) ≡ b
 or-no true = refl
 or-no false = refl
 
 module _ (c : Chart) (u t k : ℕ) (q : k ≡ kind c u) where
-  pub leads-end : k ≡ 1 → false ≡ leads c u t
+  pub leads-end : k ≡ 1 → false ≡ arcLeads c u t
   leads-end e = rw (eq-eqb (kind c u) 1 (sym q ∙ e))
 
   module _ (n : k ≡ 1 → ⊥) (x : ℕ) (f : x ≡ next0 c u) where
-    pub leads-first : x ≡ t → true ≡ leads c u t
+    pub leads-first : x ≡ t → true ≡ arcLeads c u t
     leads-first e = rw (ne-eqb (kind c u) 1 (λ z. n (q ∙ z)), eq-eqb (next0 c u) t (sym f ∙ e))
 
     module _ (d : x ≡ t → ⊥) where
-      pub leads-only : (k ≡ 3 → ⊥) → false ≡ leads c u t
+      pub leads-only : (k ≡ 3 → ⊥) → false ≡ arcLeads c u t
       leads-only e = rw (ne-eqb (kind c u) 1 (λ z. n (q ∙ z)), ne-eqb (next0 c u) t (λ z. d (f ∙ z)), ne-eqb (kind c u) 3 (λ z. e (q ∙ z)))
 
-      pub leads-second : (y : ℕ) → k ≡ 3 → y ≡ next1 c u → eqb y t ≡ leads c u t
+      pub leads-second : (y : ℕ) → k ≡ 3 → y ≡ next1 c u → eqb y t ≡ arcLeads c u t
       leads-second y e g = rw
           (ne-eqb (kind c u) 1 (λ z. n (q ∙ z)), ne-eqb (next0 c u) t (λ z. d (f ∙ z)), eq-eqb (kind c u) 3 (sym q ∙ e), g)
 
@@ -39,7 +39,7 @@ module _ (c : Chart) (u v k : ℕ) (q : k ≡ kind c v) where
   pub enters-none : (k ≡ 0 → ⊥) → false ≡ enters c u v
   enters-none n = rw (ne-eqb (kind c v) 0 (λ z. n (q ∙ z)))
 
-  pub enters-by : (r : Bool) → k ≡ 0 → r ≡ leads c u v → r ≡ enters c u v
+  pub enters-by : (r : Bool) → k ≡ 0 → r ≡ arcLeads c u v → r ≡ enters c u v
   enters-by r e f = f ∙ rw (eq-eqb (kind c v) 0 (sym q ∙ e))
 
 module _ (c : Chart) (v u : ℕ) where
@@ -57,7 +57,7 @@ module _ (c : Chart) (v u : ℕ) where
   pub other-self : u ≡ v → false ≡ leadsOther c v u
   other-self e = rw (eq-eqb u v e)
 
-  pub other-by : (r : Bool) → (u ≡ v → ⊥) → r ≡ leads c u v → r ≡ leadsOther c v u
+  pub other-by : (r : Bool) → (u ≡ v → ⊥) → r ≡ arcLeads c u v → r ≡ leadsOther c v u
   other-by r n e = e ∙ rw (ne-eqb u v n)
 
 module _ (c : Chart) (v k : ℕ) (q : k ≡ kind c v) where
@@ -71,17 +71,17 @@ module _ (c : Chart) (v k : ℕ) (q : k ≡ kind c v) where
   pub repeats-end : (r : Bool) → k ≡ 1 → r ≡ has c 1 v → r ≡ repeats c v
   repeats-end r e f = f ∙ rw (eq-eqb (kind c v) 1 (sym q ∙ e), ne-eqb (kind c v) 3 (λ z. omega (arith, q, e, z)), or-no (has c 1 v))
 
-  pub repeats-condition : (r : Bool) → k ≡ 3 → r ≡ leads c v v → r ≡ repeats c v
+  pub repeats-condition : (r : Bool) → k ≡ 3 → r ≡ arcLeads c v v → r ≡ repeats c v
   repeats-condition r e f = f ∙ rw (ne-eqb (kind c v) 1 (λ z. omega (arith, q, e, z)), eq-eqb (kind c v) 3 (sym q ∙ e))
 
   pub repeats-none : (k ≡ 1 → ⊥) → (k ≡ 3 → ⊥) → false ≡ repeats c v
   repeats-none n m = rw (ne-eqb (kind c v) 1 (λ z. n (q ∙ z)), ne-eqb (kind c v) 3 (λ z. m (q ∙ z)))
 
 module _ (c : Chart) (v : ℕ) (r : Bool) (q : r ≡ repeats c v) where
-  pub barred-first : r ≡ true → true ≡ barred c v
-  unfolding barred
+  pub barred-first : r ≡ true → true ≡ barredNode c v
+  unfolding barredNode
   barred-first e = sym (or-true-l (repeats c v) (any (clashes c v) 0 (v + 1)) (sym q ∙ e))
 
-  pub barred-second : (s : Bool) → r ≡ false → s ≡ any (clashes c v) 0 (v + 1) → s ≡ barred c v
-  unfolding barred
+  pub barred-second : (s : Bool) → r ≡ false → s ≡ any (clashes c v) 0 (v + 1) → s ≡ barredNode c v
+  unfolding barredNode
   barred-second s e f = f ∙ ap (λ (t : Bool). t || any (clashes c v) 0 (v + 1)) (sym (sym q ∙ e))

@@ -5,10 +5,9 @@ use mathlib.Core.Path.{_≡_, refl, sym, _∙_, ap, ap₂}
 use mathlib.Core.List.{List, [], _∷_, _++_, map, append-assoc, append-nil}
 use native.Mathlib.Omega.{arith}
 use Rattle.lists.specs.Numbers.{range}
-use Rattle.lists.specs.Sequences.{filter, concatMap}
+use Rattle.lists.specs.Sequences.{filter, concatMap, All}
 use Rattle.lists.proofs.Ranges.{map-append, filter-no}
 use Rattle.lists.proofs.Filters.{filter-append, filter-none}
-use Rattle.lists.proofs.Joins.{All}
 
 pub filter-nothing : {A : Type 0} (p : A → Bool) (xs : List A) → All (λ x. p x ≡ false) xs → filter p xs ≡ []
 filter-nothing p [] a = filter-none p

@@ -19,10 +19,10 @@ use Rattle.graph.proofs.Paths.{Arc, Path, here, on}
 use Rattle.frames.specs.Frame.{size}
 use Rattle.charts.specs.Chart.{Chart, kind, scheme, next0, next1, is, begin, end}
 use Rattle.charts.specs.Check.{arcs, onCircle}
-use Rattle.charts.proofs.Accepted.{Sound}
+use Rattle.charts.proofs.Accepted.{SoundChart}
 use Rattle.charts.proofs.Nodes.{TheNode, arc-end, begins, ends, arcs-end, arcs-one, arcs-condition, in-arcs0, in-arcs1, schemes-first}
-use Rattle.charts.proofs.Meaning.{member-only, Circle, circle-found, condition-arc, found-joined}
-use Rattle.little_search.specs.Search.{has, leads, clashes, barred, lonely, missing}
+use Rattle.charts.proofs.Meaning.{member-only, ConditionCircle, circle-found, condition-arc, found-joined}
+use Rattle.little_search.specs.inner.Search.{has, arcLeads, clashes, barredNode, lonely, missingEnds}
 
 some-none : (f : ℕ → Bool) → some f [] ≡ false
 unfolding some
@@ -34,13 +34,13 @@ refuted false f = refl
 
 -- an accepted chart with nodes of one scheme and of kinds 0 to 3
 pub record Plain (c : Chart) : Type 0 where
-  pub sound : Sound c
+  pub sound : SoundChart c
   pub some : 1 ≤ size c
   pub one : (v : ℕ) → v < size c → scheme c v ≡ 1
   pub kinds : (v : ℕ) → v < size c → kind c v ≤ 3
 
 module _ (c : Chart) (p : Plain c) where
-  abbrev s : Sound c
+  abbrev s : SoundChart c
   s = p .sound
 
   of-kind : (k v : ℕ) → is c k v ≡ true → kind c v ≡ k
@@ -59,7 +59,7 @@ module _ (c : Chart) (p : Plain c) where
   one-end u v l m e f = the-end .alone u l e (p .one u l) ∙ sym (the-end .alone v m f (p .one v m))
 
   -- an arc by its fields is one of the arcs
-  leads-arc : (u t : ℕ) → u < size c → leads c u t ≡ true → member t (arcs c u) ≡ true
+  leads-arc : (u t : ℕ) → u < size c → arcLeads c u t ≡ true → member t (arcs c u) ≡ true
   leads-arc u t l e =
       let n : kind c u ≡ 1 → ⊥ = λ q. no-both (is c 1 u) (eq-eqb (kind c u) 1 q) (not-true (is c 1 u) (and-l (not (is c 1 u)) _ e)) in
       go n (or-cases (eqb (next0 c u) t) (is c 3 u && eqb (next1 c u) t) (and-r (not (is c 1 u)) _ e))
@@ -70,10 +70,10 @@ module _ (c : Chart) (p : Plain c) where
           (let k : kind c u ≡ 3 = of-kind 3 u (and-l (is c 3 u) (eqb (next1 c u) t) q) in in-arcs1 c u (omega arith) (omega arith))
 
   -- and the other way round
-  arc-leads : (u t : ℕ) → u < size c → member t (arcs c u) ≡ true → leads c u t ≡ true
+  arc-leads : (u t : ℕ) → u < size c → member t (arcs c u) ≡ true → arcLeads c u t ≡ true
   arc-leads u t l e = go (ℕ-discrete (kind c u) 1) (ℕ-discrete (kind c u) 3)
     where
-      made : (kind c u ≡ 1 → ⊥) → (eqb (next0 c u) t || (is c 3 u && eqb (next1 c u) t)) ≡ true → leads c u t ≡ true
+      made : (kind c u ≡ 1 → ⊥) → (eqb (next0 c u) t || (is c 3 u && eqb (next1 c u) t)) ≡ true → arcLeads c u t ≡ true
       made n q = and-true (not (is c 1 u)) (eqb (next0 c u) t || (is c 3 u && eqb (next1 c u) t)) (ap not (ne-eqb (kind c u) 1 n)) q
 
       two : kind c u ≡ 3 → (eqb t (next0 c u) ≡ true) ⊎ (member t (next1 c u ∷ []) ≡ true)
@@ -82,7 +82,7 @@ module _ (c : Chart) (p : Plain c) where
       two k (inr q) = or-true-r (eqb (next0 c u) t) (is c 3 u && eqb (next1 c u) t)
           (and-true (is c 3 u) (eqb (next1 c u) t) (eq-eqb (kind c u) 3 k) (eq-eqb (next1 c u) t (sym (member-only t (next1 c u) q))))
 
-      go : Dec (kind c u ≡ 1) → Dec (kind c u ≡ 3) → leads c u t ≡ true
+      go : Dec (kind c u ≡ 1) → Dec (kind c u ≡ 3) → arcLeads c u t ≡ true
       go (yes k) d = no-both (member t (arcs c u)) e (ap (member t) (arcs-end c u k) ∙ some-none (eqb t))
       go (no k) (yes m) = made k (two m (or-cases (eqb t (next0 c u)) (member t (next1 c u ∷ []))
           (sym (some-cons (eqb t) (next0 c u) (next1 c u ∷ [])) ∙ sym (ap (member t) (arcs-condition c u m)) ∙ e)))
@@ -90,13 +90,13 @@ module _ (c : Chart) (p : Plain c) where
           (sym (member-only t (next0 c u) (sym (ap (member t) (arcs-one c u k m (λ q. omega (arith, p .kinds u l)))) ∙ e)))))
 
   -- no arc leads to a Begin, none of a condition to itself
-  not-entered : (u t : ℕ) → u < size c → leads c u t ≡ true → is c 0 t ≡ true → ⊥
+  not-entered : (u t : ℕ) → u < size c → arcLeads c u t ≡ true → is c 0 t ≡ true → ⊥
   not-entered u t l e b = arc-end c s u t l (leads-arc u t l e) .entered (of-kind 0 t b)
 
-  no-circle : (v : ℕ) → v < size c → is c 3 v ≡ true → leads c v v ≡ true → ⊥
+  no-circle : (v : ℕ) → v < size c → is c 3 v ≡ true → arcLeads c v v ≡ true → ⊥
   no-circle v l k e =
       let a : Arc (size c) (arcs c) v v = record { start = l; end = l; leads = leads-arc v v l e } in
-      let b : Circle c v = record { second = v; leaves = condition-arc c v v (of-kind 3 v k) a; back = here } in
+      let b : ConditionCircle c v = record { second = v; leaves = condition-arc c v v (of-kind 3 v k) a; back = here } in
       no-both (onCircle c v) (circle-found c v b) (s .noCircle v l)
 
   -- a path to another node ends with an arc from another node
@@ -104,7 +104,7 @@ module _ (c : Chart) (p : Plain c) where
     node : ℕ
     inside : node < size c
     other : node ≡ v → ⊥
-    leads : leads c node v ≡ true
+    leads : arcLeads c node v ≡ true
 
   last-arc : (u v : ℕ) → (u ≡ v → ⊥) → Path (size c) (arcs c) u v → Entry v
   last-arc u v d here = absurd (d refl)
@@ -116,23 +116,24 @@ module _ (c : Chart) (p : Plain c) where
 
   pub not-lonely : (v : ℕ) → v < size c → lonely c v ≡ false
   not-lonely v l = refuted (lonely c v) λ e.
-      let others : ℕ → Bool = λ u. not (eqb u v) && leads c u v in
+      let others : ℕ → Bool = λ u. not (eqb u v) && arcLeads c u v in
       let b : begin c (scheme c v) ≡ v → ⊥ = λ q. no-both (is c 0 v)
       (eq-eqb (kind c v) 0 (subst (λ (u : ℕ). kind c u ≡ 0) (sym (ap (begin c) (p .one v l)) ∙ q) (the-begin .kinded)))
       (not-true (is c 0 v) (and-l (not (is c 0 v)) (not (any others 0 (size c))) e)) in
       let x : Entry v = last-arc (begin c (scheme c v)) v b (found-joined c v (s .joined v l) .path) in
       no-both (any others 0 (size c))
       (any-true others 0 (size c) (x .node) (omega arith) (omega (arith, x .inside))
-      (and-true (not (eqb (x .node) v)) (leads c (x .node) v) (ap not (ne-eqb (x .node) v (x .other))) (x .leads)))
+      (and-true (not (eqb (x .node) v)) (arcLeads c (x .node) v) (ap not (ne-eqb (x .node) v (x .other))) (x .leads)))
       (not-true (any others 0 (size c)) (and-r (not (is c 0 v)) (not (any others 0 (size c))) e))
 
-  pub not-barred : (v : ℕ) → v < size c → barred c v ≡ false
-  unfolding barred
-  not-barred v l = or-none (is c 1 v && has c 1 v || is c 3 v && leads c v v) (any (clashes c v) 0 (v + 1))
-      (or-none (is c 1 v && has c 1 v) (is c 3 v && leads c v v)
+  pub not-barred : (v : ℕ) → v < size c → barredNode c v ≡ false
+  unfolding barredNode
+  not-barred v l = or-none (is c 1 v && has c 1 v || is c 3 v && arcLeads c v v) (any (clashes c v) 0 (v + 1))
+      (or-none (is c 1 v && has c 1 v) (is c 3 v && arcLeads c v v)
       (refuted (is c 1 v && has c 1 v)
       (λ e. second (and-l (is c 1 v) (has c 1 v) e) (any-some (is c 1) 0 v (and-r (is c 1 v) (has c 1 v) e))))
-      (refuted (is c 3 v && leads c v v) (λ e. no-circle v l (and-l (is c 3 v) (leads c v v) e) (and-r (is c 3 v) (leads c v v) e))))
+      (refuted (is c 3 v && arcLeads c v v)
+      (λ e. no-circle v l (and-l (is c 3 v) (arcLeads c v v) e) (and-r (is c 3 v) (arcLeads c v v) e))))
       (refuted (any (clashes c v) 0 (v + 1)) (λ e. clash (any-some (clashes c v) 0 (v + 1) e)))
     where
       second : is c 1 v ≡ true → (k : ℕ) × (0 ≤ k) × (k < 0 + v) × (is c 1 k ≡ true) → ⊥
@@ -140,9 +141,9 @@ module _ (c : Chart) (p : Plain c) where
 
       clash : (u : ℕ) × (0 ≤ u) × (u < 0 + (v + 1)) × (clashes c v u ≡ true) → ⊥
       clash (u, a, b, f) = ⊎-elim
-          (λ e. not-entered u v (omega arith) (and-r (is c 0 v) (leads c u v) e) (and-l (is c 0 v) (leads c u v) e))
-          (λ e. not-entered v u l (and-r (is c 0 u) (leads c v u) e) (and-l (is c 0 u) (leads c v u) e))
-          (or-cases (is c 0 v && leads c u v) (is c 0 u && leads c v u) f)
+          (λ e. not-entered u v (omega arith) (and-r (is c 0 v) (arcLeads c u v) e) (and-l (is c 0 v) (arcLeads c u v) e))
+          (λ e. not-entered v u l (and-r (is c 0 u) (arcLeads c v u) e) (and-l (is c 0 u) (arcLeads c v u) e))
+          (or-cases (is c 0 v && arcLeads c u v) (is c 0 u && arcLeads c v u) f)
 
   pub no-second : (v : ℕ) → v < size c → has c 0 v ≡ true → kind c v ≡ 0 → ⊥
   no-second v l h e = go (any-some (is c 0) 0 v h)
@@ -156,7 +157,7 @@ module _ (c : Chart) (p : Plain c) where
       (λ (l : u < v). no-both (is c k u) (eq-eqb (kind c u) k e) (any-false (is c k) 0 v h u (omega arith) (omega arith)))
       (λ (l : v ≤ u). l) (split u v)
 
-  pub needed : (v : ℕ) → v < size c → size c - v ≤ missing c v → 2 ≤ kind c v → ⊥
+  pub needed : (v : ℕ) → v < size c → size c - v ≤ missingEnds c v → 2 ≤ kind c v → ⊥
   needed v l m k = go (has c 0 v) (has c 1 v) refl refl m
     where
       go : (a b : Bool) → has c 0 v ≡ a → has c 1 v ≡ b → size c - v ≤ pick a 0 1 + pick b 0 1 → ⊥

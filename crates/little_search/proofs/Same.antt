@@ -10,11 +10,11 @@ use lib.Seq.{getD-append-add}
 use borrow.Author.Tests.{eqb-true, leb-true, lt-ltb, le-ltb, ne-eqb}
 use Rattle.lists.specs.Pick.{pick}
 use Rattle.lists.specs.Numbers.{range, any}
-use Rattle.lists.specs.Sequences.{filter, concatMap}
+use Rattle.lists.specs.Sequences.{filter, concatMap, All}
 use Rattle.lists.proofs.Tests.{no-both, and-l, and-r, yes-pick, no-pick}
 use Rattle.lists.proofs.Searches.{any-none}
 use Rattle.lists.proofs.Ranges.{filter-yes, filter-no}
-use Rattle.lists.proofs.Joins.{All, all-of, all-append, all-map, length-concat, concat-append, concat-map}
+use Rattle.lists.proofs.Joins.{all-of, all-append, all-map, length-concat, concat-append, concat-map}
 use Rattle.lists.proofs.Filters.{filter-none}
 use Rattle.frames.specs.Frame.{size}
 use Rattle.frames.specs.Verdict.{fine}
@@ -25,10 +25,11 @@ use Rattle.charts.proofs.Accepted.{sound}
 use Rattle.little_charts.specs.Little.{littleNode, nodes, listsOf, chartOf, passes, littleCharts}
 use Rattle.little_charts.proofs.Members.{In, in-map, in-range, in-all}
 use Rattle.little_charts.proofs.Nodes.{Fine, nodes-fine}
-use Rattle.little_charts.proofs.Listing.{Made, lists-made, made-formed, made-frames, chart-size, passes-fine}
-use Rattle.little_search.specs.Search.{nodeCount, operationAt, conditionAt, nodeAt, has, barred, lonely, missing, first, past, searched}
+use Rattle.little_charts.proofs.Listing.{MadeOf, lists-made, made-formed, made-frames, chart-size, passes-fine}
+use Rattle.little_search.specs.inner.Search.{nodeCount, operationAt, conditionAt, nodeAt, has, barredNode}
+use Rattle.little_search.specs.inner.Search.{lonely, missingEnds, firstTried, past, searched}
 use Rattle.little_search.proofs.Ruled.{Plain, not-lonely, not-barred, no-second, needed}
-use Rattle.little_search.proofs.Alike.{Alike, front-alike, barred-alike, has-alike, missing-alike}
+use Rattle.little_search.proofs.Alike.{SameFields, front-alike, barred-alike, has-alike, missing-alike}
 use Rattle.little_search.proofs.Lists.{filter-nothing, map-map, map-alike, filter-concat, concat-each, concat-range, concat-within}
 
 abbrev ok : Chart → Bool
@@ -60,7 +61,7 @@ high-kind n i l = subst (λ (t : List ℕ). 2 ≤ getD t 0 0)
     go false = omega arith
 
 -- the first number is no higher than that of the End, the last one no lower
-pub first-low : (n : ℕ) (c : Chart) (v : ℕ) → first n c v ≤ n
+pub first-low : (n : ℕ) (c : Chart) (v : ℕ) → firstTried n c v ≤ n
 first-low n c v = go (has c 0 v)
   where
     go : (t : Bool) → pick t n 0 ≤ n
@@ -68,7 +69,7 @@ first-low n c v = go (has c 0 v)
     go false = omega arith
 
 pub past-within : (n : ℕ) (c : Chart) (v : ℕ) → (n + 1 ≤ past n c v) × (past n c v ≤ nodeCount n)
-past-within n c v = go (leb (n - v) (missing c v))
+past-within n c v = go (leb (n - v) (missingEnds c v))
   where
     go : (t : Bool) → (n + 1 ≤ pick t (n + 1) (nodeCount n)) × (pick t (n + 1) (nodeCount n) ≤ nodeCount n)
     go true = (omega arith, omega arith)
@@ -79,7 +80,7 @@ pub chart-snoc : (gs : List (List ℕ)) (r : List ℕ) → chartOf (gs ++ (r ∷
 unfolding concatMap
 chart-snoc gs r = concat-append (λ x. x) gs (r ∷ []) ∙ ap (λ (x : List ℕ). chartOf gs ++ x) (append-nil r)
 
-made-join : (rs gs fs : List (List ℕ)) (k m : ℕ) → Made rs k gs → Made rs m fs → Made rs (k + m) (gs ++ fs)
+made-join : (rs gs fs : List (List ℕ)) (k m : ℕ) → MadeOf rs k gs → MadeOf rs m fs → MadeOf rs (k + m) (gs ++ fs)
 made-join rs gs fs k m d e = record {
   each = all-append (λ r. In r rs) gs fs (d .each) (e .each);
   count = length-append gs fs ∙ ap₂ (λ (x y : ℕ). x + y) (d .count) (e .count);
@@ -89,7 +90,7 @@ module _ (n : ℕ) (a : 2 ≤ n) (b : n ≤ 4) where
   abbrev rs : List (List ℕ)
   rs = nodes n
 
-  made-plain : (hs : List (List ℕ)) → Made rs n hs → chartVerdict (chartOf hs) ≡ fine → Plain (chartOf hs)
+  made-plain : (hs : List (List ℕ)) → MadeOf rs n hs → chartVerdict (chartOf hs) ≡ fine → Plain (chartOf hs)
   made-plain hs d v =
       let c : Chart = chartOf hs in
       let s : size c ≡ n = chart-size hs (made-frames n a b hs d) ∙ d .count in
@@ -121,16 +122,16 @@ module _ (n : ℕ) (a : 2 ≤ n) (b : n ≤ 4) where
       ∙ map-alike (λ fs. chartOf (gs ++ (r ∷ fs))) (λ fs. chartOf ((gs ++ (r ∷ [])) ++ fs))
       (λ fs. ap chartOf (sym (append-assoc gs (r ∷ []) fs))) (listsOf rs m))) rs
 
-  refused-all : (gs : List (List ℕ)) (k m : ℕ) → k + m ≡ n → Made rs k gs
+  refused-all : (gs : List (List ℕ)) (k m : ℕ) → k + m ≡ n → MadeOf rs k gs
       → ((fs : List (List ℕ)) → size (chartOf (gs ++ fs)) ≡ n → Plain (chartOf (gs ++ fs)) → ⊥) → Rest gs m ≡ []
   refused-all gs k m e d f = filter-nothing ok (map (λ fs. chartOf (gs ++ fs)) (listsOf rs m))
       (all-map (λ c. ok c ≡ false) (λ fs. chartOf (gs ++ fs)) (listsOf rs m)
-      (all-of (Made rs m) (λ fs. ok (chartOf (gs ++ fs)) ≡ false) (λ fs q. go fs q (ok (chartOf (gs ++ fs))) refl) (listsOf rs m)
+      (all-of (MadeOf rs m) (λ fs. ok (chartOf (gs ++ fs)) ≡ false) (λ fs q. go fs q (ok (chartOf (gs ++ fs))) refl) (listsOf rs m)
       (lists-made rs m)))
     where
-      go : (fs : List (List ℕ)) → Made rs m fs → (t : Bool) → ok (chartOf (gs ++ fs)) ≡ t → ok (chartOf (gs ++ fs)) ≡ false
+      go : (fs : List (List ℕ)) → MadeOf rs m fs → (t : Bool) → ok (chartOf (gs ++ fs)) ≡ t → ok (chartOf (gs ++ fs)) ≡ false
       go fs q true h =
-          let x : Made rs n (gs ++ fs) = subst (λ (j : ℕ). Made rs j (gs ++ fs)) e (made-join rs gs fs k m d q) in
+          let x : MadeOf rs n (gs ++ fs) = subst (λ (j : ℕ). MadeOf rs j (gs ++ fs)) e (made-join rs gs fs k m d q) in
           absurd (f fs (chart-size (gs ++ fs) (made-frames n a b (gs ++ fs) x) ∙ x .count)
           (made-plain (gs ++ fs) x (passes-fine (chartVerdict (chartOf (gs ++ fs))) h)))
       go fs q false h = h
@@ -142,7 +143,7 @@ module _ (n : ℕ) (a : 2 ≤ n) (b : n ≤ 4) where
   chart-long gs e = length-concat (λ r. r) 10 gs (all-of Frame (λ r. length r ≡ 10) (λ r f. f .ten) gs (frames-of gs e))
 
   -- ---- record i at place v, after the records gs, and m more to come
-  module _ (gs : List (List ℕ)) (v m : ℕ) (e : v + suc m ≡ n) (d : Made rs v gs) where
+  module _ (gs : List (List ℕ)) (v m : ℕ) (e : v + suc m ≡ n) (d : MadeOf rs v gs) where
     abbrev c : Chart
     c = chartOf gs
 
@@ -163,7 +164,7 @@ module _ (n : ℕ) (a : 2 ≤ n) (b : n ≤ 4) where
       r-in = subst (In r) (sym (nodes-at n a b))
           (in-map (nodeAt n) i (range 0 (nodeCount n)) (in-range i 0 (nodeCount n) (omega arith) (omega arith)))
 
-      more-made : Made rs (v + 1) more
+      more-made : MadeOf rs (v + 1) more
       more-made = made-join rs gs (r ∷ []) v 1 d (record { each = (r-in, tt); count = refl })
 
       more-long : length (c ++ r) ≡ 10 * (v + 1)
@@ -176,12 +177,12 @@ module _ (n : ℕ) (a : 2 ≤ n) (b : n ≤ 4) where
         whole-is : whole ≡ (c ++ r) ++ chartOf fs
         whole-is = concat-append (λ x. x) more fs ∙ ap (λ (x : Chart). x ++ chartOf fs) (chart-snoc gs r)
 
-        more-alike : Alike (c ++ r) whole (v + 1)
-        more-alike = subst (λ (x : Chart). Alike (c ++ r) x (v + 1)) (sym whole-is)
+        more-alike : SameFields (c ++ r) whole (v + 1)
+        more-alike = subst (λ (x : Chart). SameFields (c ++ r) x (v + 1)) (sym whole-is)
             (front-alike (c ++ r) (chartOf fs) (v + 1) (omega (arith, more-long)))
 
-        first-alikes : Alike c whole v
-        first-alikes = subst (λ (x : Chart). Alike c x v) (sym (whole-is ∙ append-assoc c r (chartOf fs)))
+        first-alikes : SameFields c whole v
+        first-alikes = subst (λ (x : Chart). SameFields c x v) (sym (whole-is ∙ append-assoc c r (chartOf fs)))
             (front-alike c (r ++ chartOf fs) v (omega (arith, c-long)))
 
         kind-is : kind whole v ≡ getD r 0 0
@@ -191,7 +192,7 @@ module _ (n : ℕ) (a : 2 ≤ n) (b : n ≤ 4) where
       no-more : ((fs : List (List ℕ)) → size (whole fs) ≡ n → Plain (whole fs) → ⊥) → Rest more m ≡ []
       no-more f = refused-all more (v + 1) m (omega arith) more-made f
 
-      low-empty : i < first n c v → Rest more m ≡ []
+      low-empty : i < firstTried n c v → Rest more m ≡ []
       low-empty h = go (has c 0 v) refl h
         where
           go : (t : Bool) → has c 0 v ≡ t → i < pick t n 0 → Rest more m ≡ []
@@ -200,31 +201,31 @@ module _ (n : ℕ) (a : 2 ≤ n) (b : n ≤ 4) where
           go false q k = absurd (omega arith)
 
       high-empty : past n c v ≤ i → Rest more m ≡ []
-      high-empty h = go (leb (n - v) (missing c v)) refl h
+      high-empty h = go (leb (n - v) (missingEnds c v)) refl h
         where
-          go : (t : Bool) → leb (n - v) (missing c v) ≡ t → pick t (n + 1) (nodeCount n) ≤ i → Rest more m ≡ []
+          go : (t : Bool) → leb (n - v) (missingEnds c v) ≡ t → pick t (n + 1) (nodeCount n) ≤ i → Rest more m ≡ []
           go true q k = no-more (λ fs s p. needed (whole fs) p v (omega arith)
-              (let x : n - v ≤ missing c v = leb-true (n - v) (missing c v) q in omega
+              (let x : n - v ≤ missingEnds c v = leb-true (n - v) (missingEnds c v) q in omega
               (arith, missing-alike c (whole fs) v (first-alikes fs)))
               (subst (λ (j : ℕ). 2 ≤ j) (sym (kind-is fs)) (high-kind n i k)))
           go false q k = absurd (omega arith)
 
-      barred-empty : barred (c ++ r) v ≡ true → Rest more m ≡ []
+      barred-empty : barredNode (c ++ r) v ≡ true → Rest more m ≡ []
       barred-empty q = no-more
-          (λ fs s p. no-both (barred (c ++ r) v) q
+          (λ fs s p. no-both (barredNode (c ++ r) v) q
           (barred-alike (c ++ r) (whole fs) v (more-alike fs) ∙ not-barred (whole fs) p v (omega arith)))
 
     abbrev tried : ℕ → ℕ → List Chart
-    tried w i = let x = c ++ nodeAt n i in elim (barred x w) [ true ↦ [] | false ↦ searched n m x ]
+    tried w i = let x = c ++ nodeAt n i in elim (barredNode x w) [ true ↦ [] | false ↦ searched n m x ]
 
     abbrev rest : ℕ → List Chart
     rest i = Rest (gs ++ (nodeAt n i ∷ [])) m
 
     tried-rest : ((i : ℕ) → i < nodeCount n → searched n m (chartOf (gs ++ (nodeAt n i ∷ []))) ≡ rest i) → (i : ℕ) → i < nodeCount n
         → tried v i ≡ rest i
-    tried-rest ih i l = go (barred (c ++ nodeAt n i) v) refl
+    tried-rest ih i l = go (barredNode (c ++ nodeAt n i) v) refl
       where
-        go : (t : Bool) → barred (c ++ nodeAt n i) v ≡ t → elim t [ true ↦ [] | false ↦ searched n m (c ++ nodeAt n i) ] ≡ rest i
+        go : (t : Bool) → barredNode (c ++ nodeAt n i) v ≡ t → elim t [ true ↦ [] | false ↦ searched n m (c ++ nodeAt n i) ] ≡ rest i
         go true q = sym (barred-empty i l q)
         go false q = ap (searched n m) (sym (chart-snoc gs (nodeAt n i))) ∙ ih i l
 
@@ -232,12 +233,12 @@ module _ (n : ℕ) (a : 2 ≤ n) (b : n ≤ 4) where
         → searched n (suc m) c ≡ Rest gs (suc m)
     unfolding searched
     searched-rest ih =
-        let low : first n c v ≤ n = first-low n c v in
+        let low : firstTried n c v ≤ n = first-low n c v in
         let high : (n + 1 ≤ past n c v) × (past n c v ≤ nodeCount n) = past-within n c v in
-        ap (λ (w : ℕ). concatMap (tried w) (range (first n c w) (past n c w - first n c w))) c-size
-        ∙ concat-range (tried v) rest (first n c v) (past n c v - first n c v)
+        ap (λ (w : ℕ). concatMap (tried w) (range (firstTried n c w) (past n c w - firstTried n c w))) c-size
+        ∙ concat-range (tried v) rest (firstTried n c v) (past n c v - firstTried n c v)
         (λ i x y. tried-rest ih i (omega (arith, low, high .0, high .1)))
-        ∙ sym (concat-within rest (first n c v) (past n c v) (nodeCount n) (omega (arith, low, high .0)) (high .1)
+        ∙ sym (concat-within rest (firstTried n c v) (past n c v) (nodeCount n) (omega (arith, low, high .0)) (high .1)
         (λ i x. low-empty i (omega (arith, low, high .0, high .1)) x) (λ i x y. high-empty i y x))
         ∙ sym (concat-map (λ r. Rest (gs ++ (r ∷ [])) m) (nodeAt n) (range 0 (nodeCount n)))
         ∙ ap (concatMap (λ r. Rest (gs ++ (r ∷ [])) m)) (sym (nodes-at n a b)) ∙ sym (rest-more gs m)
@@ -255,10 +256,10 @@ module _ (n : ℕ) (a : 2 ≤ n) (b : n ≤ 4) where
       go false true p q = ap₂ by p q ∙ sym (filter-yes ok x [] q ∙ ap (λ (xs : List Chart). x ∷ xs) (filter-none ok))
       go false false p q = ap₂ by p q ∙ sym (filter-no ok x [] q ∙ filter-none ok)
 
-  searched-same : (m v : ℕ) (gs : List (List ℕ)) → v + m ≡ n → Made rs v gs → searched n m (chartOf gs) ≡ Rest gs m
+  searched-same : (m v : ℕ) (gs : List (List ℕ)) → v + m ≡ n → MadeOf rs v gs → searched n m (chartOf gs) ≡ Rest gs m
   unfolding listsOf
   searched-same zero v gs e d =
-      let x : Made rs n gs = subst (λ (k : ℕ). Made rs k gs) (omega arith) d in
+      let x : MadeOf rs n gs = subst (λ (k : ℕ). MadeOf rs k gs) (omega arith) d in
       leaf (chartOf gs) (λ q. any-none (lonely (chartOf gs)) 0 (size (chartOf gs))
       (λ k l. not-lonely (chartOf gs) (made-plain gs x (passes-fine (chartVerdict (chartOf gs)) q)) (0 + k) (omega arith)))
       ∙ ap (λ (hs : List (List ℕ)). filter ok (chartOf hs ∷ [])) (sym (append-nil gs))

@@ -21,9 +21,9 @@ use Rattle.frames.specs.declared.Answer.the-variants.{Done, Refused}
 use Rattle.charts.specs.Chart.{Chart}
 use Rattle.charts.specs.Check.{chartVerdict}
 use Rattle.little_charts.specs.Little.{beginNode, endNode, passes}
-use Rattle.little_search.specs.Search.{operationAt, conditionAt, nodeAt, lonely, searched}
+use Rattle.little_search.specs.inner.Search.{operationAt, conditionAt, nodeAt, lonely, searched}
 use Rattle.little_seek.specs.declared.Sought.{Sought}
-use Rattle.little_seek.specs.Parts.{Few, Placed, Counted, Seeks, accepts}
+use Rattle.little_seek.specs.inner.SeekContracts.{FewFrames, RecordPlaced, SoughtCount, GivesSought, accepts}
 
 -- ---- accepted or not
 pub lonely-out : (c : Chart) (t : Bool) → t ≡ any (lonely c) 0 (size c) → t ≡ true → false ≡ accepts c
@@ -54,16 +54,16 @@ module _ (n : ℕ) (c : Chart) (left : ℕ) (r : Bool) (e : r ≡ accepts c) whe
   found-by : (b : Bool) → r ≡ b → searched n 0 c ≡ pick b (c ∷ []) []
   found-by b q = searched-leaf n c ∙ ap (λ (t : Bool). pick t (c ∷ []) []) (sym e ∙ q)
 
-  pub count-none : r ≡ false → Counted (searched n 0 c) left (record { found = false; left = left })
-  count-none q = subst (λ (xs : List Chart). Counted xs left (record { found = false; left = left })) (sym (found-by false q))
+  pub count-none : r ≡ false → SoughtCount (searched n 0 c) left (record { found = false; left = left })
+  count-none q = subst (λ (xs : List Chart). SoughtCount xs left (record { found = false; left = left })) (sym (found-by false q))
       (record { told = sym (le-ltb left 0 (omega arith)); passed = omega arith })
 
-  pub count-here : r ≡ true → left ≡ 0 → Counted (searched n 0 c) left (record { found = true; left = left })
-  count-here q z = subst (λ (xs : List Chart). Counted xs left (record { found = true; left = left })) (sym (found-by true q))
+  pub count-here : r ≡ true → left ≡ 0 → SoughtCount (searched n 0 c) left (record { found = true; left = left })
+  count-here q z = subst (λ (xs : List Chart). SoughtCount xs left (record { found = true; left = left })) (sym (found-by true q))
       (record { told = sym (lt-ltb left 1 (omega arith)); passed = omega arith })
 
-  pub count-on : r ≡ true → (left ≡ 0 → ⊥) → Counted (searched n 0 c) left (record { found = false; left = left - 1 })
-  count-on q z = subst (λ (xs : List Chart). Counted xs left (record { found = false; left = left - 1 })) (sym (found-by true q))
+  pub count-on : r ≡ true → (left ≡ 0 → ⊥) → SoughtCount (searched n 0 c) left (record { found = false; left = left - 1 })
+  count-on q z = subst (λ (xs : List Chart). SoughtCount xs left (record { found = false; left = left - 1 })) (sym (found-by true q))
       (record { told = sym (le-ltb left 1 (omega arith)); passed = refl })
 
 -- the one that is found is the chart itself
@@ -78,14 +78,14 @@ leaf-chart n c left l = go (accepts c) (searched-leaf n c) left l
         one (suc k) h = absurd (omega arith)
     go false q k h = absurd (omega (arith, ap length q))
 
-pub leaf-seeks : (rs : List ℕ) (v left : ℕ) (r : Sought) → Few rs → v ≡ size rs → Counted (searched (size rs) 0 rs) left r
-    → Seeks (searched (size rs) (size rs - v) (take (10 * v) rs)) (take (10 * v) rs) left r rs
+pub leaf-seeks : (rs : List ℕ) (v left : ℕ) (r : Sought) → FewFrames rs → v ≡ size rs → SoughtCount (searched (size rs) 0 rs) left r
+    → GivesSought (searched (size rs) (size rs - v) (take (10 * v) rs)) (take (10 * v) rs) left r rs
 leaf-seeks rs v left r f e c =
     let w : length rs ≡ 10 * size rs = f .whole in
     let t : take (10 * v) rs ≡ rs = take-all (10 * v) rs (omega arith) in
     let z : size rs - v ≡ 0 = omega arith in
-    subst (λ (front : List ℕ). Seeks (searched (size rs) (size rs - v) front) front left r rs) (sym t)
-    (subst (λ (m : ℕ). Seeks (searched (size rs) m rs) rs left r rs) (sym z)
+    subst (λ (front : List ℕ). GivesSought (searched (size rs) (size rs - v) front) front left r rs) (sym t)
+    (subst (λ (m : ℕ). GivesSought (searched (size rs) m rs) rs left r rs) (sym z)
     (record { counted = c; chart = leaf-chart (size rs) rs left; kept = λ l. take-length rs }))
 
 -- ---- a record in its place
@@ -100,8 +100,8 @@ node-ten n i = go (ltb i n) (eqb i n) (ltb i (3 * n + 1))
     go false false true = refl
     go false false false = refl
 
-pub placed : (rs out : List ℕ) (v : ℕ) (r : List ℕ) → Few rs → v < size rs → length r ≡ 10 → length out ≡ length rs
-    → out ≡ written rs (10 * v) r → Placed rs v r out
+pub placed : (rs out : List ℕ) (v : ℕ) (r : List ℕ) → FewFrames rs → v < size rs → length r ≡ 10 → length out ≡ length rs
+    → out ≡ written rs (10 * v) r → RecordPlaced rs v r out
 placed rs out v r f l t n e =
     let w : length rs ≡ 10 * size rs = f .whole in
     let q : 10 * v + 10 ≡ 10 * v + length r = omega arith in

@@ -2,6 +2,7 @@
 use chart_check::check_chart;
 use frames::Answer;
 use frames::put_bytes;
+use frames::sizes::RECORD;
 use little_nodes::any_lonely;
 use little_nodes::first_number;
 use little_nodes::is_barred;
@@ -10,9 +11,10 @@ use little_nodes::past_number;
 ghost use mathlib.Core.Path.{_≡_};
 ghost use Prim.Native.Nat.{_*_, _-_, _≤_, _<_};
 ghost use lib.ListN.{take};
+ghost use Rattle.frames.specs.Sizes.{RECORD};
 ghost use Rattle.frames.specs.Frame.{size};
-ghost use Rattle.little_search.specs.Search.{nodeCount, nodeAt, searched};
-ghost use Rattle.little_seek.specs.Parts.{Few, Placed, Counted, Seeks, accepts};
+ghost use Rattle.little_search.specs.inner.Search.{nodeCount, nodeAt, searched};
+ghost use Rattle.little_seek.specs.inner.SeekContracts.{FewFrames, RecordPlaced, SoughtCount, GivesSought, accepts};
 
 // Whether the chart was found, and else how many are still to be passed over.
 pub struct Sought {
@@ -22,7 +24,7 @@ pub struct Sought {
 
 // The records are an accepted chart. A node that no other leads to is looked for first, which takes less time.
 fn accepts(records: &[u8]) -> bool
-    requires { ⌜ Few (now records) ⌝ }
+    requires { ⌜ FewFrames (now records) ⌝ }
     ensures { λ r. ⌜ r ≡ accepts (now (records .entry)) ⌝ }
 {
     if any_lonely(records) {
@@ -37,8 +39,8 @@ fn accepts(records: &[u8]) -> bool
 
 // All records stand: the chart is the one sought, or one to pass over, or none.
 fn count_chart(records: &[u8], left: usize) -> Sought
-    requires { ⌜ Few (now records) ⌝ }
-    ensures { λ r. ⌜ Counted (searched (size (now (records .entry))) 0 (now (records .entry))) left r ⌝ }
+    requires { ⌜ FewFrames (now records) ⌝ }
+    ensures { λ r. ⌜ SoughtCount (searched (size (now (records .entry))) 0 (now (records .entry))) left r ⌝ }
 {
     if !accepts(records) {
         return Sought { found: false, left };
@@ -54,19 +56,20 @@ fn count_chart(records: &[u8], left: usize) -> Sought
 
 // Record i at place v.
 fn place(records: &mut [u8], v: usize, i: usize)
-    requires { ⌜ (Few (now records)) × (v < size (now records)) × (i < nodeCount (size (now records))) ⌝ }
-    ensures { λ _. ⌜ Placed (now (records .entry)) v (nodeAt (size (now (records .entry))) i) (now (records .exit)) ⌝ }
+    requires { ⌜ (FewFrames (now records)) × (v < size (now records)) × (i < nodeCount (size (now records))) ⌝ }
+    ensures { λ _. ⌜ RecordPlaced (now (records .entry)) v (nodeAt (size (now (records .entry))) i) (now (records .exit)) ⌝ }
 {
-    let ten = node(records.len() / 10, i);
-    put_bytes(records, 10 * v, &ten);
+    let ten = node(records.len() / RECORD, i);
+    put_bytes(records, RECORD * v, &ten);
 }
 
 // From place v on all records are tried that may stand there, and the rest after each.
 pub fn seek(records: &mut [u8], v: usize, left: usize) -> Sought
-    requires { ⌜ (Few (now records)) × (v ≤ size (now records)) ⌝ }
-    ensures { λ r. ⌜ Seeks (searched (size (now (records .entry))) (size (now (records .entry)) - v) (take (10 * v) (now (records .entry)))) (take (10 * v) (now (records .entry))) left r (now (records .exit)) ⌝ }
+    requires { ⌜ (FewFrames (now records)) × (v ≤ size (now records)) ⌝ }
+    ensures { λ r. ⌜ GivesSought (searched (size (now (records .entry))) (size (now (records .entry)) - v)
+        (take (RECORD * v) (now (records .entry)))) (take (RECORD * v) (now (records .entry))) left r (now (records .exit)) ⌝ }
 {
-    let n = records.len() / 10;
+    let n = records.len() / RECORD;
     if v == n {
         return count_chart(records, left);
     }

@@ -7,10 +7,10 @@ use Rattle.frames.specs.Frame.{contents, textOf}
 use Rattle.frames.proofs.Contents.{any-contents-length}
 use Rattle.frames.proofs.TextLoops.{length-text}
 use Rattle.little_charts.specs.Little.{littleText}
-use Rattle.little_charts.specs.Promises.{total, Wanted, AllWanted}
+use Rattle.little_charts.specs.Promises.{littleTotal, Wanted, AllWanted}
 use Rattle.little_charts.proofs.Listing.{all-wanted}
 
-module _ (n k : ℕ) (low : 2 ≤ n) (high : n ≤ 4) (inside : k < total n) where
+module _ (n k : ℕ) (low : 2 ≤ n) (high : n ≤ 4) (inside : k < littleTotal n) where
   unfolded : AllWanted → Wanted n (littleText n k) × (textOf (contents (littleText n k)) ≡ littleText n k)
   unfolding AllWanted
   unfolded all = all n k low high inside
@@ -22,6 +22,7 @@ module _ (n k : ℕ) (low : 2 ≤ n) (high : n ≤ 4) (inside : k < total n) whe
       any-contents-length (littleText n k) ∙ ap (λ (m : ℕ). 10 * m) (w .0 .frames) in
       ap length (sym (w .1)) ∙ length-text (contents (littleText n k)) ∙ omega (arith, c)
 
-pub shorter-first : (m n j k : ℕ) → 2 ≤ m → n ≤ 4 → m < n → j < total m → k < total n → length (littleText m j) < length (littleText n k)
+pub shorter-first : (m n j k : ℕ) → 2 ≤ m → n ≤ 4 → m < n → j < littleTotal m → k < littleTotal n
+    → length (littleText m j) < length (littleText n k)
 shorter-first m n j k low high less a b =
     omega (arith, text-long m j low (omega arith) a, text-long n k (omega arith) high b)

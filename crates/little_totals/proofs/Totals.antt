@@ -9,17 +9,17 @@ use Rattle.graph.specs.Reach.{reach}
 use Rattle.charts.specs.Chart.{nodeOf}
 use Rattle.charts.specs.Check.{badField, chartVerdict}
 use Rattle.little_charts.specs.Little.{beginNode, endNode, operationNode, conditionNode, littleCharts}
-use Rattle.little_charts.specs.Promises.{total}
-use Rattle.little_search.specs.Search.{nodeAt, barred, searched}
+use Rattle.little_charts.specs.Promises.{littleTotal}
+use Rattle.little_search.specs.inner.Search.{nodeAt, barredNode, searched}
 use Rattle.little_search.proofs.Same.{search-lists}
-use Rattle.little_totals.specs.Samples.{Samples, samples}
+use Rattle.little_totals.specs.inner.Samples.{Samples, samples}
 
 found-two : length (searched 2 2 []) ≡ 2
-unfolding any lowest count highest some concatMap reach nodeOf badField chartVerdict nodeAt barred searched
+unfolding any lowest count highest some concatMap reach nodeOf badField chartVerdict nodeAt barredNode searched
 found-two = refl
 
 found-three : length (searched 3 3 []) ≡ 18
-unfolding any lowest count highest some concatMap reach nodeOf badField chartVerdict nodeAt barred searched
+unfolding any lowest count highest some concatMap reach nodeOf badField chartVerdict nodeAt barredNode searched
 found-three = refl
 
 abbrev pub four : Samples
@@ -31,19 +31,19 @@ four = record {
 }
 
 found-four : samples 324 647 (searched 4 4 []) ≡ four
-unfolding any lowest count highest some concatMap reach nodeOf badField chartVerdict nodeAt barred searched samples
+unfolding any lowest count highest some concatMap reach nodeOf badField chartVerdict nodeAt barredNode searched samples
 found-four = refl
 
-pub total-two : total 2 ≡ 2
+pub total-two : littleTotal 2 ≡ 2
 total-two = sym (ap length (search-lists 2 (omega arith) (omega arith))) ∙ found-two
 
-pub total-three : total 3 ≡ 18
+pub total-three : littleTotal 3 ≡ 18
 total-three = sym (ap length (search-lists 3 (omega arith) (omega arith))) ∙ found-three
 
 -- of four frames: how many, and numbers 0, 324 and 647
 pub samples-four : samples 324 647 (littleCharts 4) ≡ four
 samples-four = sym (ap (samples 324 647) (search-lists 4 (omega arith) (omega arith))) ∙ found-four
 
-pub total-four : total 4 ≡ 648
+pub total-four : littleTotal 4 ≡ 648
 unfolding samples
 total-four = ap (λ (s : Samples). s .count) samples-four

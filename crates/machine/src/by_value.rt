@@ -1,16 +1,16 @@
 // Runs and ticks that take a state and hand one back, and a tick on a state behind a reference.
-use super::Answered;
-use super::Reported;
 use super::State;
+use super::StateReport;
 use super::TickReport;
+use super::TickStateReport;
 use crate::in_place::live_run_bytes;
 use crate::in_place::live_tick_bytes;
 use crate::in_place::run_bytes;
 use crate::in_place::tick_bytes;
 use state_bytes::bytes_of;
 use state_bytes::state_of;
-ghost use Rattle.runs.specs.Run.{run, Runs};
-ghost use Rattle.runs.specs.Advance.{advance, Advances};
+ghost use Rattle.runs.specs.Run.{run, GivesRun};
+ghost use Rattle.runs.specs.TickOutcome.{imageTick, GivesTick};
 ghost use Rattle.machine.specs.Live.{liveRun, liveTick};
 
 // A run: what the image check tries, 15 and 16 before the first tick, 17 and 18 tick by tick.
@@ -20,26 +20,27 @@ pub fn run(
     words: &[u16],
     masks: &mut [u32],
     codes: &mut [u8],
-) -> Answered
-    ensures { λ r. ⌜ Runs (run (now (image .entry)) state (now (words .entry)) (now (masks .entry)) (now (codes .entry))) r (now (masks .exit)) (now (codes .exit)) ⌝ }
+) -> StateReport
+    ensures { λ r. ⌜ GivesRun (run (now (image .entry)) state (now (words .entry)) (now (masks .entry)) (now (codes .entry)))
+        r (now (masks .exit)) (now (codes .exit)) ⌝ }
 {
     let mut bytes = bytes_of(state);
     let answer = run_bytes(image, &mut bytes, words, masks, codes);
     let after = state_of(bytes);
-    Answered {
+    StateReport {
         answer,
         state: after,
     }
 }
 
 // A run of one word; refused, it hands back mask 0, code 0 and the state as it was.
-pub fn tick_image(image: &[u8], state: State, word: u16) -> Reported
-    ensures { λ r. ⌜ Advances (advance (now (image .entry)) state word) (r .report) (r .state) ⌝ }
+pub fn tick_image(image: &[u8], state: State, word: u16) -> TickStateReport
+    ensures { λ r. ⌜ GivesTick (imageTick (now (image .entry)) state word) (r .report) (r .state) ⌝ }
 {
     let mut bytes = bytes_of(state);
     let report = tick_bytes(image, &mut bytes, word);
     let after = state_of(bytes);
-    Reported {
+    TickStateReport {
         report,
         state: after,
     }
@@ -52,26 +53,27 @@ pub fn live_run(
     words: &[u16],
     masks: &mut [u32],
     codes: &mut [u8],
-) -> Answered
-    ensures { λ r. ⌜ Runs (liveRun (now (table .entry)) state (now (words .entry)) (now (masks .entry)) (now (codes .entry))) r (now (masks .exit)) (now (codes .exit)) ⌝ }
+) -> StateReport
+    ensures { λ r. ⌜ GivesRun (liveRun (now (table .entry)) state (now (words .entry)) (now (masks .entry)) (now (codes .entry)))
+        r (now (masks .exit)) (now (codes .exit)) ⌝ }
 {
     let mut bytes = bytes_of(state);
     let answer = live_run_bytes(table, &mut bytes, words, masks, codes);
     let after = state_of(bytes);
-    Answered {
+    StateReport {
         answer,
         state: after,
     }
 }
 
 // One tick on a prepared table.
-pub fn live_tick(table: &[u8], state: State, word: u16) -> Reported
-    ensures { λ r. ⌜ Advances (liveTick (now (table .entry)) state word) (r .report) (r .state) ⌝ }
+pub fn live_tick(table: &[u8], state: State, word: u16) -> TickStateReport
+    ensures { λ r. ⌜ GivesTick (liveTick (now (table .entry)) state word) (r .report) (r .state) ⌝ }
 {
     let mut bytes = bytes_of(state);
     let report = live_tick_bytes(table, &mut bytes, word);
     let after = state_of(bytes);
-    Reported {
+    TickStateReport {
         report,
         state: after,
     }
@@ -79,7 +81,7 @@ pub fn live_tick(table: &[u8], state: State, word: u16) -> Reported
 
 // One tick on a state that the caller keeps: a refused tick leaves it as it was.
 pub fn tick(state: &mut State, image: &[u8], word: u16) -> TickReport
-    ensures { λ r. ⌜ Advances (advance (now (image .entry)) (now (state .entry)) word) r (now (state .exit)) ⌝ }
+    ensures { λ r. ⌜ GivesTick (imageTick (now (image .entry)) (now (state .entry)) word) r (now (state .exit)) ⌝ }
 {
     let old = *state;
     let done = tick_image(image, old, word);

@@ -1,43 +1,49 @@
 // Runs and ticks on the bytes of a state that the caller keeps: on an image, and live on a prepared table.
 use super::TickReport;
 use frames::Answer;
+use frames::refusals::BAD_HEADER;
 use frames::refused;
+use frames::sizes::FRAME;
+use frames::sizes::LINE;
+use frames::sizes::TABLE;
 use preparing::prepare_table;
 use runs::run_table;
 use runs::tick_table;
-use tables::LARGEST;
+use state::layout::STATE_BYTES;
 use tables::bad_table;
 use tables::table_length;
 ghost use Rattle.state.specs.Bytes.{stateOf};
 ghost use Rattle.runs.specs.Run.{run};
-ghost use Rattle.runs.specs.Advance.{advance};
+ghost use Rattle.runs.specs.TickOutcome.{imageTick};
 ghost use Rattle.machine.specs.Live.{liveRun, liveTick};
-ghost use Rattle.runs.specs.InPlace.{RunsOn, AdvancesOn};
+ghost use Rattle.runs.specs.InPlace.{GivesRunOn, GivesTickOn};
 
 // What the image check tries, 15 and 16 before the first tick, 17 and 18 tick by tick.
 pub fn run_bytes(
     image: &[u8],
-    bytes: &mut [u8; 130],
+    bytes: &mut [u8; STATE_BYTES],
     words: &[u16],
     masks: &mut [u32],
     codes: &mut [u8],
 ) -> Answer
-    ensures { λ r. ⌜ RunsOn (run (now (image .entry)) (stateOf (now (bytes .entry))) (now (words .entry)) (now (masks .entry)) (now (codes .entry))) (now (bytes .entry)) r (now (bytes .exit)) (now (masks .exit)) (now (codes .exit)) ⌝ }
+    ensures { λ r. ⌜ GivesRunOn (run (now (image .entry)) (stateOf (now (bytes .entry))) (now (words .entry)) (now (masks .entry))
+        (now (codes .entry))) (now (bytes .entry)) r (now (bytes .exit)) (now (masks .exit)) (now (codes .exit)) ⌝ }
 {
-    let mut table = [0u8; LARGEST];
+    let mut table = [0u8; TABLE];
     let answer = prepare_table(image, &mut table);
     let Answer::Done(_) = answer else {
         return answer;
     };
-    let n = 10 * (image.len() / 23);
+    let n = FRAME * (image.len() / LINE);
     run_table(&table[..n], bytes, words, masks, codes)
 }
 
 // One tick: what a run tries but 16.
-pub fn tick_bytes(image: &[u8], bytes: &mut [u8; 130], word: u16) -> TickReport
-    ensures { λ r. ⌜ AdvancesOn (advance (now (image .entry)) (stateOf (now (bytes .entry))) word) (now (bytes .entry)) r (now (bytes .exit)) ⌝ }
+pub fn tick_bytes(image: &[u8], bytes: &mut [u8; STATE_BYTES], word: u16) -> TickReport
+    ensures { λ r. ⌜ GivesTickOn (imageTick (now (image .entry)) (stateOf (now (bytes .entry))) word)
+        (now (bytes .entry)) r (now (bytes .exit)) ⌝ }
 {
-    let mut table = [0u8; LARGEST];
+    let mut table = [0u8; TABLE];
     let answer = prepare_table(image, &mut table);
     let Answer::Done(_) = answer else {
         return TickReport {
@@ -46,33 +52,35 @@ pub fn tick_bytes(image: &[u8], bytes: &mut [u8; 130], word: u16) -> TickReport
             code: 0,
         };
     };
-    let n = 10 * (image.len() / 23);
+    let n = FRAME * (image.len() / LINE);
     tick_table(&table[..n], bytes, word)
 }
 
 // A run on a prepared table: 11, then as any run.
 pub fn live_run_bytes(
     table: &[u8],
-    bytes: &mut [u8; 130],
+    bytes: &mut [u8; STATE_BYTES],
     words: &[u16],
     masks: &mut [u32],
     codes: &mut [u8],
 ) -> Answer
-    ensures { λ r. ⌜ RunsOn (liveRun (now (table .entry)) (stateOf (now (bytes .entry))) (now (words .entry)) (now (masks .entry)) (now (codes .entry))) (now (bytes .entry)) r (now (bytes .exit)) (now (masks .exit)) (now (codes .exit)) ⌝ }
+    ensures { λ r. ⌜ GivesRunOn (liveRun (now (table .entry)) (stateOf (now (bytes .entry))) (now (words .entry)) (now (masks .entry))
+        (now (codes .entry))) (now (bytes .entry)) r (now (bytes .exit)) (now (masks .exit)) (now (codes .exit)) ⌝ }
 {
     if bad_table(table) {
-        return refused(11, 0);
+        return refused(BAD_HEADER, 0);
     }
     let n = table_length(table);
     run_table(&table[..n], bytes, words, masks, codes)
 }
 
 // One tick on a prepared table.
-pub fn live_tick_bytes(table: &[u8], bytes: &mut [u8; 130], word: u16) -> TickReport
-    ensures { λ r. ⌜ AdvancesOn (liveTick (now (table .entry)) (stateOf (now (bytes .entry))) word) (now (bytes .entry)) r (now (bytes .exit)) ⌝ }
+pub fn live_tick_bytes(table: &[u8], bytes: &mut [u8; STATE_BYTES], word: u16) -> TickReport
+    ensures { λ r. ⌜ GivesTickOn (liveTick (now (table .entry)) (stateOf (now (bytes .entry))) word)
+        (now (bytes .entry)) r (now (bytes .exit)) ⌝ }
 {
     if bad_table(table) {
-        let answer = refused(11, 0);
+        let answer = refused(BAD_HEADER, 0);
         return TickReport {
             answer,
             mask: 0,

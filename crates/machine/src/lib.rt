@@ -1,4 +1,5 @@
-// The stack machine as a caller has it: runs and ticks over an image and live on a prepared table, by value, in place and behind a reference.
+// The stack machine as a caller has it:
+// runs and ticks over an image and live on a prepared table, by value, in place and behind a reference.
 mod by_value;
 mod in_place;
 
@@ -12,11 +13,11 @@ pub use in_place::live_tick_bytes;
 pub use in_place::run_bytes;
 pub use in_place::tick_bytes;
 pub use runs::TickReport;
-pub use state::Answered;
 pub use state::State;
+pub use state::StateReport;
 
 // A tick's report, and the state after it.
-pub struct Reported {
+pub struct TickStateReport {
     pub report: TickReport,
     pub state: State,
 }

@@ -1,4 +1,5 @@
--- Every image that is accepted and to which 23 does not apply: for every state that fits, ticks, runs and rebindings on the smaller image are those
+-- Every image that is accepted and to which 23 does not apply:
+-- for every state that fits, ticks, runs and rebindings on the smaller image are those
 -- on the given one, its labels renumbered.
 use Prim.Native.Nat.{ℕ}
 use mathlib.Core.Bool.{false}
@@ -8,7 +9,7 @@ use Rattle.frames.specs.Frame.{contents}
 use Rattle.frames.specs.Verdict.{fine}
 use Rattle.image.specs.Image.{Image, imageText}
 use Rattle.image.specs.Decode.{decoded}
-use Rattle.image.proofs.Sound.{Sound}
+use Rattle.image.specs.inner.Sound.{SoundImage}
 use Rattle.image.proofs.Accepted.{image-sound}
 use Rattle.state.specs.declared.State.{State}
 use Rattle.state.specs.State.{Sized}
@@ -21,22 +22,23 @@ use Rattle.covering.proofs.Hits.{one-row}
 use Rattle.grouping.specs.Classes.{grouping}
 use Rattle.group_numbers.specs.Smaller.{smaller}
 use Rattle.minimising.specs.Entry.{minimiseVerdict}
-use Rattle.minimising.proofs.Again.{Allowed, minimise-allowed}
-use Rattle.minimised.specs.Renamed.{renamed, renamedTick, renamedRun, renamedMade}
-use Rattle.minimised.proofs.Steps.{Stops17, never-18}
+use Rattle.minimising.proofs.Again.{AllowedImage, minimise-allowed}
+use Rattle.minimised.specs.Renamed.{renamed, renamedTick, renamedRun, renamedState}
+use Rattle.minimised.proofs.SmallerTicks.{Stops17, never-18}
 use Rattle.minimised.proofs.Runs.{smaller-fits, smaller-tick, run-new, rebind-new}
 
-module _ (text : List ℕ) (ok : minimiseVerdict text ≡ fine) (s : State) (sized : Sized s) (fit : unfit (decoded (contents text)) s ≡ false) where
+module _ (text : List ℕ) (ok : minimiseVerdict text ≡ fine) (s : State) (sized : Sized s)
+    (fit : unfit (decoded (contents text)) s ≡ false) where
   abbrev image : Image
   image = decoded (contents text)
 
   abbrev c : List ℕ
   c = grouping (decoded (contents text))
 
-  allowed : Allowed text
+  allowed : AllowedImage text
   allowed = minimise-allowed text ok
 
-  sound : Sound (decoded (contents text))
+  sound : SoundImage (decoded (contents text))
   sound = image-sound text (allowed .accepted)
 
   stands : Fits (decoded (contents text)) s
@@ -55,5 +57,5 @@ module _ (text : List ℕ) (ok : minimiseVerdict text ≡ fine) (s : State) (siz
   pub runs-alike : (ws ms ks : List ℕ) → run (imageText (smaller image)) (renamed c s) ws ms ks ≡ renamedRun c (run text s ws ms ks)
   runs-alike ws ms ks = run-new image sound (allowed .even) text (allowed .accepted) refl s ws ms ks stands
 
-  pub rebinds-alike : (h k : ℕ) → rebind (imageText (smaller image)) (renamed c s) h k ≡ renamedMade c (rebind text s h k)
+  pub rebinds-alike : (h k : ℕ) → rebind (imageText (smaller image)) (renamed c s) h k ≡ renamedState c (rebind text s h k)
   rebinds-alike h k = rebind-new image sound (allowed .even) text (allowed .accepted) refl s h k stands

@@ -12,25 +12,25 @@ use Rattle.frames.specs.Verdict.{Verdict, fine, next, when}
 use Rattle.frames.specs.Answer.{success}
 use Rattle.frames.proofs.Lent.{Success, lent-told, front}
 use Rattle.charts.specs.Chart.{Chart}
-use Rattle.charts.proofs.Accepted.{Sound, accepted}
+use Rattle.charts.proofs.Accepted.{SoundChart, accepted}
 use Rattle.walk.proofs.Facts.{Facts}
 use Rattle.walk.proofs.FactsHold.{facts}
 use Rattle.image.specs.Image.{Image, Row, imageText}
 use Rattle.image.specs.Decode.{decoded}
-use Rattle.translator.specs.Labels.{label}
-use Rattle.translator.specs.Rows.{rows}
+use Rattle.chart_labels.specs.Labels.{label}
+use Rattle.chart_rows.specs.Rows.{rows}
 use Rattle.translator.specs.Table.{table}
 use Rattle.translator.specs.Entry.{translateVerdict, translate}
 use Rattle.translator.proofs.LabelLaws.{Bearer, bearer, rows-are}
-use Rattle.translator.proofs.Matching.{targets, matching}
+use Rattle.translator.proofs.Matching.{targets, matchingRow}
 use Rattle.translator.proofs.RowLaws.{one-row}
 use Rattle.translator.proofs.SoundTable.{table-sound}
 use Rattle.translator.proofs.Translated.{translated-read, translated-few, translated-fine, translated-image}
-use Rattle.rows.specs.Rows.{isOwn}
+use Rattle.rows.specs.Rows.{isCandidate}
 use Rattle.state.specs.State.{freshState}
 use Rattle.runs.specs.Run.{run}
 use Rattle.rebinding.specs.Rebind.{rebind}
-use Rattle.agreement.specs.Agreement.{chain, Agreement}
+use Rattle.agreement.specs.Agreement.{callOutputs, Agreement}
 use Rattle.agreement.proofs.Images.{translated-passes, translated-decoded}
 use Rattle.agreement.proofs.Demand.{theorem}
 use Rattle.covering.specs.Matched.{hits, uneven}
@@ -42,14 +42,14 @@ use Rattle.minimised.specs.Demand.{Shrunk, SmallerMade, SmallerAgreement
 use Rattle.minimised.proofs.Runs.{calls-new}
 
 -- ---- the table of an accepted chart
-module _ (c : Chart) (a : Sound c) where
+module _ (c : Chart) (a : SoundChart c) where
   table-one-row : OneRow (table c)
   unfolding targets
   table-one-row l w b low high =
       let x : Bearer c (size c) l = bearer c l low high in
-      ap (λ (rs : List Row). length (filter (isOwn l w (pick b 1 0)) rs)) (rows-are c)
-      ∙ ap (λ (k : ℕ). length (filter (isOwn k w (pick b 1 0)) (rows c))) (sym (x .is))
-      ∙ sym (length-map (filter (matching (label c (x .node)) w (pick b 1 0)) (rows c)) (λ (r : Row). r .next))
+      ap (λ (rs : List Row). length (filter (isCandidate l w (pick b 1 0)) rs)) (rows-are c)
+      ∙ ap (λ (k : ℕ). length (filter (isCandidate k w (pick b 1 0)) (rows c))) (sym (x .is))
+      ∙ sym (length-map (filter (matchingRow (label c (x .node)) w (pick b 1 0)) (rows c)) (λ (r : Row). r .next))
       ∙ ap (λ (us : List ℕ). length us) (one-row c a (x .node) w b (x .inside) (x .own))
 
   pub table-even : uneven (table c) ≡ false
@@ -68,7 +68,7 @@ module _ (t : List ℕ) (ok : translateVerdict t ≡ fine) where
   chart-facts : Facts (contents t)
   chart-facts = facts t (translated-read t ok)
 
-  chart-sound : Sound (contents t)
+  chart-sound : SoundChart (contents t)
   chart-sound = accepted t (translated-read t ok) .sound
 
   -- nothing but 16 can refuse it
@@ -124,9 +124,9 @@ smaller-theorem text out n done room m shrunk size some most given =
     let small : take m (minimise im room .buffer) ≡ imageText (smaller (table c)) =
     minimised-image im room m (subst (λ (x : List ℕ). minimise x room .reply ≡ success m) is shrunk)
     ∙ ap (λ (i : Image). imageText (smaller i)) d in
-    ap (λ (x : List ℕ). chain run rebind (take m (minimise x room .buffer)) (freshState size .state) given) is
-    ∙ ap (λ (x : List ℕ). chain run rebind x (freshState size .state) given) small
+    ap (λ (x : List ℕ). callOutputs run rebind (take m (minimise x room .buffer)) (freshState size .state) given) is
+    ∙ ap (λ (x : List ℕ). callOutputs run rebind x (freshState size .state) given) small
     ∙ calls-new (table c) (table-sound c f (translated-few text ok)) (table-even c (chart-sound text ok)) im (translated-passes text ok f) d
     size some most given
-    ∙ sym (ap (λ (x : List ℕ). chain run rebind x (freshState size .state) given) is)
+    ∙ sym (ap (λ (x : List ℕ). callOutputs run rebind x (freshState size .state) given) is)
     ∙ theorem text out n done size some most given

@@ -9,15 +9,15 @@ use lib.ListN.{length, length-map}
 use borrow.Author.Tests.{eqb-true}
 use Rattle.lists.specs.Pick.{pick}
 use Rattle.lists.proofs.Tests.{and-l, not-false}
-use Rattle.bits.specs.Binding.{served}
+use Rattle.bindings.specs.Binding.{served}
 use Rattle.image.specs.Image.{Image, Label}
-use Rattle.image.proofs.Sound.{Sound}
+use Rattle.image.specs.inner.Sound.{SoundImage}
 use Rattle.state.specs.declared.State.{State}
 use Rattle.state.specs.State.{labelAt, placeAt, numberAt, serverAt, Sized}
-use Rattle.fitness.specs.Fitness.{isCall, callable, mayCarry, filledPlace, ofHandler, isOwn, badBottom, badServed}
+use Rattle.fitness.specs.Fitness.{isCall, callable, mayCarry, filledPlace, ofHandler, isOwnBottom, badBottom, badServed}
 use Rattle.fitness.proofs.Fitness.{Fits}
-use Rattle.grouping.proofs.Rounds.{Round}
-use Rattle.group_numbers.specs.Smaller.{renumbered, joined}
+use Rattle.grouping.proofs.Rounds.{ClassRound}
+use Rattle.group_numbers.specs.Smaller.{renumbered, joinedLabels}
 use Rattle.group_numbers.proofs.Numbering.{new-zero, new-inside, label-new, entries-count}
 use Rattle.minimised.specs.Renamed.{renamed}
 use Rattle.minimised.proofs.Renumbered.{same-handler, place-new, one-same}
@@ -30,19 +30,20 @@ sized-new c s z = record {
   servers = z .servers;
 }
 
-module _ (i : Image) (S : Sound i) (c : List ℕ) (R : Round i c) where
+module _ (i : Image) (S : SoundImage i) (c : List ℕ) (R : ClassRound i c) where
   abbrev new : ℕ → ℕ
   new = renumbered c
 
   abbrev small : Image
-  small = joined i c
+  small = joinedLabels i c
 
   -- ---- each test of a state's fitness says the same of the renumbered labels
   callable-new : (k : ℕ) → callable small k ≡ callable i k
   callable-new k = ap (λ (h : ℕ). leb 2 k && leb k h) (entries-count i S c R)
 
   -- label 1, or one of scheme k
-  stands-new : (l k : ℕ) → l < length (i .labels) → (eqb (new l) 1 || eqb (labelAt small (new l) .owner) k) ≡ (eqb l 1 || eqb (labelAt i l .owner) k)
+  stands-new : (l k : ℕ) → l < length (i .labels)
+      → (eqb (new l) 1 || eqb (labelAt small (new l) .owner) k) ≡ (eqb l 1 || eqb (labelAt i l .owner) k)
   stands-new l k h = ap₂ (λ (t : Bool) (x : Label). t || eqb (x .owner) k) (one-same i S c R l h) (label-new i S c R l h)
 
   carry-new : (l h k a : ℕ) → l < length (i .labels) → a < length (i .labels) → mayCarry small (new l) h k (new a) ≡ mayCarry i l h k a
@@ -66,10 +67,11 @@ module _ (i : Image) (S : Sound i) (c : List ℕ) (R : Round i c) where
     bottom-new =
         let l : ℕ = placeAt s 0 in
         let h : l < length (i .labels) = f .labels 0 (f .some) in
-        ap (λ (k : ℕ). not ((eqb (labelAt small k .owner) 1 && isOwn s 1) || (ofHandler small k && isOwn s (small .handler)))) (place-new i S c R s 0)
-        ∙ ap₂ (λ (x : Label) (t : Bool). not ((eqb (x .owner) 1 && isOwn s 1) || (t && isOwn s (small .handler))))
+        ap (λ (k : ℕ). not ((eqb (labelAt small k .owner) 1 && isOwnBottom s 1) || (ofHandler small k && isOwnBottom s (small .handler))))
+        (place-new i S c R s 0)
+        ∙ ap₂ (λ (x : Label) (t : Bool). not ((eqb (x .owner) 1 && isOwnBottom s 1) || (t && isOwnBottom s (small .handler))))
         (label-new i S c R l h) (of-handler-new l h)
-        ∙ ap (λ (g : ℕ). not ((eqb (labelAt i l .owner) 1 && isOwn s 1) || (ofHandler i l && isOwn s g))) (same-handler i S c R)
+        ∙ ap (λ (g : ℕ). not ((eqb (labelAt i l .owner) 1 && isOwnBottom s 1) || (ofHandler i l && isOwnBottom s g))) (same-handler i S c R)
 
     above-new : (k : ℕ) → filledPlace s k ≡ false → filledPlace (renamed c s) k ≡ false
     above-new k e =
@@ -85,10 +87,13 @@ module _ (i : Image) (S : Sound i) (c : List ℕ) (R : Round i c) where
       small = f .small;
       some = f .some;
       most = f .most;
-      labels = λ k h. subst (λ (x : ℕ). x < length (small .labels)) (sym (place-new i S c R s k)) (new-inside i S c R (placeAt s k) (f .labels k h));
+      labels = λ k h. subst (λ (x : ℕ). x < length (small .labels)) (sym (place-new i S c R s k))
+          (new-inside i S c R (placeAt s k) (f .labels k h));
       carries = λ k h.
-          ap₂ (λ (l a : ℕ). mayCarry small l (numberAt s (k + 1)) (serverAt s (k + 1)) a) (place-new i S c R s k) (place-new i S c R s (k + 1))
-          ∙ carry-new (placeAt s k) (numberAt s (k + 1)) (serverAt s (k + 1)) (placeAt s (k + 1)) (f .labels k (omega arith)) (f .labels (k + 1) h)
+          ap₂ (λ (l a : ℕ). mayCarry small l (numberAt s (k + 1)) (serverAt s (k + 1)) a)
+          (place-new i S c R s k) (place-new i S c R s (k + 1))
+          ∙ carry-new (placeAt s k) (numberAt s (k + 1)) (serverAt s (k + 1)) (placeAt s (k + 1))
+          (f .labels k (omega arith)) (f .labels (k + 1) h)
           ∙ f .carries k h;
       bottom = bottom-new ∙ f .bottom;
       above = λ k l h. above-new k (f .above k l h);

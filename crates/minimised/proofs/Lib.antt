@@ -1,6 +1,6 @@
 pub mod Renumbered
 pub mod Fitting
-pub mod Steps
+pub mod SmallerTicks
 pub mod Runs
 pub mod Accepted
 pub mod Charts

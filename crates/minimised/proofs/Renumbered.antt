@@ -8,19 +8,19 @@ use lib.Dec.{eqb}
 use lib.ListN.{length, getD, set, replicate, List·getD-map}
 use borrow.Author.Tests.{ne-eqb}
 use Rattle.lists.specs.Pick.{pick}
-use Rattle.bits.specs.Results.{Results, resultOf}
+use Rattle.results.specs.Results.{Results, resultOf}
 use Rattle.image.specs.Image.{Image, Label}
-use Rattle.image.proofs.Sound.{Sound}
+use Rattle.image.specs.inner.Sound.{SoundImage}
 use Rattle.rows.specs.Rows.{bestRow, Found, found, missing, leads}
 use Rattle.state.specs.declared.State.{State}
-use Rattle.state.specs.State.{noPlaces, only, labelAt, entryAt, placeAt}
-use Rattle.ticks.specs.Tick.{rowOf}
-use Rattle.ticks.proofs.Leads.{Sort, first, second, other, sort}
+use Rattle.state.specs.State.{noPlaces, bottomAlone, labelAt, entryAt, placeAt}
+use Rattle.ticks.specs.Tick.{rowLeads}
+use Rattle.ticks.proofs.Leads.{Sort, homeSort, returnSort, numberedSort, sort}
 use Rattle.covering.proofs.Hits.{OneRow}
 use Rattle.grouping.specs.Classes.{classOf}
-use Rattle.grouping.proofs.Onward.{onward, best-found}
-use Rattle.grouping.proofs.Rounds.{Round}
-use Rattle.group_numbers.specs.Smaller.{renumbered, joined}
+use Rattle.grouping.proofs.Onward.{onwardLabel, best-found}
+use Rattle.grouping.proofs.Rounds.{ClassRound}
+use Rattle.group_numbers.specs.Smaller.{renumbered, joinedLabels}
 use Rattle.group_numbers.proofs.Numbering.{new-zero, new-one, new-high, new-inside, label-new, joined-sound}
 use Rattle.group_numbers.proofs.Led.{one-new, onward-new}
 use Rattle.minimised.specs.Renamed.{renamed}
@@ -34,20 +34,20 @@ map-zeros : (f : ℕ → ℕ) → f 0 ≡ 0 → (k : ℕ) → map f (replicate k
 map-zeros f e zero = refl
 map-zeros f e (suc k) = ap₂ (λ (x : ℕ) (xs : List ℕ). x ∷ xs) e (map-zeros f e k)
 
-module _ (i : Image) (S : Sound i) (c : List ℕ) (R : Round i c) where
+module _ (i : Image) (S : SoundImage i) (c : List ℕ) (R : ClassRound i c) where
   abbrev n : ℕ
   n = length (i .labels)
 
   abbrev new : ℕ → ℕ
   new = renumbered c
 
-  pub same-handler : joined i c .handler ≡ i .handler
-  unfolding joined
+  pub same-handler : joinedLabels i c .handler ≡ i .handler
+  unfolding joinedLabels
   same-handler = refl
 
   -- a number that has no scheme has label 0 for its entry in both
-  pub entry-at : (h : ℕ) → entryAt (joined i c) h ≡ new (entryAt i h)
-  unfolding joined
+  pub entry-at : (h : ℕ) → entryAt (joinedLabels i c) h ≡ new (entryAt i h)
+  unfolding joinedLabels
   entry-at h = ap (λ (d : ℕ). getD (map new (i .entries)) (h - 1) d) (sym (new-zero i S c R)) ∙ List·getD-map new (i .entries) (h - 1) 0
 
   pub place-new : (s : State) (k : ℕ) → placeAt (renamed c s) k ≡ new (placeAt s k)
@@ -56,7 +56,7 @@ module _ (i : Image) (S : Sound i) (c : List ℕ) (R : Round i c) where
   pub nothing-new : map new noPlaces ≡ noPlaces
   nothing-new = map-zeros new (new-zero i S c R) 32
 
-  pub only-new : (l : ℕ) → only (new l) ≡ map new (only l)
+  pub only-new : (l : ℕ) → bottomAlone (new l) ≡ map new (bottomAlone l)
   only-new l = ap (λ (ps : List ℕ). set ps 0 (new l)) (sym nothing-new) ∙ map-set new noPlaces 0 l
 
   -- label 1 alone has number 1
@@ -68,13 +68,13 @@ module _ (i : Image) (S : Sound i) (c : List ℕ) (R : Round i c) where
       ∙ sym (ne-eqb (suc (suc l)) 1 (λ q. omega arith))
 
 -- a label that is neither home nor return
-pub high : (i : Image) → Sound i → (l : ℕ) → l < length (i .labels) → labelAt i l .kind ≤ 2 → 2 ≤ l
+pub high : (i : Image) → SoundImage i → (l : ℕ) → l < length (i .labels) → labelAt i l .kind ≤ 2 → 2 ≤ l
 high i S l h k = go (sort i S l h)
   where
     go : Sort i S l → 2 ≤ l
-    go (first z q o) = absurd (omega arith)
-    go (second z q o) = absurd (omega arith)
-    go (other z q) = z
+    go (homeSort z q o) = absurd (omega arith)
+    go (returnSort z q o) = absurd (omega arith)
+    go (numberedSort z q) = z
 
 -- ---- where a label leads
 abbrev pub renamedFound : List ℕ → Found → Found
@@ -82,21 +82,23 @@ renamedFound c (found u) = found (renumbered c u)
 renamedFound c missing = missing
 
 -- labels of one group lead to one group
-abbrev pub Leads : Image → List ℕ → Type 0
-Leads i c = (l m : ℕ) → l < length (i .labels) → m < length (i .labels) → classOf c l ≡ classOf c m
-    → (w : ℕ) (b : Bool) → classOf c (onward i l w b) ≡ classOf c (onward i m w b)
+abbrev pub GroupLeads : Image → List ℕ → Type 0
+GroupLeads i c = (l m : ℕ) → l < length (i .labels) → m < length (i .labels) → classOf c l ≡ classOf c m
+    → (w : ℕ) (b : Bool) → classOf c (onwardLabel i l w b) ≡ classOf c (onwardLabel i m w b)
 
-module _ (i : Image) (S : Sound i) (one : OneRow i) (d : Results) (l w : ℕ) (low : 2 ≤ l) (h : l < length (i .labels)) where
+module _ (i : Image) (S : SoundImage i) (one : OneRow i) (d : Results) (l w : ℕ) (low : 2 ≤ l) (h : l < length (i .labels)) where
   abbrev bit : Bool
   bit = resultOf (labelAt i l .called) d
 
-  pub row-some : rowOf i d l w ≡ found (onward i l w (resultOf (labelAt i l .called) d))
+  pub row-some : rowLeads i d l w ≡ found (onwardLabel i l w (resultOf (labelAt i l .called) d))
   row-some = best-found i S one l w (resultOf (labelAt i l .called) d) low h 0
 
-  pub row-new : (c : List ℕ) → Round i c → Leads i c → rowOf (joined i c) d (renumbered c l) w ≡ renamedFound c (rowOf i d l w)
+  pub row-new : (c : List ℕ) → ClassRound i c → GroupLeads i c
+      → rowLeads (joinedLabels i c) d (renumbered c l) w ≡ renamedFound c (rowLeads i d l w)
   row-new c R g =
       let k : ℕ = renumbered c l in
-      ap (λ (x : Label). leads (bestRow k w (pick (resultOf (x .called) d) 1 0) 0 (joined i c .rows))) (label-new i S c R l h)
-      ∙ best-found (joined i c) (joined-sound i S c R) (one-new i S c R one) k w bit (new-high i S c R l h low) (new-inside i S c R l h) 0
+      ap (λ (x : Label). leads (bestRow k w (pick (resultOf (x .called) d) 1 0) 0 (joinedLabels i c .rows))) (label-new i S c R l h)
+      ∙ best-found (joinedLabels i c) (joined-sound i S c R) (one-new i S c R one) k w bit
+      (new-high i S c R l h low) (new-inside i S c R l h) 0
       ∙ ap found (onward-new i S c R one g l w bit low h)
       ∙ sym (ap (renamedFound c) row-some)

@@ -4,14 +4,15 @@ use mathlib.Core.Path.{_≡_}
 use mathlib.Core.List.{List}
 use lib.ListN.{length, take}
 use Rattle.frames.specs.Frame.{contents}
-use Rattle.frames.specs.Answer.{success, Lent}
-use Rattle.agreement.specs.Agreement.{Translator, Maker, Runner, Rebinder, Given, chain, walked}
+use Rattle.frames.specs.Answer.{success, BufferOutcome}
+use Rattle.state.specs.Layout.{PLACES}
+use Rattle.agreement.specs.Agreement.{Translator, Maker, Runner, Rebinder, CallInput, callOutputs, walkOutputs}
 
 abbrev pub Minimiser : Type 0
-Minimiser = List ℕ → List ℕ → Lent
+Minimiser = List ℕ → List ℕ → BufferOutcome
 
 -- a smaller image was written, no longer than n characters
-pub record Shrunk (x : Lent) (n : ℕ) : Type 0 where
+pub record Shrunk (x : BufferOutcome) (n : ℕ) : Type 0 where
   pub count : ℕ
   pub done : x .reply ≡ success count
   pub most : count ≤ n
@@ -28,5 +29,5 @@ SmallerAgreement translator minimiser fresh run rebind =
     (text out : List ℕ) (n : ℕ) → translator text out .reply ≡ success n
     → let image = take n (translator text out .buffer) in
     (room : List ℕ) (m : ℕ) → minimiser image room .reply ≡ success m
-    → (size : ℕ) → 1 ≤ size → size ≤ 32 → (given : List Given)
-    → chain run rebind (take m (minimiser image room .buffer)) (fresh size .state) given ≡ walked size (contents text) given
+    → (size : ℕ) → 1 ≤ size → size ≤ PLACES → (given : List CallInput)
+    → callOutputs run rebind (take m (minimiser image room .buffer)) (fresh size .state) given ≡ walkOutputs size (contents text) given

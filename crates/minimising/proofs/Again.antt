@@ -10,35 +10,34 @@ use lib.ListN.{length, getD, take}
 use borrow.Author.Tests.{eqb-true, eq-eqb}
 use Rattle.lists.specs.Pick.{pick}
 use Rattle.lists.specs.Numbers.{range, count}
-use Rattle.lists.specs.Sequences.{filter, over}
+use Rattle.lists.specs.Sequences.{filter, over, All}
 use Rattle.lists.proofs.Tests.{and-l}
 use Rattle.lists.proofs.Counts.{count-alike, count-all}
 use Rattle.lists.proofs.Ranges.{filter-yes, map-places}
 use Rattle.lists.proofs.Filters.{filter-none}
-use Rattle.lists.proofs.Joins.{All, all-places, all-of, all-range}
+use Rattle.lists.proofs.Joins.{all-places, all-of, all-range}
 use Rattle.frames.specs.Frame.{contents}
 use Rattle.frames.specs.Verdict.{Verdict, fine, next, when}
-use Rattle.frames.specs.Answer.{success, lent}
+use Rattle.frames.specs.Answer.{success, bufferOn}
 use Rattle.frames.proofs.Verdicts.{next-first, next-rest, when-fine}
 use Rattle.frames.proofs.Lent.{lent-told, lent-fits, front}
-use Rattle.image.specs.Image.{Image, Row, imageText}
+use Rattle.image.specs.Image.{Image, Row, imageText, noRow}
 use Rattle.image.specs.Decode.{decoded}
 use Rattle.image.specs.Check.{imageVerdict}
-use Rattle.image.proofs.Sound.{noLabel, noRow, SoundRow, Sound}
+use Rattle.image.specs.inner.Sound.{noLabel, SoundRow, SoundImage}
 use Rattle.image.proofs.Accepted.{image-sound}
 use Rattle.image.proofs.Passes.{image-fine}
 use Rattle.image.proofs.Decoded.{image-decoded}
-use Rattle.rows.specs.Rows.{matches, isOwn}
+use Rattle.rows.specs.Rows.{matches, isCandidate}
 use Rattle.state.specs.State.{labelAt}
-use Rattle.covering.specs.Matched.{uneven}
-use Rattle.covering.specs.Sizes.{rowAt}
+use Rattle.covering.specs.Matched.{uneven, rowAt}
 use Rattle.covering.proofs.Hits.{OneRow, one-row}
 use Rattle.grouping.specs.Rule.{Meets}
 use Rattle.grouping.specs.Classes.{classOf, isFirst, grouping}
-use Rattle.grouping.proofs.Onward.{onward, onward-is}
-use Rattle.grouping.proofs.Rounds.{Round, group-round, group-leads}
-use Rattle.grouping.proofs.Coarsest.{within-grouping}
-use Rattle.group_numbers.specs.Smaller.{renumbered, led, joined, smaller}
+use Rattle.grouping.proofs.Onward.{onwardLabel, onward-is}
+use Rattle.grouping.proofs.Rounds.{ClassRound, group-round, group-leads}
+use Rattle.grouping.proofs.Coarsest.{bit-of, within-grouping}
+use Rattle.group_numbers.specs.Smaller.{renumbered, renumberedRow, joinedLabels, smaller}
 use Rattle.minimising.specs.Entry.{minimiseVerdict, minimise}
 use Rattle.group_numbers.proofs.Numbering.{new-inside, label-new, joined-sound}
 use Rattle.group_numbers.proofs.Led.{Member, member, one-new, even-new, onward-new}
@@ -52,7 +51,7 @@ filter-own : {A : Type 0} (p : A → Bool) (xs : List A) → All (λ x. p x ≡ 
 filter-own p [] a = filter-none p
 filter-own p (x ∷ xs) a = filter-yes p x xs (a .0) ∙ ap (λ ys. x ∷ ys) (filter-own p xs (a .1))
 
-module _ (i : Image) (S : Sound i) (c : List ℕ) (alone : (l : ℕ) → l < length (i .labels) → classOf c l ≡ l) where
+module _ (i : Image) (S : SoundImage i) (c : List ℕ) (alone : (l : ℕ) → l < length (i .labels) → classOf c l ≡ l) where
   abbrev n : ℕ
   n = length (i .labels)
 
@@ -66,44 +65,40 @@ module _ (i : Image) (S : Sound i) (c : List ℕ) (alone : (l : ℕ) → l < len
   sound-rows : All (SoundRow i) (i .rows)
   sound-rows = all-places (SoundRow i) noRow (i .rows) (S .each)
 
-  row-own : (r : Row) → SoundRow i r → led c r ≡ r
+  row-own : (r : Row) → SoundRow i r → renumberedRow c r ≡ r
   row-own r x =
       let p : renumbered c (r .from) ≡ r .from = number-own (r .from) (x .high) in
       let q : renumbered c (r .next) ≡ r .next = number-own (r .next) (x .leading .inside) in
       λ j. record { from = p j; care = r .care; values = r .values; bit = r .bit; next = q j }
 
-  pub joined-own : joined i c ≡ i
-  unfolding joined
+  pub joined-own : joinedLabels i c ≡ i
+  unfolding joinedLabels
   joined-own =
       let e : map (renumbered c) (i .entries) ≡ i .entries =
       map-own (renumbered c) (i .entries) (all-places (λ l. renumbered c l ≡ l) 0 (i .entries)
       (λ k h. number-own (getD (i .entries) k 0) (S .starts k h .inside))) in
       let l : map (labelAt i) (filter (isFirst c) (range 0 n)) ≡ i .labels =
-      ap (map (labelAt i)) (filter-own (isFirst c) (range 0 n) (all-range (λ l. isFirst c l ≡ true) 0 n (λ k h. first-own (0 + k) (omega arith))))
+      ap (map (labelAt i)) (filter-own (isFirst c) (range 0 n)
+      (all-range (λ l. isFirst c l ≡ true) 0 n (λ k h. first-own (0 + k) (omega arith))))
       ∙ map-places (labelAt i) noLabel (i .labels) 0 (λ k h. ap (labelAt i) (zero-add k)) in
-      let r : map (led c) (filter (λ r. isFirst c (r .from)) (i .rows)) ≡ i .rows =
-      ap (map (led c)) (filter-own (λ r. isFirst c (r .from)) (i .rows)
+      let r : map (renumberedRow c) (filter (λ r. isFirst c (r .from)) (i .rows)) ≡ i .rows =
+      ap (map (renumberedRow c)) (filter-own (λ r. isFirst c (r .from)) (i .rows)
       (all-of (SoundRow i) (λ r. isFirst c (r .from) ≡ true) (λ r x. first-own (r .from) (x .high)) (i .rows) sound-rows))
-      ∙ map-own (led c) (i .rows) (all-of (SoundRow i) (λ r. led c r ≡ r) row-own (i .rows) sound-rows) in
+      ∙ map-own (renumberedRow c) (i .rows) (all-of (SoundRow i) (λ r. renumberedRow c r ≡ r) row-own (i .rows) sound-rows) in
       λ j. record { handler = i .handler; entries = e j; labels = l j; rows = r j }
 
 -- ---- the labels of the smaller image are alone in their groups
-bit-of : (b : ℕ) → b < 2 → (t : Bool) × (pick t 1 0 ≡ b)
-bit-of zero h = (false, refl)
-bit-of (suc zero) h = (true, refl)
-bit-of (suc (suc b)) h = absurd (omega arith)
-
-module _ (i : Image) (S : Sound i) (even : uneven i ≡ false) where
+module _ (i : Image) (S : SoundImage i) (even : uneven i ≡ false) where
   one : OneRow i
   one = one-row i S even
 
   abbrev c : List ℕ
   c = grouping i
 
-  R : Round i (grouping i)
+  R : ClassRound i (grouping i)
   R = group-round i S one
 
-  pub smaller-sound : Sound (smaller i)
+  pub smaller-sound : SoundImage (smaller i)
   smaller-sound = joined-sound i S (grouping i) R
 
   one′ : OneRow (smaller i)
@@ -115,7 +110,7 @@ module _ (i : Image) (S : Sound i) (even : uneven i ≡ false) where
   abbrev d : List ℕ
   d = grouping (smaller i)
 
-  R′ : Round (smaller i) (grouping (smaller i))
+  R′ : ClassRound (smaller i) (grouping (smaller i))
   R′ = group-round (smaller i) smaller-sound one′
 
   -- groups of the smaller image make a grouping of the given one
@@ -125,15 +120,15 @@ module _ (i : Image) (S : Sound i) (even : uneven i ≡ false) where
   inside : (l : ℕ) → l < length (i .labels) → renumbered (grouping i) l < length (smaller i .labels)
   inside = new-inside i S (grouping i) R
 
-  module _ (l w b k : ℕ) (h : k < length (i .rows)) (own : isOwn l w b (rowAt i k) ≡ true) where
+  module _ (l w b k : ℕ) (h : k < length (i .rows)) (own : isCandidate l w b (rowAt i k) ≡ true) where
     from-is : rowAt i k .from ≡ l
     from-is = eqb-true (rowAt i k .from) l (and-l (eqb (rowAt i k .from) l) (matches w b (rowAt i k)) own)
 
-    next-whole : (t : Bool) → pick t 1 0 ≡ b → whole (rowAt i k .next) ≡ classOf d (onward (smaller i) (renumbered c l) w t)
+    next-whole : (t : Bool) → pick t 1 0 ≡ b → whole (rowAt i k .next) ≡ classOf d (onwardLabel (smaller i) (renumbered c l) w t)
     next-whole t q =
         let low : 2 ≤ l = omega (arith, S .each k h .low, from-is) in
         let high : l < length (i .labels) = omega (arith, S .each k h .high, from-is) in
-        ap whole (sym (onward-is i S one l w t low high k h (subst (λ (x : ℕ). isOwn l w x (rowAt i k) ≡ true) (sym q) own)))
+        ap whole (sym (onward-is i S one l w t low high k h (subst (λ (x : ℕ). isCandidate l w x (rowAt i k) ≡ true) (sym q) own)))
         ∙ ap (classOf d) (sym (onward-new i S (grouping i) R one (group-leads i S one) l w t low high))
 
   whole-meets : Meets i whole
@@ -169,11 +164,11 @@ module _ (i : Image) (S : Sound i) (even : uneven i ≡ false) where
   smaller-decoded = image-decoded (smaller i) smaller-sound
 
 -- ---- an image that is made smaller
-pub record Allowed (t : List ℕ) : Type 0 where
+pub record AllowedImage (t : List ℕ) : Type 0 where
   pub accepted : imageVerdict t ≡ fine
   pub even : uneven (decoded (contents t)) ≡ false
 
-pub minimise-allowed : (t : List ℕ) → minimiseVerdict t ≡ fine → Allowed t
+pub minimise-allowed : (t : List ℕ) → minimiseVerdict t ≡ fine → AllowedImage t
 unfolding minimiseVerdict
 minimise-allowed t e =
     record {

@@ -9,30 +9,30 @@ use Rattle.lists.specs.Sequences.{filter}
 use Rattle.lists.proofs.Counts.{count-le}
 use Rattle.frames.specs.Frame.{contents}
 use Rattle.frames.specs.Verdict.{Verdict, fine}
-use Rattle.frames.specs.Answer.{success, Lent, lent}
+use Rattle.frames.specs.Answer.{success, BufferOutcome, bufferOn}
 use Rattle.frames.proofs.Contents.{any-contents-length}
 use Rattle.frames.proofs.Texts.{text-length}
 use Rattle.frames.proofs.Lent.{lent-told, lent-fits}
 use Rattle.image.specs.Image.{Image, Row, imageFrames, imageText}
 use Rattle.image.specs.Decode.{decoded}
 use Rattle.image.specs.Check.{imageVerdict}
-use Rattle.image.proofs.Sound.{Sound}
-use Rattle.image.proofs.Accepted.{Counted, counted, entries-count, labels-count, rows-count, image-sound, image-table}
+use Rattle.image.specs.inner.Sound.{SoundImage}
+use Rattle.image.proofs.Accepted.{CountedTable, counted, entries-count, labels-count, rows-count, image-sound, image-table}
 use Rattle.image.proofs.Written.{frames-length, image-frames}
 use Rattle.covering.specs.Matched.{uneven}
 use Rattle.covering.proofs.Hits.{one-row}
 use Rattle.grouping.specs.Rule.{Grouping, Meets, groups}
 use Rattle.grouping.specs.Classes.{isFirst, grouping}
-use Rattle.grouping.proofs.Rounds.{Round, group-round}
+use Rattle.grouping.proofs.Rounds.{ClassRound, group-round}
 use Rattle.grouping.proofs.Coarsest.{groups-counted, even-fewest}
-use Rattle.group_numbers.specs.Smaller.{led, joined, smaller}
+use Rattle.group_numbers.specs.Smaller.{renumberedRow, joinedLabels, smaller}
 use Rattle.group_numbers.proofs.Numbering as numbered
 use Rattle.group_numbers.proofs.Numbering.{length-filtered}
 use Rattle.minimising.specs.Entry.{minimiseVerdict, minimise}
-use Rattle.minimising.proofs.Again.{smaller-sound, Allowed, minimise-allowed}
+use Rattle.minimising.proofs.Again.{smaller-sound, AllowedImage, minimise-allowed}
 
-module _ (i : Image) (S : Sound i) (even : uneven i ≡ false) where
-  rounds : Round i (grouping i)
+module _ (i : Image) (S : SoundImage i) (even : uneven i ≡ false) where
+  rounds : ClassRound i (grouping i)
   rounds = group-round i S (one-row i S even)
 
   pub fewest-labels : (g : Grouping) → Meets i g → length (smaller i .labels) ≤ groups g (length (i .labels))
@@ -40,10 +40,10 @@ module _ (i : Image) (S : Sound i) (even : uneven i ≡ false) where
       omega (arith, numbered.labels-count i S (grouping i) rounds, groups-counted i S (one-row i S even), even-fewest i S even g m)
 
   rows-fewer : length (smaller i .rows) ≤ length (i .rows)
-  unfolding joined
+  unfolding joinedLabels
   rows-fewer = omega (
     arith,
-    length-map (filter (λ r. isFirst (grouping i) (r .from)) (i .rows)) (led (grouping i)),
+    length-map (filter (λ r. isFirst (grouping i) (r .from)) (i .rows)) (renumberedRow (grouping i)),
     length-filtered (λ (r : Row). isFirst (grouping i) (r .from)) (i .rows),
   )
 
@@ -64,7 +64,7 @@ module _ (i : Image) (S : Sound i) (even : uneven i ≡ false) where
 frames-all : (t : List ℕ) → imageVerdict t ≡ fine → 23 * length (imageFrames (decoded (contents t))) ≤ length t
 frames-all t e =
     let b : List ℕ = contents t in
-    let c : Counted b = counted b (image-table t e) in
+    let c : CountedTable b = counted b (image-table t e) in
     omega (arith, frames-length (decoded b), entries-count b, labels-count b, rows-count b, c .all, any-contents-length t)
 
 -- where nothing but 16 can refuse it
@@ -74,15 +74,15 @@ module _ (t : List ℕ) (ok : minimiseVerdict t ≡ fine) where
 
   pub never-longer : length small ≤ length t
   never-longer =
-      let a : Allowed t = minimise-allowed t ok in
+      let a : AllowedImage t = minimise-allowed t ok in
       omega (arith, text-shorter (decoded (contents t)) (image-sound t (a .accepted)) (a .even), frames-all t (a .accepted))
 
   -- room for the given text is enough
   pub room-enough : (room : List ℕ) → length t ≤ length room → minimise t room .reply ≡ success (length small / 1)
   unfolding minimise
   room-enough room h =
-      ap (λ (v : Verdict). lent v 1 (λ _. small) room .reply) ok
-      ∙ ap (λ (x : Lent). x .reply) (lent-fits 1 (λ _. small) room (omega (arith, never-longer)))
+      ap (λ (v : Verdict). bufferOn v 1 (λ _. small) room .reply) ok
+      ∙ ap (λ (x : BufferOutcome). x .reply) (lent-fits 1 (λ _. small) room (omega (arith, never-longer)))
 
 pub minimise-shorter : (t room : List ℕ) (m : ℕ) → minimise t room .reply ≡ success m → m ≤ length t
 unfolding minimise

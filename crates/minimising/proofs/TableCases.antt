@@ -7,36 +7,36 @@ use native.Mathlib.Omega.{arith}
 use lib.Dec.{eqb}
 use lib.ListN.{length, getD}
 use Rattle.lists.specs.Numbers.{range, count}
-use Rattle.lists.specs.Sequences.{filter, written}
+use Rattle.lists.specs.Sequences.{filter, written, All}
 use Rattle.lists.proofs.Counts.{count-alike}
 use Rattle.lists.proofs.Ranges.{filter-yes, filter-no}
 use Rattle.lists.proofs.Filters.{filter-none}
-use Rattle.lists.proofs.Joins.{All, all-places, all-of, all-filter, all-range}
+use Rattle.lists.proofs.Joins.{all-places, all-of, all-filter, all-range}
 use Rattle.lists.proofs.Written.{written-front}
 use Rattle.frames.specs.Frame.{size, field}
 use Rattle.frames.specs.Verdict.{Verdict, fine, when}
-use Rattle.frames.specs.Answer.{reply, Lends}
+use Rattle.frames.specs.Answer.{reply, GivesBuffer}
 use Rattle.frames.specs.declared.Answer.{Answer}
 use Rattle.frames.specs.declared.Answer.the-variants.{Done, Refused}
 use Rattle.frames.proofs.Chains.{when-holds, when-fails}
 use Rattle.frames.proofs.Lent.{lent-refused, lent-short, lent-done}
 use Rattle.frames.proofs.Texts.{text-length}
-use Rattle.image.specs.Image.{Image, Row, imageFrames, imageText}
+use Rattle.image.specs.Image.{Image, Row, imageFrames, imageText, noRow}
 use Rattle.image.specs.Decode.{schemeCount, lastLabel, rowCount, rowsFrom, decoded}
-use Rattle.image.proofs.Sound.{noRow, SoundRow, Sound}
+use Rattle.image.specs.inner.Sound.{SoundRow, SoundImage}
 use Rattle.image.proofs.Written.{frames-length, image-frames}
 use Rattle.image.proofs.Accepted.{entries-count, labels-count}
 use Rattle.state.specs.State.{labelAt}
 use Rattle.covering.specs.Matched.{uneven}
 use Rattle.covering.proofs.Hits.{one-row}
 use Rattle.grouping.specs.Classes.{classOf, isFirst, grouping}
-use Rattle.grouping.proofs.Rounds.{Round, group-round}
-use Rattle.group_numbers.specs.Smaller.{renumbered, led, joined, smaller}
-use Rattle.group_numbers.specs.Parts.{Lowest, Numbers}
-use Rattle.group_text.specs.Pieces.{groupsIn, rowsKept, allPieces}
-use Rattle.group_text.specs.Parts.{Numbered}
+use Rattle.grouping.proofs.Rounds.{ClassRound, group-round}
+use Rattle.group_numbers.specs.Smaller.{renumbered, renumberedRow, joinedLabels, smaller}
+use Rattle.group_numbers.specs.inner.NumberContracts.{LowestOfClass, GroupNumbers}
+use Rattle.group_text.specs.inner.Pieces.{groupsIn, rowsKept, allPieces}
+use Rattle.group_text.specs.inner.TextContracts.{NumberedGroups}
 use Rattle.group_text.proofs.PieceLaws.{groups-are, rows-are, entries-are, pieces-are}
-use Rattle.minimising.specs.Parts.{Grouped, smallerLent}
+use Rattle.minimising.specs.inner.MinimisingContracts.{Grouped, smallerOutcome}
 use Rattle.minimising.proofs.Again.{smaller-sound}
 
 map-all : {A B : Type 0} (f g : A → B) (xs : List A) → All (λ x. f x ≡ g x) xs → map f xs ≡ map g xs
@@ -53,11 +53,11 @@ filter-all p q (x ∷ xs) a = go (p x) refl (filter-all p q xs (a .1))
 
 -- ---- write_groups
 -- what is counted before anything is written
-pub record Counts (b buffer numbers : List ℕ) (schemes groups rows : ℕ) : Type 0 where
+pub record CountedFirst (b buffer numbers : List ℕ) (schemes groups rows : ℕ) : Type 0 where
   pub sixteen : schemes ≤ 16
   pub kept : (groups ≡ groupsIn b buffer) × (rows ≡ rowsKept b buffer)
   pub bounds : (1 ≤ groups) × (groups ≤ 256) × (rows ≤ 1024)
-  pub numbered : length numbers ≡ 256 → Numbered b buffer numbers
+  pub numbered : length numbers ≡ 256 → NumberedGroups b buffer numbers
   pub long : length (imageText (smaller (decoded b))) ≡ 23 * (1 + schemes + groups + rows)
   pub text : allPieces b buffer ≡ imageText (smaller (decoded b))
 
@@ -65,10 +65,10 @@ module _ (b buffer : List ℕ) (G : Grouped b buffer) where
   abbrev i : Image
   i = decoded b
 
-  S : Sound (decoded b)
+  S : SoundImage (decoded b)
   S = G .table .image
 
-  R : Round (decoded b) (grouping (decoded b))
+  R : ClassRound (decoded b) (grouping (decoded b))
   R = group-round i S (one-row i S (G .even))
 
   abbrev n : ℕ
@@ -80,7 +80,7 @@ module _ (b buffer : List ℕ) (G : Grouped b buffer) where
   inside : (l : ℕ) → l < n → getD buffer l 0 ≡ classOf c l
   inside l k = G .classes .at l (omega (arith, labels-count b))
 
-  pub buffer-lowest : (last : ℕ) → last ≡ lastLabel b → Lowest buffer (last + 1)
+  pub buffer-lowest : (last : ℕ) → last ≡ lastLabel b → LowestOfClass buffer (last + 1)
   buffer-lowest last e = record {
     below = λ l h. let k : l < n = omega (arith, labels-count b) in omega (arith, inside l k, R .below l k);
     own = λ l h.
@@ -95,7 +95,7 @@ module _ (b buffer : List ℕ) (G : Grouped b buffer) where
   number-same l k = ap (λ (x : ℕ). count (isFirst buffer) 0 x) (inside l k)
       ∙ count-alike (isFirst c) (isFirst buffer) 0 (classOf c l) (λ m x y. first-same m (omega (arith, R .below l k)))
 
-  row-same : (r : Row) → SoundRow i r × (isFirst c (r .from) ≡ true) → led buffer r ≡ led c r
+  row-same : (r : Row) → SoundRow i r × (isFirst c (r .from) ≡ true) → renumberedRow buffer r ≡ renumberedRow c r
   row-same r x =
       let p : renumbered buffer (r .from) ≡ renumbered c (r .from) = number-same (r .from) (x .0 .high) in
       let q : renumbered buffer (r .next) ≡ renumbered c (r .next) = number-same (r .next) (x .0 .leading .inside) in
@@ -104,31 +104,36 @@ module _ (b buffer : List ℕ) (G : Grouped b buffer) where
   sound-rows : All (SoundRow i) (i .rows)
   sound-rows = all-places (SoundRow i) noRow (i .rows) (S .each)
 
-  joined-same : joined i buffer ≡ smaller i
-  unfolding joined
+  joined-same : joinedLabels i buffer ≡ smaller i
+  unfolding joinedLabels
   joined-same =
       let e : map (renumbered buffer) (i .entries) ≡ map (renumbered c) (i .entries) =
       map-all (renumbered buffer) (renumbered c) (i .entries)
-      (all-places (λ l. renumbered buffer l ≡ renumbered c l) 0 (i .entries) (λ k m. number-same (getD (i .entries) k 0) (S .starts k m .inside))) in
+      (all-places (λ l. renumbered buffer l ≡ renumbered c l) 0 (i .entries)
+      (λ k m. number-same (getD (i .entries) k 0) (S .starts k m .inside))) in
       let l : map (labelAt i) (filter (isFirst buffer) (range 0 n)) ≡ map (labelAt i) (filter (isFirst c) (range 0 n)) =
       ap (map (labelAt i)) (filter-all (isFirst buffer) (isFirst c) (range 0 n)
       (all-range (λ l. isFirst buffer l ≡ isFirst c l) 0 n (λ k m. first-same (0 + k) (omega arith)))) in
-      let r : map (led buffer) (filter (λ r. isFirst buffer (r .from)) (i .rows)) ≡ map (led c) (filter (λ r. isFirst c (r .from)) (i .rows)) =
-      ap (map (led buffer)) (filter-all (λ r. isFirst buffer (r .from)) (λ r. isFirst c (r .from)) (i .rows)
-      (all-of (SoundRow i) (λ r. isFirst buffer (r .from) ≡ isFirst c (r .from)) (λ r s. first-same (r .from) (s .high)) (i .rows) sound-rows))
-      ∙ map-all (led buffer) (led c) (filter (λ r. isFirst c (r .from)) (i .rows))
-      (all-of (λ r. SoundRow i r × (isFirst c (r .from) ≡ true)) (λ r. led buffer r ≡ led c r) row-same (filter (λ r. isFirst c (r .from)) (i .rows))
+      let r : map (renumberedRow buffer) (filter (λ r. isFirst buffer (r .from)) (i .rows)) ≡ map
+      (renumberedRow c) (filter (λ r. isFirst c (r .from)) (i .rows)) =
+      ap (map (renumberedRow buffer)) (filter-all (λ r. isFirst buffer (r .from)) (λ r. isFirst c (r .from)) (i .rows)
+      (all-of (SoundRow i) (λ r. isFirst buffer (r .from) ≡ isFirst c (r .from))
+      (λ r s. first-same (r .from) (s .high)) (i .rows) sound-rows))
+      ∙ map-all (renumberedRow buffer) (renumberedRow c) (filter (λ r. isFirst c (r .from)) (i .rows))
+      (all-of (λ r. SoundRow i r × (isFirst c (r .from) ≡ true)) (λ r. renumberedRow buffer r ≡ renumberedRow c r)
+      row-same (filter (λ r. isFirst c (r .from)) (i .rows))
       (all-filter (SoundRow i) (λ r. isFirst c (r .from)) (i .rows) sound-rows)) in
       λ j. record { handler = i .handler; entries = e j; labels = l j; rows = r j }
 
-  sound : Sound (joined i buffer)
-  sound = subst Sound (sym joined-same) (smaller-sound i S (G .even))
+  sound : SoundImage (joinedLabels i buffer)
+  sound = subst SoundImage (sym joined-same) (smaller-sound i S (G .even))
 
   pieces-smaller : allPieces b buffer ≡ imageText (smaller i)
   pieces-smaller = pieces-are b buffer (G .table .all) ∙ ap imageText joined-same
 
-  module _ (numbers : List ℕ) (schemes last first groups rows : ℕ) (e₁ : schemes ≡ schemeCount b) (e₂ : last ≡ lastLabel b) (e₃ : first ≡ rowsFrom b)
-      (N : Numbers buffer numbers (last + 1) groups)
+  module _ (numbers : List ℕ) (schemes last first groups rows : ℕ) (e₁ : schemes ≡ schemeCount b)
+      (e₂ : last ≡ lastLabel b) (e₃ : first ≡ rowsFrom b)
+      (N : GroupNumbers buffer numbers (last + 1) groups)
       (K : (rows ≡ count (λ f. isFirst buffer (field b f 1)) first (size b - first)) × (rows ≤ size b - first)) where
     groups-is : groups ≡ groupsIn b buffer
     groups-is = N .is ∙ ap (λ (x : ℕ). count (isFirst buffer) 0 (x + 1)) e₂
@@ -154,8 +159,8 @@ module _ (b buffer : List ℕ) (G : Grouped b buffer) where
     unfolding imageText
     smaller-long =
         ap (λ (j : Image). length (imageText j)) (sym joined-same)
-        ∙ text-length (imageFrames (joined i buffer)) (image-frames (joined i buffer) sound)
-        ∙ ap (λ (m : ℕ). 23 * m) (frames-length (joined i buffer)
+        ∙ text-length (imageFrames (joinedLabels i buffer)) (image-frames (joinedLabels i buffer) sound)
+        ∙ ap (λ (m : ℕ). 23 * m) (frames-length (joinedLabels i buffer)
         ∙ omega (
           arith,
           entries-are b buffer (G .table .all),
@@ -165,7 +170,7 @@ module _ (b buffer : List ℕ) (G : Grouped b buffer) where
           rows-is,
         ))
 
-    pub counts : Counts b buffer numbers schemes groups rows
+    pub counts : CountedFirst b buffer numbers schemes groups rows
     counts = record {
       sixteen = omega (arith, entries-count b, S .most);
       kept = (groups-is, rows-is);
@@ -175,16 +180,17 @@ module _ (b buffer : List ℕ) (G : Grouped b buffer) where
       text = pieces-smaller;
     }
 
-module _ (b buffer numbers : List ℕ) (schemes groups rows : ℕ) (C : Counts b buffer numbers schemes groups rows) (old : List ℕ) where
-  pub smaller-short : length old < 23 * (1 + schemes + groups + rows) → (a : Answer) → a ≡ Refused 16 0 0 → Lends (smallerLent b fine old) a old
-  smaller-short g a e = subst (λ (x : Answer). Lends (smallerLent b fine old) x old) (sym e)
+module _ (b buffer numbers : List ℕ) (schemes groups rows : ℕ) (C : CountedFirst b buffer numbers schemes groups rows) (old : List ℕ) where
+  pub smaller-short : length old < 23 * (1 + schemes + groups + rows) → (a : Answer)
+      → a ≡ Refused 16 0 0 → GivesBuffer (smallerOutcome b fine old) a old
+  smaller-short g a e = subst (λ (x : Answer). GivesBuffer (smallerOutcome b fine old) x old) (sym e)
       (lent-short fine 1 (λ _. imageText (smaller (decoded b))) old refl (omega (arith, C .long)))
 
   pub pieces-room : 23 * (1 + schemes + groups + rows) ≤ length old → length (allPieces b buffer) ≤ length old
   pieces-room g = omega (arith, ap (λ (xs : List ℕ). length xs) (C .text), C .long)
 
   pub smaller-done : 23 * (1 + schemes + groups + rows) ≤ length old → (out : List ℕ) → out ≡ written old 0 (allPieces b buffer)
-      → Lends (smallerLent b fine old) (Done (23 * (1 + schemes + groups + rows))) out
+      → GivesBuffer (smallerOutcome b fine old) (Done (23 * (1 + schemes + groups + rows))) out
   smaller-done g out e =
       let m : length (imageText (smaller (decoded b))) ≡ 23 * (1 + schemes + groups + rows) = C .long in
       lent-done fine 1 (λ _. imageText (smaller (decoded b))) old refl (omega arith) (23 * (1 + schemes + groups + rows)) (omega arith) out
@@ -192,11 +198,13 @@ module _ (b buffer numbers : List ℕ) (schemes groups rows : ℕ) (C : Counts b
 
 -- ---- minimise_table: 23 applies, or not
 module _ (b : List ℕ) (t : Bool) (told : t ≡ uneven (decoded b)) (old : List ℕ) where
-  pub uneven-refused : t ≡ true → (a : Answer) → a ≡ Refused 23 0 0 → Lends (smallerLent b (when 23 (uneven (decoded b))) old) a old
+  pub uneven-refused : t ≡ true → (a : Answer) → a ≡ Refused 23 0 0
+      → GivesBuffer (smallerOutcome b (when 23 (uneven (decoded b))) old) a old
   uneven-refused z a e =
       lent-refused (when 23 (uneven (decoded b))) 1 (λ _. imageText (smaller (decoded b))) old 23 0
       (when-holds 23 (uneven (decoded b)) (sym told ∙ z)) a (ap reply e)
 
-  pub even-on : t ≡ false → (a : Answer) (out : List ℕ) → Lends (smallerLent b fine old) a out
-      → Lends (smallerLent b (when 23 (uneven (decoded b))) old) a out
-  even-on z a out x = subst (λ (v : Verdict). Lends (smallerLent b v old) a out) (sym (when-fails 23 (uneven (decoded b)) (sym told ∙ z))) x
+  pub even-on : t ≡ false → (a : Answer) (out : List ℕ) → GivesBuffer (smallerOutcome b fine old) a out
+      → GivesBuffer (smallerOutcome b (when 23 (uneven (decoded b))) old) a out
+  even-on z a out x = subst (λ (v : Verdict). GivesBuffer (smallerOutcome b v old) a out)
+      (sym (when-fails 23 (uneven (decoded b)) (sym told ∙ z))) x

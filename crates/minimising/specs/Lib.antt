@@ -1,2 +1,2 @@
 pub mod Entry
-pub mod Parts
+pub mod inner

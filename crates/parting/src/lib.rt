@@ -1,23 +1,26 @@
 // Whether rows of two labels part them: they match one word and bit and lead to different classes.
 use covering::are_together;
 use image::byte;
+use image::layout::NEXT;
 use rows::end_of;
 use rows::first_of;
 ghost use mathlib.Core.Bool.{_&&_};
 ghost use mathlib.Core.Path.{_≡_};
 ghost use Prim.Native.Nat.{_≤_, _<_};
 ghost use lib.ListN.{length, getD};
+ghost use Rattle.frames.specs.Sizes.{LABELS};
 ghost use Rattle.frames.specs.Frame.{size, field};
-ghost use Rattle.tables.specs.Labels.{Framed};
-ghost use Rattle.grouping.specs.Parts.{partsIn, partsAny, isMarked, partedBy, partedOn, Marks};
+ghost use Rattle.tables.specs.inner.Labels.{Framed};
+ghost use Rattle.grouping.specs.inner.GroupingContracts.{partsIn, partsAny, isMarked, partedBy, partedOn, Marks};
+ghost use Rattle.image.specs.Layout.{NEXT};
 
 // Whether the rows in frames f and g part their labels; the one in f leads to that class. Classes are compared first: that decides soonest.
 fn parts(table: &[u8], classes: &[u8], class: u8, f: usize, g: usize) -> bool
     requires { ⌜ (f < size (now table)) × (g < size (now table)) ⌝ }
-    requires { ⌜ (length (now classes) ≡ 256) × (class ≡ getD (now classes) (field (now table) f 7) 0) ⌝ }
+    requires { ⌜ (length (now classes) ≡ LABELS) × (class ≡ getD (now classes) (field (now table) f NEXT) 0) ⌝ }
     ensures { λ r. ⌜ r ≡ partsIn (now (table .entry)) (now (classes .entry)) f g ⌝ }
 {
-    let next = byte(table, g, 7) as usize;
+    let next = byte(table, g, NEXT) as usize;
     if class == classes[next] {
         return false;
     }
@@ -27,10 +30,10 @@ fn parts(table: &[u8], classes: &[u8], class: u8, f: usize, g: usize) -> bool
 // Whether the row in frame f parts its label from the one whose rows stand from frame first up to end.
 fn parts_any(table: &[u8], classes: &[u8], f: usize, first: usize, end: usize) -> bool
     requires { ⌜ (f < size (now table)) × (end ≤ size (now table)) ⌝ }
-    requires { ⌜ length (now classes) ≡ 256 ⌝ }
+    requires { ⌜ length (now classes) ≡ LABELS ⌝ }
     ensures { λ r. ⌜ r ≡ partsAny (now (table .entry)) (now (classes .entry)) f first end ⌝ }
 {
-    let next = byte(table, f, 7) as usize;
+    let next = byte(table, f, NEXT) as usize;
     let class = classes[next];
     let mut g = first;
     while g < end {
@@ -53,11 +56,11 @@ fn parts_marked(
     end: usize,
 ) -> bool
     requires { ⌜ (f < size (now table)) × (end ≤ size (now table)) ⌝ }
-    requires { ⌜ (length (now classes) ≡ 256) × (length (now marks) ≡ 256) ⌝ }
+    requires { ⌜ (length (now classes) ≡ LABELS) × (length (now marks) ≡ LABELS) ⌝ }
     ensures { λ r. ⌜ r ≡ (isMarked (now (table .entry)) (now (marks .entry)) least f
         && partsAny (now (table .entry)) (now (classes .entry)) f first end) ⌝ }
 {
-    let next = byte(table, f, 7) as usize;
+    let next = byte(table, f, NEXT) as usize;
     if marks[next] < least {
         return false;
     }
@@ -75,8 +78,8 @@ fn are_parted_by(
     m: usize,
     l: usize,
 ) -> bool
-    requires { ⌜ (Framed (now table) schemes m) × (Framed (now table) schemes l) × (m < 256) × (1 ≤ least) ⌝ }
-    requires { ⌜ (length (now classes) ≡ 256) × (Marks (now table) (now classes) (now marks) (now touched)) ⌝ }
+    requires { ⌜ (Framed (now table) schemes m) × (Framed (now table) schemes l) × (m < LABELS) × (1 ≤ least) ⌝ }
+    requires { ⌜ (length (now classes) ≡ LABELS) × (Marks (now table) (now classes) (now marks) (now touched)) ⌝ }
     ensures { λ r. ⌜ r ≡ partedBy (now (table .entry)) (now (classes .entry)) (now (marks .entry)) least m l ⌝ }
 {
     if touched[m] == 0 {
@@ -105,9 +108,9 @@ pub fn are_parted(
     m: usize,
     l: usize,
 ) -> bool
-    requires { ⌜ (Framed (now table) schemes m) × (Framed (now table) schemes l) × (m < 256) × (l < 256) ⌝ }
+    requires { ⌜ (Framed (now table) schemes m) × (Framed (now table) schemes l) × (m < LABELS) × (l < LABELS) ⌝ }
     requires { ⌜ getD (now classes) m 0 ≡ getD (now classes) l 0 ⌝ }
-    requires { ⌜ (length (now classes) ≡ 256) × (Marks (now table) (now classes) (now marks) (now touched)) ⌝ }
+    requires { ⌜ (length (now classes) ≡ LABELS) × (Marks (now table) (now classes) (now marks) (now touched)) ⌝ }
     ensures { λ r. ⌜ r ≡ partedOn (now (table .entry)) (now (classes .entry)) m l ⌝ }
 {
     if are_parted_by(table, schemes, classes, marks, touched, 1, m, l) {

@@ -24,7 +24,7 @@ use Rattle.chart_rows.specs.Rows.{rows}
 use Rattle.translator.specs.Entry.{translateVerdict}
 use Rattle.translator.proofs.EntrySteps.{read-no, Read, read-ready}
 use Rattle.chains.specs.Calls.{circular, places}
-use Rattle.chains.specs.Masks.{longestChain}
+use Rattle.chains.specs.inner.Masks.{longestChain}
 use Rattle.chains.proofs.Longest.{places-some}
 use Rattle.places.specs.Entry.{placesVerdict, placesNeeded}
 
@@ -42,7 +42,8 @@ module _ (c : Chart) (f : Facts c) (n : ℕ) (e : n ≡ longestChain c) where
   circle-when b q = e ∙ ap (λ (b : Bool). pick b 0 (places c)) q
 
   longest-zero : n ≡ 0 → circular c ≡ true
-  longest-zero z = ⊎-elim (λ q. q) (λ (q : circular c ≡ false). absurd (omega (arith, circle-when false q, places-some c f q))) (cases (circular c))
+  longest-zero z = ⊎-elim (λ q. q) (λ (q : circular c ≡ false). absurd (omega (arith, circle-when false q, places-some c f q)))
+      (cases (circular c))
 
   longest-some : (n ≡ 0 → ⊥) → (circular c ≡ false) × (n ≡ places c)
   longest-some z = ⊎-elim (λ (q : circular c ≡ true). absurd (z (circle-when true q))) (λ q. (q, circle-when false q)) (cases (circular c))
@@ -57,7 +58,8 @@ module _ (t : List ℕ) where
   unfolding placesVerdict
   refused-before k i e = refused-by k i (next-refused (translateVerdict t) (λ _. when 20 (circular (contents t))) k i e)
 
-  pub needed-unread : (zeros : List ℕ) → 2560 ≤ length zeros → (a : Answer) → reply a ≡ readChart t zeros .reply → (k i m : ℕ) → a ≡ Refused k i m
+  pub needed-unread : (zeros : List ℕ) → 2560 ≤ length zeros → (a : Answer)
+      → reply a ≡ readChart t zeros .reply → (k i m : ℕ) → a ≡ Refused k i m
       → reply a ≡ placesNeeded t
   unfolding translateVerdict
   needed-unread zeros room a e k i m q =

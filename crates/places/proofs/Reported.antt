@@ -6,9 +6,9 @@ use mathlib.Core.List.{List}
 use native.Mathlib.Omega.{arith}
 use Rattle.frames.specs.Frame.{contents}
 use Rattle.frames.specs.Verdict.{Verdict, fine, refused, next, when}
-use Rattle.frames.specs.Answer.{success, refusal, number, count, judged}
+use Rattle.frames.specs.Answer.{success, refusal, replyNumber, replyCount, judged}
 use Rattle.frames.proofs.Chains.{next-on}
-use Rattle.frames.proofs.Refuses.{Refuses}
+use Rattle.frames.proofs.Refuses.{RefusesWith}
 use Rattle.frames.proofs.Verdicts.{next-first, next-rest, when-fine}
 use Rattle.charts.specs.Chart.{Chart}
 use Rattle.walk.proofs.Facts.{Facts}
@@ -21,10 +21,10 @@ use Rattle.chains.specs.Chains.{Circle, Longest}
 use Rattle.chains.proofs.Longest.{chain-some, chain-few, no-longer, as-long}
 use Rattle.chains.proofs.Circles.{circle-told, circle-refused}
 use Rattle.places.specs.Entry.{placesVerdict, placesNeeded}
-use Rattle.places.specs.Reported.{Reported}
+use Rattle.places.specs.inner.Reported.{Reported}
 
 judged-done : (v : Verdict) (m n : ℕ) → judged v m ≡ success n → (v ≡ fine) × (n ≡ m)
-judged-done fine m n e = (refl, sym (ap count e))
+judged-done fine m n e = (refl, sym (ap replyCount e))
 judged-done (refused k i) m n e = absurd (let z : _≡_ {A = ℕ} 0 1 = cc in omega arith)
 
 module _ (text : List ℕ) where
@@ -43,7 +43,8 @@ module _ (text : List ℕ) where
 
     pub needed-calm : circular (contents text) ≡ false
     unfolding placesVerdict
-    needed-calm = when-fine 20 (circular (contents text)) (next-rest (translateVerdict text) (λ _. when 20 (circular (contents text))) (verdict-fine .0))
+    needed-calm = when-fine 20 (circular (contents text))
+        (next-rest (translateVerdict text) (λ _. when 20 (circular (contents text))) (verdict-fine .0))
 
     pub needed-facts : Facts (contents text)
     needed-facts = facts text (translated-read text needed-translates)
@@ -60,10 +61,10 @@ module _ (text : List ℕ) where
         (chain-some (contents text) (l .chain), chain-few (contents text) needed-facts needed-calm n (l .end) (l .chain))
 
   -- ---- 20
-  circle-by : (v : Verdict) → Refuses OfChart v → (b : Bool) (m : ℕ) → judged (next v λ _. when 20 b) m ≡ refusal 20 0 0 → b ≡ true
+  circle-by : (v : Verdict) → RefusesWith OfChart v → (b : Bool) (m : ℕ) → judged (next v λ _. when 20 b) m ≡ refusal 20 0 0 → b ≡ true
   circle-by fine p true m e = refl
-  circle-by fine p false m e = absurd (let z : _≡_ {A = ℕ} 0 20 = ap number e in omega arith)
-  circle-by (refused k i) p b m e = absurd (let z : k ≡ 20 = ap number e in omega (arith, p))
+  circle-by fine p false m e = absurd (let z : _≡_ {A = ℕ} 0 20 = ap replyNumber e in omega arith)
+  circle-by (refused k i) p b m e = absurd (let z : k ≡ 20 = ap replyNumber e in omega (arith, p))
 
   needed-circle : placesNeeded text ≡ refusal 20 0 0 → Circle (contents text)
   unfolding placesNeeded placesVerdict

@@ -10,24 +10,26 @@ use Rattle.state.proofs.ResultBytes.{fresh-held}
 use Rattle.priced_runs.proofs.EntryCases.{priced-held}
 use Rattle.agreement.proofs.ForC.{returned-0}
 use Rattle.agreement.proofs.OneCallC.{LikeC, call-like}
-use Rattle.priced.specs.Demand.{PricedGiven, asks, prices, chain, PricedAgreement}
-use Rattle.priced.specs.ForC.{PricedHandedC, tells, byPricedRun, pricedHandedC, PricedCallsC, none, asked, priced, PricedDeliveredC}
+use Rattle.priced.specs.Demand.{PricedInput, unpriced, toPricedRun, pricedOutputs, PricedAgreement}
+use Rattle.priced.specs.ForC.{PricedOutputC, byUnpricedC, byPricedRunC, pricedOutputC}
+use Rattle.priced.specs.ForC.{PricedCallsInTurnC, none, unpricedCall, pricedCall, PricedDeliveredC}
 use Rattle.priced.proofs.Charts.{priced-theorem}
-use Rattle.priced.proofs.Delivered.{made, chain-asked}
+use Rattle.priced.proofs.Delivered.{madeOutputs, chain-asked}
 
 -- after each call the bytes hold the state that the same call on states hands back
-pub calls-chain : (image bytes : List ℕ) (given : List PricedGiven) (handed : List PricedHandedC) → PricedCallsC image bytes given handed
-    → handed ≡ map pricedHandedC (made image (stateOf bytes) given)
-unfolding chain
+pub calls-chain : (image bytes : List ℕ) (given : List PricedInput) (handed : List PricedOutputC)
+    → PricedCallsInTurnC image bytes given handed
+    → handed ≡ map pricedOutputC (madeOutputs image (stateOf bytes) given)
+unfolding pricedOutputs
 calls-chain image bytes [] [] none = refl
-calls-chain image bytes (asks g ∷ rest) (tells d ∷ handed) (asked {after = after} c cs) =
+calls-chain image bytes (unpriced g ∷ rest) (byUnpricedC d ∷ handed) (unpricedCall {after = after} c cs) =
     let like : LikeC image bytes g d after = call-like image bytes c in
-    ap₂ (λ (x : PricedHandedC) (l : List PricedHandedC). x ∷ l) (ap tells (like .handed-is))
-    (calls-chain image after rest handed cs ∙ ap (λ (s : State). map pricedHandedC (made image s rest)) (like .state-is))
-    ∙ sym (ap (map pricedHandedC) (chain-asked image (stateOf bytes) g rest))
-calls-chain image bytes (prices list a ∷ rest) (byPricedRun t cents ∷ handed) (priced {after = after} c cs) =
-    ap₂ (λ (x : PricedHandedC) (l : List PricedHandedC). x ∷ l)
-    (λ j. byPricedRun (record {
+    ap₂ (λ (x : PricedOutputC) (l : List PricedOutputC). x ∷ l) (ap byUnpricedC (like .handed-is))
+    (calls-chain image after rest handed cs ∙ ap (λ (s : State). map pricedOutputC (madeOutputs image s rest)) (like .state-is))
+    ∙ sym (ap (map pricedOutputC) (chain-asked image (stateOf bytes) g rest))
+calls-chain image bytes (toPricedRun list a ∷ rest) (byPricedRunC t cents ∷ handed) (pricedCall {after = after} c cs) =
+    ap₂ (λ (x : PricedOutputC) (l : List PricedOutputC). x ∷ l)
+    (λ j. byPricedRunC (record {
       number = c .told .number-is j;
       index = c .told .index-is j;
       count = c .told .count-is j;
@@ -35,13 +37,13 @@ calls-chain image bytes (prices list a ∷ rest) (byPricedRun t cents ∷ handed
       codes = c .codes j;
     }) (c .price j))
     (calls-chain image after rest handed cs
-    ∙ ap (λ (s : State). map pricedHandedC (made image s rest))
+    ∙ ap (λ (s : State). map pricedOutputC (madeOutputs image s rest))
     (ap stateOf (c .bytes) ∙ priced-held image bytes list (a .words) (a .masks) (a .codes)))
 
 pub priced-delivered-c : PricedDeliveredC
 unfolding PricedDeliveredC PricedAgreement
 priced-delivered-c text before after at n c size low high returned at′ m bytes x given handed cs =
     calls-chain (take n after) bytes given handed cs
-    ∙ ap (λ (s : State). map pricedHandedC (made (take n after) s given)) (ap stateOf (x .bytes) ∙ fresh-held size)
-    ∙ ap (λ (b : List ℕ). map pricedHandedC (made (take n b) (freshState size .state) given)) (c .written)
-    ∙ ap (map pricedHandedC) (priced-theorem text before n (returned-0 text before after at n c) size low high given)
+    ∙ ap (λ (s : State). map pricedOutputC (madeOutputs (take n after) s given)) (ap stateOf (x .bytes) ∙ fresh-held size)
+    ∙ ap (λ (b : List ℕ). map pricedOutputC (madeOutputs (take n b) (freshState size .state) given)) (c .written)
+    ∙ ap (map pricedOutputC) (priced-theorem text before n (returned-0 text before after at n c) size low high given)

@@ -8,15 +8,16 @@ use lib.ListN.{length, take, drop, length-append}
 use borrow.Author.Tests.{le-ltb}
 use Rattle.frames.specs.Frame.{contents}
 use Rattle.frames.specs.Verdict.{Verdict, fine, refused, next, when}
-use Rattle.frames.specs.Answer.{replied, count}
+use Rattle.frames.specs.Answer.{replied, replyCount}
 use Rattle.frames.proofs.Lent.{front}
+use Rattle.frames.proofs.Chains.{replied-count}
 use Rattle.image.specs.Image.{Image}
 use Rattle.image.specs.Decode.{decoded}
 use Rattle.image.specs.Check.{imageVerdict}
 use Rattle.state.specs.declared.State.{State}
 use Rattle.fitness.specs.Fitness.{unfit}
-use Rattle.ticks.specs.Tick.{Ticked, ticked, stopped, tick}
-use Rattle.runs.specs.Run.{Ran, then, ticks, Run, noRoom, runOn, runVerdict, run}
+use Rattle.ticks.specs.Tick.{MachineTick, finished, stopped, tick}
+use Rattle.runs.specs.Run.{MachineRun, then, ticks, RunOutcome, noRoom, runOn, runVerdict, run}
 use Rattle.prices.specs.Prices.{hundredths, price}
 use Rattle.priced_runs.specs.PricedRun.{inTurn, pricedVerdict, priceOn, pricedRun}
 
@@ -25,10 +26,11 @@ pub does-all : (t : List ℕ) (s : State) (prices words masks codes : List ℕ) 
     → pricedRun t s prices words masks codes .run ≡ run t s words masks codes
 unfolding pricedRun pricedVerdict run runVerdict
 does-all t s prices words masks codes l =
-    ap (λ (b : Bool). made (inTurn (imageVerdict t) (unfit (decoded (contents t)) s) b (noRoom words masks codes))) (le-ltb 65536 (length words) l)
+    ap (λ (b : Bool). made (inTurn (imageVerdict t) (unfit (decoded (contents t)) s) b (noRoom words masks codes)))
+    (le-ltb 65536 (length words) l)
     ∙ go (imageVerdict t) (unfit (decoded (contents t)) s) (noRoom words masks codes)
   where
-    made : Verdict → Run
+    made : Verdict → RunOutcome
     made v = runOn v (λ _. ticks (decoded (contents t)) s words) s masks codes
 
     go : (v : Verdict) (u r : Bool) → made (inTurn v u false r) ≡ made (next v λ _. next (when 15 u) λ _. when 16 r)
@@ -43,9 +45,9 @@ unfolding ticks
 same-count i [] s = refl
 same-count i (w ∷ ws) s = go (tick i s w) (same-count i ws)
   where
-    go : (t : Ticked) → ((u : State) → length (ticks i u ws .masks) ≡ length (ticks i u ws .codes))
+    go : (t : MachineTick) → ((u : State) → length (ticks i u ws .masks) ≡ length (ticks i u ws .codes))
         → length (then s (λ u. ticks i u ws) t .masks) ≡ length (then s (λ u. ticks i u ws) t .codes)
-    go (ticked m code u) ih = ap suc (ih u)
+    go (finished m code u) ih = ap suc (ih u)
     go (stopped n) ih = refl
 
 -- at most one tick a word
@@ -54,17 +56,14 @@ unfolding ticks
 ticks-most i [] s = omega arith
 ticks-most i (w ∷ ws) s = go (tick i s w) (ticks-most i ws)
   where
-    go : (t : Ticked) → ((u : State) → length (ticks i u ws .codes) ≤ length ws) → length (then s (λ u. ticks i u ws) t .codes) ≤ suc (length ws)
-    go (ticked m code u) ih = omega (arith, ih u)
+    go : (t : MachineTick) → ((u : State) → length (ticks i u ws .codes) ≤ length ws)
+        → length (then s (λ u. ticks i u ws) t .codes) ≤ suc (length ws)
+    go (finished m code u) ih = omega (arith, ih u)
     go (stopped n) ih = omega arith
-
-pub replied-count : (v : Verdict) (n : ℕ) → count (replied v n) ≡ n
-replied-count fine n = refl
-replied-count (refused k i) n = refl
 
 -- what is counted is in the buffer, and no more than the words
 pub run-count : (t : List ℕ) (s : State) (ws ms ks : List ℕ)
-    → let r = run t s ws ms ks in (count (r .reply) ≤ length (r .masks)) × (count (r .reply) ≤ length ws)
+    → let r = run t s ws ms ks in (replyCount (r .reply) ≤ length (r .masks)) × (replyCount (r .reply) ≤ length ws)
 unfolding run
 run-count t s ws ms ks =
     go (runVerdict t s ws ms ks) (ticks i s ws) (same-count i ws s) (ticks-most i ws s)
@@ -72,11 +71,12 @@ run-count t s ws ms ks =
     i : Image
     i = decoded (contents t)
 
-    go : (v : Verdict) (r : Ran) → length (r .masks) ≡ length (r .codes) → length (r .codes) ≤ length ws
-        → let x = runOn v (λ _. r) s ms ks in (count (x .reply) ≤ length (x .masks)) × (count (x .reply) ≤ length ws)
+    go : (v : Verdict) (r : MachineRun) → length (r .masks) ≡ length (r .codes) → length (r .codes) ≤ length ws
+        → let x = runOn v (λ _. r) s ms ks in (replyCount (x .reply) ≤ length (x .masks)) × (replyCount (x .reply) ≤ length ws)
     go (refused k j) r e l = (omega arith, omega arith)
     go fine r e l =
-        let n : count (replied (r .verdict) (length (r .codes))) ≡ length (r .codes) = replied-count (r .verdict) (length (r .codes)) in
+        let n : replyCount (replied (r .verdict) (length (r .codes))) ≡ length (r .codes) =
+        replied-count (r .verdict) (length (r .codes)) in
         (omega (arith, n, e, length-append (r .masks) (drop (length (r .masks)) ms)), omega (arith, n, l))
 
 pub no-price : (prices : List ℕ) → price prices [] ≡ 0
@@ -84,17 +84,17 @@ unfolding hundredths
 no-price prices = refl
 
 module _ (prices : List ℕ) (s : State) (masks codes : List ℕ) where
-  masks-by : (v : Verdict) (r : Ran) → length (r .masks) ≡ length (r .codes)
+  masks-by : (v : Verdict) (r : MachineRun) → length (r .masks) ≡ length (r .codes)
       → priceOn prices v (λ _. r)
-      ≡ price prices (take (count (runOn v (λ _. r) s masks codes .reply)) (runOn v (λ _. r) s masks codes .masks))
+      ≡ price prices (take (replyCount (runOn v (λ _. r) s masks codes .reply)) (runOn v (λ _. r) s masks codes .masks))
   masks-by (refused k i) r e = sym (no-price prices)
   masks-by fine r e =
-      let n : ℕ = count (replied (r .verdict) (length (r .codes))) in
+      let n : ℕ = replyCount (replied (r .verdict) (length (r .codes))) in
       ap (price prices) (sym (front n (r .masks) masks (replied-count (r .verdict) (length (r .codes)) ∙ sym e)))
 
 -- the price is that of the masks written, as many as the answer counts
 pub by-the-masks : (t : List ℕ) (s : State) (prices words masks codes : List ℕ) → let r = pricedRun t s prices words masks codes in
-    r .price ≡ price prices (take (count (r .run .reply)) (r .run .masks))
+    r .price ≡ price prices (take (replyCount (r .run .reply)) (r .run .masks))
 unfolding pricedRun
 by-the-masks t s prices words masks codes =
     masks-by prices s masks codes (pricedVerdict t s words masks codes) (ticks (decoded (contents t)) s words)

@@ -1,25 +1,27 @@
 // A run with a price: all that a run does, of at most 65,536 words, and what its finished ticks cost by a price list.
 use frames::Answer;
+use frames::refusals::MANY_WORDS;
 use frames::refused;
 use machine::run_bytes;
 use prices::price_of;
 use state::State;
+use state::layout::STATE_BYTES;
 use state_bytes::bytes_of;
 use state_bytes::state_of;
 ghost use mathlib.Core.Path.{_≡_};
-ghost use Rattle.frames.specs.Answer.{reply, count, judged};
+ghost use Rattle.frames.specs.Answer.{reply, replyCount, judged};
 ghost use Rattle.state.specs.Bytes.{stateOf};
-ghost use Rattle.priced_runs.specs.PricedRun.{manyVerdict, pricedRun, PricedRuns};
-ghost use Rattle.priced_runs.specs.InPlace.{PricedOn};
+ghost use Rattle.priced_runs.specs.PricedRun.{manyVerdict, pricedRun, GivesPricedRun};
+ghost use Rattle.priced_runs.specs.InPlace.{GivesPricedRunOn};
 
 // What a run on the bytes of a state answers, and its price in cents: 0 with every refusal but 17 and 18.
-pub struct Priced {
+pub struct PricedReport {
     pub answer: Answer,
     pub price: u64,
 }
 
 // The same, and the state after it.
-pub struct PricedAnswer {
+pub struct PricedStateReport {
     pub answer: Answer,
     pub state: State,
     pub price: u64,
@@ -27,7 +29,7 @@ pub struct PricedAnswer {
 
 // How many ticks were finished.
 fn count_of(answer: Answer) -> usize
-    ensures { λ r. ⌜ r ≡ count (reply answer) ⌝ }
+    ensures { λ r. ⌜ r ≡ replyCount (reply answer) ⌝ }
 {
     match answer {
         Answer::Done(count) => count,
@@ -40,7 +42,7 @@ fn count_of(answer: Answer) -> usize
 }
 
 // The answer to more words than are priced: what refuses a run of no words, or 27. It runs on a copy, since a run tidies the bytes.
-fn refuse_many(image: &[u8], bytes: &[u8; 130]) -> Answer
+fn refuse_many(image: &[u8], bytes: &[u8; STATE_BYTES]) -> Answer
     ensures { λ r. ⌜ reply r ≡ judged (manyVerdict (now (image .entry)) (stateOf (now (bytes .entry)))) 0 ⌝ }
 {
     let mut copy = *bytes;
@@ -51,28 +53,31 @@ fn refuse_many(image: &[u8], bytes: &[u8; 130]) -> Answer
     let Answer::Done(_) = answer else {
         return answer;
     };
-    refused(27, 0)
+    refused(MANY_WORDS, 0)
 }
 
 // What the image check tries, 15, 27 and 16 before the first tick, 17 and 18 tick by tick.
 pub fn priced_run_bytes(
     image: &[u8],
-    bytes: &mut [u8; 130],
+    bytes: &mut [u8; STATE_BYTES],
     prices: &[u16; 32],
     words: &[u16],
     masks: &mut [u32],
     codes: &mut [u8],
-) -> Priced
-    ensures { λ r. ⌜ PricedOn (pricedRun (now (image .entry)) (stateOf (now (bytes .entry))) (now (prices .entry)) (now (words .entry)) (now (masks .entry)) (now (codes .entry))) (now (words .entry)) (now (bytes .entry)) r (now (bytes .exit)) (now (masks .exit)) (now (codes .exit)) ⌝ }
+) -> PricedReport
+    ensures { λ r. ⌜ GivesPricedRunOn
+        (pricedRun (now (image .entry)) (stateOf (now (bytes .entry))) (now (prices .entry)) (now (words .entry)) (now (masks .entry))
+        (now (codes .entry))) (now (words .entry)) (now (bytes .entry)) r (now (bytes .exit))
+        (now (masks .exit)) (now (codes .exit)) ⌝ }
 {
     if 65536 < words.len() {
         let answer = refuse_many(image, bytes);
-        return Priced { answer, price: 0 };
+        return PricedReport { answer, price: 0 };
     }
     let answer = run_bytes(image, bytes, words, masks, codes);
     let n = count_of(answer);
     let price = price_of(prices, &masks[..n]);
-    Priced { answer, price }
+    PricedReport { answer, price }
 }
 
 // The same on a state that is taken and handed back.
@@ -83,15 +88,17 @@ pub fn priced_run(
     words: &[u16],
     masks: &mut [u32],
     codes: &mut [u8],
-) -> PricedAnswer
-    ensures { λ r. ⌜ PricedRuns (pricedRun (now (image .entry)) state (now (prices .entry)) (now (words .entry)) (now (masks .entry)) (now (codes .entry))) r (now (masks .exit)) (now (codes .exit)) ⌝ }
+) -> PricedStateReport
+    ensures { λ r. ⌜ GivesPricedRun
+        (pricedRun (now (image .entry)) state (now (prices .entry)) (now (words .entry)) (now (masks .entry)) (now (codes .entry)))
+        r (now (masks .exit)) (now (codes .exit)) ⌝ }
 {
     let mut bytes = bytes_of(state);
     let done = priced_run_bytes(image, &mut bytes, prices, words, masks, codes);
     let answer = done.answer;
     let price = done.price;
     let after = state_of(bytes);
-    PricedAnswer {
+    PricedStateReport {
         answer,
         state: after,
         price,

@@ -11,6 +11,7 @@ use lib.Count.{trailingZeros, under}
 use lib.ListN.{getD}
 use lib.Pow.{shr-shr}
 use Rattle.lists.specs.Numbers.{sum}
+use Rattle.lists.proofs.Searches.{sum-shift}
 use Rattle.bits.specs.Word.{bit}
 use Rattle.bits.proofs.BitLaws.{bit-zero, bit-none}
 use Rattle.prices.specs.Prices.{tickPrice}
@@ -21,11 +22,6 @@ sum-same : (f g : ℕ → ℕ) → ((k : ℕ) → f k ≡ g k) → (i n : ℕ) �
 unfolding sum
 sum-same f g e i zero = refl
 sum-same f g e i (suc n) = ap₂ _+_ (e i) (sum-same f g e (suc i) n)
-
-sum-shift : (f : ℕ → ℕ) (i n : ℕ) → sum f (suc i) n ≡ sum (λ k. f (suc k)) i n
-unfolding sum
-sum-shift f i zero = refl
-sum-shift f i (suc n) = ap (λ (x : ℕ). f (suc i) + x) (sum-shift f (suc i) n)
 
 sum-none : (f : ℕ → ℕ) → ((k : ℕ) → f k ≡ 0) → (i n : ℕ) → sum f i n ≡ 0
 unfolding sum
@@ -76,7 +72,7 @@ less-odd n e =
     (omega (arith, and-step n (n - 1), q), omega (arith, and-step n (n - 1), q))
 
 -- the lowest set bit is one of the k, and what is left costs its price less
-pub record Lowest (g : ℕ → ℕ) (k n : ℕ) : Type 0 where
+pub record LowestBit (g : ℕ → ℕ) (k n : ℕ) : Type 0 where
   pub inside : trailingZeros k n < k
   pub cost : costs g k n ≡ g (trailingZeros k n) + costs g k (less n)
 
@@ -84,11 +80,11 @@ trailing-step : (k n : ℕ) → trailingZeros (suc k) n ≡ under (n % 2) (trail
 unfolding trailingZeros
 trailing-step k n = refl
 
-lowest-off : (g : ℕ → ℕ) (k n : ℕ) → 0 < n → n < 2 ^ k → Lowest g k n
+lowest-off : (g : ℕ → ℕ) (k n : ℕ) → 0 < n → n < 2 ^ k → LowestBit g k n
 lowest-off g zero n h l = absurd (omega (arith, lt-one l))
 lowest-off g (suc k) n h l = go (n % 2) refl (λ p. lowest-off (λ j. g (suc j)) k (n / 2) p (omega (arith, pow-suc 2 k)))
   where
-    go : (d : ℕ) → n % 2 ≡ d → (0 < n / 2 → Lowest (λ j. g (suc j)) k (n / 2)) → Lowest g (suc k) n
+    go : (d : ℕ) → n % 2 ≡ d → (0 < n / 2 → LowestBit (λ j. g (suc j)) k (n / 2)) → LowestBit g (suc k) n
     go zero e ih =
         let r = ih (omega arith) in
         let t : trailingZeros (suc k) n ≡ suc (trailingZeros k (n / 2)) =
@@ -110,19 +106,19 @@ lowest-off g (suc k) n h l = go (n % 2) refl (λ p. lowest-off (λ j. g (suc j))
     go (suc (suc d)) e ih = absurd (omega arith)
 
 -- ---- what a loop over the set bits has added, and what is left of the mask
-pub record Counted (prices : List ℕ) (mask total rest : ℕ) : Type 0 where
+pub record CountedBits (prices : List ℕ) (mask total rest : ℕ) : Type 0 where
   pub sum : total + tickPrice prices rest ≡ tickPrice prices mask
   pub low : rest < 2 ^ 32
 
-pub counted-none : (prices : List ℕ) (mask : ℕ) → mask < 2 ^ 32 → Counted prices mask 0 mask
+pub counted-none : (prices : List ℕ) (mask : ℕ) → mask < 2 ^ 32 → CountedBits prices mask 0 mask
 counted-none prices mask l = record { sum = omega arith; low = l }
 
-module _ (prices : List ℕ) (mask total rest : ℕ) (inv : Counted prices mask total rest) where
+module _ (prices : List ℕ) (mask total rest : ℕ) (inv : CountedBits prices mask total rest) where
   abbrev j : ℕ
   j = trailingZeros 32 rest
 
   module _ (h : rest ≡ 0 → ⊥) where
-    off : Lowest (λ i. getD prices i 0) 32 rest
+    off : LowestBit (λ i. getD prices i 0) 32 rest
     off = lowest-off (λ i. getD prices i 0) 32 rest (omega arith) (inv .low)
 
     pub bit-inside : j < 32
@@ -131,7 +127,7 @@ module _ (prices : List ℕ) (mask total rest : ℕ) (inv : Counted prices mask 
     pub less-falls : less rest < rest
     less-falls = omega (arith, and-le-r rest (rest - 1))
 
-    pub counted-more : Counted prices mask (total + getD prices j 0) (less rest)
+    pub counted-more : CountedBits prices mask (total + getD prices j 0) (less rest)
     unfolding tickPrice
     counted-more = record { sum = omega (arith, inv .sum, off .cost); low = omega (arith, inv .low, less-falls) }
 

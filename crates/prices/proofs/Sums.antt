@@ -42,16 +42,16 @@ module _ (prices : List ℕ) (small : (j : ℕ) → getD prices j 0 ≤ 65535) w
   hundredths-most (m ∷ masks) = omega (arith, tick-most m, hundredths-most masks)
 
 -- ---- what a loop over the ticks has added
-pub record Summed (prices masks : List ℕ) (total i : ℕ) : Type 0 where
+pub record SummedTicks (prices masks : List ℕ) (total i : ℕ) : Type 0 where
   pub sum : total ≡ hundredths prices (take i masks)
   pub inside : i ≤ length masks
 
-pub summed-none : (prices masks : List ℕ) → Summed prices masks 0 0
+pub summed-none : (prices masks : List ℕ) → SummedTicks prices masks 0 0
 unfolding hundredths
 summed-none prices masks = record { sum = refl; inside = omega arith }
 
-module _ (prices masks : List ℕ) (total i : ℕ) (inv : Summed prices masks total i) where
-  pub summed-more : i < length masks → (r : ℕ) → r ≡ tickPrice prices (getD masks i 0) → Summed prices masks (total + r) (i + 1)
+module _ (prices masks : List ℕ) (total i : ℕ) (inv : SummedTicks prices masks total i) where
+  pub summed-more : i < length masks → (r : ℕ) → r ≡ tickPrice prices (getD masks i 0) → SummedTicks prices masks (total + r) (i + 1)
   summed-more l r e = record {
     sum = omega (arith, inv .sum, e, hundredths-next prices masks i l, ap (λ (k : ℕ). hundredths prices (take k masks)) (add-one i));
     inside = omega arith;

@@ -10,9 +10,9 @@ use Rattle.image.specs.Image.{imageText}
 use Rattle.translator.specs.Table.{table}
 use Rattle.translator.proofs.Alike.{translate-verdict}
 use Rattle.state.specs.State.{freshState}
-use Rattle.runs.specs.Run.{Run}
+use Rattle.runs.specs.Run.{RunOutcome}
 use Rattle.runs.proofs.Alike.{runs}
-use Rattle.programs.specs.Programs.{imageOr, translateOutput, words, runLines, runOutput}
+use Rattle.programs.specs.Programs.{imageOr, translateOutput, programWords, runLines, runOutput}
 
 module _ (t : List ℕ) where
   pub translates : translateOutput (map capital t) ≡ translateOutput t
@@ -24,5 +24,5 @@ module _ (t : List ℕ) where
   pub prints : runOutput (map capital t) ≡ runOutput t
   unfolding runOutput
   prints =
-      ap (λ (r : Run). runLines (r .reply) (r .codes))
-      (runs (map capital t) t (capitals-alike t) (freshState 32 .state) words (replicate 64 0) (replicate 64 0))
+      ap (λ (r : RunOutcome). runLines (r .reply) (r .codes))
+      (runs (map capital t) t (capitals-alike t) (freshState 32 .state) programWords (replicate 64 0) (replicate 64 0))

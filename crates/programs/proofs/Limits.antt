@@ -20,20 +20,21 @@ use Rattle.charts.specs.Entry.{readVerdict}
 use Rattle.image.specs.Image.{imageText}
 use Rattle.image.specs.Decode.{decoded}
 use Rattle.image.specs.Check.{tableVerdict, imageVerdict}
-use Rattle.translator.specs.Rows.{rows}
+use Rattle.chart_rows.specs.Rows.{rows}
 use Rattle.translator.specs.Table.{table}
 use Rattle.translator.specs.Entry.{translateVerdict}
 use Rattle.state.specs.State.{freshState}
 use Rattle.fitness.specs.Fitness.{unfit}
-use Rattle.runs.specs.Run.{Run, noRoom, ticks, runVerdict, runOn, run}
+use Rattle.runs.specs.Run.{RunOutcome, noRoom, ticks, runVerdict, runOn, run}
 use Rattle.printing.specs.Lines.{refusalLine}
-use Rattle.programs.specs.Programs.{words, imageOr, translateOutput, runLines, runOutput}
+use Rattle.programs.specs.Programs.{programWords, imageOr, translateOutput, runLines, runOutput}
 
 -- 1 refuses every text that is longer than the most
 too-long : (most : ℕ) (t : List ℕ) → most < length t → textVerdict most t ≡ refused 1 0
 unfolding textVerdict
 too-long most t h =
-    next-refused (when 1 (badLength 23 most (length t))) (λ _. next (atLowest 2 (badForm t) (frameCount t)) λ _. atLowest 3 (badSum t) (frameCount t)) 1 0
+    next-refused (when 1 (badLength 23 most (length t)))
+    (λ _. next (atLowest 2 (badForm t) (frameCount t)) λ _. atLowest 3 (badSum t) (frameCount t)) 1 0
     (when-holds 1 (badLength 23 most (length t))
     (or-true-r (eqb (length t) 0 || not (eqb (length t % 23) 0)) (ltb most (length t)) (lt-ltb most (length t) h)))
 
@@ -46,16 +47,20 @@ long-chart t h =
 
 -- what is printed by the verdict of the run
 printedBy : List ℕ → Verdict → List ℕ
-printedBy t v = let r : Run = runOn v (λ _. ticks (decoded (contents t)) (freshState 32 .state) words) (freshState 32 .state) (replicate 64 0) (replicate 64 0) in
+printedBy t v = let r : RunOutcome =
+    runOn v (λ _. ticks (decoded (contents t)) (freshState 32 .state) programWords)
+    (freshState 32 .state) (replicate 64 0) (replicate 64 0) in
     runLines (r .reply) (r .codes)
 
 long-image : (t : List ℕ) → 29831 < length t → runOutput t ≡ refusalLine 1 0
 unfolding runOutput run runVerdict imageVerdict printedBy concatMap
 long-image t h =
-    let checked : imageVerdict t ≡ refused 1 0 = next-refused (textVerdict 29831 t) (λ _. tableVerdict (contents t)) 1 0 (too-long 29831 t h) in
-    let e : runVerdict t (freshState 32 .state) words (replicate 64 0) (replicate 64 0) ≡ refused 1 0 =
+    let checked : imageVerdict t ≡ refused 1 0 =
+    next-refused (textVerdict 29831 t) (λ _. tableVerdict (contents t)) 1 0 (too-long 29831 t h) in
+    let e : runVerdict t (freshState 32 .state) programWords (replicate 64 0) (replicate 64 0) ≡ refused 1 0 =
     next-refused (imageVerdict t)
-    (λ _. next (when 15 (unfit (decoded (contents t)) (freshState 32 .state))) λ _. when 16 (noRoom words (replicate 64 0) (replicate 64 0))) 1 0 checked in
+    (λ _. next (when 15 (unfit (decoded (contents t)) (freshState 32 .state))) λ _. when 16
+    (noRoom programWords (replicate 64 0) (replicate 64 0))) 1 0 checked in
     ap (printedBy t) e
 
 -- a function of texts that is the same for all longer ones needs no more than one character past the most

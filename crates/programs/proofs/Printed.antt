@@ -27,10 +27,12 @@ abbrev pub lineAt : List ℕ → ℕ → List ℕ
 lineAt codes k = codeLine (getD codes k 0)
 
 module _ (codes out₀ out : List ℕ) (i : ℕ) (w : Pieces (lineAt codes) 3 out₀ out 0 (length codes) i) where
-  pub codes-turn : (out′ line : List ℕ) → i < length codes → i * 3 ≤ length out₀ → length out′ ≡ length out → line ≡ codeLine (getD codes i 0)
+  pub codes-turn : (out′ line : List ℕ) → i < length codes → i * 3 ≤ length out₀
+      → length out′ ≡ length out → line ≡ codeLine (getD codes i 0)
       → out′ ≡ written out (i * 3) line → Pieces (lineAt codes) 3 out₀ out′ 0 (length codes) (i + 1)
   codes-turn out′ line h room s l e =
-      pieces-turn (lineAt codes) 3 out₀ 0 (length codes) (λ k. code-line-length (getD codes k 0)) out out′ i (i * 3) w h (omega arith) room s
+      pieces-turn (lineAt codes) 3 out₀ 0 (length codes) (λ k. code-line-length (getD codes k 0))
+      out out′ i (i * 3) w h (omega arith) room s
       (e ∙ ap (written out (i * 3)) l)
 
   pub codes-end : length codes ≤ i → out ≡ written out₀ 0 (concatMap codeLine codes)
@@ -45,7 +47,8 @@ printed-as x y n before after e p = subst (λ z. Prints z n before after) e p
 module _ (x : List ℕ) (n : ℕ) (before after : List ℕ) (p : Prints x n before after) where
   pub printed-fits : n ≤ length after
   printed-fits =
-      let e : length after ≡ length x + length (drop (length x) before) = ap length (p .written) ∙ length-append x (drop (length x) before) in
+      let e : length after ≡ length x + length (drop (length x) before) = ap length (p .written)
+      ∙ length-append x (drop (length x) before) in
       omega (arith, p .counted)
 
   pub printed-part : n ≡ length (take n after)

@@ -6,36 +6,38 @@ use native.Mathlib.Omega.{arith}
 use lib.ListN.{length, take, set, length-take, length-append, replicate}
 use Rattle.lists.specs.Sequences.{concatMap, over, written}
 use Rattle.lists.proofs.Written.{written-front, written-more}
-use Rattle.lists.proofs.Fills.{Values, values-none, values-turn, values-all}
+use Rattle.lists.proofs.Fills.{ValuesFrom, values-none, values-turn, values-all}
 use Rattle.frames.specs.Frame.{contents}
 use Rattle.frames.specs.Verdict.{Verdict, fine, refused}
-use Rattle.frames.specs.Answer.{count, reply, replied}
+use Rattle.frames.specs.Answer.{replyCount, reply}
 use Rattle.frames.specs.declared.Answer.{Answer}
 use Rattle.frames.specs.declared.Answer.the-variants.{Done, Refused}
+use Rattle.frames.proofs.Chains.{replied-count}
 use Rattle.image.specs.Image.{Image}
 use Rattle.image.specs.Decode.{decoded}
 use Rattle.state.specs.declared.State.{State}
 use Rattle.state.specs.State.{freshState}
-use Rattle.ticks.specs.Tick.{Ticked, ticked, stopped, tick}
-use Rattle.runs.specs.Run.{Ran, then, ticks, runVerdict, runOn, run}
+use Rattle.ticks.specs.Tick.{MachineTick, finished, stopped, tick}
+use Rattle.runs.specs.Run.{MachineRun, then, ticks, runVerdict, runOn, run}
 use Rattle.printing.specs.Lines.{codeLine, refusalLine}
-use Rattle.programs.specs.Programs.{words, runLines, runOutput, Prints}
+use Rattle.programs.specs.Programs.{programWords, runLines, runOutput, Prints}
 use Rattle.programs.proofs.Printed.{codes-length, refusal-line-length}
 
 -- ---- the words, as far as they are counted
-abbrev pub Counted : List ℕ → ℕ → Type 0
-Counted all i = Values (λ k. k) (replicate 64 0) all 0 64 i
+abbrev pub CountedWords : List ℕ → ℕ → Type 0
+CountedWords all i = ValuesFrom (λ k. k) (replicate 64 0) all 0 64 i
 
-pub counted-none : Counted (replicate 64 0) 0
+pub counted-none : CountedWords (replicate 64 0) 0
 counted-none = values-none (λ k. k) (replicate 64 0) 0 64
 
-module _ (all : List ℕ) (i : ℕ) (w : Counted all i) where
-  pub counted-turn : i < 64 → Counted (set all i i) (i + 1)
+module _ (all : List ℕ) (i : ℕ) (w : CountedWords all i) where
+  pub counted-turn : i < 64 → CountedWords (set all i i) (i + 1)
   counted-turn h =
       let e : 0 + i ≡ i = omega arith in
-      subst (λ (place : ℕ). Counted (set all place i) (i + 1)) e (values-turn (λ k. k) (replicate 64 0) 0 64 all i i (omega arith) w h refl)
+      subst (λ (place : ℕ). CountedWords (set all place i) (i + 1)) e
+      (values-turn (λ k. k) (replicate 64 0) 0 64 all i i (omega arith) w h refl)
 
-  pub counted-all : 64 ≤ i → all ≡ words
+  pub counted-all : 64 ≤ i → all ≡ programWords
   unfolding written
   counted-all h = values-all (λ k. k) (replicate 64 0) 0 64 all i w h
 
@@ -45,33 +47,31 @@ unfolding ticks
 ticks-few i s [] = omega arith
 ticks-few i s (w ∷ ws) = go (tick i s w) (λ t. ticks-few i t ws)
   where
-    go : (d : Ticked) → ((t : State) → length (ticks i t ws .codes) ≤ length ws) → length (then s (λ t. ticks i t ws) d .codes) ≤ length (w ∷ ws)
-    go (ticked m k t) h = omega (arith, h t)
+    go : (d : MachineTick) → ((t : State) → length (ticks i t ws .codes) ≤ length ws)
+        → length (then s (λ t. ticks i t ws) d .codes) ≤ length (w ∷ ws)
+    go (finished m k t) h = omega (arith, h t)
     go (stopped n) h = omega arith
 
-replied-count : (v : Verdict) (n : ℕ) → count (replied v n) ≡ n
-replied-count fine n = refl
-replied-count (refused k i) n = refl
-
-pub run-few : (t : List ℕ) (s : State) (ws masks codes : List ℕ) → count (run t s ws masks codes .reply) ≤ length ws
+pub run-few : (t : List ℕ) (s : State) (ws masks codes : List ℕ) → replyCount (run t s ws masks codes .reply) ≤ length ws
 unfolding run
 run-few t s ws masks codes = go (runVerdict t s ws masks codes)
   where
-    go : (v : Verdict) → count (runOn v (λ _. ticks (decoded (contents t)) s ws) s masks codes .reply) ≤ length ws
+    go : (v : Verdict) → replyCount (runOn v (λ _. ticks (decoded (contents t)) s ws) s masks codes .reply) ≤ length ws
     go (refused k i) = omega arith
     go fine =
-        let r : Ran = ticks (decoded (contents t)) s ws in
+        let r : MachineRun = ticks (decoded (contents t)) s ws in
         omega (arith, replied-count (r .verdict) (length (r .codes)), ticks-few (decoded (contents t)) s ws)
 
 -- ---- what is printed
-pub done-count : (a : Answer) (n : ℕ) → a ≡ Done n → count (reply a) ≡ n
-done-count a n e = ap (λ (b : Answer). count (reply b)) e
+pub done-count : (a : Answer) (n : ℕ) → a ≡ Done n → replyCount (reply a) ≡ n
+done-count a n e = ap (λ (b : Answer). replyCount (reply b)) e
 
-pub refused-count : (a : Answer) (k i n : ℕ) → a ≡ Refused k i n → count (reply a) ≡ n
-refused-count a k i n e = ap (λ (b : Answer). count (reply b)) e
+pub refused-count : (a : Answer) (k i n : ℕ) → a ≡ Refused k i n → replyCount (reply a) ≡ n
+refused-count a k i n e = ap (λ (b : Answer). replyCount (reply b)) e
 
 -- n ticks were finished, and their codes are there
-module _ (a : Answer) (codes : List ℕ) (n : ℕ) (counts : count (reply a) ≡ n) (within : (count (reply a) ≤ length codes) × (length codes ≤ 64)) where
+module _ (a : Answer) (codes : List ℕ) (n : ℕ) (counts : replyCount (reply a) ≡ n)
+    (within : (replyCount (reply a) ≤ length codes) × (length codes ≤ 64)) where
   pub finished-part : n ≡ length (take n codes)
   finished-part = simp length-take (omega (arith, within .0))
 
@@ -105,11 +105,11 @@ module _ (a : Answer) (codes : List ℕ) (n : ℕ) (counts : count (reply a) ≡
       }
 
 -- the run of the program, as the machine was called
-module _ (t ws : List ℕ) (s : State) (a : Answer) (codes : List ℕ) (same : ws ≡ words) (fresh : s ≡ freshState 32 .state)
+module _ (t ws : List ℕ) (s : State) (a : Answer) (codes : List ℕ) (same : ws ≡ programWords) (fresh : s ≡ freshState 32 .state)
     (answered : reply a ≡ run t s ws (replicate 64 0) (replicate 64 0) .reply)
     (left : codes ≡ run t s ws (replicate 64 0) (replicate 64 0) .codes) where
-  pub program-few : count (reply a) ≤ 64
-  program-few = omega (arith, ap count answered, run-few t s ws (replicate 64 0) (replicate 64 0), ap length same)
+  pub program-few : replyCount (reply a) ≤ 64
+  program-few = omega (arith, ap replyCount answered, run-few t s ws (replicate 64 0) (replicate 64 0), ap length same)
 
   pub output-is : runLines (reply a) codes ≡ runOutput t
   unfolding runOutput

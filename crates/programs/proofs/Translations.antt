@@ -13,7 +13,7 @@ use Rattle.lists.proofs.Written.{written-front}
 use Rattle.frames.specs.Frame.{contents, frameCount}
 use Rattle.frames.specs.Verdict.{Verdict, fine, refused, next, when, atLowest}
 use Rattle.frames.specs.Check.{badLength, badForm, badSum, textVerdict}
-use Rattle.frames.specs.Answer.{success, refusal, Lent, lent, reply}
+use Rattle.frames.specs.Answer.{success, refusal, BufferOutcome, bufferOn, reply}
 use Rattle.frames.specs.declared.Answer.{Answer}
 use Rattle.frames.specs.declared.Answer.the-variants.{Done, Refused}
 use Rattle.frames.proofs.Verdicts.{next-first, when-fine}
@@ -36,14 +36,16 @@ accepted-length most t e =
     let v : when 1 (badLength 23 most (length t)) ≡ fine =
     next-first (when 1 (badLength 23 most (length t)))
     (λ _. next (atLowest 2 (badForm t) (frameCount t)) λ _. atLowest 3 (badSum t) (frameCount t)) e in
-    ltb-false most (length t) (or-r (eqb (length t) 0 || not (eqb (length t % 23) 0)) (ltb most (length t)) (when-fine 1 (badLength 23 most (length t)) v))
+    ltb-false most (length t) (or-r (eqb (length t) 0 || not (eqb (length t % 23) 0))
+    (ltb most (length t)) (when-fine 1 (badLength 23 most (length t)) v))
 
 pub image-fits : (t : List ℕ) → translateVerdict t ≡ fine → length (imageText (table (contents t))) ≤ 29831
 unfolding imageVerdict
 image-fits t ok =
     let x : List ℕ = imageText (table (contents t)) in
     accepted-length 29831 x
-    (next-first (textVerdict 29831 x) (λ _. tableVerdict (contents x)) (table-fine (contents t) (facts t (translated-read t ok)) (translated-few t ok)))
+    (next-first (textVerdict 29831 x) (λ _. tableVerdict (contents x))
+    (table-fine (contents t) (facts t (translated-read t ok)) (translated-few t ok)))
 
 -- ---- what the translator answered tells what is to be printed
 module _ (t old : List ℕ) (a : Answer) (e : reply a ≡ translate t old .reply) where
@@ -60,17 +62,19 @@ module _ (t old : List ℕ) (a : Answer) (e : reply a ≡ translate t old .reply
       }
 
   -- the frame of the refusal is all that is printed, and the buffer is as it was before it
-  pub refusal-told : (k i n : ℕ) → a ≡ Refused k i n → 29831 ≤ length old → (translateOutput t ≡ refusalLine k i) × (translate t old .buffer ≡ old)
+  pub refusal-told : (k i n : ℕ) → a ≡ Refused k i n → 29831 ≤ length old
+      → (translateOutput t ≡ refusalLine k i) × (translate t old .buffer ≡ old)
   unfolding translate translateOutput
   refusal-told k i n d room = go (translateVerdict t) (image-fits t) (sym (ap reply d) ∙ e)
     where
       go : (v : Verdict) → (v ≡ fine → length (imageText (table (contents t))) ≤ 29831)
-          → refusal k i n ≡ lent v 1 (λ _. imageText (table (contents t))) old .reply
-          → (imageOr v (λ _. imageText (table (contents t))) ≡ refusalLine k i) × (lent v 1 (λ _. imageText (table (contents t))) old .buffer ≡ old)
+          → refusal k i n ≡ bufferOn v 1 (λ _. imageText (table (contents t))) old .reply
+          → (imageOr v (λ _. imageText (table (contents t))) ≡ refusalLine k i)
+          × (bufferOn v 1 (λ _. imageText (table (contents t))) old .buffer ≡ old)
       go (refused l j) f q = (cc, refl)
       go fine f q =
-          let s : lent fine 1 (λ _. imageText (table (contents t))) old .reply ≡ success (length (imageText (table (contents t))) / 1) =
-          ap (λ (r : Lent). r .reply) (lent-fits 1 (λ _. imageText (table (contents t))) old (omega (arith, f refl))) in
+          let s : bufferOn fine 1 (λ _. imageText (table (contents t))) old .reply ≡ success (length (imageText (table (contents t))) / 1) =
+          ap (λ (r : BufferOutcome). r .reply) (lent-fits 1 (λ _. imageText (table (contents t))) old (omega (arith, f refl))) in
           absurd (let z : _≡_ {A = ℕ} 0 1 = cc in omega arith)
 
   pub refusal-printed : (k i n : ℕ) (middle after : List ℕ) → a ≡ Refused k i n → 29831 ≤ length old → middle ≡ translate t old .buffer

@@ -1,4 +1,8 @@
 // What the two programs print, as a function of the bytes that they read.
+use frames::sizes::CHART_TEXT;
+use frames::sizes::IMAGE_TEXT;
+use frames::sizes::LINE;
+
 mod lines;
 mod run;
 mod translate;
@@ -7,11 +11,11 @@ pub use run::run_text;
 pub use translate::translate_text;
 
 // One character more than the longest chart and than the longest image: of a longer text no more needs to be read.
-pub const CHART_READ: usize = 5889;
+pub const CHART_READ: usize = CHART_TEXT + 1;
 
-pub const IMAGE_READ: usize = 29832;
+pub const IMAGE_READ: usize = IMAGE_TEXT + 1;
 
 // The longest image, and a line for each of 64 ticks with the frame of a refusal.
-pub const TRANSLATE_PRINTS: usize = 29831;
+pub const TRANSLATE_PRINTS: usize = IMAGE_TEXT;
 
-pub const RUN_PRINTS: usize = 64 * 3 + 23;
+pub const RUN_PRINTS: usize = 64 * 3 + LINE;

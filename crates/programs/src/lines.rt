@@ -4,6 +4,7 @@ ghost use mathlib.Core.Path.{_≡_};
 ghost use Prim.Native.Nat.{_+_, _*_, _≤_};
 ghost use lib.ListN.{length};
 ghost use Rattle.lists.specs.Sequences.{concatMap, written};
+ghost use Rattle.frames.specs.Sizes.{LINE};
 ghost use Rattle.printing.specs.Lines.{codeLine, refusalLine};
 
 // A line for each code, from the front on.
@@ -21,7 +22,7 @@ pub fn put_codes(out: &mut [u8], codes: &[u8])
 
 // The frame of a refusal, from an offset on.
 pub fn put_refusal(out: &mut [u8], at: usize, number: u8, index: usize)
-    requires { ⌜ at + 23 ≤ length (now out) ⌝ }
+    requires { ⌜ at + LINE ≤ length (now out) ⌝ }
     ensures { λ _. ⌜ now (out .exit) ≡ written (now (out .entry)) at (refusalLine number index) ⌝ }
 {
     let line = printing::refusal_line(number, index);

@@ -3,16 +3,17 @@ use crate::RUN_PRINTS;
 use crate::lines::put_codes;
 use crate::lines::put_refusal;
 use frames::Answer;
+use frames::sizes::LINE;
 use machine::State;
 ghost use mathlib.Core.Path.{_≡_};
 ghost use Prim.Native.Nat.{_≤_};
 ghost use lib.ListN.{length};
-ghost use Rattle.frames.specs.Answer.{reply, count};
-ghost use Rattle.programs.specs.Programs.{words, runLines, runOutput, Prints};
+ghost use Rattle.frames.specs.Answer.{reply, replyCount};
+ghost use Rattle.programs.specs.Programs.{programWords, runLines, runOutput, Prints};
 
 // The words 0 to 63.
 fn count_up() -> [u16; 64]
-    ensures { λ r. ⌜ r ≡ words ⌝ }
+    ensures { λ r. ⌜ r ≡ programWords ⌝ }
 {
     let mut all = [0u16; 64];
     let mut i: usize = 0;
@@ -25,7 +26,7 @@ fn count_up() -> [u16; 64]
 
 // The codes of the finished ticks, then the refusal if there is one.
 fn put_run(answer: Answer, codes: &[u8], out: &mut [u8; RUN_PRINTS]) -> usize
-    requires { ⌜ (count (reply answer) ≤ length (now codes)) × (length (now codes) ≤ 64) ⌝ }
+    requires { ⌜ (replyCount (reply answer) ≤ length (now codes)) × (length (now codes) ≤ 64) ⌝ }
     ensures { λ r. ⌜ Prints (runLines (reply answer) (now (codes .entry))) r (now (out .entry)) (now (out .exit)) ⌝ }
 {
     match answer {
@@ -40,7 +41,7 @@ fn put_run(answer: Answer, codes: &[u8], out: &mut [u8; RUN_PRINTS]) -> usize
         } => {
             put_codes(out, &codes[..count]);
             put_refusal(out, count * 3, number, index);
-            count * 3 + 23
+            count * 3 + LINE
         }
     }
 }

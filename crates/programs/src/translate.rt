@@ -2,6 +2,7 @@
 use crate::TRANSLATE_PRINTS;
 use crate::lines::put_refusal;
 use frames::Answer;
+use frames::sizes::LINE;
 ghost use Rattle.programs.specs.Programs.{translateOutput, Prints};
 
 // The image of a chart, or the frame that tells why there is none; how many characters that is.
@@ -17,7 +18,7 @@ pub fn translate_text(input: &[u8], out: &mut [u8; TRANSLATE_PRINTS]) -> usize
             count: _,
         } => {
             put_refusal(out, 0, number, index);
-            23
+            LINE
         }
     }
 }

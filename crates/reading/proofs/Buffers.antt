@@ -11,9 +11,9 @@ use Rattle.lists.proofs.Tests.{yes-pick, no-pick}
 use Rattle.lists.proofs.Ranges.{map-append}
 use Rattle.frames.specs.Frame.{byteAt, frameCount, contents}
 use Rattle.frames.specs.Check.{badLength}
-use Rattle.frames.specs.Read.{readInto}
+use Rattle.frames.specs.inner.Read.{readInto}
 use Rattle.frames.proofs.Contents.{length-told}
-use Rattle.reading.specs.Reads.{storedOf}
+use Rattle.reading.specs.inner.Reads.{storedOf}
 
 map-concat : (g : ℕ → ℕ) (f : ℕ → List ℕ) (xs : List ℕ) → map g (concatMap f xs) ≡ concatMap (λ x. map g (f x)) xs
 unfolding concatMap

@@ -17,11 +17,11 @@ use Rattle.lists.specs.Sequences.{written}
 use Rattle.lists.proofs.Tests.{cases, split, yes-pick, no-pick, or-true-l, or-true-r, or-none}
 use Rattle.lists.proofs.Ranges.{getD-map-range}
 use Rattle.lists.proofs.Searches.{any-some, any-true, any-false, any-none, any-snoc, sum-turn}
-use Rattle.lists.proofs.Fills.{Values, values-none, values-turn, values-all}
+use Rattle.lists.proofs.Fills.{ValuesFrom, values-none, values-turn, values-all}
 use Rattle.digits.specs.Digit.{digitOf}
 use Rattle.frames.specs.Frame.{byteAt}
 use Rattle.frames.specs.Check.{badForm, badSum}
-use Rattle.reading.specs.Reads.{storedOf, digitAt, DigitsRead, placeOf, valueOf}
+use Rattle.reading.specs.inner.Reads.{storedOf, digitAt, DigitsRead, placeOf, valueOf}
 use Rattle.reading.specs.declared.FrameDigits.{FrameDigits}
 
 -- ---- its digits
@@ -62,7 +62,14 @@ pub record Taken (t : List ℕ) (from : ℕ) (digits : List ℕ) (bad : Bool) (i
 
 pub taken-none : (t : List ℕ) (from : ℕ) (digits : List ℕ) → length digits ≡ 32 → Taken t from digits false 0
 unfolding any
-taken-none t from digits e = record { low = omega arith; size = e; front = λ j h. absurd (omega arith); back = λ j h. absurd (omega arith); form = refl }
+taken-none t from digits e = record {
+  low = omega arith;
+  size =
+      e;
+  front = λ j h. absurd (omega arith);
+  back = λ j h. absurd (omega arith);
+  form = refl;
+}
 
 module _ (t : List ℕ) (from : ℕ) (digits : List ℕ) (bad : Bool) (i : ℕ) (done : Taken t from digits bad i) where
   pub taken-turn : (x y : ℕ) → i < 16 → x ≡ digitAt t from i → y ≡ digitAt t from (6 + i)
@@ -75,10 +82,12 @@ module _ (t : List ℕ) (from : ℕ) (digits : List ℕ) (bad : Bool) (i : ℕ) 
         low = omega arith;
         size = length-set one (16 + i) y ∙ length-set digits i x ∙ done .size;
         front = below-more (λ (j : ℕ). getD (set one (16 + i) y) j 0 ≡ digitAt t from j) i
-            (λ j l. getD-set-other one (16 + i) j y 0 (λ r. omega arith) ∙ getD-set-other digits i j x 0 (λ r. omega arith) ∙ done .front j l)
+            (λ j l. getD-set-other one (16 + i) j y 0 (λ r. omega arith)
+            ∙ getD-set-other digits i j x 0 (λ r. omega arith) ∙ done .front j l)
             (getD-set-other one (16 + i) i y 0 (λ r. omega arith) ∙ getD-set-same digits i x 0 (omega (arith, done .size)) ∙ e);
         back = below-more (λ (j : ℕ). getD (set one (16 + i) y) (16 + j) 0 ≡ digitAt t from (6 + j)) i
-            (λ j l. getD-set-other one (16 + i) (16 + j) y 0 (λ r. omega arith) ∙ getD-set-other digits i (16 + j) x 0 (λ r. omega arith) ∙ done .back j l)
+            (λ j l. getD-set-other one (16 + i) (16 + j) y 0 (λ r. omega arith)
+            ∙ getD-set-other digits i (16 + j) x 0 (λ r. omega arith) ∙ done .back j l)
             (getD-set-same one (16 + i) y 0 (omega (arith, done .size, length-set digits i x)) ∙ q);
         form = ap₂ (λ (u v : ℕ). (bad || leb 16 u) || leb 16 v) e q ∙ ap (λ (b : Bool). (b || p i) || p (6 + i)) (done .form)
             ∙ or-both (any p 0 i) (any p 6 i) (p i) (p (6 + i))
@@ -111,7 +120,8 @@ value-made digits k i e = ap (λ (j : ℕ). (16 * getD digits j 0 + getD digits 
 
 -- the value of byte k is made of its own two characters
 module _ (t : List ℕ) (f : ℕ) (r : FrameDigits) (read : DigitsRead t (23 * f) r) where
-  value-is : (k i : ℕ) → placeOf k ≡ i → getD (r .digits) i 0 ≡ digitAt t (23 * f) (2 * k) → getD (r .digits) (i + 1) 0 ≡ digitAt t (23 * f) (2 * k + 1)
+  value-is : (k i : ℕ) → placeOf k ≡ i → getD (r .digits) i 0 ≡ digitAt t (23 * f) (2 * k)
+      → getD (r .digits) (i + 1) 0 ≡ digitAt t (23 * f) (2 * k + 1)
       → valueOf (r .digits) k ≡ stored t f k
   value-is k i p high low =
       sym (value-made (r .digits) k i (sym p))
@@ -128,12 +138,14 @@ module _ (t : List ℕ) (f : ℕ) (r : FrameDigits) (read : DigitsRead t (23 * f
 
       high : 8 ≤ k → valueOf (r .digits) k ≡ stored t f k
       high l =
-          value-is k (2 * k + 10) (place-high k l) (back (2 * k + 10) (2 * k - 6) (omega arith) (omega arith) ∙ ap (digitAt t (23 * f)) (omega arith))
+          value-is k (2 * k + 10) (place-high k l)
+          (back (2 * k + 10) (2 * k - 6) (omega arith) (omega arith) ∙ ap (digitAt t (23 * f)) (omega arith))
           (back (2 * k + 10 + 1) (2 * k - 5) (omega arith) (omega arith) ∙ ap (digitAt t (23 * f)) (omega arith))
 
   pub values-at : (values : List ℕ) → values ≡ map (valueOf (r .digits)) (range 0 11) → (k : ℕ) → k < 11 → getD values k 0 ≡ stored t f k
   values-at values e k h =
-      ap (λ (xs : List ℕ). getD xs k 0) e ∙ getD-map-range (valueOf (r .digits)) 0 0 11 k h ∙ ap (valueOf (r .digits)) (zero-add k) ∙ value-stored k h
+      ap (λ (xs : List ℕ). getD xs k 0) e ∙ getD-map-range (valueOf (r .digits)) 0 0 11 k h
+      ∙ ap (valueOf (r .digits)) (zero-add k) ∙ value-stored k h
 
   pub form-end : (r .form || not (eqb (getD t (23 * f + 22) 0) 10)) ≡ badForm t f
   unfolding badForm
@@ -143,7 +155,7 @@ module _ (t : List ℕ) (f : ℕ) (r : FrameDigits) (read : DigitsRead t (23 * f
 pub record Stored (t : List ℕ) (f : ℕ) (out₀ out : List ℕ) (total k : ℕ) : Type 0 where
   pub small : total ≤ k * 255
   pub added : total % 256 ≡ sum (byteAt t f) 0 k % 256
-  pub values : Values (stored t f) out₀ out (10 * f) 10 k
+  pub values : ValuesFrom (stored t f) out₀ out (10 * f) 10 k
 
 pub stored-none : (t : List ℕ) (f : ℕ) (out₀ : List ℕ) → Stored t f out₀ out₀ 0 0
 unfolding sum
@@ -156,7 +168,8 @@ sum-more g s k v e q =
     omega arith
 
 module _ (t : List ℕ) (f : ℕ) (out₀ out : List ℕ) (total k : ℕ) (done : Stored t f out₀ out total k) where
-  pub stored-turn : (v : ℕ) → 10 * f + 10 ≤ length out₀ → k < 10 → v ≡ stored t f k → Stored t f out₀ (set out (10 * f + k) v) (total + v) (k + 1)
+  pub stored-turn : (v : ℕ) → 10 * f + 10 ≤ length out₀ → k < 10 → v ≡ stored t f k
+      → Stored t f out₀ (set out (10 * f + k) v) (total + v) (k + 1)
   stored-turn v room h e = record {
     small = omega (arith, done .small);
     added = sum-more (byteAt t f) total k v (done .added) e;

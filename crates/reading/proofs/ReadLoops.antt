@@ -16,7 +16,7 @@ use Rattle.lists.proofs.Searches.{lowest-here, lowest-on, lowest-over}
 use Rattle.lists.proofs.Joins.{concat-cons}
 use Rattle.lists.proofs.Written.{written-none, written-front}
 use Rattle.frames.specs.Check.{badForm, badSum}
-use Rattle.reading.specs.Reads.{storedOf, FrameRead, FramesRead}
+use Rattle.reading.specs.inner.Reads.{storedOf, FrameRead, FramesRead}
 use Rattle.reading.specs.declared.Faults.{Faults}
 
 -- a run written in front of another
@@ -27,14 +27,16 @@ written-before out at vs ws place p room =
     let rest : List ℕ = ws ++ drop (place + length ws) out in
     let front : take at (take place out ++ rest) ≡ take at out =
     take-append-le at (take place out) rest (simp length-take (omega arith)) ∙ take-take at place out (omega arith) in
-    let back : drop (at + length vs) (take place out ++ rest) ≡ rest = drop-at (take place out) rest (at + length vs) (length-take-le place out room ∙ p) in
+    let back : drop (at + length vs) (take place out ++ rest) ≡ rest =
+    drop-at (take place out) rest (at + length vs) (length-take-le place out room ∙ p) in
     let n : place + length ws ≡ at + length (vs ++ ws) = simp length-append (omega arith) in
     ap₂ (λ (xs ys : List ℕ). xs ++ (vs ++ ys)) front back
     ∙ ap (λ (xs : List ℕ). take at out ++ xs) (sym (append-assoc vs ws (drop (place + length ws) out)))
     ∙ ap (λ (k : ℕ). take at out ++ ((vs ++ ws) ++ drop k out)) n
 
 -- the lowest where the number before the others is tried too
-lowest-before : (p : ℕ → Bool) (n f r : ℕ) → 0 < f → f ≤ n → r ≡ lowest p f (n - f) → pick (p (f - 1)) (f - 1) r ≡ lowest p (f - 1) (n - (f - 1))
+lowest-before : (p : ℕ → Bool) (n f r : ℕ) → 0 < f → f ≤ n → r ≡ lowest p f (n - f)
+    → pick (p (f - 1)) (f - 1) r ≡ lowest p (f - 1) (n - (f - 1))
 lowest-before p n f r some low e = go (cases (p (f - 1)))
   where
     go : (p (f - 1) ≡ true) ⊎ (p (f - 1) ≡ false) → pick (p (f - 1)) (f - 1) r ≡ lowest p (f - 1) (n - (f - 1))
@@ -82,7 +84,8 @@ module _ (t out₀ out : List ℕ) (n f bad wrong : ℕ) (done : Frames t out₀
         sum = y ∙ ap (λ (c : Bool). pick c (f - 1) wrong) (read .sum) ∙ lowest-before (badSum t) n f wrong some (done .low) (done .sum);
         size = s ∙ done .size;
         buffer = read .buffer ∙ ap (λ (o : List ℕ). written o (10 * (f - 1)) (storedOf t (f - 1))) (done .buffer)
-            ∙ written-before out₀ (10 * (f - 1)) (storedOf t (f - 1)) (concatMap (storedOf t) (range f (n - f))) (10 * f) place (omega (arith, done .low))
+            ∙ written-before out₀ (10 * (f - 1)) (storedOf t (f - 1)) (concatMap (storedOf t) (range f (n - f)))
+            (10 * f) place (omega (arith, done .low))
             ∙ ap (written out₀ (10 * (f - 1))) (sym (stored-before t n f some (done .low)));
       }
 

@@ -2,9 +2,9 @@
 use tables::handler_of;
 use tables::scheme_count;
 ghost use mathlib.Core.Path.{_≡_};
-ghost use Rattle.bits.specs.Binding.{badRebinding};
+ghost use Rattle.bindings.specs.Binding.{badRebinding};
 ghost use Rattle.image.specs.Decode.{handlerIn, schemeCount};
-ghost use Rattle.tables.specs.Table.{Whole};
+ghost use Rattle.tables.specs.inner.Asked.{Whole};
 
 // Refusal 22: the number or the scheme is not of 2 to H, or the number is the handler's.
 pub fn bad_rebinding(table: &[u8], number: usize, scheme: usize) -> bool

@@ -11,7 +11,7 @@ use lib.Seq.{getD-set-same, getD-set-other}
 use borrow.Author.Tests.{ne-eqb, le-leb}
 use Rattle.lists.specs.Pick.{pick}
 use Rattle.lists.proofs.Tests.{and-true}
-use Rattle.bits.specs.Binding.{served, badRebinding}
+use Rattle.bindings.specs.Binding.{served, badRebinding}
 use Rattle.frames.specs.Frame.{contents}
 use Rattle.frames.specs.Verdict.{Verdict, fine, next, when}
 use Rattle.image.specs.Image.{Image}
@@ -23,7 +23,7 @@ use Rattle.state.specs.State.{Sized}
 use Rattle.fitness.specs.Fitness.{callable, badServed, unfit}
 use Rattle.fitness.proofs.Fitness.{Fits, fits, unfits, range-callable}
 use Rattle.rebinding.specs.Rebind.{rebinding, rebindOn, rebind}
-use Rattle.rebindable.proofs.Refusal.{Allowed, allowed}
+use Rattle.rebindable.proofs.Refusal.{AllowedRebinding, allowed}
 
 pub rebinding-sized : (s : State) (h k : ℕ) → Sized s → Sized (rebinding h k s)
 rebinding-sized s h k z = record {
@@ -54,7 +54,7 @@ module _ (i : Image) (few : length (i .entries) ≤ 16) (s : State) (h k : ℕ) 
     serves = λ g a b. serves g a b (ℕ-discrete g h);
   }
     where
-      may : Allowed H (i .handler) h k
+      may : AllowedRebinding H (i .handler) h k
       may = allowed H (i .handler) h k e
 
       serves : (g : ℕ) → 2 ≤ g → g < 17 → Dec (g ≡ h) → badServed i (rebinding h k s) g ≡ false

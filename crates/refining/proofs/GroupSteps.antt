@@ -18,9 +18,10 @@ use Rattle.image.specs.Decode.{lastLabel}
 use Rattle.tables.specs.Table.{tableImage}
 use Rattle.tables.proofs.TableReads.{labels-count}
 use Rattle.grouping.specs.Classes.{staysWith, classesBy, classes, grouping}
-use Rattle.grouping.specs.Parts.{Even, Classed, Refined, OneMore, Marks, Asked, partedOn, leadsClass, nextClass, differs}
+use Rattle.grouping.specs.inner.GroupingContracts.{Even, Classed, Refined, OneMore, Marks, ClassAsked}
+use Rattle.grouping.specs.inner.GroupingContracts.{partedOn, leadsClass, nextClass, classDiffers}
 use Rattle.grouping.proofs.Representatives.{lowestAlike}
-use Rattle.grouping.proofs.TableRounds.{Filling, fill-start, fill-on, fill-all, value-small, classes-long, class-low, class-below}
+use Rattle.grouping.proofs.TableRounds.{FillingClasses, fill-start, fill-on, fill-all, value-small, classes-long, class-low, class-below}
 use Rattle.grouping.proofs.TableRounds.{zero-alone, one-alone, next-is}
 use Rattle.grouping.proofs.Marked.{first-marks}
 
@@ -35,14 +36,15 @@ module _ (b c next : List ℕ) (l m : ℕ) where
 
   pub leads-by : getD c m 0 ≡ getD c l 0 → getD next m 0 ≡ m → (t : Bool) → t ≡ partedOn b c m l → not t ≡ leadsClass b c next l m
   leads-by p q t e =
-      ap not e ∙ sym (ap₂ (λ (s t : Bool). s && t && not (partedOn b c m l)) (eq-eqb (getD c m 0) (getD c l 0) p) (eq-eqb (getD next m 0) m q))
+      ap not e ∙ sym (ap₂ (λ (s t : Bool). s && t && not (partedOn b c m l))
+      (eq-eqb (getD c m 0) (getD c l 0) p) (eq-eqb (getD next m 0) m q))
 
 -- ---- differ
 module _ (c d : List ℕ) (l : ℕ) where
-  pub differs-yes : (getD c l 0 ≡ getD d l 0 → ⊥) → differs c d l ≡ true
+  pub differs-yes : (getD c l 0 ≡ getD d l 0 → ⊥) → classDiffers c d l ≡ true
   differs-yes e = ap not (ne-eqb (getD c l 0) (getD d l 0) e)
 
-  pub differs-no : getD c l 0 ≡ getD d l 0 → differs c d l ≡ false
+  pub differs-no : getD c l 0 ≡ getD d l 0 → classDiffers c d l ≡ false
   differs-no e = ap not (eq-eqb (getD c l 0) (getD d l 0) e)
 
 module _ (b : List ℕ) where
@@ -65,18 +67,19 @@ module _ (b : List ℕ) where
   pub record Refining (buffer next : List ℕ) (m l : ℕ) : Type 0 where
     pub rounds : ℕ
     pub now : Classed b (classes i rounds) buffer
-    pub filled : Filling b (staysWith i (classes i rounds)) next m l
+    pub filled : FillingClasses b (staysWith i (classes i rounds)) next m l
     pub low : 2 ≤ l
 
   module _ (x : Even b) where
-    pub refining-start : ((k : ℕ) → getD b k 0 < 256) → (buffer next : List ℕ) (m : ℕ) → Refined b buffer → length next ≡ 256 → m ≡ lastLabel b
+    pub refining-start : ((k : ℕ) → getD b k 0 < 256) → (buffer next : List ℕ) (m : ℕ)
+        → Refined b buffer → length next ≡ 256 → m ≡ lastLabel b
         → Refining buffer (set (set next 0 0) 1 1) m 2
     refining-start bytes buffer next m r h e =
         let k : ℕ = r .rounds in
         let stays : ℕ → ℕ → Bool = staysWith i (classes i k) in
         let two : 1 ≤ m = omega (arith, x .sound .two, labels-count b) in
-        let s : Filling b stays next m 0 = fill-start b stays next m bytes h e in
-        let t : Filling b stays (set next 0 0) m 1 = fill-on b stays next m 0 s (omega arith) 0 (zero-alone b x k buffer (r .now)) in
+        let s : FillingClasses b stays next m 0 = fill-start b stays next m bytes h e in
+        let t : FillingClasses b stays (set next 0 0) m 1 = fill-on b stays next m 0 s (omega arith) 0 (zero-alone b x k buffer (r .now)) in
         record {
           rounds = k;
           now = r .now;
@@ -88,7 +91,7 @@ module _ (b : List ℕ) where
       inside : l ≤ lastLabel b
       inside = omega (arith, t .filled .is)
 
-      pub refining-asks : (marks touched : List ℕ) → Marks b buffer marks touched → Asked b buffer next marks touched l
+      pub refining-asks : (marks touched : List ℕ) → Marks b buffer marks touched → ClassAsked b buffer next marks touched l
       refining-asks marks touched M = record {
         whole = x .whole;
         long = t .now .long;
@@ -140,7 +143,8 @@ module _ (b : List ℕ) where
     pub marked : Marks b buffer marks touched
     pub now : Classed b (classes i k) buffer
 
-  pub rounding-start : ((k : ℕ) → getD b k 0 < 256) → (buffer next marks touched kept : List ℕ) (last m : ℕ) → last ≡ lastLabel b → m ≡ last + 1
+  pub rounding-start : ((k : ℕ) → getD b k 0 < 256) → (buffer next marks touched kept : List ℕ) (last m : ℕ)
+      → last ≡ lastLabel b → m ≡ last + 1
       → length next ≡ 256 → length kept ≡ 256 → marks ≡ replicate 256 1 → touched ≡ replicate 256 1
       → Classed b (classes i 0) buffer → Rounding buffer next marks touched kept m 0
   rounding-start bytes buffer next marks touched kept last m e f h g p q t = record {
@@ -178,7 +182,7 @@ module _ (b : List ℕ) where
                 (subst (λ (j : ℕ). Classed b (classes i j) next′) (let z : suc k ≡ k + 1 = omega arith in z) (r k (t .now)));
           }
 
-      pub rounding-rest : k < m → (d : Bool) → d ≡ any (differs buffer next′) 0 m → d ≡ false → Classed b (grouping i) buffer
+      pub rounding-rest : k < m → (d : Bool) → d ≡ any (classDiffers buffer next′) 0 m → d ≡ false → Classed b (grouping i) buffer
       unfolding grouping
       rounding-rest h d e z =
           let same : classes i (suc k) ≡ classes i k =
@@ -186,7 +190,7 @@ module _ (b : List ℕ) where
           let low : l ≤ lastLabel b = omega (arith, labels-count b, classes-long b (suc k)) in
           sym (r k (t .now) .at l low)
           ∙ sym (eqb-true (getD buffer l 0) (getD next′ l 0) (not-false (eqb (getD buffer l 0) (getD next′ l 0))
-          (any-false (differs buffer next′) 0 m (sym e ∙ z) l (omega arith) (omega (arith, t .count)))))
+          (any-false (classDiffers buffer next′) 0 m (sym e ∙ z) l (omega arith) (omega (arith, t .count)))))
           ∙ t .now .at l low) in
           let steps : n - k + k ≡ n = omega (arith, labels-count b, t .count) in
           subst (λ (c : List ℕ). Classed b c buffer) (sym (at-rest-on k same (n - k)) ∙ ap (classes i) steps) (t .now)

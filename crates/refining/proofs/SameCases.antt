@@ -6,9 +6,9 @@ use mathlib.Core.List.{List}
 use lib.Dec.{eqb}
 use borrow.Author.Tests.{eq-eqb, ne-eqb}
 use Rattle.image.specs.Image.{Label}
-use Rattle.tables.specs.Table.{labelOf}
+use Rattle.tables.specs.Table.{tableLabel}
 use Rattle.grouping.specs.Classes.{sameFields}
-use Rattle.grouping.specs.Parts.{holdsSameOn}
+use Rattle.grouping.specs.inner.GroupingContracts.{holdsSameOn}
 
 module _ (x y : Label) where
   abbrev kinds : Bool
@@ -45,5 +45,6 @@ module _ (x y : Label) where
         pub same-5 : x .result ≡ y .result → eqb (x .mask) (y .mask) ≡ sameFields x y
         same-5 e = sym (both ∙ ap₂ (λ (s t : Bool). s && t && masks) (eq-eqb (x .owner) (y .owner) d) (eq-eqb (x .result) (y .result) e))
 
-pub same-told : (b : List ℕ) (l m : ℕ) (x y : Label) → x ≡ labelOf b m → y ≡ labelOf b l → (t : Bool) → t ≡ sameFields x y → t ≡ holdsSameOn b m l
+pub same-told : (b : List ℕ) (l m : ℕ) (x y : Label) → x ≡ tableLabel b m → y ≡ tableLabel b l
+    → (t : Bool) → t ≡ sameFields x y → t ≡ holdsSameOn b m l
 same-told b l m x y p q t e = e ∙ ap₂ sameFields p q

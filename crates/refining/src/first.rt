@@ -6,10 +6,11 @@ ghost use mathlib.Core.Path.{_≡_};
 ghost use Prim.Native.Nat.{_<_};
 ghost use lib.ListN.{length};
 ghost use Rattle.lists.specs.Numbers.{lowest};
-ghost use Rattle.tables.specs.Table.{Whole};
-ghost use Rattle.tables.specs.Labels.{asLabel};
+ghost use Rattle.tables.specs.inner.Asked.{Whole};
+ghost use Rattle.tables.specs.inner.Labels.{asLabel};
+ghost use Rattle.frames.specs.Sizes.{LABELS};
 ghost use Rattle.grouping.specs.Classes.{sameFields};
-ghost use Rattle.grouping.specs.Parts.{After, holdsSameOn};
+ghost use Rattle.grouping.specs.inner.GroupingContracts.{After, holdsSameOn};
 
 // Whether two labels hold the same.
 fn is_same(x: Label, y: Label) -> bool
@@ -33,7 +34,7 @@ fn is_same(x: Label, y: Label) -> bool
 // The lowest label that holds the same as label l.
 fn lowest_same(table: &[u8], l: usize) -> usize
     requires { ⌜ Whole (now table) ⌝ }
-    requires { ⌜ l < 256 ⌝ }
+    requires { ⌜ l < LABELS ⌝ }
     ensures { λ r. ⌜ r ≡ lowest (λ m. holdsSameOn (now (table .entry)) m l) 0 l ⌝ }
 {
     let label = label_of(table, l as u8);
@@ -49,7 +50,7 @@ fn lowest_same(table: &[u8], l: usize) -> usize
 
 pub fn first_classes(table: &[u8], classes: &mut [u8])
     requires { ⌜ Whole (now table) ⌝ }
-    requires { ⌜ length (now classes) ≡ 256 ⌝ }
+    requires { ⌜ length (now classes) ≡ LABELS ⌝ }
     ensures { λ _. ⌜ After (now (table .entry)) 0 (now (classes .exit)) ⌝ }
 {
     let last = last_label(table) as usize;

@@ -1,6 +1,7 @@
 // The grouping with fewest groups, in rounds: for each label the lowest one of its class.
 use crate::first::first_classes;
 use frames::put_bytes;
+use frames::sizes::LABELS;
 use marking::mark_parted;
 use parting::are_parted;
 use tables::last_label;
@@ -9,10 +10,12 @@ ghost use mathlib.Core.Path.{_≡_};
 ghost use Prim.Native.Nat.{_≤_, _<_};
 ghost use lib.ListN.{length, getD, replicate};
 ghost use Rattle.lists.specs.Numbers.{any};
+ghost use Rattle.frames.specs.Sizes.{LABELS};
 ghost use Rattle.image.specs.Decode.{schemeCount};
 ghost use Rattle.tables.specs.Table.{tableImage};
 ghost use Rattle.grouping.specs.Classes.{grouping};
-ghost use Rattle.grouping.specs.Parts.{Even, Classed, Refined, OneMore, Marks, Asked, leadsClass, nextClass, differs};
+ghost use Rattle.grouping.specs.inner.GroupingContracts.{Even, Classed, Refined, OneMore, Marks, ClassAsked};
+ghost use Rattle.grouping.specs.inner.GroupingContracts.{leadsClass, nextClass, classDiffers};
 
 // Whether label m, below l, is of the same class, the lowest of its next class, and not parted from l.
 fn leads_class(
@@ -25,8 +28,8 @@ fn leads_class(
     m: usize,
     l: usize,
 ) -> bool
-    requires { ⌜ Asked (now table) (now classes) (now next) (now marks) (now touched) l ⌝ }
-    requires { ⌜ (schemes ≡ schemeCount (now table)) × (2 ≤ m) × (m < l) × (l < 256) ⌝ }
+    requires { ⌜ ClassAsked (now table) (now classes) (now next) (now marks) (now touched) l ⌝ }
+    requires { ⌜ (schemes ≡ schemeCount (now table)) × (2 ≤ m) × (m < l) × (l < LABELS) ⌝ }
     ensures { λ r. ⌜ r ≡ leadsClass (now (table .entry)) (now (classes .entry)) (now (next .entry)) l m ⌝ }
 {
     if classes[m] != classes[l] {
@@ -50,8 +53,8 @@ fn next_class(
     touched: &[u8],
     l: usize,
 ) -> usize
-    requires { ⌜ Asked (now table) (now classes) (now next) (now marks) (now touched) l ⌝ }
-    requires { ⌜ (schemes ≡ schemeCount (now table)) × (getD (now classes) l 0 ≤ l) × (l < 256) ⌝ }
+    requires { ⌜ ClassAsked (now table) (now classes) (now next) (now marks) (now touched) l ⌝ }
+    requires { ⌜ (schemes ≡ schemeCount (now table)) × (getD (now classes) l 0 ≤ l) × (l < LABELS) ⌝ }
     ensures { λ r. ⌜ r ≡ nextClass (now (table .entry)) (now (classes .entry)) (now (next .entry)) l ⌝ }
 {
     let mut m = classes[l] as usize;
@@ -67,7 +70,7 @@ fn next_class(
 // One round. Labels 0 and 1 are alone in their classes.
 fn refine(table: &[u8], classes: &[u8], marks: &[u8], touched: &[u8], next: &mut [u8])
     requires { ⌜ Even (now table) ⌝ }
-    requires { ⌜ (Refined (now table) (now classes)) × (length (now next) ≡ 256) ⌝ }
+    requires { ⌜ (Refined (now table) (now classes)) × (length (now next) ≡ LABELS) ⌝ }
     requires { ⌜ Marks (now table) (now classes) (now marks) (now touched) ⌝ }
     ensures { λ _. ⌜ OneMore (now (table .entry)) (now (classes .entry)) (now (next .exit)) ⌝ }
 {
@@ -85,7 +88,7 @@ fn refine(table: &[u8], classes: &[u8], marks: &[u8], touched: &[u8], next: &mut
 // Whether the first n classes of two lists differ somewhere.
 fn differ(classes: &[u8], next: &[u8], n: usize) -> bool
     requires { ⌜ (n ≤ length (now classes)) × (n ≤ length (now next)) ⌝ }
-    ensures { λ r. ⌜ r ≡ any (differs (now (classes .entry)) (now (next .entry))) 0 n ⌝ }
+    ensures { λ r. ⌜ r ≡ any (classDiffers (now (classes .entry)) (now (next .entry))) 0 n ⌝ }
 {
     let mut l: usize = 0;
     while l < n {
@@ -107,8 +110,8 @@ fn group_in(
     kept: &mut [u8],
 )
     requires { ⌜ Even (now table) ⌝ }
-    requires { ⌜ (length (now classes) ≡ 256) × (length (now next) ≡ 256) × (length (now kept) ≡ 256) ⌝ }
-    requires { ⌜ (now marks ≡ replicate 256 1) × (now touched ≡ replicate 256 1) ⌝ }
+    requires { ⌜ (length (now classes) ≡ LABELS) × (length (now next) ≡ LABELS) × (length (now kept) ≡ LABELS) ⌝ }
+    requires { ⌜ (now marks ≡ replicate LABELS 1) × (now touched ≡ replicate LABELS 1) ⌝ }
     ensures { λ _. ⌜ Classed (now (table .entry)) (grouping (tableImage (now (table .entry)))) (now (classes .exit)) ⌝ }
 {
     first_classes(table, classes);
@@ -128,13 +131,13 @@ fn group_in(
 // The grouping, in the first places of a buffer of 256.
 pub fn group(table: &[u8], classes: &mut [u8])
     requires { ⌜ Even (now table) ⌝ }
-    requires { ⌜ length (now classes) ≡ 256 ⌝ }
+    requires { ⌜ length (now classes) ≡ LABELS ⌝ }
     ensures { λ _. ⌜ Classed (now (table .entry)) (grouping (tableImage (now (table .entry)))) (now (classes .exit)) ⌝ }
 {
-    let mut next = [0u8; 256];
-    let mut marks = [1u8; 256];
-    let mut touched = [1u8; 256];
-    let mut kept = [0u8; 256];
+    let mut next = [0u8; LABELS];
+    let mut marks = [1u8; LABELS];
+    let mut touched = [1u8; LABELS];
+    let mut kept = [0u8; LABELS];
     group_in(
         table,
         classes,

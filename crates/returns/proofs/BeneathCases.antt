@@ -4,19 +4,19 @@ use mathlib.Core.List.{List}
 use Prim.Native.Nat.{ℕ, _-_, _<_}
 use native.Mathlib.Decide.{ℕ-discrete}
 use Rattle.lists.specs.Pick.{pick}
-use Rattle.bits.specs.Results.{resultOf}
+use Rattle.results.specs.Results.{resultOf}
 use Rattle.image.specs.Image.{Label}
 use Rattle.image.specs.Decode.{lastLabel}
-use Rattle.tables.specs.Table.{labelOf, tableImage}
-use Rattle.tables.specs.Labels.{asLabel, Numbered}
+use Rattle.tables.specs.Table.{tableLabel, tableImage}
+use Rattle.tables.specs.inner.Labels.{asLabel, NumberedLabel}
 use Rattle.tables.specs.declared.Label as declared
 use Rattle.tables.proofs.TableReads.{label-at}
-use Rattle.rows.specs.Rows.{Choice, none, bestRow, leads, nextOf}
+use Rattle.rows.specs.Rows.{Choice, noChoice, bestRow, leads, nextOf}
 use Rattle.rows.proofs.TableRows.{row-none, row-above, any-row}
 use Rattle.state.specs.declared.State.{State}
 use Rattle.state.specs.State.{labelAt, placeAt}
 use Rattle.ticks.specs.Tick.{calledBit, choice}
-use Rattle.ticks.specs.Parts.{beneath, bitOf}
+use Rattle.ticks.specs.inner.TickContracts.{beneath, bitOf}
 use Rattle.ticks.proofs.RowCases.{bit-called}
 
 module _ (b : List ℕ) (s : State) (w l : ℕ) (at : l ≡ placeAt s (s .depth - 2)) where
@@ -31,12 +31,13 @@ module _ (b : List ℕ) (s : State) (w l : ℕ) (at : l ≡ placeAt s (s .depth 
   next-is x e = ap (λ (y : Choice). nextOf (leads y)) e
 
   pub beneath-low : l < 2 → 256 ≡ nextOf (beneath (tableImage b) s w)
-  beneath-low h = next-is none (sym (row-none b l w _ h) ∙ chosen _ refl)
+  beneath-low h = next-is noChoice (sym (row-none b l w _ h) ∙ chosen _ refl)
 
   pub beneath-high : lastLabel b < l → 256 ≡ nextOf (beneath (tableImage b) s w)
-  beneath-high h = next-is none (sym (row-above b l w _ h) ∙ chosen _ refl)
+  beneath-high h = next-is noChoice (sym (row-above b l w _ h) ∙ chosen _ refl)
 
-  pub beneath-row : Numbered b l → (z : declared.Label) → asLabel z ≡ labelOf b l → (bit : ℕ) → bit ≡ bitOf (z .kind) (z .called) (s .bits)
+  pub beneath-row : NumberedLabel b l → (z : declared.Label) → asLabel z ≡ tableLabel b l
+      → (bit : ℕ) → bit ≡ bitOf (z .kind) (z .called) (s .bits)
       → (n : ℕ) → n ≡ nextOf (leads (bestRow l w bit 0 (tableImage b .rows))) → n ≡ nextOf (beneath (tableImage b) s w)
   beneath-row g z read bit e n q = q ∙ next-is (bestRow l w bit 0 (tableImage b .rows)) (go (ℕ-discrete (z .kind) 2))
     where

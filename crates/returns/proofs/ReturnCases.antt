@@ -10,9 +10,9 @@ use Rattle.rows.proofs.TableRows.{next-small}
 use Rattle.state.specs.declared.State.{State}
 use Rattle.state.specs.Changes.{withDepth, withPlace, withOpened, withAlone}
 use Rattle.state.specs.Bytes.{stateOf}
-use Rattle.ticks.specs.declared.Stepped.{Stepped}
+use Rattle.ticks.specs.declared.TickEnd.{TickEnd}
 use Rattle.ticks.specs.Tick.{stopped, moved}
-use Rattle.ticks.specs.Parts.{TopReturn, TopBack, beneath, stepOf, Steps}
+use Rattle.ticks.specs.inner.TickContracts.{TopReturn, TopBack, beneath, endOfTick, GivesTickEnd}
 use Rattle.ticks.proofs.TickCases.{steps-stopped, steps-ticked, tick-back, tick-last}
 use Rattle.ticks.proofs.RowCases.{none-found, one-found}
 
@@ -21,23 +21,24 @@ module _ (b before : List ℕ) (w : ℕ) where
   s = stateOf before
 
   pub last-steps : TopReturn b s → (d : ℕ) → d ≡ s .depth → d < 2 → (bytes : List ℕ) → stateOf bytes ≡ withAlone s 0 1
-      → Steps b before w (record { number = 0; mask = 0; code = 3 }) bytes
+      → GivesTickEnd b before w (record { number = 0; mask = 0; code = 3 }) bytes
   last-steps y d is h bytes e = steps-ticked b before w 0 3 _ bytes (tick-last b s (y .stands) w (y .label) (omega arith)) e
 
   module _ (y : TopBack b s) (n : ℕ) (e : n ≡ nextOf (beneath (tableImage b) s w)) where
     abbrev under : Found
     under = beneath (tableImage b) s w
 
-    pub back-stop : ((k : ℕ) → getD b k 0 < 256) → 256 ≤ n → (r : Stepped) → r ≡ stepOf (stopped 18) → Steps b before w r before
+    pub back-stop : ((k : ℕ) → getD b k 0 < 256) → 256 ≤ n → (r : TickEnd) → r ≡ endOfTick (stopped 18) → GivesTickEnd b before w r before
     back-stop bytes h r q =
         rw q
         (steps-stopped b before w 18
-        (tick-back b s (y .top .stands) w (y .top .label) (y .deep) ∙ ap (moved 0 3 _ _) (none-found n under e (λ u p. next-small b bytes _ w _ u p) h)))
+        (tick-back b s (y .top .stands) w (y .top .label) (y .deep)
+        ∙ ap (moved 0 3 _ _) (none-found n under e (λ u p. next-small b bytes _ w _ u p) h)))
 
     pub back-steps : n < 256 → (d k : ℕ) → d ≡ s .depth - 1 → k ≡ s .depth - 2
         → (first second bytes : List ℕ) → stateOf first ≡ withOpened s d 0 0 0 → stateOf second ≡ withPlace (stateOf first) k n
         → stateOf bytes ≡ withDepth (stateOf second) d
-        → Steps b before w (record { number = 0; mask = 0; code = 3 }) bytes
+        → GivesTickEnd b before w (record { number = 0; mask = 0; code = 3 }) bytes
     back-steps h d k q r first second bytes e₁ e₂ e₃ =
         steps-ticked b before w 0 3 _ bytes
         (tick-back b s (y .top .stands) w (y .top .label) (y .deep) ∙ ap (moved 0 3 _ _) (one-found n under e h))

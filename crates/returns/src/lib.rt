@@ -1,5 +1,7 @@
 // The tick of a return, in place.
+use frames::codes::RETURN_CODE;
 use rows::next_row;
+use state::layout::STATE_BYTES;
 use state_places::depth_of;
 use state_places::open_place;
 use state_places::place_of;
@@ -7,17 +9,17 @@ use state_places::put_alone;
 use state_places::put_depth;
 use state_places::put_place;
 use tables::label_read;
-use ticks::Stepped;
+use ticks::TickEnd;
 use ticks::bit_of;
 use ticks::no_row;
 ghost use mathlib.Core.Path.{_≡_};
 ghost use Rattle.tables.specs.Table.{tableImage};
 ghost use Rattle.rows.specs.Rows.{nextOf};
 ghost use Rattle.state.specs.Bytes.{stateOf};
-ghost use Rattle.ticks.specs.Parts.{Header, TopReturn, TopBack, beneath, Steps};
+ghost use Rattle.ticks.specs.inner.TickContracts.{Header, TopReturn, TopBack, beneath, GivesTickEnd};
 
 // Where the label beneath the top leads, or 256 where no row of it matches.
-fn next_beneath(table: &[u8], schemes: u8, last: u8, bytes: &[u8; 130], word: u16) -> u16
+fn next_beneath(table: &[u8], schemes: u8, last: u8, bytes: &[u8; STATE_BYTES], word: u16) -> u16
     requires { ⌜ TopBack (now table) (stateOf (now bytes)) ⌝ }
     requires { ⌜ Header (now table) schemes last ⌝ }
     ensures { λ r. ⌜ r ≡ nextOf (beneath (tableImage (now (table .entry))) (stateOf (now (bytes .entry))) word) ⌝ }
@@ -35,18 +37,24 @@ fn next_beneath(table: &[u8], schemes: u8, last: u8, bytes: &[u8; 130], word: u1
 }
 
 // A return: the top is taken off, and the label beneath takes its row; at depth 1, where the handler ends, scheme 1 follows at label 0.
-pub fn tick_back(table: &[u8], schemes: u8, last: u8, bytes: &mut [u8; 130], word: u16) -> Stepped
+pub fn tick_back(
+    table: &[u8],
+    schemes: u8,
+    last: u8,
+    bytes: &mut [u8; STATE_BYTES],
+    word: u16,
+) -> TickEnd
     requires { ⌜ TopReturn (now table) (stateOf (now bytes)) ⌝ }
     requires { ⌜ Header (now table) schemes last ⌝ }
-    ensures { λ r. ⌜ Steps (now (table .entry)) (now (bytes .entry)) word r (now (bytes .exit)) ⌝ }
+    ensures { λ r. ⌜ GivesTickEnd (now (table .entry)) (now (bytes .entry)) word r (now (bytes .exit)) ⌝ }
 {
     let depth = depth_of(bytes);
     if depth < 2 {
         put_alone(bytes, 0, 1);
-        return Stepped {
+        return TickEnd {
             number: 0,
             mask: 0,
-            code: 3,
+            code: RETURN_CODE,
         };
     }
     let next = next_beneath(table, schemes, last, bytes, word);
@@ -56,9 +64,9 @@ pub fn tick_back(table: &[u8], schemes: u8, last: u8, bytes: &mut [u8; 130], wor
     open_place(bytes, (depth as usize) - 1, 0, 0, 0);
     put_place(bytes, (depth as usize) - 2, next as u8);
     put_depth(bytes, depth - 1);
-    Stepped {
+    TickEnd {
         number: 0,
         mask: 0,
-        code: 3,
+        code: RETURN_CODE,
     }
 }

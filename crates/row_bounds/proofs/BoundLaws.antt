@@ -29,23 +29,23 @@ use Rattle.charts.proofs.Rank.{rank, rank-le, rank-some, rank-falls0, rank-fall
 use Rattle.walk.specs.Stops.{stops}
 use Rattle.walk.proofs.Follow.{goes-on, taken-by}
 use Rattle.image.specs.Image.{Row}
-use Rattle.chart_labels.specs.Ready.{Ready}
+use Rattle.chart_labels.specs.inner.ChartContracts.{Ready}
 use Rattle.chart_labels.proofs.ReadyLaws.{ready-sound}
 use Rattle.chart_rows.specs.Rows.{paths}
-use Rattle.chart_rows.specs.Parts.{number, untested}
-use Rattle.chart_rows.specs.Ready.{NotedAt, Entered, Few, Masked}
+use Rattle.chart_rows.specs.inner.NodeRows.{testedNumber, untested}
+use Rattle.chart_rows.specs.inner.PathContracts.{NotedAt, Entered, FewPaths, Masked}
 use Rattle.chart_rows.proofs.PathSteps.{entered0, entered1, at-stop, at-known, at-new}
 use Rattle.chart_rows.proofs.NumberLaws.{small-number, high-stops, low-condition, low-goes, low-number}
 
 -- ---- the numbers of a mask that are untested
 -- each number of the first mask is one of the second
-pub record Within (m n : ℕ) : Type 0 where
+pub record MaskWithin (m n : ℕ) : Type 0 where
   pub each : (i : ℕ) → bit m i ≡ 1 → bit n i ≡ 1
 
 abbrev free : ℕ → ℕ → ℕ → Bool
 free mask care i = eqb (bit mask i) 1 && eqb (bit care i) 0
 
-module _ (m n : ℕ) (w : Within m n) where
+module _ (m n : ℕ) (w : MaskWithin m n) where
   pub untested-more : (care : ℕ) → untested m care ≤ untested n care
   untested-more care = count-within (free m care) (free n care) 0 16 (λ k a b e.
       and-true (eqb (bit n k) 1) (eqb (bit care k) 0)
@@ -81,7 +81,8 @@ ones-count zero i m h =
     unfold count ones in ap ones (lt-one (shr-lt {n = m} 0 i (subst (λ (x : ℕ). m < 2 ^ x) (omega arith) h)))
 ones-count (suc k) i m h =
     ones-step (m / 2 ^ i) ∙ ap (λ (x : ℕ). bit m i + ones x) (shr-shr m i 1)
-    ∙ ap (λ (x : ℕ). bit m i + x) (ap (λ (x : ℕ). ones (m / 2 ^ x)) (add-one i) ∙ ones-count k (suc i) m (subst (λ (x : ℕ). m < 2 ^ x) (omega arith) h))
+    ∙ ap (λ (x : ℕ). bit m i + x) (ap (λ (x : ℕ). ones (m / 2 ^ x)) (add-one i)
+    ∙ ones-count k (suc i) m (subst (λ (x : ℕ). m < 2 ^ x) (omega arith) h))
     ∙ ap (λ (x : ℕ). x + count (λ j. eqb (bit m j) 1) (suc i) k) (digit (bit-cases m i))
     ∙ sym (count-suc (λ j. eqb (bit m j) 1) i k)
   where
@@ -119,15 +120,15 @@ module _ (c : Chart) (ready : Ready c) where
   abbrev P : ℕ → ℕ → ℕ → ℕ → ℕ → List Row
   P l f care values v = paths (size c) c l f care values v
 
-  pub few-stop : (v m : ℕ) → Entered c v → stops c v ≡ true → Few c v m
+  pub few-stop : (v m : ℕ) → Entered c v → stops c v ≡ true → FewPaths c v m
   few-stop v m t s = record {
     most = λ l f care values.
         omega (arith, ap (λ (rs : List Row). length rs) (at-stop c ready l f care values v t s), pow-pos (untested m care));
   }
 
   -- by the masks behind the two arcs
-  pub few-goes : (v i a b m : ℕ) → Entered c v → stops c v ≡ false → i ≡ argument c v → Few c (next0 c v) a → Few c (next1 c v) b
-      → bit m i ≡ 1 → Within a m → Within b m → Few c v m
+  pub few-goes : (v i a b m : ℕ) → Entered c v → stops c v ≡ false → i ≡ argument c v → FewPaths c (next0 c v) a → FewPaths c (next1 c v) b
+      → bit m i ≡ 1 → MaskWithin a m → MaskWithin b m → FewPaths c v m
   few-goes v i a b m t s e p q one wa wb = record { most = λ l f care values. go l f care values (bit-cases care i) }
     where
       three : kind c v ≡ 3
@@ -136,11 +137,11 @@ module _ (c : Chart) (ready : Ready c) where
       small : i < 16
       small = small-number (record { ready = ready; inside = t .inside; kind = three }) e
 
-      side : (l f care values w : ℕ) → (x : ℕ) → Few c w x → Within x m → length (P l f care values w) ≤ 2 ^ untested m care
+      side : (l f care values w : ℕ) → (x : ℕ) → FewPaths c w x → MaskWithin x m → length (P l f care values w) ≤ 2 ^ untested m care
       side l f care values w x few within =
           omega (arith, few .most l f care values, pow-mono {i = untested x care} {j = untested m care} (untested-more x m within care))
 
-      half : (l f care values w x : ℕ) → Few c w x → Within x m → bit care i ≡ 0
+      half : (l f care values w x : ℕ) → FewPaths c w x → MaskWithin x m → bit care i ≡ 0
           → length (P l f (care + 2 ^ i) values w) * 2 ≤ 2 ^ untested m care
       half l f care values w x few within z =
           let less : suc (untested x (care + 2 ^ i)) ≤ untested m care = untested-less x m within care i small one z in
@@ -173,7 +174,7 @@ module _ (c : Chart) (ready : Ready c) where
           )
 
   -- all sixteen numbers are a mask of every node
-  every : (m : ℕ) → Within m m
+  every : (m : ℕ) → MaskWithin m m
   every m = record { each = λ i o. o }
 
   full : (i : ℕ) → i < 16 → bit 65535 i ≡ 1
@@ -184,11 +185,11 @@ module _ (c : Chart) (ready : Ready c) where
       ap (λ (x : ℕ). x / 2 ^ i) (e ∙ ones-split (suc (15 - i)) i) ∙ high (2 ^ suc (15 - i) - 1) i (ones-lt i) in
       omega (arith, h, pow-suc 2 (15 - i), pow-pos (15 - i))
 
-  few-rank : (n v : ℕ) → Entered c v → rank c v ≤ n → Few c v 65535
+  few-rank : (n v : ℕ) → Entered c v → rank c v ≤ n → FewPaths c v 65535
   few-rank zero v t h = absurd (omega (arith, rank-some c v (t .inside)))
   few-rank (suc n) v t h = go (stops c v) refl (few-rank n)
     where
-      go : (s : Bool) → stops c v ≡ s → ((v : ℕ) → Entered c v → rank c v ≤ n → Few c v 65535) → Few c v 65535
+      go : (s : Bool) → stops c v ≡ s → ((v : ℕ) → Entered c v → rank c v ≤ n → FewPaths c v 65535) → FewPaths c v 65535
       go true s ih = few-stop v 65535 t s
       go false s ih =
           let three : kind c v ≡ 3 = goes-on c v (t .noBegin) s in
@@ -203,19 +204,20 @@ module _ (c : Chart) (ready : Ready c) where
   pub masked-full : (masks : List ℕ) → masks ≡ replicate 256 65535 → Masked c masks
   masked-full masks e = record {
     long = omega (arith, ready .few, ap (λ (ms : List ℕ). length ms) e ∙ length-replicate {A = ℕ} 256 65535);
-    few = λ v t. subst (Few c v)
+    few = λ v t. subst (FewPaths c v)
         (sym (ap (λ (ms : List ℕ). getD ms v 0) e ∙ getD-replicate 256 v 65535 0 (omega (arith, ready .few, t .inside))))
         (few-rank (size c) v t (rank-le c v));
   }
 
-pub masked-set : (c : Chart) (masks : List ℕ) (v x : ℕ) → Masked c masks → v < size c → (Entered c v → Few c v x) → Masked c (set masks v x)
+pub masked-set : (c : Chart) (masks : List ℕ) (v x : ℕ) → Masked c masks → v < size c
+    → (Entered c v → FewPaths c v x) → Masked c (set masks v x)
 masked-set c masks v x k l f = record { long = omega (arith, k .long, length-set masks v x); few = λ u t. go u t (ℕ-discrete v u) }
   where
-    go : (u : ℕ) → Entered c u → Dec (v ≡ u) → Few c u (getD (set masks v x) u 0)
+    go : (u : ℕ) → Entered c u → Dec (v ≡ u) → FewPaths c u (getD (set masks v x) u 0)
     go u t (yes q) =
-        subst (λ (w : ℕ). Few c w (getD (set masks v x) w 0)) q
-        (subst (Few c v) (sym (getD-set-same masks v x 0 (omega (arith, k .long)))) (f (subst (Entered c) (sym q) t)))
-    go u t (no q) = subst (Few c u) (sym (getD-set-other masks v u x 0 (λ e. q (sym e)))) (k .few u t)
+        subst (λ (w : ℕ). FewPaths c w (getD (set masks v x) w 0)) q
+        (subst (FewPaths c v) (sym (getD-set-same masks v x 0 (omega (arith, k .long)))) (f (subst (Entered c) (sym q) t)))
+    go u t (no q) = subst (FewPaths c u) (sym (getD-set-other masks v u x 0 (λ e. q (sym e)))) (k .few u t)
 
 -- loops over the nodes write them
 pub record Masking (c : Chart) (old masks : List ℕ) (v : ℕ) : Type 0 where
@@ -223,7 +225,8 @@ pub record Masking (c : Chart) (old masks : List ℕ) (v : ℕ) : Type 0 where
   pub size : length masks ≡ length old
   pub masked : Masked c masks
 
-pub masking-on : (c : Chart) (old masks : List ℕ) (v : ℕ) → Masking c old masks v → 0 < v → (x : ℕ) → (Entered c (v - 1) → Few c (v - 1) x)
+pub masking-on : (c : Chart) (old masks : List ℕ) (v : ℕ) → Masking c old masks v → 0 < v
+    → (x : ℕ) → (Entered c (v - 1) → FewPaths c (v - 1) x)
     → Masking c old (set masks (v - 1) x) (v - 1)
 masking-on c old masks v t l x f = record {
   within = omega (arith, t .within);
@@ -231,7 +234,7 @@ masking-on c old masks v t l x f = record {
   masked = masked-set c masks (v - 1) x (t .masked) (omega (arith, t .within)) f;
 }
 
-pub masking-up : (c : Chart) (old masks : List ℕ) (v : ℕ) → Masking c old masks v → v < size c → (x : ℕ) → (Entered c v → Few c v x)
+pub masking-up : (c : Chart) (old masks : List ℕ) (v : ℕ) → Masking c old masks v → v < size c → (x : ℕ) → (Entered c v → FewPaths c v x)
     → Masking c old (set masks v x) (v + 1)
 masking-up c old masks v t l x f = record {
   within = omega arith;
@@ -244,10 +247,10 @@ module _ (c : Chart) (notes masks : List ℕ) (v : ℕ) (node : NotedAt c notes 
   ready : Ready c
   ready = node .noted .chart .ready
 
-  read : getD notes (256 + v) 0 ≡ number c v
+  read : getD notes (256 + v) 0 ≡ testedNumber c v
   read = node .noted .numbers v (node .inside)
 
-  pub mask-stop : 15 < getD notes (256 + v) 0 → Entered c v → Few c v 0
+  pub mask-stop : 15 < getD notes (256 + v) 0 → Entered c v → FewPaths c v 0
   mask-stop h t = few-stop c ready v 0 t (high-stops c ready v (getD notes (256 + v) 0) t read h)
 
   module _ (low : getD notes (256 + v) 0 ≤ 15) where
@@ -264,13 +267,13 @@ module _ (c : Chart) (notes masks : List ℕ) (v : ℕ) (node : NotedAt c notes 
     mask-side1 w e = omega (arith, k .long, entered1 c ready v (node .inside) (omega (arith, condition)) .inside)
 
     pub mask-goes : (w0 w1 m : ℕ) → w0 ≡ next0 c v → w1 ≡ next1 c v
-        → m ≡ bitOr (bitOr (getD masks w0 0) (getD masks w1 0)) (2 ^ getD notes (256 + v) 0) → Few c v m
+        → m ≡ bitOr (bitOr (getD masks w0 0) (getD masks w1 0)) (2 ^ getD notes (256 + v) 0) → FewPaths c v m
     mask-goes w0 w1 m e0 e1 em =
         few-goes c ready v (getD notes (256 + v) 0) (getD masks w0 0) (getD masks w1 0) m here
         (low-goes c ready v (getD notes (256 + v) 0) here read low) (low-number c ready v (getD notes (256 + v) 0) here read low)
-        (subst (λ (w : ℕ). Few c w (getD masks w0 0)) e0
+        (subst (λ (w : ℕ). FewPaths c w (getD masks w0 0)) e0
         (k .few w0 (subst (Entered c) (sym e0) (entered0 c ready v (node .inside) (λ q. omega (arith, condition))))))
-        (subst (λ (w : ℕ). Few c w (getD masks w1 0)) e1
+        (subst (λ (w : ℕ). FewPaths c w (getD masks w1 0)) e1
         (k .few w1 (subst (Entered c) (sym e1) (entered1 c ready v (node .inside) (omega (arith, condition))))))
         (each (getD notes (256 + v) 0) ∙ omega (arith, bit-pow-same (getD notes (256 + v) 0)))
         (record { each = λ i o. each i ∙ omega (arith, bit-or (getD masks w0 0) (getD masks w1 0) i) })

@@ -11,8 +11,8 @@ use Rattle.charts.specs.Chart.{Chart, kind, argument, next0, next1}
 use Rattle.image.specs.Image.{Row}
 use Rattle.chart_labels.specs.Labels.{label}
 use Rattle.chart_rows.specs.Rows.{paths, rows}
-use Rattle.chart_rows.specs.Parts.{untested, sides, nodeRows}
-use Rattle.chart_rows.specs.Ready.{NotedAt, Entered, Masked}
+use Rattle.chart_rows.specs.inner.NodeRows.{untested, sides, nodeRows}
+use Rattle.chart_rows.specs.inner.PathContracts.{NotedAt, Entered, Masked}
 use Rattle.chart_rows.proofs.PathSteps.{entered1}
 use Rattle.chart_rows.proofs.RowSteps.{rows-function, rows-condition, rows-other, no-rows, own-rows, other-entered, function-kind}
 use Rattle.chart_rows.proofs.RowSteps.{rowsBelow, below-more, below-all}

@@ -1,24 +1,27 @@
 // An upper bound on the rows of a chart: no more paths go on from a node than the numbers that they may test have values.
 use bits::with_bit;
 use charts::field;
+use charts::layout::*;
+use frames::sizes::NODES;
+use frames::sizes::RECORD;
 ghost use Prim.Native.Nat.{ℕ, _^_, _≤_};
 ghost use lib.ListN.{length};
 ghost use Rattle.chart_rows.specs.Rows.{rows};
-ghost use Rattle.chart_rows.specs.Ready.{Noted, NotedAt, Entered, Few, Masked};
-ghost use Rattle.chart_rows.specs.Parts.{untested, nodeRows};
+ghost use Rattle.chart_rows.specs.inner.PathContracts.{Noted, NotedAt, Entered, FewPaths, Masked};
+ghost use Rattle.chart_rows.specs.inner.NodeRows.{untested, nodeRows};
 
 // The numbers that paths on from a node may test, as bits, by those of the nodes behind its arcs.
 fn mask_of(records: &[u8], notes: &[u8], masks: &[u16], v: usize) -> u16
     requires { ⌜ NotedAt (now records) (now notes) v ⌝ }
     requires { ⌜ Masked (now records) (now masks) ⌝ }
-    ensures { λ r. ⌜ (Entered (now (records .entry)) v → Few (now (records .entry)) v r) ⌝ }
+    ensures { λ r. ⌜ (Entered (now (records .entry)) v → FewPaths (now (records .entry)) v r) ⌝ }
 {
-    let i = notes[256 + v];
+    let i = notes[NODES + v];
     if i > 15 {
         return 0;
     }
-    let low = masks[field(records, v, 3) as usize];
-    let high = masks[field(records, v, 4) as usize];
+    let low = masks[field(records, v, NEXT0) as usize];
+    let high = masks[field(records, v, NEXT1) as usize];
     with_bit(low | high, i)
 }
 
@@ -28,7 +31,7 @@ fn mask_upward(records: &[u8], notes: &[u8], masks: &mut [u16])
     requires { ⌜ Masked (now records) (now masks) ⌝ }
     ensures { λ _. ⌜ Masked (now (records .entry)) (now (masks .exit)) ⌝ }
 {
-    let n = records.len() / 10;
+    let n = records.len() / RECORD;
     let mut v: usize = 0;
     while v < n {
         let mask = mask_of(records, notes, masks, v);
@@ -43,7 +46,7 @@ fn mask_downward(records: &[u8], notes: &[u8], masks: &mut [u16])
     requires { ⌜ Masked (now records) (now masks) ⌝ }
     ensures { λ _. ⌜ Masked (now (records .entry)) (now (masks .exit)) ⌝ }
 {
-    let mut v = records.len() / 10;
+    let mut v = records.len() / RECORD;
     while v > 0 {
         v -= 1;
         let mask = mask_of(records, notes, masks, v);
@@ -71,11 +74,11 @@ fn bound_node(records: &[u8], notes: &[u8], masks: &[u16], v: usize) -> usize
     if notes[v] < 2 {
         return 0;
     }
-    let low = value_count(masks[field(records, v, 3) as usize]);
-    if field(records, v, 0) < 3 {
+    let low = value_count(masks[field(records, v, NEXT0) as usize]);
+    if field(records, v, KIND) < CONDITION {
         return low;
     }
-    low + value_count(masks[field(records, v, 4) as usize])
+    low + value_count(masks[field(records, v, NEXT1) as usize])
 }
 
 // The sum of the bounds of all nodes.
@@ -84,7 +87,7 @@ fn bound_nodes(records: &[u8], notes: &[u8], masks: &[u16]) -> usize
     requires { ⌜ Masked (now records) (now masks) ⌝ }
     ensures { λ r. ⌜ length (rows (now (records .entry))) ≤ r ⌝ }
 {
-    let n = records.len() / 10;
+    let n = records.len() / RECORD;
     let mut total: usize = 0;
     let mut v: usize = 0;
     while v < n {
@@ -99,7 +102,7 @@ pub fn bound_rows(records: &[u8], notes: &[u8]) -> usize
     requires { ⌜ Noted (now records) (now notes) ⌝ }
     ensures { λ r. ⌜ length (rows (now (records .entry))) ≤ r ⌝ }
 {
-    let mut masks = [65535u16; 256];
+    let mut masks = [65535u16; NODES];
     mask_upward(records, notes, &mut masks);
     mask_downward(records, notes, &mut masks);
     bound_nodes(records, notes, &masks)

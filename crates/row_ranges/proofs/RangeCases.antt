@@ -7,7 +7,7 @@ use lib.ListN.{length}
 use Rattle.frames.specs.Frame.{size, field}
 use Rattle.image.specs.Decode.{labelsFrom}
 use Rattle.tables.specs.Table.{tableEnd, notedIn, firstOn, endOn}
-use Rattle.tables.specs.Labels.{Framed}
+use Rattle.tables.specs.inner.Labels.{Framed}
 
 -- n is H as the caller has it
 module _ (b : List ℕ) (n l : ℕ) (x : Framed b n l) where

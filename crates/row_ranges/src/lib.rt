@@ -1,10 +1,11 @@
 // Where the rows of a label stand in a prepared table.
+use frames::sizes::FRAME;
 use image::byte;
 ghost use mathlib.Core.Path.{_≡_};
 ghost use Prim.Native.Nat.{_+_, _*_, _<_};
 ghost use Rattle.frames.specs.Frame.{size, field};
 ghost use Rattle.tables.specs.Table.{firstOn, endOn};
-ghost use Rattle.tables.specs.Labels.{Framed};
+ghost use Rattle.tables.specs.inner.Labels.{Framed};
 
 // Two bytes of frame f from k on, the low one first.
 pub fn low_pair(table: &[u8], f: usize, k: usize) -> u16
@@ -29,8 +30,8 @@ pub fn end_of(table: &[u8], schemes: u8, l: usize) -> usize
     ensures { λ r. ⌜ r ≡ endOn (now (table .entry)) l ⌝ }
 {
     let end = low_pair(table, 1 + (schemes as usize) + l, 0) as usize;
-    if 10 * end < table.len() {
+    if FRAME * end < table.len() {
         return end;
     }
-    table.len() / 10
+    table.len() / FRAME
 }

@@ -16,11 +16,11 @@ use Rattle.walk.specs.Stops.{stops}
 use Rattle.image.specs.Image.{Row, rowFrame}
 use Rattle.chart_labels.specs.Labels.{label}
 use Rattle.chart_rows.specs.Rows.{paths, rowsOf}
-use Rattle.chart_rows.specs.Ready.{Entered, PathAt}
-use Rattle.chart_labels.specs.Ready.{Charted}
-use Rattle.row_text.specs.Parts.{rowOf, rowsBytes, nodeRowsBytes}
-use Rattle.chart_rows.specs.Parts.{sides, nodeRows}
-use Rattle.label_text.specs.Parts.{Put}
+use Rattle.chart_rows.specs.inner.PathContracts.{Entered, PathAt}
+use Rattle.chart_labels.specs.inner.ChartContracts.{Charted}
+use Rattle.row_text.specs.inner.RowBytes.{makeRow, rowsBytes, nodeRowsBytes}
+use Rattle.chart_rows.specs.inner.NodeRows.{sides, nodeRows}
+use Rattle.label_text.specs.inner.LabelBytes.{Put}
 use Rattle.label_text.proofs.Puts.{Parted, put-length, both-first, both-second, both-done, nothing-put, done-as}
 use Rattle.chart_rows.proofs.RowSteps.{rows-function, rows-condition, rows-other}
 use Rattle.chart_rows.proofs.Settled.{Settled}
@@ -35,8 +35,8 @@ row-alone r = concat-cons rowFrame r [] ∙ (unfold concatMap in append-nil (row
 
 module _ (c : Chart) (labels : List ℕ) (chart : Charted c labels) (care values v u : ℕ) (st : Settled c care values v u)
     (s : stops c u ≡ true) (l f : ℕ) where
-  leaf-bytes : rowsBytes (paths (size c) c l f care values v) ≡ rowFrame (rowOf l care values f (label c u))
-  leaf-bytes = ap rowsBytes (stop-paths c (chart .ready) care values v u st s l f) ∙ row-alone (rowOf l care values f (label c u))
+  leaf-bytes : rowsBytes (paths (size c) c l f care values v) ≡ rowFrame (makeRow l care values f (label c u))
+  leaf-bytes = ap rowsBytes (stop-paths c (chart .ready) care values v u st s l f) ∙ row-alone (makeRow l care values f (label c u))
 
   leaf-length : length (rowsBytes (paths (size c) c l f care values v)) ≡ 10
   leaf-length = ap (λ (x : List ℕ). length x) leaf-bytes
@@ -44,11 +44,11 @@ module _ (c : Chart) (labels : List ℕ) (chart : Charted c labels) (care values
   pub leaf-room : (at n : ℕ) → at + length (rowsBytes (paths (size c) c l f care values v)) ≤ n → at + 10 ≤ n
   leaf-room at n h = omega (arith, leaf-length)
 
-  pub leaf-done : (out out′ : List ℕ) (at r : ℕ) → Put out at (rowFrame (rowOf l care values f (getD labels u 0))) r out′
+  pub leaf-done : (out out′ : List ℕ) (at r : ℕ) → Put out at (rowFrame (makeRow l care values f (getD labels u 0))) r out′
       → Put out at (rowsBytes (paths (size c) c l f care values v)) r out′
   leaf-done out out′ at r p =
       done-as _ _ out out′ at r
-      (leaf-bytes ∙ ap (λ (x : ℕ). rowFrame (rowOf l care values f x)) (sym (chart .labelled .at u (st .entered .inside)))) p
+      (leaf-bytes ∙ ap (λ (x : ℕ). rowFrame (makeRow l care values f x)) (sym (chart .labelled .at u (st .entered .inside)))) p
 
 -- a path is settled at a stop that it comes to
 pub at-end : (c : Chart) (care values v : ℕ) → Entered c v → stops c v ≡ true → Settled c care values v v
@@ -67,7 +67,7 @@ module _ (c : Chart) (care values v tested valued w0 w1 : ℕ) (k : Fork c care 
   }
 
 -- ---- the loop along 1 sides: of all rows some are put, and the others are those of the paths on from node v
-pub record Walked (c : Chart) (notes all out₀ out : List ℕ) (at place l f top care values v : ℕ) : Type 0 where
+pub record PutAlong (c : Chart) (notes all out₀ out : List ℕ) (at place l f top care values v : ℕ) : Type 0 where
   pub path : PathAt c notes care values v
   pub below : rank c v ≤ top
   pub done : List ℕ
@@ -75,7 +75,7 @@ pub record Walked (c : Chart) (notes all out₀ out : List ℕ) (at place l f to
   pub rest : Parted all done (rowsBytes (paths (size c) c l f care values v))
 
 pub walked-start : (c : Chart) (notes out : List ℕ) (at l f top care values v : ℕ) → PathAt c notes care values v → rank c v ≡ top
-    → Walked c notes (rowsBytes (paths (size c) c l f care values v)) out out at at l f top care values v
+    → PutAlong c notes (rowsBytes (paths (size c) c l f care values v)) out out at at l f top care values v
 walked-start c notes out at l f top care values v p e = record {
   path = p;
   below = omega arith;
@@ -85,7 +85,7 @@ walked-start c notes out at l f top care values v p e = record {
 }
 
 module _ {c : Chart} {notes all out₀ out : List ℕ} {at place l f top care values v : ℕ}
-    (w : Walked c notes all out₀ out at place l f top care values v) (room : at + length all ≤ length out₀) where
+    (w : PutAlong c notes all out₀ out at place l f top care values v) (room : at + length all ≤ length out₀) where
   pub walked-room : place + length (rowsBytes (paths (size c) c l f care values v)) ≤ length out
   walked-room = both-second (w .rest) room (w .put)
 
@@ -115,7 +115,7 @@ module _ {c : Chart} {notes all out₀ out : List ℕ} {at place l f top care va
     on-room = both-first {a = w .done ++ low} {b = high} (record { parts = on-parts }) at (length out₀) room
 
     pub walked-on : {out′ : List ℕ} {mid : ℕ} → Put out place low mid out′
-        → Walked c notes all out₀ out′ at mid l f top tested valued w1
+        → PutAlong c notes all out₀ out′ at mid l f top tested valued w1
     walked-on q = record {
       path = record { noted = w .path .noted; entered = k .entered1; within = k .within1 };
       below = omega (arith, k .falls1, w .below);

@@ -2,30 +2,37 @@
 use bits::with_bit;
 use chart_rows::settle;
 use charts::field;
+use charts::layout::*;
 use frames::put_bytes;
+use frames::sizes::FRAME;
+use frames::sizes::NODES;
+use frames::sizes::RECORD;
+use image::layout::NO_BIT;
+use image::layout::ROW;
 ghost use Prim.Native.Nat.{_+_, _≤_};
 ghost use lib.ListN.{length};
+ghost use Rattle.frames.specs.Sizes.{FRAME};
 ghost use Rattle.frames.specs.Frame.{size};
 ghost use Rattle.image.specs.Image.{rowFrame};
 ghost use Rattle.chart_labels.specs.Labels.{label};
 ghost use Rattle.chart_rows.specs.Rows.{paths};
-ghost use Rattle.chart_rows.specs.Ready.{Noted, NotedAt, PathAt, SidesAt};
-ghost use Rattle.row_text.specs.Parts.{rowOf, rowsBytes, nodeRowsBytes};
-ghost use Rattle.chart_rows.specs.Parts.{sides};
-ghost use Rattle.label_text.specs.Parts.{upTo, Put};
+ghost use Rattle.chart_rows.specs.inner.PathContracts.{Noted, NotedAt, PathAt, SidesAt};
+ghost use Rattle.row_text.specs.inner.RowBytes.{makeRow, rowsBytes, nodeRowsBytes};
+ghost use Rattle.chart_rows.specs.inner.NodeRows.{sides};
+ghost use Rattle.label_text.specs.inner.LabelBytes.{upTo, Put};
 
 // One row; the offset after it.
 fn put_row(out: &mut [u8], at: usize, from: u8, care: u16, values: u16, bit: u8, next: u8) -> usize
-    requires { ⌜ at + 10 ≤ length (now out) ⌝ }
-    ensures { λ r. ⌜ Put (now (out .entry)) at (rowFrame (rowOf from care values bit next)) r (now (out .exit)) ⌝ }
+    requires { ⌜ at + FRAME ≤ length (now out) ⌝ }
+    ensures { λ r. ⌜ Put (now (out .entry)) at (rowFrame (makeRow from care values bit next)) r (now (out .exit)) ⌝ }
 {
     let care0 = (care / 256) as u8;
     let care1 = (care % 256) as u8;
     let values0 = (values / 256) as u8;
     let values1 = (values % 256) as u8;
-    let bytes = [18, from, care0, care1, values0, values1, bit, next, 0, 0];
+    let bytes = [ROW, from, care0, care1, values0, values1, bit, next, 0, 0];
     put_bytes(out, at, &bytes);
-    at + 10
+    at + FRAME
 }
 
 // The paths on from a node, the 0 side of each new condition first: those of a 0 side by recursion, unless it ends at once;
@@ -43,7 +50,8 @@ fn put_forks(
 ) -> usize
     requires { ⌜ PathAt (now records) (now notes) care values node ⌝ }
     requires { ⌜ at + length (rowsBytes (paths (size (now records)) (now records) from bit care values node)) ≤ length (now out) ⌝ }
-    ensures { λ r. ⌜ Put (now (out .entry)) at (rowsBytes (paths (size (now (records .entry))) (now (records .entry)) from bit care values node)) r (now (out .exit)) ⌝ }
+    ensures { λ r. ⌜ Put (now (out .entry)) at
+        (rowsBytes (paths (size (now (records .entry))) (now (records .entry)) from bit care values node)) r (now (out .exit)) ⌝ }
 {
     let mut place = at;
     let mut tested = care;
@@ -51,16 +59,16 @@ fn put_forks(
     let mut next = node;
     loop {
         let v = settle(records, notes, next, tested, valued) as usize;
-        let i = notes[256 + v];
+        let i = notes[NODES + v];
         if i > 15 {
             return put_row(out, place, from, tested, valued, bit, notes[v]);
         }
         tested = with_bit(tested, i);
         let side = with_bit(valued, i);
-        next = field(records, v, 4);
-        let low = field(records, v, 3);
+        next = field(records, v, NEXT1);
+        let low = field(records, v, NEXT0);
         let end = low as usize;
-        if notes[256 + end] > 15 {
+        if notes[NODES + end] > 15 {
             place = put_row(out, place, from, tested, valued, bit, notes[end]);
         } else {
             place = put_forks(records, notes, low, tested, valued, from, bit, out, place);
@@ -83,10 +91,11 @@ fn put_paths(
 ) -> usize
     requires { ⌜ PathAt (now records) (now notes) care values node ⌝ }
     requires { ⌜ at + length (rowsBytes (paths (size (now records)) (now records) from bit care values node)) ≤ length (now out) ⌝ }
-    ensures { λ r. ⌜ Put (now (out .entry)) at (rowsBytes (paths (size (now (records .entry))) (now (records .entry)) from bit care values node)) r (now (out .exit)) ⌝ }
+    ensures { λ r. ⌜ Put (now (out .entry)) at
+        (rowsBytes (paths (size (now (records .entry))) (now (records .entry)) from bit care values node)) r (now (out .exit)) ⌝ }
 {
     let v = node as usize;
-    if notes[256 + v] > 15 {
+    if notes[NODES + v] > 15 {
         return put_row(out, at, from, care, values, bit, notes[v]);
     }
     put_forks(records, notes, node, care, values, from, bit, out, at)
@@ -106,11 +115,12 @@ fn put_sides(
 ) -> usize
     requires { ⌜ SidesAt (now records) (now notes) care values v ⌝ }
     requires { ⌜ at + length (rowsBytes (sides (now records) (label (now records) v) first second care values v)) ≤ length (now out) ⌝ }
-    ensures { λ r. ⌜ Put (now (out .entry)) at (rowsBytes (sides (now (records .entry)) (label (now (records .entry)) v) first second care values v)) r (now (out .exit)) ⌝ }
+    ensures { λ r. ⌜ Put (now (out .entry)) at
+        (rowsBytes (sides (now (records .entry)) (label (now (records .entry)) v) first second care values v)) r (now (out .exit)) ⌝ }
 {
     let from = notes[v];
-    let next0 = field(records, v, 3);
-    let next1 = field(records, v, 4);
+    let next0 = field(records, v, NEXT0);
+    let next1 = field(records, v, NEXT1);
     let mid = put_paths(records, notes, next0, care, 0, from, first, out, at);
     put_paths(records, notes, next1, care, values, from, second, out, mid)
 }
@@ -125,11 +135,21 @@ fn put_node(records: &[u8], notes: &[u8], v: usize, out: &mut [u8], at: usize) -
     if from < 2 {
         return at;
     }
-    match field(records, v, 0) {
-        0..=2 => put_paths(records, notes, field(records, v, 3), 0, 0, from, 2, out, at),
-        3 => {
-            let own = with_bit(0, field(records, v, 2));
-            put_sides(records, notes, v, own, own, 2, 2, out, at)
+    match field(records, v, KIND) {
+        BEGIN..=OPERATION => put_paths(
+            records,
+            notes,
+            field(records, v, NEXT0),
+            0,
+            0,
+            from,
+            NO_BIT,
+            out,
+            at,
+        ),
+        CONDITION => {
+            let own = with_bit(0, field(records, v, ARGUMENT));
+            put_sides(records, notes, v, own, own, NO_BIT, NO_BIT, out, at)
         }
         _ => put_sides(records, notes, v, 0, 0, 0, 1, out, at),
     }
@@ -139,9 +159,10 @@ fn put_node(records: &[u8], notes: &[u8], v: usize, out: &mut [u8], at: usize) -
 pub fn put_rows(records: &[u8], notes: &[u8], out: &mut [u8], at: usize) -> usize
     requires { ⌜ Noted (now records) (now notes) ⌝ }
     requires { ⌜ at + length (upTo (nodeRowsBytes (now records)) (size (now records))) ≤ length (now out) ⌝ }
-    ensures { λ r. ⌜ Put (now (out .entry)) at (upTo (nodeRowsBytes (now (records .entry))) (size (now (records .entry)))) r (now (out .exit)) ⌝ }
+    ensures { λ r. ⌜ Put (now (out .entry)) at (upTo (nodeRowsBytes (now (records .entry))) (size (now (records .entry))))
+        r (now (out .exit)) ⌝ }
 {
-    let n = records.len() / 10;
+    let n = records.len() / RECORD;
     let mut place = at;
     let mut v: usize = 0;
     while v < n {

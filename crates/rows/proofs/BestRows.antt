@@ -9,25 +9,25 @@ use native.Mathlib.Omega.{arith}
 use lib.Count.{ones}
 use lib.ListN.{length, getD}
 use Rattle.lists.proofs.Tests.{no-both, split}
-use Rattle.lists.proofs.Joins.{All, all-at}
-use Rattle.image.specs.Image.{Row}
-use Rattle.image.proofs.Sound.{noRow}
-use Rattle.rows.specs.Rows.{isOwn, Choice, row, none, better, bestRow, found, missing, leads}
+use Rattle.lists.proofs.Joins.{all-at}
+use Rattle.lists.specs.Sequences.{All}
+use Rattle.image.specs.Image.{Row, noRow}
+use Rattle.rows.specs.Rows.{isCandidate, Choice, row, noChoice, better, bestRow, found, missing, leads}
 use Rattle.rows.specs.Choices.{Best}
 use Rattle.rows.proofs.ChoiceLaws.{best-nothing, best-own, best-other, better-first, better-second}
 
-no-row : {A : Type 0} (k : ℕ) (r : Row) (x : Choice) → x ≡ none → x ≡ row k r → A
+no-row : {A : Type 0} (k : ℕ) (r : Row) (x : Choice) → x ≡ noChoice → x ≡ row k r → A
 no-row k r x p q = absurd (let z : _≡_ {A = ℕ} 0 1 = cc in omega arith)
 
-row-number : (k j : ℕ) (r q : Row) → row k r ≡ row j q → k ≡ j
+pub row-number : (k j : ℕ) (r q : Row) → row k r ≡ row j q → k ≡ j
 row-number k j r q e = cc
 
 row-row : (k j : ℕ) (r q : Row) → row k r ≡ row j q → r ≡ q
 row-row k j r q e = cc
 
 -- the better of a row and another choice is no none
-some-better : {A : Type 0} (k : ℕ) (r : Row) (x : Choice) → better (row k r) x ≡ none → A
-some-better k r none e = no-row k r (row k r) e refl
+some-better : {A : Type 0} (k : ℕ) (r : Row) (x : Choice) → better (row k r) x ≡ noChoice → A
+some-better k r noChoice e = no-row k r (row k r) e refl
 some-better k r (row j q) e = go (split (ones (q .care)) (ones (r .care)))
   where
     go : {A : Type 0} → (ones (q .care) < ones (r .care)) ⊎ (ones (r .care) ≤ ones (q .care)) → A
@@ -36,47 +36,51 @@ some-better k r (row j q) e = go (split (ones (q .care)) (ones (r .care)))
 
 module _ (l w b : ℕ) where
   -- none is chosen, so none matches
-  pub none-matches : (n : ℕ) (rs : List Row) → bestRow l w b n rs ≡ none → (j : ℕ) → j < length rs → isOwn l w b (getD rs j noRow) ≡ false
+  pub none-matches : (n : ℕ) (rs : List Row) → bestRow l w b n rs ≡ noChoice → (j : ℕ)
+      → j < length rs → isCandidate l w b (getD rs j noRow) ≡ false
   none-matches n [] e j h = absurd (omega arith)
-  none-matches n (r ∷ rs) e j h = go (isOwn l w b r) refl j h (none-matches (suc n) rs)
+  none-matches n (r ∷ rs) e j h = go (isCandidate l w b r) refl j h (none-matches (suc n) rs)
     where
-      go : (t : Bool) → isOwn l w b r ≡ t → (j : ℕ) → j < length (r ∷ rs)
-          → (bestRow l w b (suc n) rs ≡ none → (j : ℕ) → j < length rs → isOwn l w b (getD rs j noRow) ≡ false)
-          → isOwn l w b (getD (r ∷ rs) j noRow) ≡ false
+      go : (t : Bool) → isCandidate l w b r ≡ t → (j : ℕ) → j < length (r ∷ rs)
+          → (bestRow l w b (suc n) rs ≡ noChoice → (j : ℕ) → j < length rs → isCandidate l w b (getD rs j noRow) ≡ false)
+          → isCandidate l w b (getD (r ∷ rs) j noRow) ≡ false
       go true o j h ih = some-better n r (bestRow l w b (suc n) rs) (sym (best-own l w b n r rs o) ∙ e)
       go false o zero h ih = o
       go false o (suc j) h ih = ih (sym (best-other l w b n r rs o) ∙ e) j (omega arith)
 
   -- and where none matches, none is chosen
-  pub best-none : (k : ℕ) (rs : List Row) → ((j : ℕ) → j < length rs → isOwn l w b (getD rs j noRow) ≡ false) → bestRow l w b k rs ≡ none
+  pub best-none : (k : ℕ) (rs : List Row) → ((j : ℕ) → j < length rs → isCandidate l w b (getD rs j noRow) ≡ false)
+      → bestRow l w b k rs ≡ noChoice
   best-none k [] h = best-nothing l w b k
   best-none k (r ∷ rs) h = best-other l w b k r rs (h 0 (omega arith)) ∙ best-none (suc k) rs (λ j g. h (suc j) (omega arith))
 
   -- the best of the rest, with a row in front that loses to it
-  behind : (r : Row) (rs : List Row) (p : ℕ) (q : Row) → (isOwn l w b r ≡ true → ones (r .care) ≤ ones (q .care)) → Best l w b rs p q
+  behind : (r : Row) (rs : List Row) (p : ℕ) (q : Row) → (isCandidate l w b r ≡ true → ones (r .care) ≤ ones (q .care)) → Best l w b rs p q
       → Best l w b (r ∷ rs) (suc p) q
   behind r rs p q h d = record { inside = omega (arith, d .inside); is = d .is; matches = d .matches; most = most; last = last }
     where
-      most : (j : ℕ) → j < length (r ∷ rs) → isOwn l w b (getD (r ∷ rs) j noRow) ≡ true → ones (getD (r ∷ rs) j noRow .care) ≤ ones (q .care)
+      most : (j : ℕ) → j < length (r ∷ rs) → isCandidate l w b (getD (r ∷ rs) j noRow) ≡ true
+          → ones (getD (r ∷ rs) j noRow .care) ≤ ones (q .care)
       most zero g o = h o
       most (suc j) g o = d .most j (omega arith) o
 
-      last : (j : ℕ) → suc p < j → j < length (r ∷ rs) → isOwn l w b (getD (r ∷ rs) j noRow) ≡ true
+      last : (j : ℕ) → suc p < j → j < length (r ∷ rs) → isCandidate l w b (getD (r ∷ rs) j noRow) ≡ true
           → ones (getD (r ∷ rs) j noRow .care) < ones (q .care)
       last zero m g o = absurd (omega arith)
       last (suc j) m g o = d .last j (omega arith) (omega arith) o
 
   -- a row in front that wins against each of the rest
-  front : (r : Row) (rs : List Row) → isOwn l w b r ≡ true
-      → ((j : ℕ) → j < length rs → isOwn l w b (getD rs j noRow) ≡ true → ones (getD rs j noRow .care) < ones (r .care))
+  front : (r : Row) (rs : List Row) → isCandidate l w b r ≡ true
+      → ((j : ℕ) → j < length rs → isCandidate l w b (getD rs j noRow) ≡ true → ones (getD rs j noRow .care) < ones (r .care))
       → Best l w b (r ∷ rs) 0 r
   front r rs o each = record { inside = omega arith; is = refl; matches = o; most = most; last = last }
     where
-      most : (j : ℕ) → j < length (r ∷ rs) → isOwn l w b (getD (r ∷ rs) j noRow) ≡ true → ones (getD (r ∷ rs) j noRow .care) ≤ ones (r .care)
+      most : (j : ℕ) → j < length (r ∷ rs) → isCandidate l w b (getD (r ∷ rs) j noRow) ≡ true
+          → ones (getD (r ∷ rs) j noRow .care) ≤ ones (r .care)
       most zero g z = omega arith
       most (suc j) g z = omega (arith, each j (omega arith) z)
 
-      last : (j : ℕ) → 0 < j → j < length (r ∷ rs) → isOwn l w b (getD (r ∷ rs) j noRow) ≡ true
+      last : (j : ℕ) → 0 < j → j < length (r ∷ rs) → isCandidate l w b (getD (r ∷ rs) j noRow) ≡ true
           → ones (getD (r ∷ rs) j noRow .care) < ones (r .care)
       last zero m g z = absurd (omega arith)
       last (suc j) m g z = each j (omega arith) z
@@ -84,19 +88,19 @@ module _ (l w b : ℕ) where
   -- with the first row numbered n
   pub best-at : (n : ℕ) (rs : List Row) (k : ℕ) (r : Row) → bestRow l w b n rs ≡ row k r → (p : ℕ) × (k ≡ n + p) × Best l w b rs p r
   best-at n [] k r e = no-row k r (bestRow l w b n []) (best-nothing l w b n) e
-  best-at n (r ∷ rs) k q e = go (isOwn l w b r) refl (bestRow l w b (suc n) rs) refl (best-at (suc n) rs)
+  best-at n (r ∷ rs) k q e = go (isCandidate l w b r) refl (bestRow l w b (suc n) rs) refl (best-at (suc n) rs)
     where
-      go : (t : Bool) → isOwn l w b r ≡ t → (x : Choice) → bestRow l w b (suc n) rs ≡ x
+      go : (t : Bool) → isCandidate l w b r ≡ t → (x : Choice) → bestRow l w b (suc n) rs ≡ x
           → ((k : ℕ) (q : Row) → bestRow l w b (suc n) rs ≡ row k q → (p : ℕ) × (k ≡ suc n + p) × Best l w b rs p q)
           → (p : ℕ) × (k ≡ n + p) × Best l w b (r ∷ rs) p q
       go false o x y ih =
           let d = ih k q (sym (best-other l w b n r rs o) ∙ e) in
-          (suc (d .0), omega (arith, d .1), behind r rs (d .0) q (λ z. no-both (isOwn l w b r) z o) (d .2))
-      go true o none y ih =
+          (suc (d .0), omega (arith, d .1), behind r rs (d .0) q (λ z. no-both (isCandidate l w b r) z o) (d .2))
+      go true o noChoice y ih =
           let same : row n r ≡ row k q = sym (best-own l w b n r rs o ∙ ap (better (row n r)) y) ∙ e in
           let number : n ≡ k = row-number n k r q same in
           let here : Best l w b (r ∷ rs) 0 r =
-          front r rs o (λ j g z. no-both (isOwn l w b (getD rs j noRow)) z (none-matches (suc n) rs y j g)) in
+          front r rs o (λ j g z. no-both (isCandidate l w b (getD rs j noRow)) z (none-matches (suc n) rs y j g)) in
           (0, omega arith, subst (Best l w b (r ∷ rs) 0) (row-row n k r q same) here)
       go true o (row m p) y ih = some (split (ones (p .care)) (ones (r .care)))
         where
@@ -126,11 +130,11 @@ module _ (l w b : ℕ) where
   pub best-once : (rs : List Row) (p q : ℕ) (r s : Row) → Best l w b rs p r → Best l w b rs q s → (p ≡ q) × (r ≡ s)
   best-once rs p q r s d e = let same = go (split p q) (split q p) in (same, sym (d .is) ∙ ap (λ (x : ℕ). getD rs x noRow) same ∙ e .is)
     where
-      own-first : isOwn l w b (getD rs p noRow) ≡ true
-      own-first = ap (isOwn l w b) (d .is) ∙ d .matches
+      own-first : isCandidate l w b (getD rs p noRow) ≡ true
+      own-first = ap (isCandidate l w b) (d .is) ∙ d .matches
 
-      own-second : isOwn l w b (getD rs q noRow) ≡ true
-      own-second = ap (isOwn l w b) (e .is) ∙ e .matches
+      own-second : isCandidate l w b (getD rs q noRow) ≡ true
+      own-second = ap (isCandidate l w b) (e .is) ∙ e .matches
 
       ones-first : ones (getD rs p noRow .care) ≡ ones (r .care)
       ones-first = ap (λ (x : Row). ones (x .care)) (d .is)
@@ -140,14 +144,16 @@ module _ (l w b : ℕ) where
 
       go : (p < q) ⊎ (q ≤ p) → (q < p) ⊎ (p ≤ q) → p ≡ q
       go (inl h) x = absurd (omega (arith, ones-first, ones-second, d .last q h (e .inside) own-second, e .most p (d .inside) own-first))
-      go (inr h) (inl g) = absurd (omega (arith, ones-first, ones-second, e .last p g (d .inside) own-first, d .most q (e .inside) own-second))
+      go (inr h) (inl g) = absurd (omega
+          (arith, ones-first, ones-second, e .last p g (d .inside) own-first, d .most q (e .inside) own-second))
       go (inr h) (inr g) = omega arith
 
   is-best-at : (n : ℕ) (rs : List Row) (p : ℕ) (r : Row) → Best l w b rs p r → bestRow l w b n rs ≡ row (n + p) r
   is-best-at n rs p r d = go (bestRow l w b n rs) refl
     where
       go : (x : Choice) → bestRow l w b n rs ≡ x → x ≡ row (n + p) r
-      go none e = no-both (isOwn l w b (getD rs p noRow)) (ap (isOwn l w b) (d .is) ∙ d .matches) (none-matches n rs e p (d .inside))
+      go noChoice e = no-both (isCandidate l w b (getD rs p noRow)) (ap (isCandidate l w b) (d .is) ∙ d .matches)
+          (none-matches n rs e p (d .inside))
       go (row k q) e =
           let f = best-at n rs k q e in
           let same = best-once rs (f .0) p q r (f .2) d in
@@ -161,7 +167,7 @@ module _ (l w b : ℕ) where
   leads-one P rs a n e = go (bestRow l w b 0 rs) refl
     where
       go : (x : Choice) → bestRow l w b 0 rs ≡ x → P n
-      go none q = absurd (let p : missing ≡ found n = sym (ap leads q) ∙ e in let z : _≡_ {A = ℕ} 0 1 = cc in omega arith)
+      go noChoice q = absurd (let p : missing ≡ found n = sym (ap leads q) ∙ e in let z : _≡_ {A = ℕ} 0 1 = cc in omega arith)
       go (row k r) q =
           let d = best-is rs k r q in
           let p : found (r .next) ≡ found n = sym (ap leads q) ∙ e in

@@ -1,4 +1,5 @@
--- One frame of a table as the code compares it, the better of two, the search from one frame up to another, and where the rows of a label stand.
+-- One frame of a table as the code compares it, the better of two, the search from one frame up to another,
+-- and where the rows of a label stand.
 use Prim.Native.Nat.{ℕ, suc, _+_, _*_, _-_, _≤_, _<_}
 use mathlib.Core.Bool.{Bool, true, false, _&&_, _||_}
 use mathlib.Core.Path.{_≡_, refl, sym, _∙_, ap, ap₂}
@@ -17,10 +18,11 @@ use Rattle.lists.proofs.Tests.{yes-pick, no-pick}
 use Rattle.bits.specs.Word.{agrees}
 use Rattle.frames.specs.Frame.{size, field, pairAt}
 use Rattle.image.specs.Decode.{labelsFrom}
-use Rattle.tables.specs.Table.{labelOf, firstOn, endOn, rowOn, rowsOn, Whole}
+use Rattle.tables.specs.Table.{tableLabel, firstOn, endOn, rowOn, rowsOn}
+use Rattle.tables.specs.inner.Asked.{Whole}
 use Rattle.tables.proofs.Front.{end-inside}
-use Rattle.rows.specs.Rows.{matches, isOwn, Choice, row, none, better, bestRow}
-use Rattle.rows.specs.Search.{swapped, matching, foundAt, BetterOf, Chosen, Deciding}
+use Rattle.rows.specs.Rows.{matches, isCandidate, Choice, row, noChoice, better, bestRow}
+use Rattle.rows.specs.inner.Search.{swapped, matchingFrame, foundAt, BetterOf, Chosen, Deciding}
 use Rattle.rows.proofs.Swaps.{swapped-twice, turned-agrees}
 use Rattle.rows.proofs.ChoiceLaws.{best-nothing, best-own, best-other, better-none, better-first, better-second, better-three}
 
@@ -32,7 +34,7 @@ module _ (b : List ℕ) (turned bit f : ℕ) (small : turned < 65536) (bytes : (
   abbrev suited : Bool
   suited = eqb bit 2 || (eqb (field b f 6) 2 || eqb (field b f 6) bit)
 
-  matching-by : matching b (swapped turned) bit f ≡ (agreed && suited)
+  matching-by : matchingFrame b (swapped turned) bit f ≡ (agreed && suited)
   matching-by =
       ap (λ (t : Bool). t && suited)
       (sym (turned-agrees turned (field b f 2) (field b f 3) (field b f 4) (field b f 5) small
@@ -42,27 +44,27 @@ module _ (b : List ℕ) (turned bit f : ℕ) (small : turned < 65536) (bytes : (
     read-is : eqb (bitAnd turned care) values ≡ agreed
     read-is = ap₂ (λ (m n : ℕ). eqb (bitAnd turned m) n) p q
 
-    pub matching-not : (bitAnd turned care ≡ values → ⊥) → false ≡ matching b (swapped turned) bit f
+    pub matching-not : (bitAnd turned care ≡ values → ⊥) → false ≡ matchingFrame b (swapped turned) bit f
     matching-not e =
         sym (matching-by ∙ ap (λ (t : Bool). t && suited) (sym read-is ∙ ne-eqb (bitAnd turned care) values e))
 
-    agreeing : bitAnd turned care ≡ values → matching b (swapped turned) bit f ≡ suited
+    agreeing : bitAnd turned care ≡ values → matchingFrame b (swapped turned) bit f ≡ suited
     agreeing e = matching-by ∙ ap (λ (t : Bool). t && suited) (sym read-is ∙ eq-eqb (bitAnd turned care) values e)
 
-    pub matching-free : bitAnd turned care ≡ values → bit ≡ 2 → true ≡ matching b (swapped turned) bit f
+    pub matching-free : bitAnd turned care ≡ values → bit ≡ 2 → true ≡ matchingFrame b (swapped turned) bit f
     matching-free e k = sym (agreeing e ∙ ap (λ (t : Bool). t || (eqb (field b f 6) 2 || eqb (field b f 6) bit)) (eq-eqb bit 2 k))
 
     module _ (e : bitAnd turned care ≡ values) (n : bit ≡ 2 → ⊥) (only : ℕ) (r : only ≡ field b f 6) where
-      by-bit : matching b (swapped turned) bit f ≡ (eqb only 2 || eqb only bit)
+      by-bit : matchingFrame b (swapped turned) bit f ≡ (eqb only 2 || eqb only bit)
       by-bit =
           agreeing e
           ∙ ap (λ (t : Bool). t || (eqb (field b f 6) 2 || eqb (field b f 6) bit)) (ne-eqb bit 2 n)
           ∙ ap (λ (n : ℕ). eqb n 2 || eqb n bit) (sym r)
 
-      pub matching-any : only ≡ 2 → true ≡ matching b (swapped turned) bit f
+      pub matching-any : only ≡ 2 → true ≡ matchingFrame b (swapped turned) bit f
       matching-any k = sym (by-bit ∙ ap (λ (t : Bool). t || eqb only bit) (eq-eqb only 2 k))
 
-      pub matching-bit : (only ≡ 2 → ⊥) → eqb only bit ≡ matching b (swapped turned) bit f
+      pub matching-bit : (only ≡ 2 → ⊥) → eqb only bit ≡ matchingFrame b (swapped turned) bit f
       matching-bit k = sym (by-bit ∙ ap (λ (t : Bool). t || eqb only bit) (ne-eqb only 2 k))
 
 -- the row in it as one of label l's, by a bit that decides
@@ -73,13 +75,15 @@ module _ (b : List ℕ) (l w bit : ℕ) (d : Deciding b l bit) (f : ℕ) where
       go : Dec (bit ≡ 2)
           → (eqb (rowOn b l f .bit) 2 || eqb (rowOn b l f .bit) bit) ≡ (eqb bit 2 || (eqb (field b f 6) 2 || eqb (field b f 6) bit))
       go (yes e) =
-          ap (λ (t : Bool). eqb (pick t (field b f 6) 2) 2 || eqb (pick t (field b f 6) 2) bit) (ne-eqb (labelOf b l .kind) 2 (d .none e))
+          ap (λ (t : Bool). eqb (pick t (field b f 6) 2) 2 || eqb (pick t (field b f 6) 2) bit)
+          (ne-eqb (tableLabel b l .kind) 2 (d .none e))
           ∙ sym (ap (λ (t : Bool). t || (eqb (field b f 6) 2 || eqb (field b f 6) bit)) (eq-eqb bit 2 e))
       go (no e) =
-          ap (λ (t : Bool). eqb (pick t (field b f 6) 2) 2 || eqb (pick t (field b f 6) 2) bit) (eq-eqb (labelOf b l .kind) 2 (d .some e))
+          ap (λ (t : Bool). eqb (pick t (field b f 6) 2) 2 || eqb (pick t (field b f 6) 2) bit)
+          (eq-eqb (tableLabel b l .kind) 2 (d .some e))
           ∙ sym (ap (λ (t : Bool). t || (eqb (field b f 6) 2 || eqb (field b f 6) bit)) (ne-eqb bit 2 e))
 
-  own-test : isOwn l w bit (rowOn b l f) ≡ matching b w bit f
+  own-test : isCandidate l w bit (rowOn b l f) ≡ matchingFrame b w bit f
   own-test =
       ap (λ (t : Bool). t && matches w bit (rowOn b l f)) (eq-eqb l l refl)
       ∙ ap (λ (t : Bool). agrees w (pairAt b f 2) (pairAt b f 4) && t) own-bit
@@ -87,10 +91,10 @@ module _ (b : List ℕ) (l w bit : ℕ) (d : Deciding b l bit) (f : ℕ) where
 -- ---- frames as choices, and the better of two
 module _ (b : List ℕ) (f : ℕ) where
   at-frame : (l : ℕ) → f < size b → foundAt b l f ≡ row f (rowOn b l f)
-  at-frame l h = yes-pick (ltb f (size b)) (row f (rowOn b l f)) none (lt-ltb f (size b) h)
+  at-frame l h = yes-pick (ltb f (size b)) (row f (rowOn b l f)) noChoice (lt-ltb f (size b) h)
 
-  past-table : (l : ℕ) → size b ≤ f → foundAt b l f ≡ none
-  past-table l h = no-pick (ltb f (size b)) (row f (rowOn b l f)) none (le-ltb f (size b) h)
+  past-table : (l : ℕ) → size b ≤ f → foundAt b l f ≡ noChoice
+  past-table l h = no-pick (ltb f (size b)) (row f (rowOn b l f)) noChoice (le-ltb f (size b) h)
 
 module _ (b : List ℕ) (best f : ℕ) (inside : f < size b) where
   pub better-only : size b ≤ best → BetterOf b best f f
@@ -125,16 +129,16 @@ module _ (b : List ℕ) (l w bit first end : ℕ) where
   module _ (f best : ℕ) (s : Searched f best) where
     pub search-over : end ≤ f → first ≡ firstOn b l → end ≡ endOn b l → foundAt b l best ≡ bestRow l w bit (firstOn b l) (rowsOn b l)
     search-over h p q =
-        let nothing : bestFrom f ≡ none =
+        let nothing : bestFrom f ≡ noChoice =
         ap (λ (n : ℕ). bestRow l w bit f (map (rowOn b l) (range f n))) (let e : end - f ≡ 0 = omega arith in e) ∙ best-nothing l w bit f in
         sym (ap (better (foundAt b l best)) nothing ∙ better-none (foundAt b l best)) ∙ s
         ∙ ap₂ (λ (i j : ℕ). bestRow l w bit i (map (rowOn b l) (range i (j - i)))) p q
 
     -- by the test that was made of frame f
     module _ (d : Deciding b l bit) (h : f < end) (turned : ℕ) (e : turned ≡ swapped w) (small : w < 65536)
-        (t : Bool) (q : t ≡ matching b (swapped turned) bit f) where
-      own : t ≡ isOwn l w bit (rowOn b l f)
-      own = q ∙ ap (λ (v : ℕ). matching b v bit f) (ap (λ (v : ℕ). swapped v) e ∙ swapped-twice w small) ∙ sym (own-test b l w bit d f)
+        (t : Bool) (q : t ≡ matchingFrame b (swapped turned) bit f) where
+      own : t ≡ isCandidate l w bit (rowOn b l f)
+      own = q ∙ ap (λ (v : ℕ). matchingFrame b v bit f) (ap (λ (v : ℕ). swapped v) e ∙ swapped-twice w small) ∙ sym (own-test b l w bit d f)
 
       more : bestFrom f ≡ bestRow l w bit f (rowOn b l f ∷ map (rowOn b l) (range (suc f) (end - suc f)))
       more = ap (λ (n : ℕ). bestRow l w bit f (map (rowOn b l) (range f n))) (let z : end - f ≡ suc (end - suc f) = omega arith in z)
@@ -158,7 +162,7 @@ module _ (b : List ℕ) (l w bit first end : ℕ) where
           ∙ s
 
 -- ---- one pass that keeps the last match and counts: as long as there is one at most, it is the best so far
-pub record Passed (b : List ℕ) (l w bit first end f frame count : ℕ) : Type 0 where
+pub record PassedRows (b : List ℕ) (l w bit first end f frame count : ℕ) : Type 0 where
   pub table : size b < 131072
   pub none : count ≡ 0 → frame ≡ 131072
   pub some : (count ≡ 0 → ⊥) → frame < size b
@@ -170,7 +174,7 @@ pub few-frames : (b : List ℕ) → Whole b → ((k : ℕ) → getD b k 0 < 256)
 few-frames b x bytes = omega (arith, x .alone, bytes 1, bytes 2, bytes 3, bytes 4)
 
 module _ (b : List ℕ) (l w bit first end : ℕ) where
-  pub pass-start : size b < 131072 → Passed b l w bit first end first 131072 0
+  pub pass-start : size b < 131072 → PassedRows b l w bit first end first 131072 0
   pass-start small-table = record {
     table = small-table;
     none = λ _. refl;
@@ -179,7 +183,7 @@ module _ (b : List ℕ) (l w bit first end : ℕ) where
     few = omega arith;
   }
 
-  module _ (f frame count : ℕ) (s : Passed b l w bit first end f frame count) where
+  module _ (f frame count : ℕ) (s : PassedRows b l w bit first end f frame count) where
     pub pass-over : end ≤ f → first ≡ firstOn b l → end ≡ endOn b l → count < 2 → Chosen b l w bit frame
     pass-over h p q few = go (ℕ-discrete count 0)
       where
@@ -187,12 +191,17 @@ module _ (b : List ℕ) (l w bit first end : ℕ) where
         is = search-over b l w bit first end f frame (s .one few) h p q
 
         go : Dec (count ≡ 0) → Chosen b l w bit frame
-        go (yes z) = record { taken = is; inside = λ k. absurd (omega (arith, s .none z)); outside = λ k. omega (arith, s .none z, s .table) }
+        go (yes z) = record {
+          taken = is;
+          inside = λ k. absurd (omega (arith, s .none z));
+          outside =
+              λ k. omega (arith, s .none z, s .table);
+        }
         go (no z) = record { taken = is; inside = λ k. s .some z; outside = λ k. absurd (omega (arith, s .some z, s .table)) }
 
     module _ (d : Deciding b l bit) (h : f < end) (inside : f < size b) (turned : ℕ) (e : turned ≡ swapped w) (small : w < 65536)
-        (t : Bool) (q : t ≡ matching b (swapped turned) bit f) where
-      pub pass-other : t ≡ false → Passed b l w bit first end (f + 1) frame count
+        (t : Bool) (q : t ≡ matchingFrame b (swapped turned) bit f) where
+      pub pass-other : t ≡ false → PassedRows b l w bit first end (f + 1) frame count
       pass-other n = record {
         table = s .table;
         none = s .none;
@@ -201,7 +210,7 @@ module _ (b : List ℕ) (l w bit first end : ℕ) where
         few = omega (arith, s .few);
       }
 
-      pub pass-own : t ≡ true → Passed b l w bit first end (f + 1) f (count + 1)
+      pub pass-own : t ≡ true → PassedRows b l w bit first end (f + 1) f (count + 1)
       pass-own y = record {
         table = s .table;
         none = λ k. absurd (omega arith);
@@ -212,15 +221,16 @@ module _ (b : List ℕ) (l w bit first end : ℕ) where
       }
 
 -- ---- a label with one row
-module _ (b : List ℕ) (w bit f : ℕ) (small : w < 65536) (turned : ℕ) (e : turned ≡ swapped w) (t : Bool) (q : t ≡ matching b (swapped turned) bit f) where
-  one-test : t ≡ matching b w bit f
-  one-test = q ∙ ap (λ (v : ℕ). matching b v bit f) (ap (λ (v : ℕ). swapped v) e ∙ swapped-twice w small)
+module _ (b : List ℕ) (w bit f : ℕ) (small : w < 65536) (turned : ℕ) (e : turned ≡ swapped w)
+    (t : Bool) (q : t ≡ matchingFrame b (swapped turned) bit f) where
+  one-test : t ≡ matchingFrame b w bit f
+  one-test = q ∙ ap (λ (v : ℕ). matchingFrame b v bit f) (ap (λ (v : ℕ). swapped v) e ∙ swapped-twice w small)
 
-  pub one-matches : t ≡ true → f ≡ pick (matching b w bit f) f 131072
-  one-matches y = sym (yes-pick (matching b w bit f) f 131072 (sym one-test ∙ y))
+  pub one-matches : t ≡ true → f ≡ pick (matchingFrame b w bit f) f 131072
+  one-matches y = sym (yes-pick (matchingFrame b w bit f) f 131072 (sym one-test ∙ y))
 
-  pub one-fails : t ≡ false → 131072 ≡ pick (matching b w bit f) f 131072
-  one-fails n = sym (no-pick (matching b w bit f) f 131072 (sym one-test ∙ n))
+  pub one-fails : t ≡ false → 131072 ≡ pick (matchingFrame b w bit f) f 131072
+  one-fails n = sym (no-pick (matchingFrame b w bit f) f 131072 (sym one-test ∙ n))
 
 module _ (b : List ℕ) (l w bit first end : ℕ) (d : Deciding b l bit) (p : first ≡ firstOn b l) (q : end ≡ endOn b l) (one : end ≡ first + 1)
     (inside : first < size b) where
@@ -229,12 +239,12 @@ module _ (b : List ℕ) (l w bit first end : ℕ) (d : Deciding b l bit) (p : fi
       ap (λ (n : ℕ). bestRow l w bit first (map (rowOn b l) (range first n))) (let z : 1 ≡ end - first = omega arith in z)
       ∙ ap₂ (λ (i j : ℕ). bestRow l w bit i (map (rowOn b l) (range i (j - i)))) p q
 
-  pub one-found : size b < 131072 → (r : ℕ) → r ≡ pick (matching b w bit first) first 131072 → Chosen b l w bit r
-  one-found small-table r z = go (matching b w bit first) refl
+  pub one-found : size b < 131072 → (r : ℕ) → r ≡ pick (matchingFrame b w bit first) first 131072 → Chosen b l w bit r
+  one-found small-table r z = go (matchingFrame b w bit first) refl
     where
-      go : (t : Bool) → matching b w bit first ≡ t → Chosen b l w bit r
+      go : (t : Bool) → matchingFrame b w bit first ≡ t → Chosen b l w bit r
       go true y =
-          let at : r ≡ first = z ∙ yes-pick (matching b w bit first) first 131072 y in
+          let at : r ≡ first = z ∙ yes-pick (matchingFrame b w bit first) first 131072 y in
           record {
             taken = ap (foundAt b l) at ∙ at-frame b first l inside
                 ∙ sym (best-own l w bit first (rowOn b l first) [] (own-test b l w bit d first ∙ y)
@@ -244,7 +254,7 @@ module _ (b : List ℕ) (l w bit first end : ℕ) (d : Deciding b l bit) (p : fi
             outside = λ k. absurd (omega arith);
           }
       go false n =
-          let at : r ≡ 131072 = z ∙ no-pick (matching b w bit first) first 131072 n in
+          let at : r ≡ 131072 = z ∙ no-pick (matchingFrame b w bit first) first 131072 n in
           record {
             taken = ap (foundAt b l) at ∙ past-table b 131072 l (omega arith)
                 ∙ sym (best-other l w bit first (rowOn b l first) [] (own-test b l w bit d first ∙ n) ∙ best-nothing l w bit (suc first))
@@ -254,7 +264,8 @@ module _ (b : List ℕ) (l w bit first end : ℕ) (d : Deciding b l bit) (p : fi
           }
 
 -- ---- several rows compared
-module _ (b : List ℕ) (l w bit best : ℕ) (small-table : size b < 131072) (is : foundAt b l best ≡ bestRow l w bit (firstOn b l) (rowsOn b l)) where
+module _ (b : List ℕ) (l w bit best : ℕ) (small-table : size b < 131072)
+    (is : foundAt b l best ≡ bestRow l w bit (firstOn b l) (rowsOn b l)) where
   pub compared-some : best < size b → Chosen b l w bit best
   compared-some h = record { taken = is; inside = λ k. h; outside = λ k. absurd (omega arith) }
 

@@ -7,7 +7,7 @@ use lib.Bits.{bitAnd, and-block, and-lt}
 use lib.Dec.{eqb}
 use borrow.Author.Tests.{eq-eqb, ne-eqb}
 use Rattle.bits.specs.Word.{agrees}
-use Rattle.rows.specs.Search.{swapped}
+use Rattle.rows.specs.inner.Search.{swapped}
 
 pub swapped-twice : (w : ℕ) → w < 65536 → swapped (swapped w) ≡ w
 swapped-twice w h = omega arith

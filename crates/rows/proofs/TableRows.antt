@@ -10,18 +10,17 @@ use lib.Dec.{ltb, eqb}
 use lib.ListN.{length, getD, length-append}
 use borrow.Author.Tests.{lt-ltb, le-ltb, ne-eqb}
 use Rattle.lists.specs.Numbers.{range}
-use Rattle.lists.specs.Sequences.{concatMap}
+use Rattle.lists.specs.Sequences.{concatMap, All}
 use Rattle.lists.proofs.Tests.{yes-pick, no-pick}
 use Rattle.lists.proofs.Ranges.{length-map-range, getD-map-range}
-use Rattle.lists.proofs.Joins.{All, all-every, all-map, all-concat, concat-cons}
+use Rattle.lists.proofs.Joins.{all-every, all-map, all-concat, concat-cons}
 use Rattle.frames.specs.Frame.{size, field}
-use Rattle.image.specs.Image.{Row}
+use Rattle.image.specs.Image.{Row, noRow}
 use Rattle.image.specs.Decode.{lastLabel}
-use Rattle.image.proofs.Sound.{noRow}
-use Rattle.tables.specs.Table.{labelOf, firstOn, endOn, rowOn, rowsOn, tableImage}
-use Rattle.tables.specs.Labels.{Numbered}
-use Rattle.rows.specs.Rows.{matches, Choice, row, none, better, bestRow, found, leads, nextOf}
-use Rattle.rows.specs.Search.{foundAt}
+use Rattle.tables.specs.Table.{tableLabel, firstOn, endOn, rowOn, rowsOn, tableImage}
+use Rattle.tables.specs.inner.Labels.{NumberedLabel}
+use Rattle.rows.specs.Rows.{matches, Choice, row, noChoice, better, bestRow, found, leads, nextOf}
+use Rattle.rows.specs.inner.Search.{foundAt}
 use Rattle.rows.proofs.ChoiceLaws.{best-nothing, best-other, better-none, best-joined, moved-by, best-moved, leads-moved, any-bit}
 use Rattle.rows.proofs.BestRows.{leads-one}
 
@@ -31,10 +30,11 @@ rowsBefore b l = length (concatMap (rowsOn b) (range 2 (l - 2)))
 
 module _ (b : List ℕ) (l w bit : ℕ) where
   -- ---- rows of another label
-  others-none : (m : ℕ) → (m ≡ l → ⊥) → (k i n : ℕ) → bestRow l w bit k (map (rowOn b m) (range i n)) ≡ none
+  others-none : (m : ℕ) → (m ≡ l → ⊥) → (k i n : ℕ) → bestRow l w bit k (map (rowOn b m) (range i n)) ≡ noChoice
   others-none m h k i zero = best-nothing l w bit k
   others-none m h k i (suc n) =
-      best-other l w bit k (rowOn b m i) (map (rowOn b m) (range (suc i) n)) (ap (λ (t : Bool). t && matches w bit (rowOn b m i)) (ne-eqb m l h))
+      best-other l w bit k (rowOn b m i) (map (rowOn b m) (range (suc i) n))
+      (ap (λ (t : Bool). t && matches w bit (rowOn b m i)) (ne-eqb m l h))
       ∙ others-none m h (suc k) (suc i) n
 
   -- ---- rows of n labels from i on, the first of them numbered k
@@ -43,14 +43,15 @@ module _ (b : List ℕ) (l w bit : ℕ) where
 
   over-more : (k i n : ℕ) → over k i (suc n) ≡ better (bestRow l w bit k (rowsOn b i)) (over (k + length (rowsOn b i)) (suc i) n)
   over-more k i n =
-      ap (bestRow l w bit k) (concat-cons (rowsOn b) i (range (suc i) n)) ∙ best-joined l w bit k (rowsOn b i) (concatMap (rowsOn b) (range (suc i) n))
+      ap (bestRow l w bit k) (concat-cons (rowsOn b) i (range (suc i) n))
+      ∙ best-joined l w bit k (rowsOn b i) (concatMap (rowsOn b) (range (suc i) n))
 
   over-other : (k i n : ℕ) → (i ≡ l → ⊥) → over k i (suc n) ≡ over (k + length (rowsOn b i)) (suc i) n
   over-other k i n h =
       over-more k i n
       ∙ ap (λ (x : Choice). better x (over (k + length (rowsOn b i)) (suc i) n)) (others-none i h k (firstOn b i) (endOn b i - firstOn b i))
 
-  over-none : (k i n : ℕ) → ((m : ℕ) → i ≤ m → m < i + n → m ≡ l → ⊥) → over k i n ≡ none
+  over-none : (k i n : ℕ) → ((m : ℕ) → i ≤ m → m < i + n → m ≡ l → ⊥) → over k i n ≡ noChoice
   unfolding concatMap
   over-none k i zero h = best-nothing l w bit k
   over-none k i (suc n) h =
@@ -96,21 +97,21 @@ module _ (b : List ℕ) (l w bit : ℕ) where
       over-own 0 2 (lastLabel b - 1) h (omega arith)
       ∙ ap (λ (k : ℕ). bestRow l w bit k (rowsOn b l)) (let e : 0 + before 2 ≡ rowsBefore b l = omega arith in e)
 
-  pub row-none : l < 2 → bestRow l w bit 0 (tableImage b .rows) ≡ none
+  pub row-none : l < 2 → bestRow l w bit 0 (tableImage b .rows) ≡ noChoice
   unfolding tableImage
   row-none h = over-none 0 2 (lastLabel b - 1) (λ m p q z. omega arith)
 
-  pub row-above : lastLabel b < l → bestRow l w bit 0 (tableImage b .rows) ≡ none
+  pub row-above : lastLabel b < l → bestRow l w bit 0 (tableImage b .rows) ≡ noChoice
   unfolding tableImage
   row-above h = over-none 0 2 (lastLabel b - 1) (λ m p q z. omega arith)
 
   -- ---- what a search among the frames of label l chose, in frame f or none
-  module _ (x : Numbered b l) (f : ℕ) (e : foundAt b l f ≡ bestRow l w bit (firstOn b l) (rowsOn b l)) where
+  module _ (x : NumberedLabel b l) (f : ℕ) (e : foundAt b l f ≡ bestRow l w bit (firstOn b l) (rowsOn b l)) where
     counted : (n : ℕ) → bestRow l w bit n (rowsOn b l) ≡ moved-by n (bestRow l w bit 0 (rowsOn b l))
     counted n = ap (λ (k : ℕ). bestRow l w bit k (rowsOn b l)) (sym (add-zero n)) ∙ best-moved l w bit n 0 (rowsOn b l)
 
     moved-twice : (m n : ℕ) (y : Choice) → moved-by m (moved-by n y) ≡ moved-by n (moved-by m y)
-    moved-twice m n none = refl
+    moved-twice m n noChoice = refl
     moved-twice m n (row k r) = ap (λ (j : ℕ). row j r) (omega arith)
 
     -- with its number: a frame counts from the label's first frame as its row does from the label's first row
@@ -128,16 +129,16 @@ module _ (b : List ℕ) (l w bit : ℕ) where
     -- and where it leads
     pub next-found : (n : ℕ) → n ≡ field b f 7 → f < size b → n ≡ nextOf (leads (bestRow l w bit 0 (tableImage b .rows)))
     next-found n q h =
-        q ∙ sym (ap (λ (y : Choice). nextOf (leads y)) (yes-pick (ltb f (size b)) (row f (rowOn b l f)) none (lt-ltb f (size b) h)))
+        q ∙ sym (ap (λ (y : Choice). nextOf (leads y)) (yes-pick (ltb f (size b)) (row f (rowOn b l f)) noChoice (lt-ltb f (size b) h)))
         ∙ ap nextOf found-leads
 
     pub next-none : size b ≤ f → 256 ≡ nextOf (leads (bestRow l w bit 0 (tableImage b .rows)))
     next-none h =
-        sym (ap (λ (y : Choice). nextOf (leads y)) (no-pick (ltb f (size b)) (row f (rowOn b l f)) none (le-ltb f (size b) h)))
+        sym (ap (λ (y : Choice). nextOf (leads y)) (no-pick (ltb f (size b)) (row f (rowOn b l f)) noChoice (le-ltb f (size b) h)))
         ∙ ap nextOf found-leads
 
 -- ---- no row of a label that calls no function looks at the bit
-module _ (b : List ℕ) (l w p q : ℕ) (n : labelOf b l .kind ≡ 2 → ⊥) where
+module _ (b : List ℕ) (l w p q : ℕ) (n : tableLabel b l .kind ≡ 2 → ⊥) where
   abbrev first : ℕ
   first = firstOn b l
 
@@ -147,13 +148,14 @@ module _ (b : List ℕ) (l w p q : ℕ) (n : labelOf b l .kind ≡ 2 → ⊥) wh
   free-bit : (k : ℕ) → k < length (rowsOn b l) → getD (rowsOn b l) k noRow .bit ≡ 2
   free-bit k h =
       ap (λ (r : Row). r .bit) (getD-map-range (rowOn b l) noRow first count k (omega (arith, length-map-range (rowOn b l) first count)))
-      ∙ no-pick (eqb (labelOf b l .kind) 2) (field b (first + k) 6) 2 (ne-eqb (labelOf b l .kind) 2 n)
+      ∙ no-pick (eqb (tableLabel b l .kind) 2) (field b (first + k) 6) 2 (ne-eqb (tableLabel b l .kind) 2 n)
 
   pub any-row : 2 ≤ l → l ≤ lastLabel b → bestRow l w p 0 (tableImage b .rows) ≡ bestRow l w q 0 (tableImage b .rows)
   any-row h g = row-own b l w p h g ∙ any-bit l w p q (rowsBefore b l) (rowsOn b l) (λ k m e. free-bit k m) ∙ sym (row-own b l w q h g)
 
 -- ---- where rows lead
-pub next-small : (b : List ℕ) → ((k : ℕ) → getD b k 0 < 256) → (l w bit n : ℕ) → leads (bestRow l w bit 0 (tableImage b .rows)) ≡ found n → n < 256
+pub next-small : (b : List ℕ) → ((k : ℕ) → getD b k 0 < 256) → (l w bit n : ℕ)
+    → leads (bestRow l w bit 0 (tableImage b .rows)) ≡ found n → n < 256
 unfolding tableImage
 next-small b bytes l w bit n e =
     leads-one l w bit (λ n. n < 256) (tableImage b .rows)

@@ -1,3 +1,3 @@
 pub mod Rows
 pub mod Choices
-pub mod Search
+pub mod inner

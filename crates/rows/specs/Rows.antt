@@ -6,31 +6,32 @@ use lib.Count.{ones}
 use lib.Dec.{ltb, eqb}
 use Rattle.lists.specs.Pick.{pick}
 use Rattle.bits.specs.Word.{agrees}
+use Rattle.image.specs.Layout.{NO-BIT}
 use Rattle.image.specs.Image.{Row}
 
 -- a row matches a word and the bit of the number that its label calls
 abbrev pub matches : ℕ → ℕ → Row → Bool
-matches w b r = agrees w (r .care) (r .values) && (eqb (r .bit) 2 || eqb (r .bit) b)
+matches w b r = agrees w (r .care) (r .values) && (eqb (r .bit) NO-BIT || eqb (r .bit) b)
 
 -- a row of label l that matches
-abbrev pub isOwn : ℕ → ℕ → ℕ → Row → Bool
-isOwn l w b r = eqb (r .from) l && matches w b r
+abbrev pub isCandidate : ℕ → ℕ → ℕ → Row → Bool
+isCandidate l w b r = eqb (r .from) l && matches w b r
 
 -- a row with its number, or none
 pub data Choice : Type 0 where
   row : ℕ → Row → Choice
-  none : Choice
+  noChoice : Choice
 
 -- of two, the later one unless the care mask of the other has more ones
 abbrev pub better : Choice → Choice → Choice
-better none y = y
-better (row k r) none = row k r
+better noChoice y = y
+better (row k r) noChoice = row k r
 better (row k r) (row j q) = pick (ltb (ones (q .care)) (ones (r .care))) (row k r) (row j q)
 
 -- of the matching rows of label l the one whose care mask has most ones, with equal counts the later; the first row has number k
 unfoldable pub bestRow : ℕ → ℕ → ℕ → ℕ → List Row → Choice
-bestRow l w b k [] = none
-bestRow l w b k (r ∷ rs) = better (pick (isOwn l w b r) (row k r) none) (bestRow l w b (suc k) rs)
+bestRow l w b k [] = noChoice
+bestRow l w b k (r ∷ rs) = better (pick (isCandidate l w b r) (row k r) noChoice) (bestRow l w b (suc k) rs)
 
 pub data Found : Type 0 where
   found : ℕ → Found
@@ -39,7 +40,7 @@ pub data Found : Type 0 where
 -- where the row chosen leads
 abbrev pub leads : Choice → Found
 leads (row k r) = found (r .next)
-leads none = missing
+leads noChoice = missing
 
 -- where a row leads, as a number: labels are below 256, and 256 says that no row matches
 abbrev pub nextOf : Found → ℕ

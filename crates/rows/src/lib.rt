@@ -1,5 +1,7 @@
 // Which row of a prepared table a label takes, by the word and a result bit.
+use frames::sizes::FRAME;
 use image::byte;
+use image::layout::*;
 use image::pair;
 pub use row_ranges::end_of;
 pub use row_ranges::first_of;
@@ -11,7 +13,7 @@ ghost use Rattle.frames.specs.Frame.{size};
 ghost use Rattle.image.specs.Decode.{schemeCount};
 ghost use Rattle.tables.specs.Table.{tableImage};
 ghost use Rattle.rows.specs.Rows.{bestRow, leads, nextOf};
-ghost use Rattle.rows.specs.Search.{swapped, matching, BetterOf, Chosen, LastTaken, Deciding};
+ghost use Rattle.rows.specs.inner.Search.{swapped, matchingFrame, BetterOf, Chosen, LastTaken, Deciding};
 
 // The number of no frame: whatever bytes its header has, a table has fewer.
 const NO_FRAME: usize = 131072;
@@ -33,16 +35,16 @@ fn swap(word: u16) -> u16
 // Whether the row in frame f matches a word, given with its bytes swapped; bit 2 says that no bit decides.
 fn is_matching(table: &[u8], f: usize, turned: u16, bit: u8) -> bool
     requires { ⌜ f < size (now table) ⌝ }
-    ensures { λ r. ⌜ r ≡ matching (now (table .entry)) (swapped turned) bit f ⌝ }
+    ensures { λ r. ⌜ r ≡ matchingFrame (now (table .entry)) (swapped turned) bit f ⌝ }
 {
-    if turned & low_pair(table, f, 2) != low_pair(table, f, 4) {
+    if turned & low_pair(table, f, CARE) != low_pair(table, f, VALUES) {
         return false;
     }
-    if bit == 2 {
+    if bit == NO_BIT {
         return true;
     }
-    let only = byte(table, f, 6);
-    if only == 2 {
+    let only = byte(table, f, FUNCTION_BIT);
+    if only == NO_BIT {
         return true;
     }
     only == bit
@@ -54,10 +56,10 @@ fn better_frame(table: &[u8], best: usize, f: usize) -> usize
     requires { ⌜ f < size (now table) ⌝ }
     ensures { λ r. ⌜ BetterOf (now (table .entry)) best f r ⌝ }
 {
-    if table.len() / 10 <= best {
+    if table.len() / FRAME <= best {
         return f;
     }
-    if u16::count_ones(pair(table, f, 2)) < u16::count_ones(pair(table, best, 2)) {
+    if u16::count_ones(pair(table, f, CARE)) < u16::count_ones(pair(table, best, CARE)) {
         return best;
     }
     f
@@ -94,14 +96,14 @@ fn compare_rows(table: &[u8], schemes: u8, l: usize, word: u16, bit: u8) -> usiz
     let turned = swap(word);
     let end = end_of(table, schemes, l);
     let mut frame = first_of(table, schemes, l);
-    let mut best = table.len() / 10;
+    let mut best = table.len() / FRAME;
     while frame < end {
         if is_matching(table, frame, turned, bit) {
             best = better_frame(table, best, frame);
         }
         frame += 1;
     }
-    if best < table.len() / 10 {
+    if best < table.len() / FRAME {
         return best;
     }
     NO_FRAME
@@ -110,7 +112,7 @@ fn compare_rows(table: &[u8], schemes: u8, l: usize, word: u16, bit: u8) -> usiz
 // The frame where its row matches, else none.
 fn one_row(table: &[u8], f: usize, word: u16, bit: u8) -> usize
     requires { ⌜ f < size (now table) ⌝ }
-    ensures { λ r. ⌜ r ≡ pick (matching (now (table .entry)) word bit f) f 131072 ⌝ }
+    ensures { λ r. ⌜ r ≡ pick (matchingFrame (now (table .entry)) word bit f) f 131072 ⌝ }
 {
     if is_matching(table, f, swap(word), bit) {
         return f;
@@ -146,7 +148,7 @@ pub fn next_row(table: &[u8], schemes: u8, l: usize, word: u16, bit: u8) -> u16
 {
     let f = find_row(table, schemes, l, word, bit);
     if f < NO_FRAME {
-        return byte(table, f, 7) as u16;
+        return byte(table, f, NEXT) as u16;
     }
     256
 }

@@ -3,7 +3,7 @@
 // A run of eight words with room for all of them prints its masks and codes too.
 use edits::patch;
 use frames::Answer;
-use machine::State;
+use state::State;
 
 fn print(entry: u8, number: u8, index: usize, count: usize) {
     let ten = [

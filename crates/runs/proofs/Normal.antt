@@ -5,7 +5,7 @@ use mathlib.Core.List.{List, [], _∷_}
 use Rattle.frames.specs.Verdict.{Verdict, fine, refused}
 use Rattle.image.specs.Image.{Image}
 use Rattle.state.specs.declared.State.{State}
-use Rattle.ticks.specs.Tick.{Ticked, ticked, stopped, tick}
+use Rattle.ticks.specs.Tick.{MachineTick, finished, stopped, tick}
 use Rattle.ticks.proofs.Normal.{Same, Normal, tick-normal}
 use Rattle.runs.specs.Run.{then, ticks}
 
@@ -19,8 +19,8 @@ unfolding ticks
 ticks-same i [] s = record { size = refl; serving = refl; bits = refl; sized = λ q. q }
 ticks-same i (w ∷ ws) s = go (tick i s w) (tick-normal i s w) (ticks-same i ws)
   where
-    go : (x : Ticked) → Normal s x → ((t : State) → Same t (ticks i t ws .state)) → Same s (then s (λ t. ticks i t ws) x .state)
-    go (ticked m k t) n ih = record {
+    go : (x : MachineTick) → Normal s x → ((t : State) → Same t (ticks i t ws .state)) → Same s (then s (λ t. ticks i t ws) x .state)
+    go (finished m k t) n ih = record {
       size = ih t .size ∙ n .size;
       serving = ih t .serving ∙ n .serving;
       bits = ih t .bits ∙ n .bits;
@@ -33,6 +33,6 @@ unfolding ticks
 ticks-late i [] s = tt
 ticks-late i (w ∷ ws) s = go (tick i s w) (tick-normal i s w) (ticks-late i ws)
   where
-    go : (x : Ticked) → Normal s x → ((t : State) → Late (ticks i t ws .verdict)) → Late (then s (λ t. ticks i t ws) x .verdict)
-    go (ticked m k t) n ih = ih t
+    go : (x : MachineTick) → Normal s x → ((t : State) → Late (ticks i t ws .verdict)) → Late (then s (λ t. ticks i t ws) x .verdict)
+    go (finished m k t) n ih = ih t
     go (stopped k) n ih = n

@@ -14,47 +14,47 @@ use Rattle.image.specs.Image.{Image}
 use Rattle.tables.specs.Table.{tableImage}
 use Rattle.state.specs.declared.State.{State}
 use Rattle.state.specs.Bytes.{stateOf}
-use Rattle.ticks.specs.declared.Stepped.{Stepped}
-use Rattle.ticks.specs.Tick.{Ticked, ticked, stopped, tick}
-use Rattle.runs.specs.Run.{Ran, then, ticks}
-use Rattle.ticks.specs.Parts.{Stands, after, stepOf, Steps}
-use Rattle.runs.specs.Parts.{verdictOf, Room, Ends}
+use Rattle.ticks.specs.declared.TickEnd.{TickEnd}
+use Rattle.ticks.specs.Tick.{MachineTick, finished, stopped, tick}
+use Rattle.runs.specs.Run.{MachineRun, then, ticks}
+use Rattle.ticks.specs.inner.TickContracts.{TickAsked, afterTick, endOfTick, GivesTickEnd}
+use Rattle.runs.specs.inner.RunContracts.{verdictOf, RunRoom, GivesRunEnd}
 use Rattle.ticks.proofs.Normal.{Normal, tick-normal}
 use Rattle.ticks.proofs.Depths.{deep-fine}
-use Rattle.ticks.proofs.TickCases.{Kept, tick-deep}
+use Rattle.ticks.proofs.TickCases.{KeptDepth, tick-deep}
 
 -- ---- a tick by what the function that makes it answers
-module _ (b before : List ℕ) (w : ℕ) (r : Stepped) (bytes : List ℕ) (q : Steps b before w r bytes) where
-  abbrev made : Ticked
+module _ (b before : List ℕ) (w : ℕ) (r : TickEnd) (bytes : List ℕ) (q : GivesTickEnd b before w r bytes) where
+  abbrev made : MachineTick
   made = tick (tableImage b) (stateOf before) w
 
-  pub went : r .number ≡ 0 → made ≡ ticked (r .mask) (r .code) (stateOf bytes)
+  pub went : r .number ≡ 0 → made ≡ finished (r .mask) (r .code) (stateOf bytes)
   went z = go made refl (tick-normal (tableImage b) (stateOf before) w)
     where
-      go : (x : Ticked) → made ≡ x → Normal (stateOf before) x → made ≡ ticked (r .mask) (r .code) (stateOf bytes)
-      go (ticked m k t) e n =
-          let step : r ≡ stepOf (ticked m k t) = q .step ∙ ap stepOf e in
-          let p₁ : m ≡ r .mask = sym (ap (λ (y : Stepped). y .mask) step) in
-          let p₂ : k ≡ r .code = sym (ap (λ (y : Stepped). y .code) step) in
-          let p₃ : t ≡ stateOf bytes = sym (q .state ∙ ap (after (stateOf before)) e) in
-          e ∙ (λ j. ticked (p₁ j) (p₂ j) (p₃ j))
-      go (stopped k) e n = absurd (omega (arith, sym z ∙ ap (λ (y : Stepped). y .number) (q .step ∙ ap stepOf e)))
+      go : (x : MachineTick) → made ≡ x → Normal (stateOf before) x → made ≡ finished (r .mask) (r .code) (stateOf bytes)
+      go (finished m k t) e n =
+          let step : r ≡ endOfTick (finished m k t) = q .step ∙ ap endOfTick e in
+          let p₁ : m ≡ r .mask = sym (ap (λ (y : TickEnd). y .mask) step) in
+          let p₂ : k ≡ r .code = sym (ap (λ (y : TickEnd). y .code) step) in
+          let p₃ : t ≡ stateOf bytes = sym (q .state ∙ ap (afterTick (stateOf before)) e) in
+          e ∙ (λ j. finished (p₁ j) (p₂ j) (p₃ j))
+      go (stopped k) e n = absurd (omega (arith, sym z ∙ ap (λ (y : TickEnd). y .number) (q .step ∙ ap endOfTick e)))
 
   pub stood : (r .number ≡ 0 → ⊥) → made ≡ stopped (r .number)
   stood z = go made refl
     where
-      go : (x : Ticked) → made ≡ x → made ≡ stopped (r .number)
-      go (ticked m k t) e = absurd (z (ap (λ (y : Stepped). y .number) (q .step ∙ ap stepOf e)))
-      go (stopped k) e = e ∙ ap stopped (sym (ap (λ (y : Stepped). y .number) (q .step ∙ ap stepOf e)))
+      go : (x : MachineTick) → made ≡ x → made ≡ stopped (r .number)
+      go (finished m k t) e = absurd (z (ap (λ (y : TickEnd). y .number) (q .step ∙ ap endOfTick e)))
+      go (stopped k) e = e ∙ ap stopped (sym (ap (λ (y : TickEnd). y .number) (q .step ∙ ap endOfTick e)))
 
   -- the next tick may be made
-  pub stands-on : Stands b (stateOf before) → r .number ≡ 0 → Stands b (stateOf bytes)
+  pub stands-on : TickAsked b (stateOf before) → r .number ≡ 0 → TickAsked b (stateOf bytes)
   stands-on y z =
-      record { whole = y .whole; depth = deep-fine (stateOf bytes) (subst Kept (went z) (tick-deep b (stateOf before) y w)) }
+      record { whole = y .whole; depth = deep-fine (stateOf bytes) (subst KeptDepth (went z) (tick-deep b (stateOf before) y w)) }
 
 -- ---- ticks over one word more
 module _ (i : Image) (s : State) (w : ℕ) (ws : List ℕ) where
-  ticks-went : (m k : ℕ) (t : State) → tick i s w ≡ ticked m k t
+  ticks-went : (m k : ℕ) (t : State) → tick i s w ≡ finished m k t
       → ticks i s (w ∷ ws) ≡ record {
         masks = m ∷ ticks i t ws .masks;
         codes = k ∷ ticks i t ws .codes;
@@ -73,13 +73,13 @@ unfolding ticks
 ticks-none i s = refl
 
 -- ---- the loop
-abbrev joined : List ℕ → List ℕ → Ran → Ran
+abbrev joined : List ℕ → List ℕ → MachineRun → MachineRun
 joined ms ks r = record { masks = ms ++ r .masks; codes = ks ++ r .codes; state = r .state; verdict = r .verdict }
 
 -- after i words
-pub record Turn (b bytes₀ ws ms₀ ks₀ bytes ms ks : List ℕ) (i : ℕ) : Type 0 where
+pub record RunTurn (b bytes₀ ws ms₀ ks₀ bytes ms ks : List ℕ) (i : ℕ) : Type 0 where
   pub low : i ≤ length ws
-  pub stands : Stands b (stateOf bytes)
+  pub stands : TickAsked b (stateOf bytes)
   pub pastMasks : List ℕ
   pub pastCodes : List ℕ
   pub longMasks : length pastMasks ≡ i
@@ -91,7 +91,7 @@ pub record Turn (b bytes₀ ws ms₀ ks₀ bytes ms ks : List ℕ) (i : ℕ) : T
   pub whole : joined pastMasks pastCodes (ticks (tableImage b) (stateOf bytes) (drop i ws)) ≡ ticks (tableImage b) (stateOf bytes₀) ws
   pub same : i ≡ 0 → bytes ≡ bytes₀
 
-pub turn-start : (b bytes ws ms ks : List ℕ) → Stands b (stateOf bytes) → Turn b bytes ws ms ks bytes ms ks 0
+pub turn-start : (b bytes ws ms ks : List ℕ) → TickAsked b (stateOf bytes) → RunTurn b bytes ws ms ks bytes ms ks 0
 turn-start b bytes ws ms ks y = record {
   low = omega arith;
   stands = y;
@@ -121,8 +121,8 @@ pub number-verdict : (n : ℕ) → (n ≡ 0 → ⊥) → verdictOf n ≡ refused
 number-verdict zero h = absurd (h refl)
 number-verdict (suc n) h = refl
 
-module _ {b bytes₀ ws ms₀ ks₀ bytes ms ks : List ℕ} {i : ℕ} (t : Turn b bytes₀ ws ms₀ ks₀ bytes ms ks i)
-    (room : Room ws ms₀ ks₀) where
+module _ {b bytes₀ ws ms₀ ks₀ bytes ms ks : List ℕ} {i : ℕ} (t : RunTurn b bytes₀ ws ms₀ ks₀ bytes ms ks i)
+    (room : RunRoom ws ms₀ ks₀) where
   abbrev s : State
   s = stateOf bytes
 
@@ -133,28 +133,28 @@ module _ {b bytes₀ ws ms₀ ks₀ bytes ms ks : List ℕ} {i : ℕ} (t : Turn 
   image = tableImage b
 
   -- the words that are left, and what they give
-  abbrev before : Ran → Ran
+  abbrev before : MachineRun → MachineRun
   before = joined (t .pastMasks) (t .pastCodes)
 
   ended : (n : ℕ) (u : State) (left : List ℕ) (v : Verdict) → verdictOf n ≡ v → stateOf left ≡ u → left ≡ bytes
       → before (record { masks = []; codes = []; state = u; verdict = v }) ≡ ticks image s₀ ws
-      → Ends b bytes₀ ws ms₀ ks₀ (record { number = n; count = i }) left ms ks
+      → GivesRunEnd b bytes₀ ws ms₀ ks₀ (record { number = n; count = i }) left ms ks
   ended n u left v p q k all = record {
-    verdict = p ∙ ap (λ (x : Ran). x .verdict) all;
-    count = sym (t .longCodes) ∙ ap (λ (l : List ℕ). length l) (sym (append-nil (t .pastCodes)) ∙ ap (λ (x : Ran). x .codes) all);
-    state = q ∙ ap (λ (x : Ran). x .state) all;
+    verdict = p ∙ ap (λ (x : MachineRun). x .verdict) all;
+    count = sym (t .longCodes) ∙ ap (λ (l : List ℕ). length l) (sym (append-nil (t .pastCodes)) ∙ ap (λ (x : MachineRun). x .codes) all);
+    state = q ∙ ap (λ (x : MachineRun). x .state) all;
     masks = t .masks ∙ written-front ms₀ (t .pastMasks)
-        ∙ ap (λ (l : List ℕ). over l ms₀) (sym (append-nil (t .pastMasks)) ∙ ap (λ (x : Ran). x .masks) all);
+        ∙ ap (λ (l : List ℕ). over l ms₀) (sym (append-nil (t .pastMasks)) ∙ ap (λ (x : MachineRun). x .masks) all);
     codes = t .codes ∙ written-front ks₀ (t .pastCodes)
-        ∙ ap (λ (l : List ℕ). over l ks₀) (sym (append-nil (t .pastCodes)) ∙ ap (λ (x : Ran). x .codes) all);
+        ∙ ap (λ (l : List ℕ). over l ks₀) (sym (append-nil (t .pastCodes)) ∙ ap (λ (x : MachineRun). x .codes) all);
     kept = λ e. k ∙ t .same e;
   }
 
-  module _ (h : i < length ws) (r : Stepped) (next : List ℕ) (q : Steps b bytes (getD ws i 0) r next) where
-    pub turn-on : r .number ≡ 0 → Turn b bytes₀ ws ms₀ ks₀ next (set ms i (r .mask)) (set ks i (r .code)) (i + 1)
+  module _ (h : i < length ws) (r : TickEnd) (next : List ℕ) (q : GivesTickEnd b bytes (getD ws i 0) r next) where
+    pub turn-on : r .number ≡ 0 → RunTurn b bytes₀ ws ms₀ ks₀ next (set ms i (r .mask)) (set ks i (r .code)) (i + 1)
     turn-on z =
-        let e : tick image s (getD ws i 0) ≡ ticked (r .mask) (r .code) (stateOf next) = went b bytes (getD ws i 0) r next q z in
-        let on : Ran = ticks image (stateOf next) (drop (suc i) ws) in
+        let e : tick image s (getD ws i 0) ≡ finished (r .mask) (r .code) (stateOf next) = went b bytes (getD ws i 0) r next q z in
+        let on : MachineRun = ticks image (stateOf next) (drop (suc i) ws) in
         record {
           low = omega arith;
           stands = stands-on b bytes (getD ws i 0) r next q (t .stands) z;
@@ -167,7 +167,8 @@ module _ {b bytes₀ ws ms₀ ks₀ bytes ms ks : List ℕ} {i : ℕ} (t : Turn 
           masks = grown ms₀ ms (t .pastMasks) i (r .mask) (t .masks) (t .longMasks) (omega (arith, room .masks));
           codes = grown ks₀ ks (t .pastCodes) i (r .code) (t .codes) (t .longCodes) (omega (arith, room .codes));
           whole =
-              ap (λ (n : ℕ). joined (t .pastMasks ++ (r .mask ∷ [])) (t .pastCodes ++ (r .code ∷ [])) (ticks image (stateOf next) (drop n ws))) (add-one i)
+              ap (λ (n : ℕ). joined (t .pastMasks ++ (r .mask ∷ [])) (t .pastCodes ++ (r .code ∷ []))
+              (ticks image (stateOf next) (drop n ws))) (add-one i)
               ∙ (λ j. record {
                 masks = append-snoc (t .pastMasks) (r .mask) (on .masks) j;
                 codes = append-snoc (t .pastCodes) (r .code) (on .codes) j;
@@ -180,7 +181,7 @@ module _ {b bytes₀ ws ms₀ ks₀ bytes ms ks : List ℕ} {i : ℕ} (t : Turn 
         }
 
     -- a tick that is stopped ends the run
-    pub turn-stood : (r .number ≡ 0 → ⊥) → Ends b bytes₀ ws ms₀ ks₀ (record { number = r .number; count = i }) next ms ks
+    pub turn-stood : (r .number ≡ 0 → ⊥) → GivesRunEnd b bytes₀ ws ms₀ ks₀ (record { number = r .number; count = i }) next ms ks
     turn-stood z =
         let all : before (record { masks = []; codes = []; state = s; verdict = refused (r .number) 0 }) ≡ ticks image s₀ ws =
         ap before (sym (ticks-stood image s (getD ws i 0) (drop (suc i) ws) (r .number) (stood b bytes (getD ws i 0) r next q z)))
@@ -188,7 +189,7 @@ module _ {b bytes₀ ws ms₀ ks₀ bytes ms ks : List ℕ} {i : ℕ} (t : Turn 
         ended (r .number) s next (refused (r .number) 0) (number-verdict (r .number) z) (ap stateOf (q .kept z)) (q .kept z) all
 
   -- no word is left
-  pub turn-over : length ws ≤ i → Ends b bytes₀ ws ms₀ ks₀ (record { number = 0; count = i }) bytes ms ks
+  pub turn-over : length ws ≤ i → GivesRunEnd b bytes₀ ws ms₀ ks₀ (record { number = 0; count = i }) bytes ms ks
   turn-over h =
       let all : before (record { masks = []; codes = []; state = s; verdict = fine }) ≡ ticks image s₀ ws =
       ap before (sym (ticks-none image s)) ∙ ap (λ (l : List ℕ). before (ticks image s l)) (sym (drop-of-length-le ws h)) ∙ t .whole in

@@ -5,32 +5,32 @@ use mathlib.Core.Path.{_≡_}
 use mathlib.Core.List.{List}
 use lib.Dec.{eqb, leb}
 use Rattle.lists.specs.Pick.{pick}
-use Rattle.frames.specs.Answer.{number, reply}
+use Rattle.frames.specs.Answer.{replyNumber, reply}
 use Rattle.frames.specs.declared.Answer.{Answer}
 use Rattle.state.specs.Bytes.{bytesOf}
 use Rattle.runs.specs.declared.TickReport.{TickReport}
-use Rattle.runs.specs.Run.{Run}
-use Rattle.runs.specs.Advance.{Advance}
+use Rattle.runs.specs.Run.{RunOutcome}
+use Rattle.runs.specs.TickOutcome.{TickOutcome}
 
 -- refusals that change no state
-abbrev pub leaves : ℕ → Bool
-leaves n = leb 1 n && leb n 16
+abbrev pub changesNothing : ℕ → Bool
+changesNothing n = leb 1 n && leb n 16
 
 -- refusals 1 to 16 of a run leave the bytes as they were
-unfoldable pub bytesAfter : List ℕ → Run → List ℕ
-bytesAfter old r = pick (leaves (number (r .reply))) old (bytesOf (r .state))
+unfoldable pub bytesAfter : List ℕ → RunOutcome → List ℕ
+bytesAfter old r = pick (changesNothing (replyNumber (r .reply))) old (bytesOf (r .state))
 
 -- a tick that is refused leaves what it was lent as it was
-abbrev pub ifTicked : {A : Type 0} → Advance → A → A → A
-ifTicked a new old = pick (eqb (number (a .reply)) 0) new old
+abbrev pub ifTicked : {A : Type 0} → TickOutcome → A → A → A
+ifTicked a new old = pick (eqb (replyNumber (a .reply)) 0) new old
 
-pub record RunsOn (x : Run) (before : List ℕ) (answer : Answer) (after ms ks : List ℕ) : Type 0 where
+pub record GivesRunOn (x : RunOutcome) (before : List ℕ) (answer : Answer) (after ms ks : List ℕ) : Type 0 where
   pub answered : reply answer ≡ x .reply
   pub bytes : after ≡ bytesAfter before x
   pub masks : ms ≡ x .masks
   pub codes : ks ≡ x .codes
 
-pub record AdvancesOn (x : Advance) (before : List ℕ) (r : TickReport) (after : List ℕ) : Type 0 where
+pub record GivesTickOn (x : TickOutcome) (before : List ℕ) (r : TickReport) (after : List ℕ) : Type 0 where
   pub answered : reply (r .answer) ≡ x .reply
   pub mask : r .mask ≡ x .mask
   pub code : r .code ≡ x .code

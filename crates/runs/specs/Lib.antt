@@ -1,4 +1,4 @@
 pub mod Run
-pub mod Advance
+pub mod TickOutcome
 pub mod InPlace
-pub mod Parts
+pub mod inner

@@ -6,6 +6,7 @@ use mathlib.Core.List.{List, [], _∷_}
 use lib.Dec.{ltb}
 use lib.ListN.{length}
 use Rattle.lists.specs.Sequences.{over}
+use Rattle.frames.specs.Refusals.{UNFIT, NO-ROOM}
 use Rattle.frames.specs.Frame.{contents}
 use Rattle.frames.specs.Verdict.{Verdict, fine, refused, next, when}
 use Rattle.frames.specs.Answer.{Reply, refusal, reply, replied}
@@ -13,33 +14,33 @@ use Rattle.image.specs.Image.{Image}
 use Rattle.image.specs.Decode.{decoded}
 use Rattle.image.specs.Check.{imageVerdict}
 use Rattle.state.specs.declared.State.{State}
-use Rattle.state.specs.declared.Answered.{Answered}
+use Rattle.state.specs.declared.StateReport.{StateReport}
 use Rattle.fitness.specs.Fitness.{unfit}
-use Rattle.ticks.specs.Tick.{Ticked, ticked, stopped, tick}
+use Rattle.ticks.specs.Tick.{MachineTick, finished, stopped, tick}
 
 -- the finished ticks, the state after them, and 17 or 18 where that ended the run
-pub record Ran : Type 0 where
+pub record MachineRun : Type 0 where
   pub masks : List ℕ
   pub codes : List ℕ
   pub state : State
   pub verdict : Verdict
 
-abbrev pub then : State → (State → Ran) → Ticked → Ran
-then s go (ticked m k t) = let r = go t in record { masks = m ∷ r .masks; codes = k ∷ r .codes; state = r .state; verdict = r .verdict }
+abbrev pub then : State → (State → MachineRun) → MachineTick → MachineRun
+then s go (finished m k t) = let r = go t in record { masks = m ∷ r .masks; codes = k ∷ r .codes; state = r .state; verdict = r .verdict }
 then s go (stopped n) = record { masks = []; codes = []; state = s; verdict = refused n 0 }
 
-unfoldable pub ticks : Image → State → List ℕ → Ran
+unfoldable pub ticks : Image → State → List ℕ → MachineRun
 ticks i s [] = record { masks = []; codes = []; state = s; verdict = fine }
 ticks i s (w ∷ ws) = then s (λ t. ticks i t ws) (tick i s w)
 
-pub record Run : Type 0 where
+pub record RunOutcome : Type 0 where
   pub reply : Reply
   pub state : State
   pub masks : List ℕ
   pub codes : List ℕ
 
 -- what a function that runs promises: its answer, the state handed back, and what the two buffers then hold
-pub record Runs (x : Run) (r : Answered) (ms ks : List ℕ) : Type 0 where
+pub record GivesRun (x : RunOutcome) (r : StateReport) (ms ks : List ℕ) : Type 0 where
   pub answered : reply (r .answer) ≡ x .reply
   pub state : r .state ≡ x .state
   pub masks : ms ≡ x .masks
@@ -53,10 +54,10 @@ noRoom words masks codes = ltb (length masks) (length words) || ltb (length code
 unfoldable pub runVerdict : List ℕ → State → List ℕ → List ℕ → List ℕ → Verdict
 runVerdict t s words masks codes =
     next (imageVerdict t) λ _.
-    next (when 15 (unfit (decoded (contents t)) s)) λ _.
-    when 16 (noRoom words masks codes)
+    next (when UNFIT (unfit (decoded (contents t)) s)) λ _.
+    when NO-ROOM (noRoom words masks codes)
 
-abbrev pub runOn : Verdict → (Unit {0} → Ran) → State → List ℕ → List ℕ → Run
+abbrev pub runOn : Verdict → (Unit {0} → MachineRun) → State → List ℕ → List ℕ → RunOutcome
 runOn (refused k i) go s masks codes = record { reply = refusal k i 0; state = s; masks = masks; codes = codes }
 runOn fine go s masks codes = let r = go tt in record {
   reply = replied (r .verdict) (length (r .codes));
@@ -65,5 +66,5 @@ runOn fine go s masks codes = let r = go tt in record {
   codes = over (r .codes) codes;
 }
 
-unfoldable pub run : List ℕ → State → List ℕ → List ℕ → List ℕ → Run
+unfoldable pub run : List ℕ → State → List ℕ → List ℕ → List ℕ → RunOutcome
 run t s words masks codes = runOn (runVerdict t s words masks codes) (λ _. ticks (decoded (contents t)) s words) s masks codes

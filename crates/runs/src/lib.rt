@@ -8,7 +8,7 @@ pub use runs::tick_table;
 pub use runs::tick_word;
 
 // What the ticks over the words of a run answer: 0, or the number that stopped one, and the finished ticks.
-pub struct Ended {
+pub struct RunEnd {
     pub number: u8,
     pub count: usize,
 }

@@ -1,34 +1,38 @@
 // Ticks on a prepared table, one or one for each word, after 15 and 16 were tried.
-use super::Ended;
+use super::RunEnd;
 use super::TickReport;
 use fitting::is_unfit;
 use frames::Answer;
+use frames::refusals::NO_ROOM;
+use frames::refusals::UNFIT;
 use frames::refused;
+use state::layout::STATE_BYTES;
 use state_results::tidy_results;
 use stepping::tick_on;
 use tables::last_label;
 use tables::scheme_count;
-use ticks::Stepped;
+use ticks::TickEnd;
 ghost use mathlib.Core.Path.{_≡_};
 ghost use mathlib.Core.List.{[], _∷_};
-ghost use Rattle.tables.specs.Table.{Whole};
+ghost use Rattle.tables.specs.inner.Asked.{Whole};
 ghost use Rattle.state.specs.Bytes.{stateOf};
-ghost use Rattle.ticks.specs.Parts.{Stands, Steps};
+ghost use Rattle.ticks.specs.inner.TickContracts.{TickAsked, GivesTickEnd};
 ghost use Rattle.runs.specs.Run.{noRoom};
-ghost use Rattle.runs.specs.Advance.{advanced};
-ghost use Rattle.runs.specs.InPlace.{RunsOn, AdvancesOn};
-ghost use Rattle.runs.specs.Parts.{Starts, Ends, tableRun};
+ghost use Rattle.runs.specs.TickOutcome.{tickOutcome};
+ghost use Rattle.runs.specs.InPlace.{GivesRunOn, GivesTickOn};
+ghost use Rattle.runs.specs.inner.RunContracts.{RunAsked, GivesRunEnd, tableRun};
 
 // One tick a word, until one is stopped.
 fn tick_all(
     table: &[u8],
-    bytes: &mut [u8; 130],
+    bytes: &mut [u8; STATE_BYTES],
     words: &[u16],
     masks: &mut [u32],
     codes: &mut [u8],
-) -> Ended
-    requires { ⌜ Starts (now table) (stateOf (now bytes)) (now words) (now masks) (now codes) ⌝ }
-    ensures { λ r. ⌜ Ends (now (table .entry)) (now (bytes .entry)) (now (words .entry)) (now (masks .entry)) (now (codes .entry)) r (now (bytes .exit)) (now (masks .exit)) (now (codes .exit)) ⌝ }
+) -> RunEnd
+    requires { ⌜ RunAsked (now table) (stateOf (now bytes)) (now words) (now masks) (now codes) ⌝ }
+    ensures { λ r. ⌜ GivesRunEnd (now (table .entry)) (now (bytes .entry)) (now (words .entry)) (now (masks .entry))
+        (now (codes .entry)) r (now (bytes .exit)) (now (masks .exit)) (now (codes .exit)) ⌝ }
 {
     let schemes = scheme_count(table);
     let last = last_label(table);
@@ -37,13 +41,13 @@ fn tick_all(
         let done = tick_on(table, schemes, last, bytes, words[i]);
         let number = done.number;
         if number != 0 {
-            return Ended { number, count: i };
+            return RunEnd { number, count: i };
         }
         masks[i] = done.mask;
         codes[i] = done.code;
         i += 1;
     }
-    Ended {
+    RunEnd {
         number: 0,
         count: i,
     }
@@ -62,19 +66,20 @@ fn no_room(words: &[u16], masks: &[u32], codes: &[u8]) -> bool
 // A run: 15 and 16, then the ticks.
 pub fn run_table(
     table: &[u8],
-    bytes: &mut [u8; 130],
+    bytes: &mut [u8; STATE_BYTES],
     words: &[u16],
     masks: &mut [u32],
     codes: &mut [u8],
 ) -> Answer
     requires { ⌜ Whole (now table) ⌝ }
-    ensures { λ r. ⌜ RunsOn (tableRun (now (table .entry)) (stateOf (now (bytes .entry))) (now (words .entry)) (now (masks .entry)) (now (codes .entry))) (now (bytes .entry)) r (now (bytes .exit)) (now (masks .exit)) (now (codes .exit)) ⌝ }
+    ensures { λ r. ⌜ GivesRunOn (tableRun (now (table .entry)) (stateOf (now (bytes .entry))) (now (words .entry)) (now (masks .entry))
+        (now (codes .entry))) (now (bytes .entry)) r (now (bytes .exit)) (now (masks .exit)) (now (codes .exit)) ⌝ }
 {
     if is_unfit(table, bytes) {
-        return refused(15, 0);
+        return refused(UNFIT, 0);
     }
     if no_room(words, masks, codes) {
-        return refused(16, 0);
+        return refused(NO_ROOM, 0);
     }
     let ended = tick_all(table, bytes, words, masks, codes);
     tidy_results(bytes);
@@ -92,9 +97,9 @@ pub fn run_table(
 
 // One tick by the loop of a run: so the tick stands in that loop alone, and the compiler takes it in. A tick that is stopped writes no mask
 // and no code.
-pub fn tick_word(table: &[u8], bytes: &mut [u8; 130], word: u16) -> Stepped
-    requires { ⌜ Stands (now table) (stateOf (now bytes)) ⌝ }
-    ensures { λ r. ⌜ Steps (now (table .entry)) (now (bytes .entry)) word r (now (bytes .exit)) ⌝ }
+pub fn tick_word(table: &[u8], bytes: &mut [u8; 130], word: u16) -> TickEnd
+    requires { ⌜ TickAsked (now table) (stateOf (now bytes)) ⌝ }
+    ensures { λ r. ⌜ GivesTickEnd (now (table .entry)) (now (bytes .entry)) word r (now (bytes .exit)) ⌝ }
 {
     let words = [word];
     let mut masks = [0u32; 1];
@@ -103,16 +108,17 @@ pub fn tick_word(table: &[u8], bytes: &mut [u8; 130], word: u16) -> Stepped
     let number = ended.number;
     let mask = masks[0];
     let code = codes[0];
-    Stepped { number, mask, code }
+    TickEnd { number, mask, code }
 }
 
 // One tick: 15, then a tick for one word; a refused one leaves the bytes as they were.
-pub fn tick_table(table: &[u8], bytes: &mut [u8; 130], word: u16) -> TickReport
+pub fn tick_table(table: &[u8], bytes: &mut [u8; STATE_BYTES], word: u16) -> TickReport
     requires { ⌜ Whole (now table) ⌝ }
-    ensures { λ r. ⌜ AdvancesOn (advanced (tableRun (now (table .entry)) (stateOf (now (bytes .entry))) (word ∷ []) (0 ∷ []) (0 ∷ []))) (now (bytes .entry)) r (now (bytes .exit)) ⌝ }
+    ensures { λ r. ⌜ GivesTickOn (tickOutcome (tableRun (now (table .entry)) (stateOf (now (bytes .entry))) (word ∷ []) (0 ∷ []) (0 ∷ [])))
+        (now (bytes .entry)) r (now (bytes .exit)) ⌝ }
 {
     if is_unfit(table, bytes) {
-        let answer = refused(15, 0);
+        let answer = refused(UNFIT, 0);
         return TickReport {
             answer,
             mask: 0,

@@ -12,26 +12,27 @@ use Rattle.lists.specs.Pick.{pick}
 use Rattle.lists.specs.Sequences.{written}
 use Rattle.lists.proofs.Tests.{yes-pick, no-pick}
 use Rattle.frames.specs.Verdict.{Verdict, fine, refused, next, when}
-use Rattle.frames.specs.Answer.{number, reply, judged}
+use Rattle.frames.specs.Answer.{replyNumber, reply, judged}
 use Rattle.frames.proofs.Refuses.{next-refuses, when-refuses}
 use Rattle.image.specs.Check.{imageVerdict}
 use Rattle.tables.specs.Table.{badTable}
 use Rattle.state.specs.declared.State.{State}
 use Rattle.state.specs.State.{noState}
 use Rattle.state.specs.Bytes.{stateOf, bytesOf}
-use Rattle.runs.specs.Advance.{Advance, advance}
+use Rattle.runs.specs.TickOutcome.{TickOutcome, imageTick}
 use Rattle.machine.specs.Live.{liveTick}
 use Rattle.spindles.specs.declared.SpinReport.{SpinReport}
-use Rattle.spindles.specs.Spindles.{stateAt, Spun, spin, liveSpin}
-use Rattle.spindles.specs.Parts.{badCall, refusedHead, Refuses, Turn, turn, TurnsOn, fourDepths, headSpun, turnSpun, inParts}
+use Rattle.spindles.specs.Spindles.{stateAt, SpinOutcome, spin, liveSpin}
+use Rattle.spindles.specs.inner.HeadAndTurn.{badSpinCall, refusedHead, GivesRefusedHead, TurnOutcome, turn}
+use Rattle.spindles.specs.inner.HeadAndTurn.{GivesTurnOn, fourDepths, headSpun, turnSpun, inParts}
 use Rattle.spindles.proofs.InParts.{call-four, call-named, depth-most, head-refused, spin-parts, live-spin-parts}
-use Rattle.turning.proofs.Settled.{Numbered, image-numbered, table-numbered}
-use Rattle.spindle_bytes.specs.Bytes.{partOf, statesOf, bytesSpun, SpinsOn}
-use Rattle.spindle_bytes.specs.Parts.{stateCount, depthsIn}
+use Rattle.turning.proofs.Settled.{NumberedVerdict, image-numbered, table-numbered}
+use Rattle.spindle_bytes.specs.Bytes.{partOf, statesOf, bytesSpun, GivesSpinOn, depthsIn}
+use Rattle.spindle_bytes.specs.inner.DepthBytes.{stateCount}
 use Rattle.spindle_bytes.proofs.States.{count-is, state-is, part-length, depths-are, part-back}
 
 -- ---- what a call that is no bad one tells of the bytes
-module _ (b : List ℕ) (n k : ℕ) (counted : n ≡ stateCount (length b)) (t : Bool) (tested : t ≡ badCall n k) (good : t ≡ false) where
+module _ (b : List ℕ) (n k : ℕ) (counted : n ≡ stateCount (length b)) (t : Bool) (tested : t ≡ badSpinCall n k) (good : t ≡ false) where
   pub bytes-long : length b ≡ 520
   bytes-long = go (eqb (length b) 520) refl (sym counted ∙ call-four n k (sym tested ∙ good))
     where
@@ -49,25 +50,27 @@ module _ (b : List ℕ) (n k : ℕ) (counted : n ≡ stateCount (length b)) (t :
       omega (arith, ap (λ (s : State). s .depth) (state-is b bytes-long k bytes-named), depths-are b bytes-long)
 
 -- a turn leaves as many bytes
-pub part-full : (b : List ℕ) → length b ≡ 520 → (k : ℕ) → k < 4 → (y : Turn) (part part′ : List ℕ) (r : SpinReport) → part ≡ partOf b k
-    → TurnsOn y part r part′
+pub part-full : (b : List ℕ) → length b ≡ 520 → (k : ℕ) → k < 4
+    → (y : TurnOutcome) (part part′ : List ℕ) (r : SpinReport) → part ≡ partOf b k
+    → GivesTurnOn y part r part′
     → 130 ≡ length part′
 unfolding bytesOf
-part-full b long k l y part part′ r e z = sym (ap length (z .bytes) ∙ go (eqb (number (y .reply)) 0))
+part-full b long k l y part part′ r e z = sym (ap length (z .bytes) ∙ go (eqb (replyNumber (y .reply)) 0))
   where
     go : (t : Bool) → length (pick t (bytesOf (y .state)) part) ≡ 130
     go true = refl
     go false = ap length e ∙ part-length b long k l
 
 -- ---- a head that is refused
-head-numbered : (v : Verdict) (k : ℕ) → Numbered v → Numbered (refusedHead v k)
+head-numbered : (v : Verdict) (k : ℕ) → NumberedVerdict v → NumberedVerdict (refusedHead v k)
 unfolding refusedHead
 head-numbered v k l =
     next-refuses (λ m. 1 ≤ m) (when 25 (ltb 3 k)) (λ _. next v λ _. refused 15 0) (when-refuses (λ m. 1 ≤ m) 25 (ltb 3 k) (omega arith))
     (next-refuses (λ m. 1 ≤ m) v (λ _. refused 15 0) l (omega arith))
 
 module _ (b : List ℕ) (taken k : ℕ) (r : SpinReport) where
-  head-spins : (u : Verdict) → Numbered u → (u ≡ fine → ⊥) → Refuses u taken r → SpinsOn (headSpun u (statesOf b) taken) b k r b
+  head-spins : (u : Verdict) → NumberedVerdict u → (u ≡ fine → ⊥) → GivesRefusedHead u taken r
+      → GivesSpinOn (headSpun u (statesOf b) taken) b k r b
   unfolding bytesSpun
   head-spins fine l told z = absurd (told refl)
   head-spins (refused n i) l told z = record {
@@ -79,28 +82,28 @@ module _ (b : List ℕ) (taken k : ℕ) (r : SpinReport) where
   }
 
   -- with the count of states as it is read
-  module _ (n : ℕ) (counted : n ≡ stateCount (length b)) (t : Bool) (tested : t ≡ badCall n k) where
-    test-is : badCall (length (statesOf b)) k ≡ t
-    test-is = ap (λ (m : ℕ). badCall m k) (count-is b ∙ sym counted) ∙ sym tested
+  module _ (n : ℕ) (counted : n ≡ stateCount (length b)) (t : Bool) (tested : t ≡ badSpinCall n k) where
+    test-is : badSpinCall (length (statesOf b)) k ≡ t
+    test-is = ap (λ (m : ℕ). badSpinCall m k) (count-is b ∙ sym counted) ∙ sym tested
 
-    head-by : t ≡ true → (v : Verdict) → Numbered v → (x : Advance) → Refuses (refusedHead v k) taken r
-        → SpinsOn (inParts v (statesOf b) taken k x) b k r b
+    head-by : t ≡ true → (v : Verdict) → NumberedVerdict v → (x : TickOutcome) → GivesRefusedHead (refusedHead v k) taken r
+        → GivesSpinOn (inParts v (statesOf b) taken k x) b k r b
     head-by bad v l x z =
-        subst (λ (y : Spun). SpinsOn y b k r b)
-        (sym (yes-pick (badCall (length (statesOf b)) k) (headSpun (refusedHead v k) (statesOf b) taken)
+        subst (λ (y : SpinOutcome). GivesSpinOn y b k r b)
+        (sym (yes-pick (badSpinCall (length (statesOf b)) k) (headSpun (refusedHead v k) (statesOf b) taken)
         (turnSpun (statesOf b) k (turn v (stateAt (statesOf b) k) (fourDepths (statesOf b)) taken x)) (test-is ∙ bad)))
         (head-spins (refusedHead v k) (head-numbered v k l) (head-refused v k) z)
 
-    pub image-refused : t ≡ true → (image : List ℕ) (w : ℕ) → Refuses (refusedHead (imageVerdict image) k) taken r
-        → SpinsOn (spin image (statesOf b) taken k w) b k r b
+    pub image-refused : t ≡ true → (image : List ℕ) (w : ℕ) → GivesRefusedHead (refusedHead (imageVerdict image) k) taken r
+        → GivesSpinOn (spin image (statesOf b) taken k w) b k r b
     image-refused bad image w z =
-        subst (λ (y : Spun). SpinsOn y b k r b) (sym (spin-parts image (statesOf b) taken k w))
-        (head-by bad (imageVerdict image) (image-numbered image) (advance image (stateAt (statesOf b) k) w) z)
+        subst (λ (y : SpinOutcome). GivesSpinOn y b k r b) (sym (spin-parts image (statesOf b) taken k w))
+        (head-by bad (imageVerdict image) (image-numbered image) (imageTick image (stateAt (statesOf b) k) w) z)
 
-    pub table-refused : t ≡ true → (table : List ℕ) (w : ℕ) → Refuses (refusedHead (when 11 (badTable table)) k) taken r
-        → SpinsOn (liveSpin table (statesOf b) taken k w) b k r b
+    pub table-refused : t ≡ true → (table : List ℕ) (w : ℕ) → GivesRefusedHead (refusedHead (when 11 (badTable table)) k) taken r
+        → GivesSpinOn (liveSpin table (statesOf b) taken k w) b k r b
     table-refused bad table w z =
-        subst (λ (y : Spun). SpinsOn y b k r b) (sym (live-spin-parts table (statesOf b) taken k w))
+        subst (λ (y : SpinOutcome). GivesSpinOn y b k r b) (sym (live-spin-parts table (statesOf b) taken k w))
         (head-by bad (when 11 (badTable table)) (table-numbered table) (liveTick table (stateAt (statesOf b) k) w) z)
 
     -- ---- the turn, put into the bytes
@@ -119,45 +122,45 @@ module _ (b : List ℕ) (taken k : ℕ) (r : SpinReport) where
       is-held = ap stateOf parted ∙ sym (state-is b long k low)
 
       -- what is written of a turn
-      put-by : (y : Turn) → part′ ≡ pick (eqb (number (y .reply)) 0) (bytesOf (y .state)) part
-          → after ≡ pick (eqb (number (y .reply)) 0) (written b (130 * k) (bytesOf (y .state))) b
-      put-by y e = put ∙ ap (written b (130 * k)) e ∙ go (eqb (number (y .reply)) 0)
+      put-by : (y : TurnOutcome) → part′ ≡ pick (eqb (replyNumber (y .reply)) 0) (bytesOf (y .state)) part
+          → after ≡ pick (eqb (replyNumber (y .reply)) 0) (written b (130 * k) (bytesOf (y .state))) b
+      put-by y e = put ∙ ap (written b (130 * k)) e ∙ go (eqb (replyNumber (y .reply)) 0)
         where
           go : (u : Bool) → written b (130 * k) (pick u (bytesOf (y .state)) part) ≡ pick u (written b (130 * k) (bytesOf (y .state))) b
           go true = refl
           go false = ap (written b (130 * k)) parted ∙ part-back b long k low
 
-      turn-spins : (y : Turn) → TurnsOn y part r part′ → SpinsOn (turnSpun (statesOf b) k y) b k r after
+      turn-spins : (y : TurnOutcome) → GivesTurnOn y part r part′ → GivesSpinOn (turnSpun (statesOf b) k y) b k r after
       unfolding bytesSpun
       turn-spins y z = record {
         answered = z .answered;
         mask = z .mask;
         code = z .code;
         taken = z .taken;
-        bytes = put-by y (z .bytes) ∙ ap (λ (u : State). pick (eqb (number (y .reply)) 0) (written b (130 * k) (bytesOf u)) b)
+        bytes = put-by y (z .bytes) ∙ ap (λ (u : State). pick (eqb (replyNumber (y .reply)) 0) (written b (130 * k) (bytesOf u)) b)
             (sym (getD-set-same (statesOf b) k (y .state) noState
             (omega (arith, count-is b, counted, call-four n k (sym tested ∙ good), low))));
       }
 
-      turn-by : (v : Verdict) (go : State → Advance) → TurnsOn (turn v (stateOf part) sum taken (go (stateOf part))) part r part′
-          → SpinsOn (inParts v (statesOf b) taken k (go s)) b k r after
+      turn-by : (v : Verdict) (go : State → TickOutcome) → GivesTurnOn (turn v (stateOf part) sum taken (go (stateOf part))) part r part′
+          → GivesSpinOn (inParts v (statesOf b) taken k (go s)) b k r after
       turn-by v go z =
-          subst (λ (y : Spun). SpinsOn y b k r after)
+          subst (λ (y : SpinOutcome). GivesSpinOn y b k r after)
           (ap₂ (λ (u : State) (m : ℕ). turnSpun (statesOf b) k (turn v u m taken (go u))) is-held (summed ∙ sym (depths-are b long))
-          ∙ sym (no-pick (badCall (length (statesOf b)) k) (headSpun (refusedHead v k) (statesOf b) taken)
+          ∙ sym (no-pick (badSpinCall (length (statesOf b)) k) (headSpun (refusedHead v k) (statesOf b) taken)
           (turnSpun (statesOf b) k (turn v s (fourDepths (statesOf b)) taken (go s))) (test-is ∙ good)))
           (turn-spins (turn v (stateOf part) sum taken (go (stateOf part))) z)
 
       pub image-spins : (image : List ℕ) (w : ℕ)
-          → TurnsOn (turn (imageVerdict image) (stateOf part) sum taken (advance image (stateOf part) w)) part r part′
-          → SpinsOn (spin image (statesOf b) taken k w) b k r after
+          → GivesTurnOn (turn (imageVerdict image) (stateOf part) sum taken (imageTick image (stateOf part) w)) part r part′
+          → GivesSpinOn (spin image (statesOf b) taken k w) b k r after
       image-spins image w z =
-          subst (λ (y : Spun). SpinsOn y b k r after) (sym (spin-parts image (statesOf b) taken k w))
-          (turn-by (imageVerdict image) (λ u. advance image u w) z)
+          subst (λ (y : SpinOutcome). GivesSpinOn y b k r after) (sym (spin-parts image (statesOf b) taken k w))
+          (turn-by (imageVerdict image) (λ u. imageTick image u w) z)
 
       pub table-spins : (table : List ℕ) (w : ℕ)
-          → TurnsOn (turn (when 11 (badTable table)) (stateOf part) sum taken (liveTick table (stateOf part) w)) part r part′
-          → SpinsOn (liveSpin table (statesOf b) taken k w) b k r after
+          → GivesTurnOn (turn (when 11 (badTable table)) (stateOf part) sum taken (liveTick table (stateOf part) w)) part r part′
+          → GivesSpinOn (liveSpin table (statesOf b) taken k w) b k r after
       table-spins table w z =
-          subst (λ (y : Spun). SpinsOn y b k r after) (sym (live-spin-parts table (statesOf b) taken k w))
+          subst (λ (y : SpinOutcome). GivesSpinOn y b k r after) (sym (live-spin-parts table (statesOf b) taken k w))
           (turn-by (when 11 (badTable table)) (λ u. liveTick table u w) z)

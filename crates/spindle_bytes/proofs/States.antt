@@ -16,9 +16,9 @@ use Rattle.lists.proofs.Ranges.{map-count}
 use Rattle.state.specs.declared.State.{State}
 use Rattle.state.specs.Bytes.{stateOf}
 use Rattle.spindles.specs.Spindles.{stateAt}
-use Rattle.spindles.specs.Parts.{fourDepths}
-use Rattle.spindle_bytes.specs.Bytes.{partOf, statesOf}
-use Rattle.spindle_bytes.specs.Parts.{stateCount, depthsIn}
+use Rattle.spindles.specs.inner.HeadAndTurn.{fourDepths}
+use Rattle.spindle_bytes.specs.Bytes.{partOf, statesOf, depthsIn}
+use Rattle.spindle_bytes.specs.inner.DepthBytes.{stateCount}
 
 abbrev four : List ℕ → List State
 four b = stateOf (partOf b 0) ∷ stateOf (partOf b 1) ∷ stateOf (partOf b 2) ∷ stateOf (partOf b 3) ∷ []

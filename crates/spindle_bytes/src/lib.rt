@@ -2,6 +2,9 @@
 use frames::put_bytes;
 use spindles::SpinReport;
 use spindles::bad_call;
+use spindles::layout::HEAD_BYTES;
+use spindles::layout::SPINDLES;
+use state::layout::STATE_BYTES;
 use turning::live_refuse_head;
 use turning::live_turn_bytes;
 use turning::refuse_head;
@@ -9,23 +12,24 @@ use turning::turn_bytes;
 ghost use mathlib.Core.Path.{_≡_};
 ghost use Prim.Native.Nat.{_+_, _*_, _≤_, _<_};
 ghost use lib.ListN.{length, getD};
+ghost use Rattle.spindles.specs.Layout.{SPINDLES, HEAD-BYTES};
 ghost use Rattle.spindles.specs.Spindles.{spin, liveSpin};
-ghost use Rattle.spindle_bytes.specs.Bytes.{partOf, statesOf, SpinsOn};
-ghost use Rattle.spindle_bytes.specs.Parts.{stateCount, depthsIn};
+ghost use Rattle.spindle_bytes.specs.Bytes.{partOf, statesOf, GivesSpinOn, depthsIn};
+ghost use Rattle.spindle_bytes.specs.inner.DepthBytes.{stateCount};
 
 // How many states there are: four, or none where the bytes are not four times 130.
 fn state_count(states: &[u8]) -> usize
     ensures { λ r. ⌜ r ≡ stateCount (length (now (states .entry))) ⌝ }
 {
-    if states.len() != 520 {
+    if states.len() != HEAD_BYTES {
         return 0;
     }
-    4
+    SPINDLES
 }
 
 // The depths of four states, which stand in the second byte of each.
 fn depth_sum(states: &[u8]) -> usize
-    requires { ⌜ length (now states) ≡ 520 ⌝ }
+    requires { ⌜ length (now states) ≡ HEAD-BYTES ⌝ }
     ensures { λ r. ⌜ r ≡ depthsIn (now (states .entry)) ⌝ }
 {
     let a = states[1];
@@ -36,15 +40,15 @@ fn depth_sum(states: &[u8]) -> usize
 }
 
 // The bytes of the spindle's own state.
-fn part_of(states: &[u8], spindle: usize) -> [u8; 130]
-    requires { ⌜ length (now states) ≡ 520 ⌝ }
-    requires { ⌜ spindle < 4 ⌝ }
+fn part_of(states: &[u8], spindle: usize) -> [u8; STATE_BYTES]
+    requires { ⌜ length (now states) ≡ HEAD-BYTES ⌝ }
+    requires { ⌜ spindle < SPINDLES ⌝ }
     ensures { λ r. ⌜ r ≡ partOf (now (states .entry)) spindle ⌝ }
 {
-    let mut part = [0u8; 130];
+    let mut part = [0u8; STATE_BYTES];
     let mut i: usize = 0;
-    while i < 130 {
-        part[i] = states[130 * spindle + i];
+    while i < STATE_BYTES {
+        part[i] = states[STATE_BYTES * spindle + i];
         i += 1;
     }
     part
@@ -58,7 +62,8 @@ pub fn spin_bytes(
     image: &[u8],
     word: u16,
 ) -> SpinReport
-    ensures { λ r. ⌜ SpinsOn (spin (now (image .entry)) (statesOf (now (states .entry))) taken spindle word) (now (states .entry)) spindle r (now (states .exit)) ⌝ }
+    ensures { λ r. ⌜ GivesSpinOn (spin (now (image .entry)) (statesOf (now (states .entry))) taken spindle word)
+        (now (states .entry)) spindle r (now (states .exit)) ⌝ }
 {
     let count = state_count(states);
     if bad_call(count, spindle) {
@@ -67,7 +72,7 @@ pub fn spin_bytes(
     let sum = depth_sum(states);
     let mut part = part_of(states, spindle);
     let report = turn_bytes(image, &mut part, sum, taken, word);
-    put_bytes(states, 130 * spindle, &part);
+    put_bytes(states, STATE_BYTES * spindle, &part);
     report
 }
 
@@ -79,7 +84,8 @@ pub fn live_spin_bytes(
     table: &[u8],
     word: u16,
 ) -> SpinReport
-    ensures { λ r. ⌜ SpinsOn (liveSpin (now (table .entry)) (statesOf (now (states .entry))) taken spindle word) (now (states .entry)) spindle r (now (states .exit)) ⌝ }
+    ensures { λ r. ⌜ GivesSpinOn (liveSpin (now (table .entry)) (statesOf (now (states .entry))) taken spindle word)
+        (now (states .entry)) spindle r (now (states .exit)) ⌝ }
 {
     let count = state_count(states);
     if bad_call(count, spindle) {
@@ -88,6 +94,6 @@ pub fn live_spin_bytes(
     let sum = depth_sum(states);
     let mut own = part_of(states, spindle);
     let turned = live_turn_bytes(table, &mut own, sum, taken, word);
-    put_bytes(states, 130 * spindle, &own);
+    put_bytes(states, STATE_BYTES * spindle, &own);
     turned
 }

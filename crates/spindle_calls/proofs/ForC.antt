@@ -7,64 +7,62 @@ use native.Mathlib.Omega.{arith}
 use lib.Dec.{eqb}
 use lib.ListN.{length, take}
 use Rattle.lists.specs.Pick.{pick}
-use Rattle.lists.specs.Sequences.{written}
-use Rattle.lists.proofs.Joins.{All}
-use Rattle.bits.specs.Binding.{ownBinding}
+use Rattle.lists.specs.Sequences.{written, All}
+use Rattle.bindings.specs.Binding.{ownBinding}
 use Rattle.frames.specs.Frame.{contents}
-use Rattle.frames.specs.Answer.{number, success, refusal}
+use Rattle.frames.specs.Answer.{replyNumber, success, refusal}
 use Rattle.state.specs.declared.State.{State}
-use Rattle.state.specs.State.{fresh, noState, badSize, Made as FreshMade, freshState}
+use Rattle.state.specs.State.{fresh, noState, badSize, StateOutcome, freshState}
 use Rattle.state.specs.Bytes.{stateOf, bytesOf}
 use Rattle.state.proofs.ResultBytes.{state-back, fresh-sized, fresh-held}
-use Rattle.fairleadow.specs.Calls.{MakesC}
+use Rattle.fairleadow.specs.Calls.{GivesStateC}
 use Rattle.agreement.proofs.ForC.{returned-0}
 use Rattle.spindles.specs.Spindles.{depths}
 use Rattle.spindles.proofs.InParts.{four-depths}
-use Rattle.spindle_bytes.specs.Bytes.{partOf, statesOf}
-use Rattle.spindle_bytes.specs.Parts.{depthsIn}
+use Rattle.spindle_bytes.specs.Bytes.{partOf, statesOf, depthsIn}
 use Rattle.spindle_bytes.proofs.States.{count-is, state-is, depths-are}
 use Rattle.spindle_places.specs.Calls.{newHead}
 use Rattle.spindle_places.specs.Calls as calls
-use Rattle.spindle_places.specs.Counted.{returned}
-use Rattle.spindle_walks.specs.Walks.{Handed, Walked, OwnWalk}
+use Rattle.spindle_places.specs.PlacesBalance.{placesReturned}
+use Rattle.spindle_walks.specs.Walks.{HandsImage, FollowsWalk, OwnWalk}
 use Rattle.spindle_walks.proofs.Walks.{own-walks}
-use Rattle.spindle_calls.specs.Said.{Said, callOf}
-use Rattle.spindle_calls.specs.ForC.{CallC, ticked, tickedLive, bound, boundLive, CallsC, none, more, FourC, four}
+use Rattle.spindle_calls.specs.ObservedCalls.{ObservedCall, callOf}
+use Rattle.spindle_calls.specs.ForC.{SpindleCallC, spinCall, spinCallLive, rebindCall, rebindCallLive}
+use Rattle.spindle_calls.specs.ForC.{SpindleCallsInTurnC, none, more, FourC, fourFresh}
 use Rattle.spindle_calls.specs.ForC.{PlacesCountedC, OwnWalkC}
-use Rattle.spindle_calls.proofs.Row.{HeardFrom, Row, row-none, row-more, row-counted}
-use Rattle.spindle_calls.proofs.Parts.{four-are}
-use Rattle.spindle_calls.proofs.OneCallC.{headOf, LikeC}
-use Rattle.spindle_calls.proofs.OneCallC.{tick-like, tick-hears, rebinding-like, live-as, live-rebinding-as}
+use Rattle.spindle_calls.proofs.Row.{HeardFrom, CallsRow, row-none, row-more, row-counted}
+use Rattle.spindle_calls.proofs.StateParts.{four-are}
+use Rattle.spindle_calls.proofs.OneCallC.{headOf, SpindleLikeC, tick-like, tick-hears, rebinding-like, live-as, live-rebinding-as}
 
 -- ---- one call
-pub call-like : (bytes : List ℕ) → length bytes ≡ 520 → (taken : ℕ) {x : Said} {after : List ℕ} {recorded : ℕ}
-    → CallC bytes taken x after recorded → LikeC bytes taken x after recorded
-call-like bytes long taken (ticked z) = tick-like bytes long taken _ _ _ _ _ _ _ _ _ _ _ _ z
-call-like bytes long taken (tickedLive t z) =
+pub call-like : (bytes : List ℕ) → length bytes ≡ 520 → (taken : ℕ) {x : ObservedCall} {after : List ℕ} {recorded : ℕ}
+    → SpindleCallC bytes taken x after recorded → SpindleLikeC bytes taken x after recorded
+call-like bytes long taken (spinCall z) = tick-like bytes long taken _ _ _ _ _ _ _ _ _ _ _ _ z
+call-like bytes long taken (spinCallLive t z) =
     tick-like bytes long taken _ _ _ _ _ _ _ _ _ _ _ _ (live-as bytes long taken _ _ t _ _ _ _ _ _ _ _ _ _ _ z)
-call-like bytes long taken (bound {k = k} {n = n} {g = g} l z) = rebinding-like bytes long taken _ k n g _ _ _ _ l z
-call-like bytes long taken (boundLive {k = k} {n = n} {g = g} t l z) =
+call-like bytes long taken (rebindCall {k = k} {n = n} {g = g} l z) = rebinding-like bytes long taken _ k n g _ _ _ _ l z
+call-like bytes long taken (rebindCallLive {k = k} {n = n} {g = g} t l z) =
     rebinding-like bytes long taken _ k n g _ _ _ _ l (live-rebinding-as bytes long taken _ _ t k n g _ _ _ _ z)
 
 -- of a tick what C has is what the call over the states hands back
-call-heard : (bytes : List ℕ) → length bytes ≡ 520 → (taken : ℕ) {x : Said} {after : List ℕ} {recorded : ℕ}
-    → CallC bytes taken x after recorded → HeardFrom (headOf bytes taken) x
-call-heard bytes long taken (ticked z) = tick-hears bytes long taken _ _ _ _ _ _ _ _ _ _ _ _ z
-call-heard bytes long taken (tickedLive t z) =
+call-heard : (bytes : List ℕ) → length bytes ≡ 520 → (taken : ℕ) {x : ObservedCall} {after : List ℕ} {recorded : ℕ}
+    → SpindleCallC bytes taken x after recorded → HeardFrom (headOf bytes taken) x
+call-heard bytes long taken (spinCall z) = tick-hears bytes long taken _ _ _ _ _ _ _ _ _ _ _ _ z
+call-heard bytes long taken (spinCallLive t z) =
     tick-hears bytes long taken _ _ _ _ _ _ _ _ _ _ _ _ (live-as bytes long taken _ _ t _ _ _ _ _ _ _ _ _ _ _ z)
-call-heard bytes long taken (bound l z) = tt
-call-heard bytes long taken (boundLive t l z) = tt
+call-heard bytes long taken (rebindCall l z) = tt
+call-heard bytes long taken (rebindCallLive t l z) = tt
 
 -- ---- any number of calls
-pub record RowC (bytes : List ℕ) (taken : ℕ) (said : List Said) (last : List ℕ) (final : ℕ) : Type 0 where
-  pub row : Row (headOf bytes taken) said (headOf last final)
+pub record RowC (bytes : List ℕ) (taken : ℕ) (said : List ObservedCall) (last : List ℕ) (final : ℕ) : Type 0 where
+  pub row : CallsRow (headOf bytes taken) said (headOf last final)
   pub long : length last ≡ 520
 
-pub calls-row : (bytes : List ℕ) → length bytes ≡ 520 → (taken : ℕ) (said : List Said) (last : List ℕ) (final : ℕ)
-    → CallsC bytes taken said last final → RowC bytes taken said last final
+pub calls-row : (bytes : List ℕ) → length bytes ≡ 520 → (taken : ℕ) (said : List ObservedCall) (last : List ℕ) (final : ℕ)
+    → SpindleCallsInTurnC bytes taken said last final → RowC bytes taken said last final
 calls-row bytes long taken [] last final none = record { row = row-none (headOf bytes taken); long = long }
 calls-row bytes long taken (x ∷ rest) last final (more {after = after} {recorded = recorded} c cs) =
-    let like : LikeC bytes taken x after recorded = call-like bytes long taken c in
+    let like : SpindleLikeC bytes taken x after recorded = call-like bytes long taken c in
     let r : RowC after recorded rest last final = calls-row after (like .long) recorded rest last final cs in
     record {
       row = row-more (headOf bytes taken) (headOf after recorded) (headOf last final) x rest (call-heard bytes long taken c)
@@ -73,14 +71,14 @@ calls-row bytes long taken (x ∷ rest) last final (more {after = after} {record
     }
 
 -- ---- four fresh states
-fresh-made : (n at made : ℕ) (b : List ℕ) → MakesC (freshState n) 0 at made b → b ≡ bytesOf (fresh n)
+fresh-made : (n at made : ℕ) (b : List ℕ) → GivesStateC (freshState n) 0 at made b → b ≡ bytesOf (fresh n)
 unfolding freshState
 fresh-made n at made b z = z .bytes ∙ go (badSize n) (z .told .number-is)
   where
-    freshAs : Bool → FreshMade
+    freshAs : Bool → StateOutcome
     freshAs t = pick t (record { reply = refusal 14 0 0; state = noState }) (record { reply = success 0; state = fresh n })
 
-    go : (t : Bool) → 0 ≡ number (freshAs t .reply) → bytesOf (freshAs t .state) ≡ bytesOf (fresh n)
+    go : (t : Bool) → 0 ≡ replyNumber (freshAs t .reply) → bytesOf (freshAs t .state) ≡ bytesOf (fresh n)
     go true e = absurd (omega arith)
     go false e = refl
 
@@ -99,7 +97,7 @@ module _ (a b c d : State) where
 
 -- the bytes hold them
 fresh-four : {a b c d : ℕ} (bytes : List ℕ) → FourC a b c d bytes → (length bytes ≡ 520) × (statesOf bytes ≡ newHead a b c d .states)
-fresh-four {a} {b} {c} {d} _ (four {x = x} {y = y} {z = z} {u = u} p q r s) = (ap length same ∙ long, ap statesOf same ∙ held)
+fresh-four {a} {b} {c} {d} _ (fourFresh {x = x} {y = y} {z = z} {u = u} p q r s) = (ap length same ∙ long, ap statesOf same ∙ held)
   where
     whole : List ℕ
     whole = together (fresh a) (fresh b) (fresh c) (fresh d)
@@ -137,10 +135,10 @@ places-counted-c a b c d bytes fours said last final cs =
 
 pub own-walks-c : OwnWalkC
 unfolding OwnWalkC OwnWalk
-own-walks-c text before after at n c size low high k named bytes long returned at′ made m taken said last final cs hands =
+own-walks-c text before after at n c size low high k named bytes long placesReturned at′ made m taken said last final cs hands =
     let r : RowC bytes taken said last final = calls-row bytes long taken said last final cs in
     let four-states : length (statesOf bytes) ≡ 4 = count-is bytes ∙ ap (λ (l : ℕ). pick (eqb l 520) 4 0) long in
-    subst (Walked size (contents text)) (r .row .made (contents text) k ownBinding)
+    subst (FollowsWalk size (contents text)) (r .row .made (contents text) k ownBinding)
     (own-walks text before n (returned-0 text before after at n c) size low high k (headOf bytes taken) (omega (arith, four-states))
     (state-is bytes long k named ∙ ap stateOf (m .bytes) ∙ fresh-held size) (map callOf said)
-    (subst (λ (b : List ℕ). All (Handed k (take n b)) (map callOf said)) (c .written) hands))
+    (subst (λ (b : List ℕ). All (HandsImage k (take n b)) (map callOf said)) (c .written) hands))

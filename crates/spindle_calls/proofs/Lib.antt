@@ -1,4 +1,4 @@
-pub mod Parts
+pub mod StateParts
 pub mod Held
 pub mod NoPlace
 pub mod Row

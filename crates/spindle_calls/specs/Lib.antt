@@ -1,5 +1,5 @@
 pub mod Held
 pub mod NoPlace
-pub mod Said
+pub mod ObservedCalls
 pub mod Delivered
 pub mod ForC

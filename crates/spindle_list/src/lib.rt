@@ -6,7 +6,7 @@ use turning::live_refuse_head;
 use turning::live_turn_state;
 use turning::refuse_head;
 use turning::turn_state;
-ghost use Rattle.spindles.specs.Spindles.{spin, liveSpin, Spins};
+ghost use Rattle.spindles.specs.Spindles.{spin, liveSpin, GivesSpin};
 
 // 25, what the image check tries, 15, 17, 26, 18; a refused call leaves the list as it was.
 pub fn spin(
@@ -16,7 +16,7 @@ pub fn spin(
     image: &[u8],
     word: u16,
 ) -> SpinReport
-    ensures { λ r. ⌜ Spins (spin (now (image .entry)) (now (states .entry)) taken spindle word) r (now (states .exit)) ⌝ }
+    ensures { λ r. ⌜ GivesSpin (spin (now (image .entry)) (now (states .entry)) taken spindle word) r (now (states .exit)) ⌝ }
 {
     if bad_call(states.len(), spindle) {
         return refuse_head(image, spindle, taken);
@@ -39,7 +39,7 @@ pub fn live_spin(
     table: &[u8],
     word: u16,
 ) -> SpinReport
-    ensures { λ r. ⌜ Spins (liveSpin (now (table .entry)) (now (states .entry)) taken spindle word) r (now (states .exit)) ⌝ }
+    ensures { λ r. ⌜ GivesSpin (liveSpin (now (table .entry)) (now (states .entry)) taken spindle word) r (now (states .exit)) ⌝ }
 {
     if bad_call(states.len(), spindle) {
         return live_refuse_head(table, spindle, taken);

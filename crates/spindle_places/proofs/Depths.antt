@@ -9,25 +9,28 @@ use native.Mathlib.Decide.{ℕ-discrete}
 use native.Mathlib.Omega.{arith}
 use borrow.Author.Tests.{le-leb, leb-true, leb-false, lt-ltb, le-ltb, ne-eqb}
 use Rattle.lists.specs.Pick.{pick}
-use Rattle.bits.specs.Results.{Results, withResult, cleared}
-use Rattle.bits.specs.Binding.{served}
+use Rattle.results.specs.Results.{Results, withResult, cleared}
+use Rattle.bindings.specs.Binding.{served}
+use Rattle.image.specs.Layout.{tickKind}
 use Rattle.image.specs.Image.{Image, Label}
-use Rattle.image.proofs.Sound.{SoundLabel, Sound}
+use Rattle.image.specs.inner.Sound.{SoundLabel, SoundImage}
 use Rattle.rows.specs.Rows.{Found, found, missing}
 use Rattle.state.specs.declared.State.{State}
 use Rattle.state.specs.State.{labelAt, entryAt, placeAt, numberAt}
 use Rattle.state.specs.Changes.{withBits}
-use Rattle.ticks.specs.Tick.{rowOf, Ticked, ticked, stopped, moved, dropping, alone, keepsFull, full, pushed, popped, tickBy, tick}
+use Rattle.ticks.specs.Tick.{rowLeads, MachineTick, finished, stopped, moved, dropping, alone}
+use Rattle.ticks.specs.Tick.{keepsFull, full, pushed, popped, tickBy, tick}
 use Rattle.spindles.specs.Spindles.{stateAt, depths}
-use Rattle.spindle_places.specs.Counted.{called, returned, givenBack}
+use Rattle.spindle_places.specs.PlacesBalance.{placesCalled, placesReturned, placesGivenBack}
 
 -- ---- one tick
 -- the depth after it, what it gives back added, is the depth before, what it takes added
-abbrev pub Deepens : ℕ → Ticked → Type 0
-Deepens d (ticked m code t) = t .depth + returned code d + givenBack code d ≡ d + called code d
+abbrev pub Deepens : ℕ → MachineTick → Type 0
+Deepens d (finished m code t) = t .depth + placesReturned code d + placesGivenBack code d ≡ d + placesCalled code d
 Deepens d (stopped n) = Unit {0}
 
-moved-deepens : (m code d : ℕ) (t : State) (k : ℕ) (f : Found) → t .depth + returned code d + givenBack code d ≡ d + called code d
+moved-deepens : (m code d : ℕ) (t : State) (k : ℕ) (f : Found)
+    → t .depth + placesReturned code d + placesGivenBack code d ≡ d + placesCalled code d
     → Deepens d (moved m code t k f)
 moved-deepens m code d t k (found l) e = e
 moved-deepens m code d t k missing e = tt
@@ -36,7 +39,7 @@ full-deepens : (i : Image) (s : State) (m : ℕ) (b : Results) → 1 ≤ s .dept
 full-deepens i s m b l = go (keepsFull i s)
   where
     go : (t : Bool)
-        → Deepens (s .depth) (pick t (stopped 17) (ticked m 96 (alone s (entryAt i (i .handler)) (i .handler) (cleared (i .handler) b))))
+        → Deepens (s .depth) (pick t (stopped 17) (finished m 96 (alone s (entryAt i (i .handler)) (i .handler) (cleared (i .handler) b))))
     go true = tt
     go false = omega arith
 
@@ -50,11 +53,11 @@ popped-deepens : (i : Image) (s : State) (w m : ℕ) (b : Results) (t : Bool) �
 popped-deepens i s w m b true e l = let q : s .depth ≤ 1 = leb-true (s .depth) 1 e in rw (le-ltb 1 (s .depth) q) (omega arith)
 popped-deepens i s w m b false e l =
     let q : 1 < s .depth = leb-false (s .depth) 1 e in
-    moved-deepens m 3 (s .depth) (dropping s b) (s .depth - 2) (rowOf i b (placeAt s (s .depth - 2)) w)
+    moved-deepens m 3 (s .depth) (dropping s b) (s .depth - 2) (rowLeads i b (placeAt s (s .depth - 2)) w)
     (rw (lt-ltb 1 (s .depth) q) (omega arith))
 
 -- no call has the code of a drop: a scheme's number is at most 16
-pub called-few : (i : Image) → Sound i → (l : ℕ) → l < length (i .labels) → labelAt i l .called ≤ 16
+pub called-few : (i : Image) → SoundImage i → (l : ℕ) → l < length (i .labels) → labelAt i l .called ≤ 16
 called-few i sound zero m = let q : labelAt i 0 .called ≡ 0 = ap (λ (x : Label). x .called) (sound .home) in omega arith
 called-few i sound (suc zero) m = let q : labelAt i 1 .called ≡ 0 = ap (λ (x : Label). x .called) (sound .back) in omega arith
 called-few i sound (suc (suc l)) m = go (ℕ-discrete (labelAt i (suc (suc l)) .kind) 0) (sound .others (suc (suc l)) (omega arith) m)
@@ -76,8 +79,8 @@ tick-deepens i s w l few = go (labelAt i (placeAt s (s .depth - 1)) .kind)
     b = withResult (x .result) (numberAt s (s .depth - 1)) (s .bits)
 
     go : (k : ℕ) → Deepens (s .depth) (tickBy i s w (placeAt s (s .depth - 1)) (labelAt i (placeAt s (s .depth - 1)))
-        (withResult (labelAt i (placeAt s (s .depth - 1)) .result) (numberAt s (s .depth - 1)) (s .bits)) k)
-    go zero = moved-deepens (x .mask) 0 (s .depth) (withBits s b) (s .depth - 1) (rowOf i b (placeAt s (s .depth - 1)) w) (omega arith)
+        (withResult (labelAt i (placeAt s (s .depth - 1)) .result) (numberAt s (s .depth - 1)) (s .bits)) (tickKind k))
+    go zero = moved-deepens (x .mask) 0 (s .depth) (withBits s b) (s .depth - 1) (rowLeads i b (placeAt s (s .depth - 1)) w) (omega arith)
     go (suc zero) =
         pushed-deepens i s (x .mask) (16 + x .called) (x .called) (served (s .serving) (x .called)) b (leb (s .size) (s .depth)) l
         (omega arith) (λ q. omega arith)

@@ -1,2 +1,2 @@
 pub mod Depths
-pub mod Counted
+pub mod PlacesBalance

@@ -1,3 +1,3 @@
-pub mod Turns
+pub mod WatchedCalls
 pub mod Walks
 pub mod Prepared

@@ -13,11 +13,11 @@ use Rattle.frames.specs.Verdict.{Verdict, fine, refused, next, when}
 use Rattle.image.specs.Check.{imageVerdict}
 use Rattle.tables.specs.Table.{badTable}
 use Rattle.state.specs.declared.State.{State}
-use Rattle.runs.specs.Advance.{Advance, advance}
+use Rattle.runs.specs.TickOutcome.{TickOutcome, imageTick}
 use Rattle.machine.specs.Live.{liveTick}
 use Rattle.spindles.specs.Spindles.{stateAt, depths, headVerdict, turnedBack, findsNone, spunOn, spin, liveSpin}
-use Rattle.spindles.specs.Parts.{badCall, badRecord, refusedHead, stayed, turnBy, turnOn}
-use Rattle.spindles.specs.Parts.{turn, depthAt, fourDepths, headSpun, turnSpun, inParts}
+use Rattle.spindles.specs.inner.HeadAndTurn.{badSpinCall, badRecord, refusedHead, stayed, turnBy, turnOn}
+use Rattle.spindles.specs.inner.HeadAndTurn.{turn, depthAt, fourDepths, headSpun, turnSpun, inParts}
 use Rattle.spindles.proofs.OneCall.{set-same}
 
 pub four-depths : (states : List State) → length states ≡ 4 → depths states ≡ fourDepths states
@@ -30,10 +30,10 @@ four-depths (a ∷ b ∷ c ∷ d ∷ []) e = omega arith
 four-depths (a ∷ b ∷ c ∷ d ∷ s ∷ states) e = absurd (omega arith)
 
 -- ---- what a call that is no bad one tells
-pub call-four : (n k : ℕ) → badCall n k ≡ false → n ≡ 4
+pub call-four : (n k : ℕ) → badSpinCall n k ≡ false → n ≡ 4
 call-four n k e = eqb-true n 4 (not-false (eqb n 4) (or-l (not (eqb n 4)) (ltb 3 k) e))
 
-pub call-named : (n k : ℕ) → badCall n k ≡ false → k < 4
+pub call-named : (n k : ℕ) → badSpinCall n k ≡ false → k < 4
 call-named n k e = let l : k ≤ 3 = ltb-false 3 k (or-r (not (eqb n 4)) (ltb 3 k) e) in omega arith
 
 -- the depth of one of the four is at most their sum
@@ -54,7 +54,7 @@ head-refused v k = go (ltb 3 k) v
     go false fine e = let z : _≡_ {A = ℕ} 1 0 = ap (λ (w : Verdict). elim w [ fine ↦ 0 | refused n i ↦ 1 ]) e in omega arith
     go false (refused m j) e = let z : _≡_ {A = ℕ} 1 0 = ap (λ (w : Verdict). elim w [ fine ↦ 0 | refused n i ↦ 1 ]) e in omega arith
 
-module _ (v : Verdict) (states : List State) (taken k : ℕ) (x : Advance) where
+module _ (v : Verdict) (states : List State) (taken k : ℕ) (x : TickOutcome) where
   -- a head that is refused before the state is looked at
   head-by : (a b : Bool) (u : Verdict) (y z : Bool) → (not a || b) ≡ true
       → spunOn (next (when 25 b) λ _. next u λ _. when 15 (not a || y || z)) states taken k (λ _. x)
@@ -79,11 +79,18 @@ module _ (v : Verdict) (states : List State) (taken k : ℕ) (x : Advance) where
             taken = taken + x .state .depth - stateAt states k .depth;
           })
           ≡ turnSpun states k (pick b (stayed 26 0 (stateAt states k) taken)
-          (record { reply = x .reply; mask = x .mask; code = x .code; taken = taken + x .state .depth - stateAt states k .depth; state = x .state }))
+          (record {
+            reply = x .reply;
+            mask = x .mask;
+            code = x .code;
+            taken =
+                taken + x .state .depth - stateAt states k .depth;
+            state = x .state;
+          }))
       go true = ap (λ (ss : List State). turnedBack 26 0 ss taken) (sym (set-same states k))
       go false = refl
 
-  turn-is : badCall (length states) k ≡ false
+  turn-is : badSpinCall (length states) k ≡ false
       → spunOn (headVerdict v states taken k) states taken k (λ _. x) ≡ turnSpun states k
       (turn v (stateAt states k) (fourDepths states) taken x)
   unfolding turn
@@ -97,21 +104,21 @@ module _ (v : Verdict) (states : List State) (taken k : ℕ) (x : Advance) where
 
   pub in-parts : spunOn (headVerdict v states taken k) states taken k (λ _. x) ≡ inParts v states taken k x
   unfolding refusedHead
-  in-parts = go (badCall (length states) k) refl
+  in-parts = go (badSpinCall (length states) k) refl
     where
-      go : (b : Bool) → badCall (length states) k ≡ b
+      go : (b : Bool) → badSpinCall (length states) k ≡ b
           → spunOn (headVerdict v states taken k) states taken k (λ _. x) ≡ inParts v states taken k x
       go true e =
           head-by (eqb (length states) 4) (ltb 3 k) v (not (eqb (depths states) taken)) (ltb 64 taken) e
-          ∙ sym (yes-pick (badCall (length states) k) _ (turnSpun states k (turn v (stateAt states k) (fourDepths states) taken x)) e)
+          ∙ sym (yes-pick (badSpinCall (length states) k) _ (turnSpun states k (turn v (stateAt states k) (fourDepths states) taken x)) e)
       go false e =
           turn-is e
-          ∙ sym (no-pick (badCall (length states) k) (headSpun (refusedHead v k) states taken) _ e)
+          ∙ sym (no-pick (badSpinCall (length states) k) (headSpun (refusedHead v k) states taken) _ e)
 
 pub spin-parts : (t : List ℕ) (states : List State) (taken k w : ℕ)
-    → spin t states taken k w ≡ inParts (imageVerdict t) states taken k (advance t (stateAt states k) w)
+    → spin t states taken k w ≡ inParts (imageVerdict t) states taken k (imageTick t (stateAt states k) w)
 unfolding spin
-spin-parts t states taken k w = in-parts (imageVerdict t) states taken k (advance t (stateAt states k) w)
+spin-parts t states taken k w = in-parts (imageVerdict t) states taken k (imageTick t (stateAt states k) w)
 
 pub live-spin-parts : (b : List ℕ) (states : List State) (taken k w : ℕ)
     → liveSpin b states taken k w ≡ inParts (when 11 (badTable b)) states taken k (liveTick b (stateAt states k) w)

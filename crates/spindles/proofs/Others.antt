@@ -16,10 +16,10 @@ use Rattle.image.specs.Check.{imageVerdict}
 use Rattle.tables.specs.Table.{badTable}
 use Rattle.state.specs.declared.State.{State}
 use Rattle.state.specs.State.{noState}
-use Rattle.runs.specs.Advance.{Advance, advance}
+use Rattle.runs.specs.TickOutcome.{TickOutcome, imageTick}
 use Rattle.machine.specs.Live.{liveTick}
 use Rattle.spindles.specs.Spindles.{stateAt, depths, badHead, headVerdict, turnedBack, findsNone, spunBy, spunOn, spin, liveSpin}
-use Rattle.spindles.specs.Laws.{OthersLeft, Alike, OnlyDepths}
+use Rattle.spindles.specs.Laws.{OthersLeft, AlikeSpins, OnlyDepths}
 
 -- ---- what the tests before a tick tell
 pub record Tried (v : Verdict) (states : List State) (taken k : ℕ) : Type 0 where
@@ -48,7 +48,7 @@ tried v states taken k e =
 
 -- ---- a call of another spindle leaves this one's state
 module _ (k : ℕ) (states : List State) (taken j : ℕ) (ne : k ≡ j → ⊥) where
-  other-by : (x : Advance) → stateAt (spunBy states taken j x .states) k ≡ stateAt states k
+  other-by : (x : TickOutcome) → stateAt (spunBy states taken j x .states) k ≡ stateAt states k
   other-by x = go (findsNone taken (stateAt states j) x)
     where
       go : (b : Bool) → stateAt (pick b (turnedBack 26 0 states taken) (record {
@@ -61,14 +61,14 @@ module _ (k : ℕ) (states : List State) (taken j : ℕ) (ne : k ≡ j → ⊥) 
       go true = refl
       go false = getD-set-other states j k (x .state) noState ne
 
-  other-on : (v : Verdict) (x : Advance) → stateAt (spunOn v states taken j (λ _. x) .states) k ≡ stateAt states k
+  other-on : (v : Verdict) (x : TickOutcome) → stateAt (spunOn v states taken j (λ _. x) .states) k ≡ stateAt states k
   other-on (refused n i) x = refl
   other-on fine x = other-by x
 
 pub others-left : OthersLeft spin
 unfolding OthersLeft spin
 others-left t states taken k w j ne =
-    other-on j states taken k ne (headVerdict (imageVerdict t) states taken k) (advance t (stateAt states k) w)
+    other-on j states taken k ne (headVerdict (imageVerdict t) states taken k) (imageTick t (stateAt states k) w)
 
 pub live-others-left : OthersLeft liveSpin
 unfolding OthersLeft liveSpin
@@ -76,15 +76,15 @@ live-others-left b states taken k w j ne =
     other-on j states taken k ne (headVerdict (when 11 (badTable b)) states taken k) (liveTick b (stateAt states k) w)
 
 -- ---- two lists that differ in other states alone, but for their depths
-module _ (v : Verdict) (go : State → Advance) (states states′ : List State) (taken k : ℕ) (l : length states ≡ length states′)
+module _ (v : Verdict) (go : State → TickOutcome) (states states′ : List State) (taken k : ℕ) (l : length states ≡ length states′)
     (d : depths states ≡ depths states′) (s : stateAt states k ≡ stateAt states′ k) where
   same-verdict : headVerdict v states taken k ≡ headVerdict v states′ taken k
   same-verdict =
       ap₂ (λ (n m : ℕ). next (when 25 (ltb 3 k)) λ _. next v λ _. when 15 (not (eqb n 4) || not (eqb m taken) || ltb 64 taken)) l d
 
-  alike-by : k < length states → (x : Advance) → Alike k (spunBy states taken k x) (spunBy states′ taken k x)
+  alike-by : k < length states → (x : TickOutcome) → AlikeSpins k (spunBy states taken k x) (spunBy states′ taken k x)
   alike-by m x =
-      subst (λ (y : State). Alike k (spunBy states taken k x) (pick (findsNone taken y x) (turnedBack 26 0 states′ taken) (record {
+      subst (λ (y : State). AlikeSpins k (spunBy states taken k x) (pick (findsNone taken y x) (turnedBack 26 0 states′ taken) (record {
         reply = x .reply;
         mask = x .mask;
         code = x .code;
@@ -92,7 +92,7 @@ module _ (v : Verdict) (go : State → Advance) (states states′ : List State) 
         taken = taken + x .state .depth - y .depth;
       }))) s (both (findsNone taken (stateAt states k) x))
     where
-      both : (b : Bool) → Alike k
+      both : (b : Bool) → AlikeSpins k
           (pick b (turnedBack 26 0 states taken)
           (record {
             reply = x .reply;
@@ -118,25 +118,25 @@ module _ (v : Verdict) (go : State → Advance) (states states′ : List State) 
         state = getD-set-same states k (x .state) noState m ∙ sym (getD-set-same states′ k (x .state) noState (omega arith));
       }
 
-  alike : Alike k (spunOn (headVerdict v states taken k) states taken k (λ _. go (stateAt states k)))
+  alike : AlikeSpins k (spunOn (headVerdict v states taken k) states taken k (λ _. go (stateAt states k)))
       (spunOn (headVerdict v states′ taken k) states′ taken k (λ _. go (stateAt states′ k)))
   alike =
-      subst (λ (u : Verdict). Alike k (spunOn (headVerdict v states taken k) states taken k (λ _. go (stateAt states k)))
+      subst (λ (u : Verdict). AlikeSpins k (spunOn (headVerdict v states taken k) states taken k (λ _. go (stateAt states k)))
       (spunOn u states′ taken k (λ _. go (stateAt states′ k))))
       same-verdict
-      (subst (λ (z : State). Alike k (spunOn (headVerdict v states taken k) states taken k (λ _. go (stateAt states k)))
+      (subst (λ (z : State). AlikeSpins k (spunOn (headVerdict v states taken k) states taken k (λ _. go (stateAt states k)))
       (spunOn (headVerdict v states taken k) states′ taken k (λ _. go z)))
       s (by (headVerdict v states taken k) refl))
     where
       by : (u : Verdict) → headVerdict v states taken k ≡ u
-          → Alike k (spunOn u states taken k (λ _. go (stateAt states k))) (spunOn u states′ taken k (λ _. go (stateAt states k)))
+          → AlikeSpins k (spunOn u states taken k (λ _. go (stateAt states k))) (spunOn u states′ taken k (λ _. go (stateAt states k)))
       by (refused n i) e = record { reply = refl; mask = refl; code = refl; taken = refl; state = s }
       by fine e =
           let q : Tried v states taken k = tried v states taken k e in alike-by (omega (arith, q .named, q .four)) (go (stateAt states k))
 
 pub only-depths : OnlyDepths spin
 unfolding OnlyDepths spin
-only-depths t states states′ taken k w = alike (imageVerdict t) (λ s. advance t s w) states states′ taken k
+only-depths t states states′ taken k w = alike (imageVerdict t) (λ s. imageTick t s w) states states′ taken k
 
 pub live-only-depths : OnlyDepths liveSpin
 unfolding OnlyDepths liveSpin

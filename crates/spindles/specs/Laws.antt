@@ -3,19 +3,20 @@ use Prim.Native.Nat.{ℕ, suc, _≤_}
 use mathlib.Core.Path.{_≡_}
 use mathlib.Core.List.{List}
 use lib.ListN.{length}
+use Rattle.frames.specs.Refusals.{FULL}
 use Rattle.frames.specs.Verdict.{fine}
-use Rattle.frames.specs.Answer.{number, refusal}
+use Rattle.frames.specs.Answer.{replyNumber, refusal}
 use Rattle.image.specs.Check.{imageVerdict}
 use Rattle.state.specs.declared.State.{State}
-use Rattle.runs.specs.Advance.{advance}
-use Rattle.spindles.specs.Spindles.{stateAt, depths, headVerdict, Spun, spin}
+use Rattle.runs.specs.TickOutcome.{imageTick}
+use Rattle.spindles.specs.Spindles.{stateAt, depths, headVerdict, SpinOutcome, spin}
 
 -- a call on an image, and one on a table
 abbrev pub Spinner : Type 0
-Spinner = List ℕ → List State → ℕ → ℕ → ℕ → Spun
+Spinner = List ℕ → List State → ℕ → ℕ → ℕ → SpinOutcome
 
 -- a call that is refused, for want of a place or else, leaves the states and the record as they were
-pub record Unchanged (before : List State) (recorded : ℕ) (r : Spun) : Type 0 where
+pub record Unchanged (before : List State) (recorded : ℕ) (r : SpinOutcome) : Type 0 where
   pub states : r .states ≡ before
   pub taken : r .taken ≡ recorded
   pub mask : r .mask ≡ 0
@@ -23,7 +24,7 @@ pub record Unchanged (before : List State) (recorded : ℕ) (r : Spun) : Type 0 
 
 unfoldable pub RefusedLeaves : Spinner → Type 0
 RefusedLeaves f =
-    (t : List ℕ) (states : List State) (taken k w n : ℕ) → number (f t states taken k w .reply) ≡ suc n
+    (t : List ℕ) (states : List State) (taken k w n : ℕ) → replyNumber (f t states taken k w .reply) ≡ suc n
     → Unchanged states taken (f t states taken k w)
 
 -- where all that is tried before the tick is passed: a call that gets 17 gets it whatever is recorded as taken, and a tick that ends no
@@ -31,12 +32,12 @@ RefusedLeaves f =
 unfoldable pub FullFirst : Type 0
 FullFirst =
     (t : List ℕ) (states : List State) (taken k w : ℕ) → headVerdict (imageVerdict t) states taken k ≡ fine
-    → advance t (stateAt states k) w .reply ≡ refusal 17 0 0 → spin t states taken k w .reply ≡ refusal 17 0 0
+    → imageTick t (stateAt states k) w .reply ≡ refusal FULL 0 0 → spin t states taken k w .reply ≡ refusal FULL 0 0
 
 unfoldable pub LevelGoes : Type 0
 LevelGoes =
     (t : List ℕ) (states : List State) (taken k w : ℕ) → headVerdict (imageVerdict t) states taken k ≡ fine
-    → let x = advance t (stateAt states k) w in x .state .depth ≤ stateAt states k .depth → spin t states taken k w .reply ≡ x .reply
+    → let x = imageTick t (stateAt states k) w in x .state .depth ≤ stateAt states k .depth → spin t states taken k w .reply ≡ x .reply
 
 -- the other states are left as they were
 unfoldable pub OthersLeft : Spinner → Type 0
@@ -44,7 +45,7 @@ OthersLeft f =
     (t : List ℕ) (states : List State) (taken k w j : ℕ) → (j ≡ k → ⊥) → stateAt (f t states taken k w .states) j ≡ stateAt states j
 
 -- two calls that hand back the same but for the other states
-pub record Alike (k : ℕ) (r r′ : Spun) : Type 0 where
+pub record AlikeSpins (k : ℕ) (r r′ : SpinOutcome) : Type 0 where
   pub reply : r .reply ≡ r′ .reply
   pub mask : r .mask ≡ r′ .mask
   pub code : r .code ≡ r′ .code
@@ -56,4 +57,4 @@ unfoldable pub OnlyDepths : Spinner → Type 0
 OnlyDepths f =
     (t : List ℕ) (states states′ : List State) (taken k w : ℕ)
     → length states ≡ length states′ → depths states ≡ depths states′ → stateAt states k ≡ stateAt states′ k
-    → Alike k (f t states taken k w) (f t states′ taken k w)
+    → AlikeSpins k (f t states taken k w) (f t states′ taken k w)

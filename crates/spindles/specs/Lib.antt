@@ -1,3 +1,4 @@
+pub mod Layout
 pub mod Spindles
 pub mod Laws
-pub mod Parts
+pub mod inner

@@ -6,14 +6,16 @@ use mathlib.Core.List.{List, [], _∷_}
 use lib.Dec.{leb, ltb, eqb}
 use lib.ListN.{length, getD, set}
 use Rattle.lists.specs.Pick.{pick}
+use Rattle.frames.specs.Refusals.{BAD-HEADER, UNFIT, NO-SPINDLE, NO-PLACE}
 use Rattle.frames.specs.Verdict.{Verdict, fine, refused, next, when}
 use Rattle.frames.specs.Answer.{Reply, refusal, reply}
 use Rattle.image.specs.Check.{imageVerdict}
 use Rattle.tables.specs.Table.{badTable}
 use Rattle.state.specs.declared.State.{State}
 use Rattle.state.specs.State.{noState}
-use Rattle.runs.specs.Advance.{Advance, advance}
+use Rattle.runs.specs.TickOutcome.{TickOutcome, imageTick}
 use Rattle.machine.specs.Live.{liveTick}
+use Rattle.spindles.specs.Layout.{SPINDLES, STORE}
 use Rattle.spindles.specs.declared.SpinReport.{SpinReport}
 
 abbrev pub stateAt : List State → ℕ → State
@@ -25,17 +27,17 @@ depths (s ∷ states) = s .depth + depths states
 
 -- 15: not four states, or the places recorded as taken are not their depths, or are more than 64
 abbrev pub badHead : List State → ℕ → Bool
-badHead states taken = not (eqb (length states) 4) || not (eqb (depths states) taken) || ltb 64 taken
+badHead states taken = not (eqb (length states) SPINDLES) || not (eqb (depths states) taken) || ltb STORE taken
 
 -- 25, what the image or the table is refused for, and 15 by the list and the record
 abbrev pub headVerdict : Verdict → List State → ℕ → ℕ → Verdict
 headVerdict v states taken k =
-    next (when 25 (ltb 3 k)) λ _.
+    next (when NO-SPINDLE (ltb 3 k)) λ _.
     next v λ _.
-    when 15 (badHead states taken)
+    when UNFIT (badHead states taken)
 
 -- what a call hands back
-pub record Spun : Type 0 where
+pub record SpinOutcome : Type 0 where
   pub reply : Reply
   pub mask : ℕ
   pub code : ℕ
@@ -43,21 +45,21 @@ pub record Spun : Type 0 where
   pub taken : ℕ
 
 -- a refusal leaves the states and the record as they were
-abbrev pub turnedBack : ℕ → ℕ → List State → ℕ → Spun
+abbrev pub turnedBack : ℕ → ℕ → List State → ℕ → SpinOutcome
 turnedBack n i states taken = record { reply = refusal n i 0; mask = 0; code = 0; states = states; taken = taken }
 
 -- 26, by the depths before and after the tick: it ends deeper than it began, which of all ticks a call alone does, and no place is left;
 -- such a call got no 17, and none gets 18
 abbrev pub noneLeft : ℕ → ℕ → ℕ → Bool
-noneLeft before after taken = ltb before after && leb 64 taken
+noneLeft before after taken = ltb before after && leb STORE taken
 
-abbrev pub findsNone : ℕ → State → Advance → Bool
+abbrev pub findsNone : ℕ → State → TickOutcome → Bool
 findsNone taken s x = noneLeft (s .depth) (x .state .depth) taken
 
 -- the spindle's own tick; one that is refused hands back the state as it was
-abbrev pub spunBy : List State → ℕ → ℕ → Advance → Spun
+abbrev pub spunBy : List State → ℕ → ℕ → TickOutcome → SpinOutcome
 spunBy states taken k x = let s = stateAt states k in pick (findsNone taken s x)
-    (turnedBack 26 0 states taken)
+    (turnedBack NO-PLACE 0 states taken)
     (record {
       reply = x .reply;
       mask = x .mask;
@@ -66,21 +68,21 @@ spunBy states taken k x = let s = stateAt states k in pick (findsNone taken s x)
       taken = taken + x .state .depth - s .depth;
     })
 
-abbrev pub spunOn : Verdict → List State → ℕ → ℕ → (Unit {0} → Advance) → Spun
+abbrev pub spunOn : Verdict → List State → ℕ → ℕ → (Unit {0} → TickOutcome) → SpinOutcome
 spunOn (refused n i) states taken k go = turnedBack n i states taken
 spunOn fine states taken k go = spunBy states taken k (go tt)
 
 -- the states, the places taken, the spindle's number k, its image t and the word w
-unfoldable pub spin : List ℕ → List State → ℕ → ℕ → ℕ → Spun
-spin t states taken k w = spunOn (headVerdict (imageVerdict t) states taken k) states taken k (λ _. advance t (stateAt states k) w)
+unfoldable pub spin : List ℕ → List State → ℕ → ℕ → ℕ → SpinOutcome
+spin t states taken k w = spunOn (headVerdict (imageVerdict t) states taken k) states taken k (λ _. imageTick t (stateAt states k) w)
 
 -- the same on a prepared table, whatever its bytes are
-unfoldable pub liveSpin : List ℕ → List State → ℕ → ℕ → ℕ → Spun
+unfoldable pub liveSpin : List ℕ → List State → ℕ → ℕ → ℕ → SpinOutcome
 liveSpin b states taken k w =
-    spunOn (headVerdict (when 11 (badTable b)) states taken k) states taken k (λ _. liveTick b (stateAt states k) w)
+    spunOn (headVerdict (when BAD-HEADER (badTable b)) states taken k) states taken k (λ _. liveTick b (stateAt states k) w)
 
 -- what a function over the list of states promises: its report, and the list after it
-pub record Spins (x : Spun) (r : SpinReport) (after : List State) : Type 0 where
+pub record GivesSpin (x : SpinOutcome) (r : SpinReport) (after : List State) : Type 0 where
   pub answered : reply (r .answer) ≡ x .reply
   pub mask : r .mask ≡ x .mask
   pub code : r .code ≡ x .code

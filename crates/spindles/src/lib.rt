@@ -1,8 +1,12 @@
 // Four spindles that share 64 places: what a call reports, and the tests that it makes before a tick.
+pub mod layout;
+
 use frames::Answer;
+use layout::SPINDLES;
+use layout::STORE;
 ghost use mathlib.Core.Path.{_≡_};
 ghost use Rattle.spindles.specs.Spindles.{noneLeft};
-ghost use Rattle.spindles.specs.Parts.{badCall, badRecord};
+ghost use Rattle.spindles.specs.inner.HeadAndTurn.{badSpinCall, badRecord};
 
 // What a call answers: with a refusal, mask and code are 0 and the record is as it was.
 pub struct SpinReport {
@@ -14,9 +18,9 @@ pub struct SpinReport {
 
 // Whether there are not four states, or there is no such spindle.
 pub fn bad_call(count: usize, spindle: usize) -> bool
-    ensures { λ r. ⌜ r ≡ badCall count spindle ⌝ }
+    ensures { λ r. ⌜ r ≡ badSpinCall count spindle ⌝ }
 {
-    if count != 4 {
+    if count != SPINDLES {
         return true;
     }
     3 < spindle
@@ -29,7 +33,7 @@ pub fn bad_record(sum: usize, taken: usize) -> bool
     if sum != taken {
         return true;
     }
-    64 < taken
+    STORE < taken
 }
 
 // Whether a tick ended deeper than it began, and no place is left.
@@ -37,7 +41,7 @@ pub fn none_left(before: usize, after: usize, taken: usize) -> bool
     ensures { λ r. ⌜ r ≡ noneLeft before after taken ⌝ }
 {
     if before < after {
-        return 64 <= taken;
+        return STORE <= taken;
     }
     false
 }

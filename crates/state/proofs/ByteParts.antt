@@ -10,8 +10,8 @@ use lib.ListN.{length, getD, set, List·getD-eq-default}
 use lib.Seq.{getD-set-same, getD-set-other, set-out}
 use borrow.Author.Tests.{eq-eqb, ne-eqb}
 use Rattle.lists.specs.Pick.{pick}
-use Rattle.bits.specs.Results.{resultOf}
-use Rattle.bits.specs.Binding.{served, rebound}
+use Rattle.results.specs.Results.{resultOf}
+use Rattle.bindings.specs.Binding.{served, rebound}
 use Rattle.state.specs.declared.State.{State}
 use Rattle.state.specs.State.{placeAt, numberAt, serverAt}
 use Rattle.state.specs.Changes.{withDepth, withPlace, withPlaces, withOpened, withBits, withServing, afterResult}
@@ -87,7 +87,8 @@ module _ (b : List ℕ) (whole : length b ≡ 130) where
   pub depth-set : (d : ℕ) → stateOf (set b 1 d) ≡ withDepth (stateOf b) d
   unfolding stateOf
   depth-set d =
-      state-same (stateOf (set b 1 d)) (withDepth (stateOf b) d) (getD-set-other b 1 0 d 0 (λ q. omega arith)) (getD-set-same b 1 d 0 (omega arith))
+      state-same (stateOf (set b 1 d)) (withDepth (stateOf b) d) (getD-set-other b 1 0 d 0 (λ q. omega arith))
+      (getD-set-same b 1 d 0 (omega arith))
       (part-kept same 0 2 32 b 1 d (λ k h q. omega arith))
       (part-kept truth false 34 16 b 1 d (λ k h q. omega arith))
       (part-kept same 0 50 16 b 1 d (λ k h q. omega arith))

@@ -17,7 +17,8 @@ range-set : {A : Type 0} (d : A) (f g : ℕ → A) (n k : ℕ) (v : A) → k < n
 range-set d f g n k v low here other =
     ext-getD d (map g (range 0 n)) (set (map f (range 0 n)) k v)
     (length-map-range g 0 n ∙ sym (length-set (map f (range 0 n)) k v ∙ length-map-range f 0 n))
-    (λ j l. let b : j < n = omega (arith, length-map-range g 0 n) in getD-map-range g d 0 n j b ∙ ap g (zero-add j) ∙ sym (go j b (ℕ-discrete j k)))
+    (λ j l. let b : j < n = omega (arith, length-map-range g 0 n) in getD-map-range g d 0 n j b
+    ∙ ap g (zero-add j) ∙ sym (go j b (ℕ-discrete j k)))
   where
     go : (j : ℕ) → j < n → Dec (j ≡ k) → getD (set (map f (range 0 n)) k v) j d ≡ g j
     go j l (yes q) =

@@ -13,7 +13,7 @@ use Rattle.lists.specs.Sequences.{written}
 use Rattle.lists.proofs.Ranges.{map-count}
 use Rattle.frames.specs.Answer.{success, refusal}
 use Rattle.state.specs.declared.State.{State}
-use Rattle.state.specs.State.{Sized, placeAt, numberAt, serverAt, fresh, noState, badSize, Made, freshState}
+use Rattle.state.specs.State.{Sized, placeAt, numberAt, serverAt, fresh, noState, badSize, StateOutcome, freshState}
 use Rattle.state.specs.Changes.{withPlaces, withBits, withServing}
 use Rattle.state.specs.Bytes.{resultByte, servingByte, stateOf, bytesOf}
 
@@ -38,7 +38,8 @@ state-back s z b =
     map-count (λ (k : ℕ). not (eqb (resultByte s k) 0)) false (s .bits) 0 16 (sym b)
     (λ i h. bit-back (getD (s .bits) (0 + i) false) ∙ ap (λ (k : ℕ). getD (s .bits) k false) (zero-add i)) in
     ap₂ (λ (x : List Bool) (y : List ℕ). withServing (withBits (stateOf (bytesOf s)) x) y) bits (read-back (s .serving) 16 (z .serving))
-    ∙ ap (λ (x : List ℕ). withPlaces s x (stateOf (bytesOf s) .numbers) (stateOf (bytesOf s) .servers)) (read-back (s .places) 32 (z .places))
+    ∙ ap (λ (x : List ℕ). withPlaces s x (stateOf (bytesOf s) .numbers) (stateOf (bytesOf s) .servers))
+    (read-back (s .places) 32 (z .places))
     ∙ ap₂ (λ (x y : List ℕ). withPlaces s (s .places) x y) (read-back (s .numbers) 32 (z .numbers)) (read-back (s .servers) 32 (z .servers))
 
 -- the five lists of a state written one after the other, behind its size and depth
@@ -85,7 +86,8 @@ unfolding freshState
 fresh-held n = go (badSize n)
   where
     go : (t : Bool)
-        → let x = pick {A = Made} t (record { reply = refusal 14 0 0; state = noState }) (record { reply = success 0; state = fresh n }) in
+        → let x = pick {A = StateOutcome} t (record { reply = refusal 14 0 0; state = noState })
+        (record { reply = success 0; state = fresh n }) in
         stateOf (bytesOf (x .state)) ≡ x .state
     go true = state-back noState (record { places = refl; serving = refl; numbers = refl; servers = refl }) refl
     go false = state-back (fresh n) (fresh-sized n) refl

@@ -2,10 +2,10 @@
 use Prim.Native.Nat.{ℕ}
 use mathlib.Core.List.{List}
 use lib.ListN.{set}
-use Rattle.bits.specs.Results.{Results, withResult}
-use Rattle.bits.specs.Binding.{Binding}
+use Rattle.results.specs.Results.{Results, withResult}
+use Rattle.bindings.specs.Binding.{Binding}
 use Rattle.state.specs.declared.State.{State}
-use Rattle.state.specs.State.{only}
+use Rattle.state.specs.State.{bottomAlone}
 
 abbrev pub withDepth : State → ℕ → State
 withDepth s d = record {
@@ -39,7 +39,7 @@ withOpened s k l h g = withPlaces s (set (s .places) k l) (set (s .numbers) k h)
 
 -- one place in use, held by scheme h by its own number at label l
 abbrev pub withAlone : State → ℕ → ℕ → State
-withAlone s l h = withDepth (withPlaces s (only l) (only h) (only h)) 1
+withAlone s l h = withDepth (withPlaces s (bottomAlone l) (bottomAlone h) (bottomAlone h)) 1
 
 abbrev pub withBits : State → Results → State
 withBits s b = record {

@@ -1,3 +1,4 @@
+pub mod Layout
 pub mod State
 pub mod Bytes
 pub mod Changes

@@ -6,43 +6,63 @@ use mathlib.Core.List.{List}
 use lib.Dec.{ltb, eqb}
 use lib.ListN.{length, getD, set, replicate}
 use Rattle.lists.specs.Pick.{pick}
-use Rattle.bits.specs.Results.{noResults}
-use Rattle.bits.specs.Binding.{ownBinding}
+use Rattle.results.specs.Results.{noResults}
+use Rattle.bindings.specs.Binding.{ownBinding}
+use Rattle.frames.specs.Sizes.{SCHEMES}
+use Rattle.frames.specs.Refusals.{BAD-SIZE}
 use Rattle.frames.specs.Answer.{Reply, success, refusal, reply}
 use Rattle.image.specs.Image.{Image, Label, noLabel}
+use Rattle.state.specs.Layout.{PLACES}
 use Rattle.state.specs.declared.State.{State}
-use Rattle.state.specs.declared.Answered.{Answered}
+use Rattle.state.specs.declared.StateReport.{StateReport}
 
 abbrev pub noPlaces : List ℕ
-noPlaces = replicate 32 0
+noPlaces = replicate PLACES 0
 
 -- the bottom alone is filled
-abbrev pub only : ℕ → List ℕ
-only l = set noPlaces 0 l
+abbrev pub bottomAlone : ℕ → List ℕ
+bottomAlone l = set noPlaces 0 l
 
 -- scheme 1 alone is open, by its own number, and each number is served by its own scheme
 abbrev pub fresh : ℕ → State
-fresh n = record { size = n; depth = 1; places = noPlaces; bits = noResults; serving = ownBinding; numbers = only 1; servers = only 1 }
+fresh n = record {
+  size = n;
+  depth = 1;
+  places = noPlaces;
+  bits = noResults;
+  serving =
+      ownBinding;
+  numbers = bottomAlone 1;
+  servers = bottomAlone 1;
+}
 
 -- every number 0
 abbrev pub noState : State
-noState = record { size = 0; depth = 0; places = noPlaces; bits = noResults; serving = replicate 16 0; numbers = noPlaces; servers = noPlaces }
+noState = record {
+  size = 0;
+  depth = 0;
+  places = noPlaces;
+  bits = noResults;
+  serving = replicate SCHEMES 0;
+  numbers = noPlaces;
+  servers = noPlaces;
+}
 
 -- 14, and in a state 15
 abbrev pub badSize : ℕ → Bool
-badSize n = eqb n 0 || ltb 32 n
+badSize n = eqb n 0 || ltb PLACES n
 
-pub record Made : Type 0 where
+pub record StateOutcome : Type 0 where
   pub reply : Reply
   pub state : State
 
 -- what a function that makes a state promises
-pub record Makes (x : Made) (r : Answered) : Type 0 where
+pub record GivesState (x : StateOutcome) (r : StateReport) : Type 0 where
   pub answered : reply (r .answer) ≡ x .reply
   pub state : r .state ≡ x .state
 
-unfoldable pub freshState : ℕ → Made
-freshState n = pick (badSize n) (record { reply = refusal 14 0 0; state = noState }) (record { reply = success 0; state = fresh n })
+unfoldable pub freshState : ℕ → StateOutcome
+freshState n = pick (badSize n) (record { reply = refusal BAD-SIZE 0 0; state = noState }) (record { reply = success 0; state = fresh n })
 
 -- ---- what an image has, by number
 abbrev pub labelAt : Image → ℕ → Label
@@ -63,7 +83,7 @@ serverAt s k = getD (s .servers) k 0
 
 -- as many of each part that a place or a number is looked up in as the type has
 pub record Sized (s : State) : Type 0 where
-  pub places : length (s .places) ≡ 32
-  pub serving : length (s .serving) ≡ 16
-  pub numbers : length (s .numbers) ≡ 32
-  pub servers : length (s .servers) ≡ 32
+  pub places : length (s .places) ≡ PLACES
+  pub serving : length (s .serving) ≡ SCHEMES
+  pub numbers : length (s .numbers) ≡ PLACES
+  pub servers : length (s .servers) ≡ PLACES

@@ -4,11 +4,12 @@ use mathlib.Core.List.{List}
 use Prim.Native.Nat.{ℕ, _-_, _≤_, _<_}
 use native.Mathlib.Omega.{arith}
 use lib.ListN.{getD}
-use Rattle.bits.specs.Results.{Results, withResult}
+use Rattle.results.specs.Results.{Results, withResult}
 use Rattle.image.specs.Image.{Label}
 use Rattle.image.specs.Decode.{lastLabel}
-use Rattle.tables.specs.Table.{labelOf, entryOf, tableImage}
-use Rattle.tables.specs.Labels.{asLabel}
+use Rattle.tables.specs.Table.{tableLabel, tableImage}
+use Rattle.tables.specs.inner.Asked.{entryOf}
+use Rattle.tables.specs.inner.Labels.{asLabel}
 use Rattle.tables.specs.declared.Label as declared
 use Rattle.tables.proofs.TableReads.{counts-told, entry-at}
 use Rattle.rows.specs.Rows.{Choice, bestRow, Found, leads, nextOf}
@@ -17,9 +18,9 @@ use Rattle.state.specs.declared.State.{State}
 use Rattle.state.specs.State.{numberAt}
 use Rattle.state.specs.Changes.{withPlace, afterResult}
 use Rattle.state.specs.Bytes.{stateOf}
-use Rattle.ticks.specs.declared.Stepped.{Stepped}
-use Rattle.ticks.specs.Tick.{rowOf, stopped, moved}
-use Rattle.ticks.specs.Parts.{topOf, TopHome, TopNumbered, TopPlain, stepOf, Steps}
+use Rattle.ticks.specs.declared.TickEnd.{TickEnd}
+use Rattle.ticks.specs.Tick.{rowLeads, stopped, moved, topOf}
+use Rattle.ticks.specs.inner.TickContracts.{TopHome, TopNumbered, TopPlain, endOfTick, GivesTickEnd}
 use Rattle.ticks.proofs.TickCases.{steps-stopped, steps-ticked, tick-plain, tick-high, tick-home}
 use Rattle.ticks.proofs.RowCases.{none-found, one-found}
 
@@ -29,43 +30,44 @@ module _ (b before : List ℕ) (w : ℕ) where
 
   module _ (y : TopHome b s) where
     pub home-steps : (k n : ℕ) (bytes : List ℕ) → k ≡ s .depth - 1 → n ≡ entryOf b 1 → stateOf bytes ≡ withPlace s k n
-        → Steps b before w (record { number = 0; mask = 0; code = 4 }) bytes
+        → GivesTickEnd b before w (record { number = 0; mask = 0; code = 4 }) bytes
     home-steps k n bytes p q e =
         steps-ticked b before w 0 4 _ bytes (tick-home b s (y .stands) w (y .label))
         (e ∙ ap₂ (withPlace s) p (q ∙ sym (entry-at b (y .stands .whole .counts) 1 (counts-told b (y .stands .whole .counts) .first))))
 
-  pub high-stop : (y : TopNumbered b s) (l : ℕ) → l ≡ topOf s → lastLabel b < l → (r : Stepped) → r ≡ stepOf (stopped 18) → Steps b before w r before
+  pub high-stop : (y : TopNumbered b s) (l : ℕ) → l ≡ topOf s → lastLabel b < l → (r : TickEnd)
+      → r ≡ endOfTick (stopped 18) → GivesTickEnd b before w r before
   high-stop y l at h r e = rw e (steps-stopped b before w 18 (tick-high b s (y .stands) w (omega arith)))
 
   -- l is the top, and n where the row that it takes leads, whatever the bit
   module _ (y : TopPlain b s) (l : ℕ) (at : l ≡ topOf s) (n : ℕ) (e : n ≡ nextOf (leads (bestRow l w 2 0 (tableImage b .rows)))) where
     abbrev top : Label
-    top = labelOf b (topOf s)
+    top = tableLabel b (topOf s)
 
     abbrev written : Results
     written = withResult (top .result) (numberAt s (s .depth - 1)) (s .bits)
 
     abbrev row : Found
-    row = rowOf (tableImage b) written (topOf s) w
+    row = rowLeads (tableImage b) written (topOf s) w
 
     row-is : n ≡ nextOf row
     row-is =
         e ∙ ap (λ (k : ℕ). nextOf (leads (bestRow k w 2 0 (tableImage b .rows)))) at
         ∙ ap (λ (x : Choice). nextOf (leads x)) (any-row b (topOf s) w 2 _ (λ k. omega (arith, y .kind)) (y .label .low) (y .label .high))
 
-    pub plain-stop : ((k : ℕ) → getD b k 0 < 256) → 256 ≤ n → (r : Stepped) → r ≡ stepOf (stopped 18) → Steps b before w r before
+    pub plain-stop : ((k : ℕ) → getD b k 0 < 256) → 256 ≤ n → (r : TickEnd) → r ≡ endOfTick (stopped 18) → GivesTickEnd b before w r before
     plain-stop bytes h r q =
         rw q
         (steps-stopped b before w 18
         (tick-plain b s (y .stands) w (y .kind) ∙ ap (moved _ 0 _ _) (none-found n row row-is (λ u p. next-small b bytes _ w _ u p) h)))
 
     -- z is what was read of the top, h its number
-    pub plain-steps : n < 256 → (k : ℕ) → k ≡ s .depth - 1 → (z : declared.Label) → asLabel z ≡ labelOf b l
+    pub plain-steps : n < 256 → (k : ℕ) → k ≡ s .depth - 1 → (z : declared.Label) → asLabel z ≡ tableLabel b l
         → (h : ℕ) → h ≡ numberAt s (s .depth - 1)
         → (first bytes : List ℕ) → stateOf first ≡ afterResult s (z .result) h → stateOf bytes ≡ withPlace (stateOf first) k n
-        → Steps b before w (record { number = 0; mask = z .mask; code = 0 }) bytes
+        → GivesTickEnd b before w (record { number = 0; mask = z .mask; code = 0 }) bytes
     plain-steps low k r z read h called first bytes e₁ e₂ =
-        let is : asLabel z ≡ top = read ∙ ap (labelOf b) at in
+        let is : asLabel z ≡ top = read ∙ ap (tableLabel b) at in
         let m : z .mask ≡ top .mask = ap (λ (u : Label). u .mask) is in
         let c : z .result ≡ top .result = ap (λ (u : Label). u .result) is in
         rw m

@@ -1,7 +1,13 @@
 // One tick on a prepared table and the bytes of a state, in place, by the label at the top.
 use calls::tick_call;
+use frames::codes::HOME_CODE;
+use frames::codes::PLAIN_CODE;
+use image::layout::FUNCTION_CALL;
+use image::layout::NO_BIT;
+use image::layout::OPERATION_CALL;
 use returns::tick_back;
 use rows::next_row;
+use state::layout::STATE_BYTES;
 use state_places::depth_of;
 use state_places::number_of;
 use state_places::place_of;
@@ -10,22 +16,22 @@ use state_results::put_result;
 use tables::entry_of;
 use tables::kind_read;
 use tables::label_read;
-use ticks::Stepped;
+use ticks::TickEnd;
 use ticks::no_row;
 ghost use mathlib.Core.Path.{_≡_};
 ghost use Rattle.image.specs.Decode.{schemeCount};
 ghost use Rattle.state.specs.Bytes.{stateOf};
-ghost use Rattle.ticks.specs.Parts.{Stands, Header, TopNumbered, TopPlain, TopHome, Steps};
+ghost use Rattle.ticks.specs.inner.TickContracts.{TickAsked, Header, TopNumbered, TopPlain, TopHome, GivesTickEnd};
 
 // A plain tick: the top takes its row, which no bit decides.
-fn tick_plain(table: &[u8], schemes: u8, bytes: &mut [u8; 130], word: u16) -> Stepped
+fn tick_plain(table: &[u8], schemes: u8, bytes: &mut [u8; STATE_BYTES], word: u16) -> TickEnd
     requires { ⌜ TopPlain (now table) (stateOf (now bytes)) ⌝ }
     requires { ⌜ schemes ≡ schemeCount (now table) ⌝ }
-    ensures { λ r. ⌜ Steps (now (table .entry)) (now (bytes .entry)) word r (now (bytes .exit)) ⌝ }
+    ensures { λ r. ⌜ GivesTickEnd (now (table .entry)) (now (bytes .entry)) word r (now (bytes .exit)) ⌝ }
 {
     let top = (depth_of(bytes) as usize) - 1;
     let l = place_of(bytes, top) as usize;
-    let next = next_row(table, schemes, l, word, 2);
+    let next = next_row(table, schemes, l, word, NO_BIT);
     if 256 <= next {
         return no_row();
     }
@@ -33,32 +39,38 @@ fn tick_plain(table: &[u8], schemes: u8, bytes: &mut [u8; 130], word: u16) -> St
     let number = number_of(bytes, top);
     put_result(bytes, label.result, number);
     put_place(bytes, top, next as u8);
-    Stepped {
+    TickEnd {
         number: 0,
         mask: label.mask,
-        code: 0,
+        code: PLAIN_CODE,
     }
 }
 
 // The home tick: the entry of scheme 1 takes the place of the top.
-fn tick_home(table: &[u8], bytes: &mut [u8; 130], word: u16) -> Stepped
+fn tick_home(table: &[u8], bytes: &mut [u8; STATE_BYTES], word: u16) -> TickEnd
     requires { ⌜ TopHome (now table) (stateOf (now bytes)) ⌝ }
-    ensures { λ r. ⌜ Steps (now (table .entry)) (now (bytes .entry)) word r (now (bytes .exit)) ⌝ }
+    ensures { λ r. ⌜ GivesTickEnd (now (table .entry)) (now (bytes .entry)) word r (now (bytes .exit)) ⌝ }
 {
     let top = (depth_of(bytes) as usize) - 1;
     put_place(bytes, top, entry_of(table, 1));
-    Stepped {
+    TickEnd {
         number: 0,
         mask: 0,
-        code: 4,
+        code: HOME_CODE,
     }
 }
 
 // A tick of a label of 2 up, by its kind; one above M has no row.
-fn tick_numbered(table: &[u8], schemes: u8, last: u8, bytes: &mut [u8; 130], word: u16) -> Stepped
+fn tick_numbered(
+    table: &[u8],
+    schemes: u8,
+    last: u8,
+    bytes: &mut [u8; STATE_BYTES],
+    word: u16,
+) -> TickEnd
     requires { ⌜ TopNumbered (now table) (stateOf (now bytes)) ⌝ }
     requires { ⌜ Header (now table) schemes last ⌝ }
-    ensures { λ r. ⌜ Steps (now (table .entry)) (now (bytes .entry)) word r (now (bytes .exit)) ⌝ }
+    ensures { λ r. ⌜ GivesTickEnd (now (table .entry)) (now (bytes .entry)) word r (now (bytes .exit)) ⌝ }
 {
     let l = place_of(bytes, (depth_of(bytes) as usize) - 1);
     if last < l {
@@ -66,16 +78,22 @@ fn tick_numbered(table: &[u8], schemes: u8, last: u8, bytes: &mut [u8; 130], wor
     }
     let kind = kind_read(table, schemes, l as usize);
     match kind {
-        1..=2 => tick_call(table, schemes, bytes, word),
+        OPERATION_CALL..=FUNCTION_CALL => tick_call(table, schemes, bytes, word),
         _ => tick_plain(table, schemes, bytes, word),
     }
 }
 
 // A tick by the label at the top. H and M, which say where labels stand, a run reads once for all its ticks.
-pub fn tick_on(table: &[u8], schemes: u8, last: u8, bytes: &mut [u8; 130], word: u16) -> Stepped
-    requires { ⌜ Stands (now table) (stateOf (now bytes)) ⌝ }
+pub fn tick_on(
+    table: &[u8],
+    schemes: u8,
+    last: u8,
+    bytes: &mut [u8; STATE_BYTES],
+    word: u16,
+) -> TickEnd
+    requires { ⌜ TickAsked (now table) (stateOf (now bytes)) ⌝ }
     requires { ⌜ Header (now table) schemes last ⌝ }
-    ensures { λ r. ⌜ Steps (now (table .entry)) (now (bytes .entry)) word r (now (bytes .exit)) ⌝ }
+    ensures { λ r. ⌜ GivesTickEnd (now (table .entry)) (now (bytes .entry)) word r (now (bytes .exit)) ⌝ }
 {
     let l = place_of(bytes, (depth_of(bytes) as usize) - 1);
     match l {

@@ -16,7 +16,8 @@ use Rattle.frames.specs.Frame.{size, field, pairAt, quadAt}
 use Rattle.image.specs.Image.{Label, noLabel}
 use Rattle.image.specs.Decode.{schemeCount, lastLabel, rowCount, handlerIn, labelsFrom, entryIn}
 use Rattle.image.specs.Check.{badCounts, badHandler}
-use Rattle.tables.specs.Table.{tableEnd, badTable, labelOn, labelOf, notedIn, firstOn, endOn, rowOn, rowsOn, tableImage, front, Whole}
+use Rattle.tables.specs.Table.{tableEnd, badTable, labelOn, tableLabel, notedIn, firstOn, endOn, rowOn, rowsOn, tableImage}
+use Rattle.tables.specs.inner.Asked.{front, Whole}
 use Rattle.tables.proofs.RangeLaws.{map-alike, concat-alike}
 
 -- the rows of a label end within the table
@@ -28,7 +29,8 @@ pub handler-alike : (b c : List ℕ) → handlerIn c ≡ handlerIn b → schemeC
 handler-alike b c = ap₂ (λ (h n : ℕ). not (eqb h 0) && (ltb h 2 || ltb n h))
 
 -- and H, M and R whether the counts are
-pub counts-alike : (b c : List ℕ) → schemeCount c ≡ schemeCount b → lastLabel c ≡ lastLabel b → rowCount c ≡ rowCount b → badCounts c ≡ badCounts b
+pub counts-alike : (b c : List ℕ) → schemeCount c ≡ schemeCount b → lastLabel c ≡ lastLabel b
+    → rowCount c ≡ rowCount b → badCounts c ≡ badCounts b
 counts-alike b c schemes last rows =
     ap₂ (λ (t u : Bool). t || u) (ap₂ (λ (h m : ℕ). eqb h 0 || ltb 16 h || eqb m 0) schemes last) (ap (λ (r : ℕ). ltb 1024 r) rows)
 
@@ -77,7 +79,14 @@ module _ (b c : List ℕ) (same : (k : ℕ) → k < 10 * tableEnd b → getD c k
       let e₄ : field c (labelsFrom c + m) 4 ≡ field b (labelsFrom b + m) 4 = label-field m 4 h (omega arith) in
       let e₅ : field c (labelsFrom c + m) 5 ≡ field b (labelsFrom b + m) 5 = label-field m 5 h (omega arith) in
       let e₆ : quadAt c (labelsFrom c + m) 6 ≡ quadAt b (labelsFrom b + m) 6 =
-      omega (arith, label-field m 6 h (omega arith), label-field m 7 h (omega arith), label-field m 8 h (omega arith), label-field m 9 h (omega arith)) in
+      omega (
+        arith,
+        label-field m 6 h (omega arith),
+        label-field m 7 h (omega arith),
+        label-field
+            m 8 h (omega arith),
+        label-field m 9 h (omega arith),
+      ) in
       λ j. record {
         kind = pick (ltb 2 (e₂ j)) 0 (e₂ j);
         called = pick (ltb (s j) (e₃ j)) 0 (e₃ j);
@@ -86,7 +95,7 @@ module _ (b c : List ℕ) (same : (k : ℕ) → k < 10 * tableEnd b → getD c k
         mask = e₆ j;
       }
 
-  kind-same : (l : ℕ) → l ≤ lastLabel b → labelOf c l .kind ≡ labelOf b l .kind
+  kind-same : (l : ℕ) → l ≤ lastLabel b → tableLabel c l .kind ≡ tableLabel b l .kind
   kind-same l h =
       ap (λ (x : Label). x .kind)
       (no-pick (ltb (lastLabel c) l) noLabel (labelOn c l) (le-ltb (lastLabel c) l (omega (arith, last-same)))
@@ -102,7 +111,7 @@ module _ (b c : List ℕ) (same : (k : ℕ) → k < 10 * tableEnd b → getD c k
 
   row-same : (l f : ℕ) → l ≤ lastLabel b → f < tableEnd b → rowOn c l f ≡ rowOn b l f
   row-same l f g h =
-      let k : labelOf c l .kind ≡ labelOf b l .kind = kind-same l g in
+      let k : tableLabel c l .kind ≡ tableLabel b l .kind = kind-same l g in
       let p₂ : pairAt c f 2 ≡ pairAt b f 2 = pair-same f 2 h (omega arith) in
       let p₄ : pairAt c f 4 ≡ pairAt b f 4 = pair-same f 4 h (omega arith) in
       let p₆ : field c f 6 ≡ field b f 6 = field-same f 6 h (omega arith) in

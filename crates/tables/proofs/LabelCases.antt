@@ -10,21 +10,22 @@ use Rattle.lists.proofs.Tests.{yes-pick, no-pick}
 use Rattle.frames.specs.Frame.{field, pairAt, quadAt}
 use Rattle.image.specs.Image.{Label, noLabel, homeLabel, returnLabel}
 use Rattle.image.specs.Decode.{schemeCount, lastLabel, labelsFrom, labelIn}
-use Rattle.tables.specs.Table.{labelOn, labelOf, entryOf}
-use Rattle.tables.specs.Labels.{Numbered, Framed}
+use Rattle.tables.specs.Table.{labelOn, tableLabel}
+use Rattle.tables.specs.inner.Asked.{entryOf}
+use Rattle.tables.specs.inner.Labels.{NumberedLabel, Framed}
 
 -- ---- a label of the table, and one above M
 module _ (b : List ℕ) (l : ℕ) where
-  pub label-above : lastLabel b < l → noLabel ≡ labelOf b l
+  pub label-above : lastLabel b < l → noLabel ≡ tableLabel b l
   label-above h = sym (yes-pick (ltb (lastLabel b) l) noLabel (labelOn b l) (lt-ltb (lastLabel b) l h))
 
-  pub label-within : l ≤ lastLabel b → labelOf b l ≡ labelOn b l
+  pub label-within : l ≤ lastLabel b → tableLabel b l ≡ labelOn b l
   label-within h = no-pick (ltb (lastLabel b) l) noLabel (labelOn b l) (le-ltb (lastLabel b) l h)
 
-  pub label-home : l ≤ lastLabel b → l ≡ 0 → homeLabel ≡ labelOf b l
+  pub label-home : l ≤ lastLabel b → l ≡ 0 → homeLabel ≡ tableLabel b l
   label-home h e = sym (label-within h ∙ ap (labelOn b) e)
 
-  pub label-return : l ≤ lastLabel b → l ≡ 1 → returnLabel ≡ labelOf b l
+  pub label-return : l ≤ lastLabel b → l ≡ 1 → returnLabel ≡ tableLabel b l
   label-return h e = sym (label-within h ∙ ap (labelOn b) e)
 
 -- ---- a label with fields of its own
@@ -36,45 +37,48 @@ abbrev calledOn : List ℕ → ℕ → ℕ
 calledOn b l = let h = labelIn b l .called in pick (ltb (schemeCount b) h) 0 h
 
 abbrev numbered : List ℕ → ℕ → Label
-numbered b l = let x = labelIn b l in record { kind = kindOn b l; called = calledOn b l; owner = x .owner; result = x .result; mask = x .mask }
+numbered b l = let x = labelIn b l in
+    record { kind = kindOn b l; called = calledOn b l; owner = x .owner; result = x .result; mask = x .mask }
 
 pub on-numbered : (b : List ℕ) (l : ℕ) → 2 ≤ l → labelOn b l ≡ numbered b l
 on-numbered b zero h = absurd (omega arith)
 on-numbered b (suc zero) h = absurd (omega arith)
 on-numbered b (suc (suc l)) h = refl
 
-module _ (b : List ℕ) (l : ℕ) (asked : Numbered b l) where
-  pub label-numbered : labelOf b l ≡ numbered b l
+module _ (b : List ℕ) (l : ℕ) (asked : NumberedLabel b l) where
+  pub label-numbered : tableLabel b l ≡ numbered b l
   label-numbered = label-within b l (asked .high) ∙ on-numbered b l (asked .low)
 
   module _ (k : ℕ) (found : k ≡ field b (labelsFrom b + l) 2) where
-    pub kind-high : 2 < k → 0 ≡ labelOf b l .kind
+    pub kind-high : 2 < k → 0 ≡ tableLabel b l .kind
     kind-high h =
         sym (ap (λ (x : Label). x .kind) label-numbered
         ∙ yes-pick (ltb 2 (labelIn b l .kind)) 0 (labelIn b l .kind) (lt-ltb 2 (labelIn b l .kind) (omega arith)))
 
-    pub kind-known : k ≤ 2 → k ≡ labelOf b l .kind
+    pub kind-known : k ≤ 2 → k ≡ tableLabel b l .kind
     kind-known h =
         found ∙ sym (ap (λ (x : Label). x .kind) label-numbered
         ∙ no-pick (ltb 2 (labelIn b l .kind)) 0 (labelIn b l .kind) (le-ltb 2 (labelIn b l .kind) (omega arith)))
 
   module _ (k n : ℕ) (found : k ≡ field b (labelsFrom b + l) 3) (schemes : n ≡ schemeCount b) where
-    pub called-high : n < k → 0 ≡ labelOf b l .called
+    pub called-high : n < k → 0 ≡ tableLabel b l .called
     called-high h =
         sym (ap (λ (x : Label). x .called) label-numbered
-        ∙ yes-pick (ltb (schemeCount b) (labelIn b l .called)) 0 (labelIn b l .called) (lt-ltb (schemeCount b) (labelIn b l .called) (omega arith)))
+        ∙ yes-pick (ltb (schemeCount b) (labelIn b l .called)) 0 (labelIn b l .called)
+        (lt-ltb (schemeCount b) (labelIn b l .called) (omega arith)))
 
-    pub called-known : k ≤ n → k ≡ labelOf b l .called
+    pub called-known : k ≤ n → k ≡ tableLabel b l .called
     called-known h =
         found ∙ sym (ap (λ (x : Label). x .called) label-numbered
-        ∙ no-pick (ltb (schemeCount b) (labelIn b l .called)) 0 (labelIn b l .called) (le-ltb (schemeCount b) (labelIn b l .called) (omega arith)))
+        ∙ no-pick (ltb (schemeCount b) (labelIn b l .called)) 0 (labelIn b l .called)
+        (le-ltb (schemeCount b) (labelIn b l .called) (omega arith)))
 
-  pub label-made : (k h o r m : ℕ) → k ≡ labelOf b l .kind → h ≡ labelOf b l .called → o ≡ field b (labelsFrom b + l) 4
-      → r ≡ field b (labelsFrom b + l) 5 → m ≡ labelOf b l .mask
-      → record { kind = k; called = h; owner = o; result = r; mask = m } ≡ labelOf b l
+  pub label-made : (k h o r m : ℕ) → k ≡ tableLabel b l .kind → h ≡ tableLabel b l .called → o ≡ field b (labelsFrom b + l) 4
+      → r ≡ field b (labelsFrom b + l) 5 → m ≡ tableLabel b l .mask
+      → record { kind = k; called = h; owner = o; result = r; mask = m } ≡ tableLabel b l
   label-made k h o r m p₁ p₂ p₃ p₄ p₅ =
-      let q₃ : o ≡ labelOf b l .owner = p₃ ∙ sym (ap (λ (x : Label). x .owner) label-numbered) in
-      let q₄ : r ≡ labelOf b l .result = p₄ ∙ sym (ap (λ (x : Label). x .result) label-numbered) in
+      let q₃ : o ≡ tableLabel b l .owner = p₃ ∙ sym (ap (λ (x : Label). x .owner) label-numbered) in
+      let q₄ : r ≡ tableLabel b l .result = p₄ ∙ sym (ap (λ (x : Label). x .result) label-numbered) in
       λ j. record { kind = p₁ j; called = p₂ j; owner = q₃ j; result = q₄ j; mask = p₅ j }
 
 -- ---- with H as the caller has it, n
@@ -82,7 +86,7 @@ module _ (b : List ℕ) (n l : ℕ) (asked : Framed b n l) where
   pub field-framed : (k r : ℕ) → r ≡ field b (1 + n + l) k → r ≡ field b (labelsFrom b + l) k
   field-framed k r e = e ∙ ap (λ (m : ℕ). field b (1 + m + l) k) (asked .schemes)
 
-  pub mask-framed : (u v : ℕ) → u ≡ pairAt b (1 + n + l) 6 → v ≡ pairAt b (1 + n + l) 8 → u * 65536 + v ≡ labelOf b l .mask
+  pub mask-framed : (u v : ℕ) → u ≡ pairAt b (1 + n + l) 6 → v ≡ pairAt b (1 + n + l) 8 → u * 65536 + v ≡ tableLabel b l .mask
   mask-framed u v p q =
       ap₂ (λ (x y : ℕ). x * 65536 + y) p q ∙ ap (λ (m : ℕ). quadAt b (1 + m + l) 6) (asked .schemes)
       ∙ sym (ap (λ (x : Label). x .mask) (label-numbered b l (asked .label)))

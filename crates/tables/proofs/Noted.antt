@@ -40,7 +40,8 @@ module _ (b : List ℕ) where
   unfolding notedTo
   noted-to-other zero p a = refl
   noted-to-other (suc n) p a =
-      getD-set-other (set (notedTo b n) (place b n) (firstFrame b (n + 1) % 256)) (place b n + 1) p (firstFrame b (n + 1) / 256) 0 (a n (omega arith) .1)
+      getD-set-other (set (notedTo b n) (place b n) (firstFrame b (n + 1) % 256)) (place b n + 1)
+      p (firstFrame b (n + 1) / 256) 0 (a n (omega arith) .1)
       ∙ getD-set-other (notedTo b n) (place b n) p (firstFrame b (n + 1) % 256) 0 (a n (omega arith) .0)
       ∙ noted-to-other n p (λ l h. a l (omega arith))
 
@@ -52,12 +53,14 @@ module _ (b : List ℕ) where
       go : Dec (l ≡ n) → (l < n → place b l < length b → getD (notedTo b n) (place b l) 0 ≡ firstFrame b (l + 1) % 256)
           → getD (notedTo b (suc n)) (place b l) 0 ≡ firstFrame b (l + 1) % 256
       go (yes e) ih =
-          getD-set-other (set (notedTo b n) (place b n) (firstFrame b (n + 1) % 256)) (place b n + 1) (place b l) (firstFrame b (n + 1) / 256) 0 (λ z. omega arith)
+          getD-set-other (set (notedTo b n) (place b n) (firstFrame b (n + 1) % 256)) (place b n + 1)
+          (place b l) (firstFrame b (n + 1) / 256) 0 (λ z. omega arith)
           ∙ ap (λ (p : ℕ). getD (set (notedTo b n) (place b n) (firstFrame b (n + 1) % 256)) p 0) (ap (place b) e)
           ∙ getD-set-same (notedTo b n) (place b n) (firstFrame b (n + 1) % 256) 0 (omega (arith, noted-to-length n))
           ∙ ap (λ (m : ℕ). firstFrame b (m + 1) % 256) (sym e)
       go (no e) ih =
-          getD-set-other (set (notedTo b n) (place b n) (firstFrame b (n + 1) % 256)) (place b n + 1) (place b l) (firstFrame b (n + 1) / 256) 0 (λ z. omega arith)
+          getD-set-other (set (notedTo b n) (place b n) (firstFrame b (n + 1) % 256)) (place b n + 1)
+          (place b l) (firstFrame b (n + 1) / 256) 0 (λ z. omega arith)
           ∙ getD-set-other (notedTo b n) (place b n) (place b l) (firstFrame b (n + 1) % 256) 0 (λ z. e (omega arith))
           ∙ ih (omega arith) g
 
@@ -69,13 +72,15 @@ module _ (b : List ℕ) where
       go : Dec (l ≡ n) → (l < n → place b l + 1 < length b → getD (notedTo b n) (place b l + 1) 0 ≡ firstFrame b (l + 1) / 256)
           → getD (notedTo b (suc n)) (place b l + 1) 0 ≡ firstFrame b (l + 1) / 256
       go (yes e) ih =
-          ap (λ (p : ℕ). getD (set (set (notedTo b n) (place b n) (firstFrame b (n + 1) % 256)) (place b n + 1) (firstFrame b (n + 1) / 256)) p 0)
+          ap (λ (p : ℕ). getD (set (set (notedTo b n) (place b n) (firstFrame b (n + 1) % 256))
+          (place b n + 1) (firstFrame b (n + 1) / 256)) p 0)
           (ap (λ (m : ℕ). place b m + 1) e)
           ∙ getD-set-same (set (notedTo b n) (place b n) (firstFrame b (n + 1) % 256)) (place b n + 1) (firstFrame b (n + 1) / 256) 0
           (omega (arith, noted-to-length n, length-set (notedTo b n) (place b n) (firstFrame b (n + 1) % 256)))
           ∙ ap (λ (m : ℕ). firstFrame b (m + 1) / 256) (sym e)
       go (no e) ih =
-          getD-set-other (set (notedTo b n) (place b n) (firstFrame b (n + 1) % 256)) (place b n + 1) (place b l + 1) (firstFrame b (n + 1) / 256) 0
+          getD-set-other (set (notedTo b n) (place b n) (firstFrame b (n + 1) % 256))
+          (place b n + 1) (place b l + 1) (firstFrame b (n + 1) / 256) 0
           (λ z. e (omega arith))
           ∙ getD-set-other (notedTo b n) (place b n) (place b l + 1) (firstFrame b (n + 1) % 256) 0 (λ z. omega arith)
           ∙ ih (omega arith) g

@@ -9,9 +9,9 @@ use Rattle.lists.specs.Sequences.{over, written}
 use Rattle.lists.proofs.Written.{written-front}
 use Rattle.frames.specs.Frame.{frameCount, contents}
 use Rattle.frames.specs.Verdict.{Verdict, fine, refused}
-use Rattle.frames.specs.Answer.{reply, judged, Lends}
+use Rattle.frames.specs.Answer.{reply, judged, GivesBuffer}
 use Rattle.frames.specs.Check.{textVerdict}
-use Rattle.frames.specs.Read.{readInto}
+use Rattle.frames.specs.inner.Read.{readInto}
 use Rattle.frames.specs.declared.Answer.{Answer}
 use Rattle.frames.specs.declared.Answer.the-variants.{Done, Refused}
 use Rattle.frames.proofs.Verdicts.{next-first}
@@ -22,7 +22,8 @@ use Rattle.frames.proofs.Lent.{lent-refused, lent-short, lent-done}
 use Rattle.image.specs.Check.{tableVerdict, imageVerdict}
 use Rattle.image.proofs.Accepted.{image-table}
 use Rattle.image_check.proofs.ReadCases.{good-text, front-contents, front-length}
-use Rattle.tables.specs.Prepare.{noted, prepare, preparedInto, Prepares}
+use Rattle.tables.specs.Prepare.{noted, prepare}
+use Rattle.tables.specs.inner.Prepares.{preparedInto, GivesPrepared}
 use Rattle.tables.proofs.Noted.{noted-length}
 
 -- ---- the image is refused
@@ -30,13 +31,14 @@ module _ (t : List ℕ) (a : Answer) (gives : reply a ≡ judged (imageVerdict t
   verdict : imageVerdict t ≡ refused k i
   verdict = refused-verdict a (imageVerdict t) 0 gives k i m e .0
 
-  pub table-refused : (old out : List ℕ) → out ≡ readInto 29831 t old → Prepares t old a out
+  pub table-refused : (old out : List ℕ) → out ≡ readInto 29831 t old → GivesPrepared t old a out
   unfolding preparedInto
   table-refused old out left = record { answered = gives; written = left ∙ rw (verdict, preparedInto) }
 
-  pub image-refused : (old : List ℕ) → Lends (prepare t old) a old
+  pub image-refused : (old : List ℕ) → GivesBuffer (prepare t old) a old
   unfolding prepare
-  image-refused old = lent-refused (imageVerdict t) 1 (λ _. noted (contents t)) old k i verdict a (gives ∙ ap (λ (v : Verdict). judged v 0) verdict)
+  image-refused old = lent-refused (imageVerdict t) 1 (λ _. noted (contents t)) old k i
+      verdict a (gives ∙ ap (λ (v : Verdict). judged v 0) verdict)
 
 -- ---- it is accepted
 module _ (t : List ℕ) (ok : imageVerdict t ≡ fine) where
@@ -69,7 +71,7 @@ module _ (t : List ℕ) (ok : imageVerdict t ≡ fine) where
     pub read-accepted : tableVerdict (take long table) ≡ fine
     read-accepted = ap tableVerdict read-front ∙ image-table t ok
 
-    pub table-noted : (new : List ℕ) → new ≡ noted (take long table) → Prepares t old (Done 0) (new ++ drop long table)
+    pub table-noted : (new : List ℕ) → new ≡ noted (take long table) → GivesPrepared t old (Done 0) (new ++ drop long table)
     table-noted new e = record {
       answered = judged-fine (imageVerdict t) 0 ok;
       written =
@@ -91,14 +93,15 @@ module _ (t : List ℕ) (ok : imageVerdict t ≡ fine) where
     made-length = sym (ap (λ (x : List ℕ). length x) made-front ∙ prepared-length)
 
     pub image-done : (given : List ℕ) → long ≤ length given → (out : List ℕ) → out ≡ written given 0 (take long made)
-        → Lends (prepare t given) (Done long) out
+        → GivesBuffer (prepare t given) (Done long) out
     unfolding prepare
     image-done given h out e =
-        lent-done (imageVerdict t) 1 (λ _. noted (contents t)) given ok (omega (arith, prepared-length)) long (omega (arith, prepared-length)) out
+        lent-done (imageVerdict t) 1 (λ _. noted (contents t)) given ok (omega (arith, prepared-length))
+        long (omega (arith, prepared-length)) out
         (e ∙ ap (written given 0) made-front ∙ written-front given (noted (contents t)))
 
-  pub image-short : (given : List ℕ) → length given < long → (a : Answer) → a ≡ Refused 16 0 0 → Lends (prepare t given) a given
+  pub image-short : (given : List ℕ) → length given < long → (a : Answer) → a ≡ Refused 16 0 0 → GivesBuffer (prepare t given) a given
   unfolding prepare
   image-short given h a e =
-      subst (λ (x : Answer). Lends (prepare t given) x given) (sym e)
+      subst (λ (x : Answer). GivesBuffer (prepare t given) x given) (sym e)
       (lent-short (imageVerdict t) 1 (λ _. noted (contents t)) given ok (omega (arith, prepared-length)))

@@ -18,16 +18,17 @@ use Rattle.image.specs.Image.{Label, noLabel}
 use Rattle.image.specs.Decode.{schemeCount, lastLabel, rowCount, handlerIn, entryIn, labelIn}
 use Rattle.image.specs.Check.{badCounts}
 use Rattle.image.proofs.Accepted.{handler-told}
-use Rattle.tables.specs.Table.{tableImage, labelOn, labelOf, entryOf, Whole}
+use Rattle.tables.specs.Table.{tableImage, labelOn, tableLabel}
+use Rattle.tables.specs.inner.Asked.{entryOf, Whole}
 
 -- ---- counts that refusal 11 lets pass
-pub record Counts (b : List ℕ) : Type 0 where
+pub record CountsHold (b : List ℕ) : Type 0 where
   pub first : 1 ≤ schemeCount b
   pub most : schemeCount b ≤ 16
   pub two : 1 ≤ lastLabel b
   pub few : rowCount b ≤ 1024
 
-pub counts-told : (b : List ℕ) → badCounts b ≡ false → Counts b
+pub counts-told : (b : List ℕ) → badCounts b ≡ false → CountsHold b
 counts-told b e =
     let h : Bool = eqb (schemeCount b) 0 in
     let i : Bool = ltb 16 (schemeCount b) in
@@ -64,19 +65,20 @@ module _ (b : List ℕ) where
   unfolding tableImage
   handler-at = refl
 
-  pub label-on : (l : ℕ) → l ≤ lastLabel b → labelOf b l ≡ labelOn b l
+  pub label-on : (l : ℕ) → l ≤ lastLabel b → tableLabel b l ≡ labelOn b l
   label-on l h = no-pick (ltb (lastLabel b) l) noLabel (labelOn b l) (le-ltb (lastLabel b) l h)
 
-  pub label-above : (l : ℕ) → lastLabel b < l → labelOf b l ≡ noLabel
+  pub label-above : (l : ℕ) → lastLabel b < l → tableLabel b l ≡ noLabel
   label-above l h = yes-pick (ltb (lastLabel b) l) noLabel (labelOn b l) (lt-ltb (lastLabel b) l h)
 
-  pub label-at : (l : ℕ) → getD (tableImage b .labels) l noLabel ≡ labelOf b l
+  pub label-at : (l : ℕ) → getD (tableImage b .labels) l noLabel ≡ tableLabel b l
   unfolding tableImage
   label-at l = go (split (lastLabel b) l)
     where
-      go : (lastLabel b < l) ⊎ (l ≤ lastLabel b) → getD (map (labelOn b) (range 0 (lastLabel b + 1))) l noLabel ≡ labelOf b l
+      go : (lastLabel b < l) ⊎ (l ≤ lastLabel b) → getD (map (labelOn b) (range 0 (lastLabel b + 1))) l noLabel ≡ tableLabel b l
       go (inl h) =
-          List·getD-eq-default (map (labelOn b) (range 0 (lastLabel b + 1))) noLabel (omega (arith, length-map-range (labelOn b) 0 (lastLabel b + 1)))
+          List·getD-eq-default (map (labelOn b) (range 0 (lastLabel b + 1))) noLabel
+          (omega (arith, length-map-range (labelOn b) 0 (lastLabel b + 1)))
           ∙ sym (label-above l h)
       go (inr h) =
           getD-map-range (labelOn b) noLabel 0 (lastLabel b + 1) l (omega arith) ∙ ap (labelOn b) (zero-add l)
@@ -96,13 +98,13 @@ clipped most x = go (cases (ltb most x))
     go (inr e) = let z : pick (ltb most x) 0 x ≡ x = no-pick (ltb most x) 0 x e in omega (arith, ltb-false most x e)
 
 -- of label l in an image of n schemes
-pub record Values (n l : ℕ) (x : Label) : Type 0 where
+pub record LabelValues (n l : ℕ) (x : Label) : Type 0 where
   pub kinds : x .kind ≤ 4
   pub three : x .kind ≡ 3 → l ≡ 1
   pub four : 4 ≤ x .kind → l ≡ 0
   pub schemes : x .called ≤ n
 
-values-on : (b : List ℕ) (l : ℕ) → Values (schemeCount b) l (labelOn b l)
+values-on : (b : List ℕ) (l : ℕ) → LabelValues (schemeCount b) l (labelOn b l)
 values-on b zero = record { kinds = omega arith; three = λ e. omega arith; four = λ e. refl; schemes = omega arith }
 values-on b (suc zero) = record { kinds = omega arith; three = λ e. refl; four = λ e. omega arith; schemes = omega arith }
 values-on b (suc (suc l)) =
@@ -115,10 +117,10 @@ values-on b (suc (suc l)) =
       schemes = clipped (schemeCount b) (x .called);
     }
 
-pub label-values : (b : List ℕ) (l : ℕ) → Values (schemeCount b) l (labelOf b l)
+pub label-values : (b : List ℕ) (l : ℕ) → LabelValues (schemeCount b) l (tableLabel b l)
 label-values b l = go (split (lastLabel b) l)
   where
-    go : (lastLabel b < l) ⊎ (l ≤ lastLabel b) → Values (schemeCount b) l (labelOf b l)
-    go (inl h) = subst (λ (x : Label). Values (schemeCount b) l x) (sym (label-above b l h))
+    go : (lastLabel b < l) ⊎ (l ≤ lastLabel b) → LabelValues (schemeCount b) l (tableLabel b l)
+    go (inl h) = subst (λ (x : Label). LabelValues (schemeCount b) l x) (sym (label-above b l h))
         (record { kinds = omega arith; three = λ e. omega arith; four = λ e. omega arith; schemes = omega arith })
-    go (inr h) = subst (λ (x : Label). Values (schemeCount b) l x) (sym (label-on b l h)) (values-on b l)
+    go (inr h) = subst (λ (x : Label). LabelValues (schemeCount b) l x) (sym (label-on b l h)) (values-on b l)

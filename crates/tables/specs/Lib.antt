@@ -1,3 +1,3 @@
 pub mod Prepare
 pub mod Table
-pub mod Labels
+pub mod inner

@@ -1,14 +1,14 @@
 -- The image that any bytes hold when they are taken for a prepared table; refusal 11 of such bytes.
 use Prim.Native.Nat.{ℕ, zero, suc, _+_, _*_, _-_, min}
-use mathlib.Core.Bool.{Bool, false, _||_}
-use mathlib.Core.Path.{_≡_}
+use mathlib.Core.Bool.{Bool, _||_}
 use mathlib.Core.List.{List, map}
 use lib.Dec.{ltb, eqb}
-use lib.ListN.{length, take}
 use Rattle.lists.specs.Pick.{pick}
 use Rattle.lists.specs.Numbers.{range}
 use Rattle.lists.specs.Sequences.{concatMap}
+use Rattle.frames.specs.Sizes.{FRAME}
 use Rattle.frames.specs.Frame.{size, field, pairAt}
+use Rattle.image.specs.Layout.{CARE, VALUES, FUNCTION-BIT, NEXT, NO-BIT, PLAIN, FUNCTION-CALL}
 use Rattle.image.specs.Image.{Image, Label, Row, noLabel, homeLabel, returnLabel}
 use Rattle.image.specs.Decode.{schemeCount, lastLabel, rowCount, handlerIn, labelsFrom, rowsFrom, entryIn, labelIn}
 use Rattle.image.specs.Check.{badCounts, badHandler}
@@ -26,7 +26,7 @@ abbrev pub labelOn : List ℕ → ℕ → Label
 labelOn b zero = homeLabel
 labelOn b (suc zero) = returnLabel
 labelOn b (suc (suc l)) = let x = labelIn b (suc (suc l)) in record {
-  kind = pick (ltb 2 (x .kind)) 0 (x .kind);
+  kind = pick (ltb FUNCTION-CALL (x .kind)) PLAIN (x .kind);
   called = pick (ltb (schemeCount b) (x .called)) 0 (x .called);
   owner = x .owner;
   result = x .result;
@@ -34,8 +34,8 @@ labelOn b (suc (suc l)) = let x = labelIn b (suc (suc l)) in record {
 }
 
 -- label l of the image; one above M holds nothing
-abbrev pub labelOf : List ℕ → ℕ → Label
-labelOf b l = pick (ltb (lastLabel b) l) noLabel (labelOn b l)
+abbrev pub tableLabel : List ℕ → ℕ → Label
+tableLabel b l = pick (ltb (lastLabel b) l) noLabel (labelOn b l)
 
 -- the frame noted in that of label l, at which its rows end: those of the next label begin there, and none stands past the table
 abbrev pub notedIn : List ℕ → ℕ → ℕ
@@ -51,10 +51,10 @@ endOn b l = min (notedIn b l) (tableEnd b)
 abbrev pub rowOn : List ℕ → ℕ → ℕ → Row
 rowOn b l f = record {
   from = l;
-  care = pairAt b f 2;
-  values = pairAt b f 4;
-  bit = pick (eqb (labelOf b l .kind) 2) (field b f 6) 2;
-  next = field b f 7;
+  care = pairAt b f CARE;
+  values = pairAt b f VALUES;
+  bit = pick (eqb (tableLabel b l .kind) FUNCTION-CALL) (field b f FUNCTION-BIT) NO-BIT;
+  next = field b f NEXT;
 }
 
 abbrev pub rowsOn : List ℕ → ℕ → List Row
@@ -67,17 +67,3 @@ tableImage b = record {
   labels = map (labelOn b) (range 0 (lastLabel b + 1));
   rows = concatMap (rowsOn b) (range 2 (lastLabel b - 1));
 }
-
--- ---- what the functions on a table ask and read
--- the table without what stands behind it
-abbrev pub front : List ℕ → List ℕ
-front b = take (10 * tableEnd b) b
-
-pub record Whole (b : List ℕ) : Type 0 where
-  pub counts : badCounts b ≡ false
-  pub handler : badHandler b ≡ false
-  pub alone : length b ≡ 10 * tableEnd b
-
--- the entry of scheme h, which counts as 1 where it is 0
-abbrev pub entryOf : List ℕ → ℕ → ℕ
-entryOf b h = entryIn b (suc (h - 1))

@@ -1,18 +1,21 @@
 // Labels and entries of a table, whatever its bytes are.
 use super::Label;
 use image::byte;
+use image::layout::*;
 use image::pair;
 ghost use mathlib.Core.Path.{_≡_};
 ghost use Prim.Native.Nat.{_+_, _≤_, _<_};
+ghost use Rattle.frames.specs.Sizes.{FRAME};
 ghost use Rattle.frames.specs.Frame.{field};
 ghost use Rattle.image.specs.Decode.{schemeCount, lastLabel, handlerIn, labelsFrom};
-ghost use Rattle.tables.specs.Table.{Whole, labelOf, entryOf};
-ghost use Rattle.tables.specs.Labels.{asLabel, Framed};
+ghost use Rattle.tables.specs.Table.{tableLabel};
+ghost use Rattle.tables.specs.inner.Asked.{Whole, entryOf};
+ghost use Rattle.tables.specs.inner.Labels.{asLabel, Framed};
 
 // Byte k of the frame of label l. H, read once by a caller that reads many, says where the frame stands.
 fn field_of(table: &[u8], schemes: u8, l: usize, k: usize) -> u8
     requires { ⌜ Framed (now table) schemes l ⌝ }
-    requires { ⌜ k < 10 ⌝ }
+    requires { ⌜ k < FRAME ⌝ }
     ensures { λ r. ⌜ r ≡ field (now (table .entry)) (labelsFrom (now (table .entry)) + l) k ⌝ }
 {
     byte(table, 1 + (schemes as usize) + l, k)
@@ -21,10 +24,10 @@ fn field_of(table: &[u8], schemes: u8, l: usize, k: usize) -> u8
 // A kind above 2 counts as 0.
 pub fn kind_read(table: &[u8], schemes: u8, l: usize) -> u8
     requires { ⌜ Framed (now table) schemes l ⌝ }
-    ensures { λ r. ⌜ r ≡ labelOf (now (table .entry)) l .kind ⌝ }
+    ensures { λ r. ⌜ r ≡ tableLabel (now (table .entry)) l .kind ⌝ }
 {
-    let kind = field_of(table, schemes, l, 2);
-    if 2 < kind {
+    let kind = field_of(table, schemes, l, TICK_KIND);
+    if FUNCTION_CALL < kind {
         return 0;
     }
     kind
@@ -33,9 +36,9 @@ pub fn kind_read(table: &[u8], schemes: u8, l: usize) -> u8
 // A scheme above H counts as none.
 fn called_read(table: &[u8], schemes: u8, l: usize) -> u8
     requires { ⌜ Framed (now table) schemes l ⌝ }
-    ensures { λ r. ⌜ r ≡ labelOf (now (table .entry)) l .called ⌝ }
+    ensures { λ r. ⌜ r ≡ tableLabel (now (table .entry)) l .called ⌝ }
 {
-    let called = field_of(table, schemes, l, 3);
+    let called = field_of(table, schemes, l, CALLED);
     if schemes < called {
         return 0;
     }
@@ -44,22 +47,22 @@ fn called_read(table: &[u8], schemes: u8, l: usize) -> u8
 
 fn mask_read(table: &[u8], schemes: u8, l: usize) -> u32
     requires { ⌜ Framed (now table) schemes l ⌝ }
-    ensures { λ r. ⌜ r ≡ labelOf (now (table .entry)) l .mask ⌝ }
+    ensures { λ r. ⌜ r ≡ tableLabel (now (table .entry)) l .mask ⌝ }
 {
     let f = 1 + (schemes as usize) + l;
-    (pair(table, f, 6) as u32) * 65536 + (pair(table, f, 8) as u32)
+    (pair(table, f, LABEL_MASK) as u32) * 65536 + (pair(table, f, LABEL_MASK2) as u32)
 }
 
 // A label of 2 to M, by its frame.
 pub fn label_read(table: &[u8], schemes: u8, l: usize) -> Label
     requires { ⌜ Framed (now table) schemes l ⌝ }
-    ensures { λ r. ⌜ asLabel r ≡ labelOf (now (table .entry)) l ⌝ }
+    ensures { λ r. ⌜ asLabel r ≡ tableLabel (now (table .entry)) l ⌝ }
 {
     Label {
         kind: kind_read(table, schemes, l),
         called: called_read(table, schemes, l),
-        owner: field_of(table, schemes, l, 4),
-        result: field_of(table, schemes, l, 5),
+        owner: field_of(table, schemes, l, OWNER),
+        result: field_of(table, schemes, l, LABEL_RESULT),
         mask: mask_read(table, schemes, l),
     }
 }
@@ -69,7 +72,7 @@ pub fn scheme_count(table: &[u8]) -> u8
     requires { ⌜ Whole (now table) ⌝ }
     ensures { λ r. ⌜ r ≡ schemeCount (now (table .entry)) ⌝ }
 {
-    byte(table, 0, 1)
+    byte(table, 0, SCHEME_COUNT)
 }
 
 // M, the highest label.
@@ -77,7 +80,7 @@ pub fn last_label(table: &[u8]) -> u8
     requires { ⌜ Whole (now table) ⌝ }
     ensures { λ r. ⌜ r ≡ lastLabel (now (table .entry)) ⌝ }
 {
-    byte(table, 0, 2)
+    byte(table, 0, LAST_LABEL)
 }
 
 // The handler's scheme, 0 for none.
@@ -85,17 +88,17 @@ pub fn handler_of(table: &[u8]) -> u8
     requires { ⌜ Whole (now table) ⌝ }
     ensures { λ r. ⌜ r ≡ handlerIn (now (table .entry)) ⌝ }
 {
-    byte(table, 0, 5)
+    byte(table, 0, HANDLER)
 }
 
 // Label l: 0 and 1 are the same in every image, and one above M holds nothing.
 pub fn label_of(table: &[u8], l: u8) -> Label
     requires { ⌜ Whole (now table) ⌝ }
-    ensures { λ r. ⌜ asLabel r ≡ labelOf (now (table .entry)) l ⌝ }
+    ensures { λ r. ⌜ asLabel r ≡ tableLabel (now (table .entry)) l ⌝ }
 {
     if last_label(table) < l {
         return Label {
-            kind: 0,
+            kind: PLAIN,
             called: 0,
             owner: 0,
             result: 0,
@@ -104,14 +107,14 @@ pub fn label_of(table: &[u8], l: u8) -> Label
     }
     match l {
         0 => Label {
-            kind: 4,
+            kind: HOME,
             called: 0,
             owner: 1,
             result: 0,
             mask: 0,
         },
         1 => Label {
-            kind: 3,
+            kind: RETURN,
             called: 0,
             owner: 0,
             result: 0,
@@ -128,7 +131,7 @@ pub fn entry_of(table: &[u8], h: u8) -> u8
     ensures { λ r. ⌜ r ≡ entryOf (now (table .entry)) h ⌝ }
 {
     if h == 0 {
-        return byte(table, 1, 2);
+        return byte(table, 1, ENTRY_LABEL);
     }
-    byte(table, h as usize, 2)
+    byte(table, h as usize, ENTRY_LABEL)
 }

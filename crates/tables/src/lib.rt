@@ -1,4 +1,5 @@
 // Tables prepared for ticks: what such a table holds, and its header, entries and labels as they are read.
+
 mod header;
 mod labels;
 
@@ -20,6 +21,3 @@ pub struct Label {
     pub result: u8,
     pub mask: u32,
 }
-
-// The bytes of the largest table: ten a frame, of the header, 16 entries, 256 labels and 1,024 rows.
-pub const LARGEST: usize = 12970;

@@ -2,11 +2,11 @@
 use frames::Answer;
 use runs::TickReport;
 ghost use Rattle.frames.specs.Answer.{reply};
-ghost use Rattle.telling.specs.Told.{Told, Ticked};
+ghost use Rattle.telling.specs.AnswersForC.{GivesReplyC, GivesTickReportC};
 
 // Returns the number, and writes the index and the count.
 pub fn tell(answer: Answer, at: &mut usize, made: &mut usize) -> u8
-    ensures { λ r. ⌜ Told (reply answer) r (now (at .exit)) (now (made .exit)) ⌝ }
+    ensures { λ r. ⌜ GivesReplyC (reply answer) r (now (at .exit)) (now (made .exit)) ⌝ }
 {
     match answer {
         Answer::Done(count) => {
@@ -34,7 +34,8 @@ pub fn tell_tick(
     at: &mut usize,
     made: &mut usize,
 ) -> u8
-    ensures { λ r. ⌜ Ticked report (now (mask .entry)) (now (code .entry)) r (now (at .exit)) (now (made .exit)) (now (mask .exit)) (now (code .exit)) ⌝ }
+    ensures { λ r. ⌜ GivesTickReportC report (now (mask .entry)) (now (code .entry)) r (now (at .exit))
+        (now (made .exit)) (now (mask .exit)) (now (code .exit)) ⌝ }
 {
     let answer = report.answer;
     let number = tell(answer, at, made);

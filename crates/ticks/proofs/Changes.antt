@@ -1,4 +1,5 @@
--- Changes of a state that keep it fitting a sound image: the top replaced, a scheme opened above it, the top taken off, one scheme left alone.
+-- Changes of a state that keep it fitting a sound image:
+-- the top replaced, a scheme opened above it, the top taken off, one scheme left alone.
 use Prim.Native.Nat.{ℕ, zero, suc, _+_, _-_, _≤_, _<_}
 use mathlib.Core.Bool.{true, false, _&&_, not}
 use mathlib.Core.Path.{_≡_, refl, ap, ap₂, _∙_, sym, subst}
@@ -9,13 +10,13 @@ use lib.ListN.{length, getD, set, length-set, getD-replicate}
 use lib.Seq.{getD-set-same, getD-set-other}
 use native.Mathlib.Omega.{arith}
 use Rattle.lists.proofs.Tests.{split}
-use Rattle.bits.specs.Results.{Results}
+use Rattle.results.specs.Results.{Results}
 use Rattle.image.specs.Image.{Image}
-use Rattle.image.proofs.Sound.{Reaches, Sound}
+use Rattle.image.specs.inner.Sound.{Reaches, SoundImage}
 use Rattle.state.specs.declared.State.{State}
-use Rattle.state.specs.State.{only, labelAt, placeAt, numberAt, serverAt}
+use Rattle.state.specs.State.{bottomAlone, labelAt, placeAt, numberAt, serverAt}
 use Rattle.state.specs.Changes.{withPlace, withBits}
-use Rattle.fitness.specs.Fitness.{mayCarry, filledPlace, isOwn, badBottom}
+use Rattle.fitness.specs.Fitness.{mayCarry, filledPlace, isOwnBottom, badBottom}
 use Rattle.fitness.proofs.Fitness.{carry, Fits}
 use Rattle.ticks.specs.Tick.{dropping, alone, opening}
 use Rattle.ticks.proofs.Leads.{carry-leads, bottomBy, bottom-leads}
@@ -31,11 +32,11 @@ module _ (xs : List ℕ) (d x : ℕ) where
   set-other : (k : ℕ) → (k ≡ d → ⊥) → getD (set xs d x) k 0 ≡ getD xs k 0
   set-other k ne = getD-set-other xs d k x 0 ne
 
-pub only-zero : (l k : ℕ) → 1 ≤ k → k < 32 → getD (only l) k 0 ≡ 0
+pub only-zero : (l k : ℕ) → 1 ≤ k → k < 32 → getD (bottomAlone l) k 0 ≡ 0
 only-zero l zero a b = absurd (omega arith)
 only-zero l (suc k) a b = getD-replicate 31 k 0 0 (omega arith)
 
-module _ (i : Image) (sound : Sound i) where
+module _ (i : Image) (sound : SoundImage i) where
   -- ---- states that hold the same at some places
   module _ (s t : State) where
     same-carry : (k : ℕ) → placeAt t k ≡ placeAt s k → numberAt t (k + 1) ≡ numberAt s (k + 1) → serverAt t (k + 1) ≡ serverAt s (k + 1)
@@ -46,10 +47,11 @@ module _ (i : Image) (sound : Sound i) where
 
     same-bottom : placeAt t 0 ≡ placeAt s 0 → numberAt t 0 ≡ numberAt s 0 → serverAt t 0 ≡ serverAt s 0 → badBottom i t ≡ badBottom i s
     same-bottom a b c =
-        ap (λ (x : ℕ). bottomBy i sound x (isOwn t 1) (isOwn t (i .handler))) a
+        ap (λ (x : ℕ). bottomBy i sound x (isOwnBottom t 1) (isOwnBottom t (i .handler))) a
         ∙ ap₂ (λ (x y : ℕ). bottomBy i sound (placeAt s 0) (eqb x 1 && eqb y 1) (eqb x (i .handler) && eqb y (i .handler))) b c
 
-    same-filled : (k : ℕ) → placeAt t k ≡ placeAt s k → numberAt t k ≡ numberAt s k → serverAt t k ≡ serverAt s k → filledPlace t k ≡ filledPlace s k
+    same-filled : (k : ℕ) → placeAt t k ≡ placeAt s k → numberAt t k ≡ numberAt s k
+        → serverAt t k ≡ serverAt s k → filledPlace t k ≡ filledPlace s k
     same-filled k a b c =
         ap₂ (λ (x y : ℕ). not (eqb x 0 && eqb y 0 && eqb (serverAt t k) 0)) a b
         ∙ ap (λ (x : ℕ). not (eqb (placeAt s k) 0 && eqb (numberAt s k) 0 && eqb x 0)) c
@@ -111,9 +113,9 @@ module _ (i : Image) (sound : Sound i) where
       bottom : (0 < s .depth - 1) ⊎ (s .depth - 1 ≤ 0) → badBottom i t ≡ false
       bottom (inl p) = same-bottom s t (other 0 (λ q. omega arith)) refl refl ∙ f .bottom
       bottom (inr p) = let q : s .depth - 1 ≡ 0 = omega arith in
-          ap (λ (x : ℕ). bottomBy i sound x (isOwn s 1) (isOwn s (i .handler))) (same 0 (sym q))
-          ∙ bottom-leads i sound (placeAt s (s .depth - 1)) u (isOwn s 1) (isOwn s (i .handler)) ne
-          (ap (λ (j : ℕ). bottomBy i sound (placeAt s j) (isOwn s 1) (isOwn s (i .handler))) q ∙ f .bottom) r
+          ap (λ (x : ℕ). bottomBy i sound x (isOwnBottom s 1) (isOwnBottom s (i .handler))) (same 0 (sym q))
+          ∙ bottom-leads i sound (placeAt s (s .depth - 1)) u (isOwnBottom s 1) (isOwnBottom s (i .handler)) ne
+          (ap (λ (j : ℕ). bottomBy i sound (placeAt s j) (isOwnBottom s 1) (isOwnBottom s (i .handler))) q ∙ f .bottom) r
 
   pub opening-fits : (s : State) (l h k : ℕ) (b : Results) → Fits i s → s .depth < s .size → l < length (i .labels)
       → mayCarry i (placeAt s (s .depth - 1)) h k l ≡ true → Fits i (opening s l h k b)
@@ -129,7 +131,8 @@ module _ (i : Image) (sound : Sound i) where
     most = room;
     labels = λ j m. labels j (split j d) m;
     carries = λ j m. carries j (split (j + 1) d) m;
-    bottom = same-bottom s t (place 0 (λ q. omega (arith, f .some))) (number 0 (λ q. omega (arith, f .some))) (server 0 (λ q. omega (arith, f .some)))
+    bottom = same-bottom s t (place 0 (λ q. omega (arith, f .some))) (number 0 (λ q. omega (arith, f .some)))
+        (server 0 (λ q. omega (arith, f .some)))
         ∙ f .bottom;
     above = λ j a m. same-filled s t j (place j (λ q. omega arith)) (number j (λ q. omega arith)) (server j (λ q. omega arith))
         ∙ f .above j (omega arith) m;
@@ -156,7 +159,8 @@ module _ (i : Image) (sound : Sound i) where
 
       labels : (j : ℕ) → (j < d) ⊎ (d ≤ j) → j < suc d → placeAt t j < length (i .labels)
       labels j (inl p) m = subst (λ (x : ℕ). x < length (i .labels)) (sym (place j (λ q. omega arith))) (f .labels j p)
-      labels j (inr p) m = subst (λ (x : ℕ). x < length (i .labels)) (sym (set-at (s .places) d l (f .whole .places) deep j (omega arith))) low
+      labels j (inr p) m = subst (λ (x : ℕ). x < length (i .labels))
+          (sym (set-at (s .places) d l (f .whole .places) deep j (omega arith))) low
 
       carries : (j : ℕ) → (j + 1 < d) ⊎ (d ≤ j + 1) → j + 1 < suc d → carry i t j ≡ true
       carries j (inl p) m =
@@ -226,7 +230,7 @@ module _ (i : Image) (sound : Sound i) where
     small = f .small;
     some = omega arith;
     most = omega (arith, f .some, f .most);
-    labels = λ k m. subst (λ (j : ℕ). getD (only l) j 0 < length (i .labels)) (let z : 0 ≡ k = omega arith in z) low;
+    labels = λ k m. subst (λ (j : ℕ). getD (bottomAlone l) j 0 < length (i .labels)) (let z : 0 ≡ k = omega arith in z) low;
     carries = λ k m. absurd (omega arith);
     bottom = o;
     above = λ k a m. ap₂ (λ (x y : ℕ). not (eqb x 0 && eqb y 0 && eqb y 0)) (only-zero l k a m) (only-zero h k a m);

@@ -9,12 +9,12 @@ use Rattle.lists.proofs.Tests.{or-l, or-r}
 use Rattle.state.specs.declared.State.{State}
 use Rattle.fitness.specs.Fitness.{badDepth}
 
-pub record Deep (s : State) : Type 0 where
+pub record DeepState (s : State) : Type 0 where
   pub some : 1 ≤ s .depth
   pub most : s .depth ≤ s .size
   pub small : s .size ≤ 32
 
-pub deep-told : (s : State) → badDepth s ≡ false → Deep s
+pub deep-told : (s : State) → badDepth s ≡ false → DeepState s
 deep-told s e =
     let z : Bool = eqb (s .size) 0 in
     let h : Bool = ltb 32 (s .size) in
@@ -29,7 +29,7 @@ deep-told s e =
       small = ltb-false 32 (s .size) (or-r z h e₂);
     }
 
-pub deep-fine : (s : State) → Deep s → badDepth s ≡ false
+pub deep-fine : (s : State) → DeepState s → badDepth s ≡ false
 deep-fine s y =
     rw (
       ne-eqb (s .size) 0 (λ p. omega (arith, y .some, y .most)),

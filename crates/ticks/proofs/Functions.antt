@@ -1,4 +1,5 @@
--- A function's label takes its row for bit 0 if nothing writes 1 to the bit of the number called meanwhile: from the call on the bit is 0, and the
+-- A function's label takes its row for bit 0 if nothing writes 1 to the bit of the number called meanwhile:
+-- from the call on the bit is 0, and the
 -- label stays in its place under the top, until the call's own return.
 use Prim.Native.Nat.{ℕ, zero, suc, _+_, _-_, _≤_, _<_}
 use mathlib.Core.Bool.{Bool, true, false, _&&_}
@@ -11,13 +12,14 @@ use native.Mathlib.Omega.{arith}
 use borrow.Author.Tests.{eqb-true, eqb-false, eq-eqb, lt-leb}
 use Rattle.lists.specs.Pick.{pick}
 use Rattle.lists.proofs.Tests.{no-both, or-l, or-cases, and-l, and-r, and-true, and-false, split}
-use Rattle.bits.specs.Results.{Results, resultOf, withResult, cleared}
-use Rattle.bits.specs.Binding.{served}
-use Rattle.bits.proofs.ResultLaws.{cleared-own, cleared-keeps, result-keeps}
+use Rattle.results.specs.Results.{Results, resultOf, withResult, cleared}
+use Rattle.bindings.specs.Binding.{served}
+use Rattle.results.proofs.ResultLaws.{cleared-own, cleared-keeps, result-keeps}
 use Rattle.frames.specs.Frame.{contents}
+use Rattle.image.specs.Layout.{tickKind}
 use Rattle.image.specs.Image.{Image, Label, noLabel, returnLabel}
 use Rattle.image.specs.Decode.{decoded}
-use Rattle.image.proofs.Sound.{Sound}
+use Rattle.image.specs.inner.Sound.{SoundImage}
 use Rattle.image.proofs.Accepted.{image-sound}
 use Rattle.rows.specs.Rows.{bestRow, Found, found, missing, leads}
 use Rattle.state.specs.declared.State.{State}
@@ -26,13 +28,14 @@ use Rattle.state.specs.Changes.{withBits}
 use Rattle.fitness.specs.Fitness.{isCall, ofHandler}
 use Rattle.fitness.proofs.FitCases.{kind-call}
 use Rattle.fitness.proofs.Fitness.{Fits, unfits}
-use Rattle.ticks.specs.Tick.{rowOf, Ticked, ticked, stopped, moved, alone, dropping, keepsFull, pushed, popped, tickBy, tick}
-use Rattle.ticks.specs.Parts.{topOf}
-use Rattle.ticks.specs.Functions.{findsFull, CallClears, Drop, Drops, writesOne, returnsAt, Unwritten, none, more, bound, returned, ZeroRow}
+use Rattle.ticks.specs.Tick.{rowLeads, MachineTick, finished, stopped, moved, alone, dropping}
+use Rattle.ticks.specs.Tick.{keepsFull, pushed, popped, tickBy, tick, topOf}
+use Rattle.ticks.specs.Functions.{findsFull, CallClears, Drop, Drops, machineWritesOne, returnsAt}
+use Rattle.ticks.specs.Functions.{MachineUnwritten, none, more, bindingChanged, returnTick, ZeroRow}
 
 -- ---- a finished call
-abbrev Cleared : ℕ → Ticked → Type 0
-Cleared h (ticked m code t) = resultOf h (t .bits) ≡ false
+abbrev Cleared : ℕ → MachineTick → Type 0
+Cleared h (finished m code t) = resultOf h (t .bits) ≡ false
 Cleared h (stopped n) = Unit {0}
 
 pub call-clears : CallClears
@@ -51,7 +54,7 @@ call-clears i s call w m code t e =
     b = withResult (x .result) (numberAt s (s .depth - 1)) (s .bits)
 
     drops : (m : ℕ) (r : Bool) → Cleared (i .handler) (pick r (stopped 17)
-        (ticked m 96 (alone s (entryAt i (i .handler)) (i .handler) (cleared (i .handler) b))))
+        (finished m 96 (alone s (entryAt i (i .handler)) (i .handler) (cleared (i .handler) b))))
     drops m true = tt
     drops m false = cleared-own (i .handler) b
 
@@ -60,18 +63,19 @@ call-clears i s call w m code t e =
     pushes m code false = cleared-own h b
 
     go : (eqb (x .kind) 1 ≡ true) ⊎ (eqb (x .kind) 2 ≡ true)
-        → Cleared (pick (leb (s .size) (s .depth)) (i .handler) h) (tickBy i s w (topOf s) x b (x .kind))
+        → Cleared (pick (leb (s .size) (s .depth)) (i .handler) h) (tickBy i s w (topOf s) x b (tickKind (x .kind)))
     go (inl p) = rw (eqb-true (x .kind) 1 p) (pushes (x .mask) (16 + h) (leb (s .size) (s .depth)))
     go (inr p) = rw (eqb-true (x .kind) 2 p) (pushes (x .mask) (64 + h) (leb (s .size) (s .depth)))
 
 -- ---- a drop
-abbrev Dropped : Image → Label → State → Ticked → Type 0
-Dropped i x s (ticked m code t) = Drop i x s m code t
+abbrev Dropped : Image → Label → State → MachineTick → Type 0
+Dropped i x s (finished m code t) = Drop i x s m code t
 Dropped i x s (stopped n) = Unit {0}
 
 pub drops : Drops
 unfolding Drops tick
-drops i s full w m code t e = subst (Dropped i x s) e (go (or-cases (eqb (x .kind) 1) (eqb (x .kind) 2) (and-l (isCall x) (leb (s .size) (s .depth)) full)))
+drops i s full w m code t e = subst (Dropped i x s) e
+    (go (or-cases (eqb (x .kind) 1) (eqb (x .kind) 2) (and-l (isCall x) (leb (s .size) (s .depth)) full)))
   where
     x : Label
     x = labelAt i (topOf s)
@@ -80,7 +84,7 @@ drops i s full w m code t e = subst (Dropped i x s) e (go (or-cases (eqb (x .kin
     b = withResult (x .result) (numberAt s (s .depth - 1)) (s .bits)
 
     dropped : (r : Bool) → keepsFull i s ≡ r → Dropped i x s (pick r (stopped 17)
-        (ticked (x .mask) 96 (alone s (entryAt i (i .handler)) (i .handler) (cleared (i .handler) b))))
+        (finished (x .mask) 96 (alone s (entryAt i (i .handler)) (i .handler) (cleared (i .handler) b))))
     dropped true q = tt
     dropped false q = record {
       mask = refl;
@@ -99,9 +103,11 @@ drops i s full w m code t e = subst (Dropped i x s) e (go (or-cases (eqb (x .kin
     pushes code true q = dropped (keepsFull i s) refl
     pushes code false q = no-both false q refl
 
-    go : (eqb (x .kind) 1 ≡ true) ⊎ (eqb (x .kind) 2 ≡ true) → Dropped i x s (tickBy i s w (topOf s) x b (x .kind))
-    go (inl p) = rw (eqb-true (x .kind) 1 p) (pushes (16 + x .called) (leb (s .size) (s .depth)) (and-r (isCall x) (leb (s .size) (s .depth)) full))
-    go (inr p) = rw (eqb-true (x .kind) 2 p) (pushes (64 + x .called) (leb (s .size) (s .depth)) (and-r (isCall x) (leb (s .size) (s .depth)) full))
+    go : (eqb (x .kind) 1 ≡ true) ⊎ (eqb (x .kind) 2 ≡ true) → Dropped i x s (tickBy i s w (topOf s) x b (tickKind (x .kind)))
+    go (inl p) = rw (eqb-true (x .kind) 1 p)
+        (pushes (16 + x .called) (leb (s .size) (s .depth)) (and-r (isCall x) (leb (s .size) (s .depth)) full))
+    go (inr p) = rw (eqb-true (x .kind) 2 p)
+        (pushes (64 + x .called) (leb (s .size) (s .depth)) (and-r (isCall x) (leb (s .size) (s .depth)) full))
 
 -- a call that does not find the stack full has a place free
 free : (i : Image) (s : State) → findsFull i s ≡ false → isCall (labelAt i (topOf s)) ≡ true → leb (s .size) (s .depth) ≡ false
@@ -114,8 +120,8 @@ module _ (l d h : ℕ) (some : 1 ≤ d) (deep : 2 ≤ h) where
     label : placeAt s (d - 1) ≡ l
     unset : resultOf h (s .bits) ≡ false
 
-  abbrev After : Ticked → Type 0
-  After (ticked m code t) = Waits t
+  abbrev After : MachineTick → Type 0
+  After (finished m code t) = Waits t
   After (stopped n) = Unit {0}
 
   module _ (i : Image) (s : State) (y : Waits s) where
@@ -140,7 +146,7 @@ module _ (l d h : ℕ) (some : 1 ≤ d) (deep : 2 ≤ h) where
     popped-waits : (w m : ℕ) (b : Results) → (s .depth ≡ suc d → ⊥) → resultOf h b ≡ false → After (popped i s w m b (leb (s .depth) 1))
     popped-waits w m b low e =
         subst (λ (t : Bool). After (popped i s w m b t)) (sym (lt-leb (s .depth) 1 (omega (arith, y .above))))
-        (moved-waits m 3 (dropping s b) (s .depth - 2) (rowOf i b (placeAt s (s .depth - 2)) w) (λ p. omega (arith, y .above))
+        (moved-waits m 3 (dropping s b) (s .depth - 2) (rowLeads i b (placeAt s (s .depth - 2)) w) (λ p. omega (arith, y .above))
         (record {
           above = omega (arith, y .above);
           label = getD-set-other (s .places) (s .depth - 1) (d - 1) 0 0 (λ p. omega (arith, y .above)) ∙ y .label;
@@ -149,9 +155,9 @@ module _ (l d h : ℕ) (some : 1 ≤ d) (deep : 2 ≤ h) where
 
     -- by the tick kind of the top label; a call has a place free, and a return is not the call's own
     by-waits : (w k : ℕ) (x : Label) (b : Results) → resultOf h b ≡ false → (1 ≤ k → k ≤ 2 → leb (s .size) (s .depth) ≡ false)
-        → (k ≡ 3 → s .depth ≡ suc d → ⊥) → After (tickBy i s w (topOf s) x b k)
+        → (k ≡ 3 → s .depth ≡ suc d → ⊥) → After (tickBy i s w (topOf s) x b (tickKind k))
     by-waits w zero x b e room own =
-        moved-waits (x .mask) 0 (withBits s b) (s .depth - 1) (rowOf i b (topOf s) w) (λ p. omega (arith, y .above)) (bits-wait b e)
+        moved-waits (x .mask) 0 (withBits s b) (s .depth - 1) (rowLeads i b (topOf s) w) (λ p. omega (arith, y .above)) (bits-wait b e)
     by-waits w (suc zero) x b e room own =
         pushed-waits (x .mask) (16 + x .called) (x .called) (served (s .serving) (x .called)) b (room (omega arith) (omega arith)) e
     by-waits w (suc (suc zero)) x b e room own =
@@ -160,7 +166,7 @@ module _ (l d h : ℕ) (some : 1 ≤ d) (deep : 2 ≤ h) where
     by-waits w (suc (suc (suc (suc k)))) x b e room own =
         moved-waits (x .mask) 4 (withBits s b) (s .depth - 1) (found (entryAt i 1)) (λ p. omega (arith, y .above)) (bits-wait b e)
 
-    tick-waits : (w : ℕ) → findsFull i s ≡ false → returnsAt i (suc d) s ≡ false → writesOne i h s ≡ false → After (tick i s w)
+    tick-waits : (w : ℕ) → findsFull i s ≡ false → returnsAt i (suc d) s ≡ false → machineWritesOne i h s ≡ false → After (tick i s w)
     unfolding tick
     tick-waits w room own unwritten =
         let x : Label = labelAt i (topOf s) in
@@ -170,13 +176,13 @@ module _ (l d h : ℕ) (some : 1 ≤ d) (deep : 2 ≤ h) where
         (λ low high. free i s room (kind-call (x .kind) low (omega arith)))
         (λ p q. no-both _ (and-true _ _ (eq-eqb (x .kind) 3 p) (eq-eqb (s .depth) (suc d) q)) own)
 
-  all-wait : (i : Image) {s t : State} → Unwritten i h (suc d) s t → Waits s → Waits t
+  all-wait : (i : Image) {s t : State} → MachineUnwritten i h (suc d) s t → Waits s → Waits t
   all-wait i none y = y
   all-wait i {s = s} (more w e room own unwritten rest) y = all-wait i rest (subst After e (tick-waits i s y w room own unwritten))
-  all-wait i (bound g rest) y = all-wait i rest (record { above = y .above; label = y .label; unset = y .unset })
+  all-wait i (bindingChanged g rest) y = all-wait i rest (record { above = y .above; label = y .label; unset = y .unset })
 
 -- ---- the labels of a sound image
-module _ (i : Image) (sound : Sound i) where
+module _ (i : Image) (sound : SoundImage i) where
   -- only label 1 returns
   return-is : (l : ℕ) → labelAt i l .kind ≡ 3 → labelAt i l ≡ returnLabel
   return-is zero k = absurd (omega (arith, ap (λ (x : Label). x .kind) (sound .home)))
@@ -204,14 +210,15 @@ module _ (i : Image) (sound : Sound i) where
     deep = function-calls (topOf s) (f .labels (s .depth - 1) (omega (arith, f .some))) kinded
 
     -- the call
-    called-waits : (w m code : ℕ) (t : State) → tick i s w ≡ ticked m code t → findsFull i s ≡ false
+    called-waits : (w m code : ℕ) (t : State) → tick i s w ≡ finished m code t → findsFull i s ≡ false
         → Waits (topOf s) (s .depth) h (f .some) deep t
     unfolding tick
     called-waits w m code t e room =
         subst (After (topOf s) (s .depth) h (f .some) deep)
         (ap (pushed i s (x .mask) (64 + h) h (served (s .serving) h) (withResult (x .result) (numberAt s (s .depth - 1)) (s .bits)))
         (sym (free i s room (rw kinded)))
-        ∙ sym (ap (tickBy i s w (topOf s) x (withResult (x .result) (numberAt s (s .depth - 1)) (s .bits))) kinded) ∙ e)
+        ∙ sym (ap (λ (n : ℕ). tickBy i s w (topOf s) x (withResult (x .result) (numberAt s (s .depth - 1)) (s .bits)) (tickKind n)) kinded)
+        ∙ e)
         (record {
           above = omega arith;
           label = getD-set-other (s .places) (s .depth) (s .depth - 1) (entryAt i (served (s .serving) h)) 0 (λ p. omega (arith, f .some));
@@ -220,23 +227,25 @@ module _ (i : Image) (sound : Sound i) where
 
     -- its own return
     own-return : (u : State) → Waits (topOf s) (s .depth) h (f .some) deep u → returnsAt i (suc (s .depth)) u ≡ true
-        → (v : ℕ) → tick i u v ≡ returned u (leads (bestRow (topOf s) v 0 0 (i .rows)))
+        → (v : ℕ) → tick i u v ≡ returnTick u (leads (bestRow (topOf s) v 0 0 (i .rows)))
     unfolding tick
     own-return u y own v =
         let z : Label = labelAt i (topOf u) in
-        let d : u .depth ≡ suc (s .depth) = eqb-true (u .depth) (suc (s .depth)) (and-r (eqb (z .kind) 3) (eqb (u .depth) (suc (s .depth))) own) in
+        let d : u .depth ≡ suc (s .depth) =
+        eqb-true (u .depth) (suc (s .depth)) (and-r (eqb (z .kind) 3) (eqb (u .depth) (suc (s .depth))) own) in
         let k : z .kind ≡ 3 = eqb-true (z .kind) 3 (and-l (eqb (z .kind) 3) (eqb (u .depth) (suc (s .depth))) own) in
         let p : u .depth - 2 ≡ s .depth - 1 = omega arith in
-        ap (λ (c : Label). tickBy i u v (topOf u) c (withResult (c .result) (numberAt u (u .depth - 1)) (u .bits)) (c .kind)) (return-is (topOf u) k)
+        ap (λ (c : Label). tickBy i u v (topOf u) c (withResult (c .result) (numberAt u (u .depth - 1)) (u .bits)) (tickKind (c .kind)))
+        (return-is (topOf u) k)
         ∙ ap (popped i u v 0 (u .bits)) (lt-leb (u .depth) 1 (omega (arith, f .some)))
-        ∙ ap (λ (l : ℕ). returned u (rowOf i (u .bits) l v)) (ap (placeAt u) p ∙ y .label)
-        ∙ ap (λ (t : Bool). returned u (leads (bestRow (topOf s) v (pick t 1 0) 0 (i .rows)))) (y .unset)
+        ∙ ap (λ (l : ℕ). returnTick u (rowLeads i (u .bits) l v)) (ap (placeAt u) p ∙ y .label)
+        ∙ ap (λ (t : Bool). returnTick u (leads (bestRow (topOf s) v (pick t 1 0) 0 (i .rows)))) (y .unset)
 
 pub zero-row : ZeroRow
 unfolding ZeroRow
 zero-row text passes s sized fit kinded w m code t u e room ticks own v =
     let i : Image = decoded (contents text) in
-    let sound : Sound i = image-sound text passes in
+    let sound : SoundImage i = image-sound text passes in
     let f : Fits i s = unfits i s sized fit in
     own-return i sound s f kinded u
     (all-wait (topOf s) (s .depth) (labelAt i (topOf s) .called) (f .some) (deep i sound s f kinded) i ticks

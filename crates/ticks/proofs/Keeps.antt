@@ -11,14 +11,15 @@ use borrow.Author.Tests.{eqb-false, eq-eqb, leb-true, leb-false}
 use Rattle.lists.specs.Pick.{pick}
 use Rattle.lists.proofs.Ranges.{getD-range}
 use Rattle.lists.proofs.Tests.{and-true}
-use Rattle.bits.specs.Results.{Results, withResult, cleared}
-use Rattle.bits.specs.Binding.{ownBinding, served}
+use Rattle.results.specs.Results.{Results, withResult, cleared}
+use Rattle.bindings.specs.Binding.{ownBinding, served}
 use Rattle.frames.specs.Frame.{contents}
 use Rattle.frames.specs.Verdict.{fine}
+use Rattle.image.specs.Layout.{tickKind}
 use Rattle.image.specs.Image.{Image, Label}
 use Rattle.image.specs.Decode.{decoded}
 use Rattle.image.specs.Check.{imageVerdict}
-use Rattle.image.proofs.Sound.{Reaches, Sound}
+use Rattle.image.specs.inner.Sound.{Reaches, SoundImage}
 use Rattle.image.proofs.Accepted.{image-sound}
 use Rattle.rows.specs.Rows.{Found, found, missing}
 use Rattle.state.specs.declared.State.{State}
@@ -26,18 +27,20 @@ use Rattle.state.specs.State.{fresh, labelAt, entryAt, placeAt, numberAt, serve
 use Rattle.state.specs.Changes.{withPlace, withBits}
 use Rattle.fitness.specs.Fitness.{isCall, callable, ofHandler, badServed, unfit}
 use Rattle.fitness.proofs.Fitness.{Fits, fits, unfits, callable-range, range-callable, called-served}
-use Rattle.ticks.specs.Tick.{rowOf, Ticked, ticked, stopped, moved, dropping, alone, full, pushed, popped, tickBy, tick}
-use Rattle.ticks.proofs.Leads.{Sort, first, second, other, sort, row-leads, call-kind, called-range, not-return, reaches-over}
+use Rattle.ticks.specs.Tick.{rowLeads, MachineTick, finished, stopped, moved, dropping, alone, full, pushed, popped, tickBy, tick}
+use Rattle.ticks.proofs.Leads.{Sort, homeSort, returnSort, numberedSort, sort, row-leads}
+use Rattle.ticks.proofs.Leads.{call-kind, called-range, not-return, reaches-over}
 use Rattle.ticks.proofs.Leads.{enters, carry-told, may-carry, home-bottom, handler-bottom}
 use Rattle.ticks.proofs.Changes.{only-zero, bits-fit, replaced-fits, opening-fits, dropping-fits, alone-fits}
 
-module _ (i : Image) (sound : Sound i) where
+module _ (i : Image) (sound : SoundImage i) where
   -- ---- one tick
-  abbrev pub Keeps : Ticked → Type 0
-  Keeps (ticked m k t) = Fits i t
+  abbrev pub Keeps : MachineTick → Type 0
+  Keeps (finished m k t) = Fits i t
   Keeps (stopped n) = Unit {0}
 
-  moved-keeps : (m code : ℕ) (t : State) (k : ℕ) (r : Found) → ((u : ℕ) → r ≡ found u → Fits i (withPlace t k u)) → Keeps (moved m code t k r)
+  moved-keeps : (m code : ℕ) (t : State) (k : ℕ) (r : Found)
+      → ((u : ℕ) → r ≡ found u → Fits i (withPlace t k u)) → Keeps (moved m code t k r)
   moved-keeps m code t k (found u) h = h u refl
   moved-keeps m code t k missing h = tt
 
@@ -51,8 +54,8 @@ module _ (i : Image) (sound : Sound i) where
     top-low : top < length (i .labels)
     top-low = f .labels (s .depth - 1) (omega (arith, f .some))
 
-    plain-keeps : (w : ℕ) (b : Results) → labelAt i top .kind ≡ 0 → Keeps (tickBy i s w top (labelAt i top) b 0)
-    plain-keeps w b e = moved-keeps _ 0 (withBits s b) _ (rowOf i b top w)
+    plain-keeps : (w : ℕ) (b : Results) → labelAt i top .kind ≡ 0 → Keeps (tickBy i s w top (labelAt i top) b (tickKind 0))
+    plain-keeps w b e = moved-keeps _ 0 (withBits s b) _ (rowLeads i b top w)
         (λ u q. replaced-fits i sound (withBits s b) u (bits-fit i sound s b f) (not-return i sound top top-low (λ p. omega arith))
         (row-leads i sound top w _ u q))
 
@@ -63,7 +66,7 @@ module _ (i : Image) (sound : Sound i) where
         h = i .handler
 
         go : (t : Bool) → eqb (i .handler) 0 ≡ t → (r : Bool)
-            → Keeps (pick (t || r) (stopped 17) (ticked m 96 (alone s (entryAt i (i .handler)) (i .handler) (cleared (i .handler) b))))
+            → Keeps (pick (t || r) (stopped 17) (finished m 96 (alone s (entryAt i (i .handler)) (i .handler) (cleared (i .handler) b))))
         go true e r = tt
         go false e true = tt
         go false e false =
@@ -106,12 +109,14 @@ module _ (i : Image) (sound : Sound i) where
         under : ℕ
         under = placeAt s (s .depth - 2)
 
-        back : 2 ≤ s .depth → (u : ℕ) → Reaches i (labelAt i (placeAt s (s .depth - 2)) .owner) u → Fits i (withPlace (dropping s b) (s .depth - 2) u)
+        back : 2 ≤ s .depth → (u : ℕ) → Reaches i (labelAt i (placeAt s (s .depth - 2)) .owner) u
+            → Fits i (withPlace (dropping s b) (s .depth - 2) u)
         back two u r =
             let d : s .depth - 1 - 1 ≡ s .depth - 2 = omega arith in
             let same : placeAt t (s .depth - 1 - 1) ≡ under =
             ap (placeAt t) d ∙ getD-set-other (s .places) (s .depth - 1) (s .depth - 2) 0 0 (λ q. omega arith) in
-            let told = carry-told i sound under (numberAt s (s .depth - 2 + 1)) (serverAt s (s .depth - 2 + 1)) (placeAt s (s .depth - 2 + 1))
+            let told = carry-told i sound under (numberAt s (s .depth - 2 + 1))
+            (serverAt s (s .depth - 2 + 1)) (placeAt s (s .depth - 2 + 1))
             (f .carries (s .depth - 2) (omega arith)) in
             let c = call-kind i sound under (told .0) in
             subst (λ (j : ℕ). Fits i (withPlace (dropping s b) j u)) d
@@ -121,17 +126,17 @@ module _ (i : Image) (sound : Sound i) where
 
         go : (t : Bool) → leb (s .depth) 1 ≡ t → Keeps (popped i s w m b t)
         go true q = alone-fits i sound s 0 1 b f (omega (arith, sound .two)) (home-bottom i sound _)
-        go false q = moved-keeps m 3 (dropping s b) _ (rowOf i b (placeAt s (s .depth - 2)) w)
+        go false q = moved-keeps m 3 (dropping s b) _ (rowLeads i b (placeAt s (s .depth - 2)) w)
             (λ u p. back (leb-false (s .depth) 1 q) u (row-leads i sound (placeAt s (s .depth - 2)) w _ u p))
 
     home-keeps : (b : Results) → 4 ≤ labelAt i top .kind → Fits i (withPlace (withBits s b) (s .depth - 1) (entryAt i 1))
     home-keeps b e = go (sort i sound top top-low)
       where
         go : Sort i sound top → Fits i (withPlace (withBits s b) (s .depth - 1) (entryAt i 1))
-        go (first z q o) = replaced-fits i sound (withBits s b) (entryAt i 1) (bits-fit i sound s b f) (λ p. omega arith)
+        go (homeSort z q o) = replaced-fits i sound (withBits s b) (entryAt i 1) (bits-fit i sound s b f) (λ p. omega arith)
             (subst (λ (h : ℕ). Reaches i h (entryAt i 1)) (sym o) (sound .starts 0 (sound .first)))
-        go (second z q o) = absurd (omega arith)
-        go (other z q) = absurd (omega arith)
+        go (returnSort z q o) = absurd (omega arith)
+        go (numberedSort z q) = absurd (omega arith)
 
     pub tick-keeps : (w : ℕ) → Keeps (tick i s w)
     unfolding tick
@@ -144,7 +149,8 @@ module _ (i : Image) (sound : Sound i) where
         b = withResult (x .result) (numberAt s (s .depth - 1)) (s .bits)
 
         go : (k : ℕ) → labelAt i top .kind ≡ k
-            → Keeps (tickBy i s w top (labelAt i top) (withResult (labelAt i top .result) (numberAt s (s .depth - 1)) (s .bits)) k)
+            → Keeps (tickBy i s w top (labelAt i top) (withResult (labelAt i top .result) (numberAt s (s .depth - 1)) (s .bits))
+            (tickKind k))
         go zero e = plain-keeps w b e
         go (suc zero) e = call-keeps _ _ b (rw e)
         go (suc (suc zero)) e = call-keeps _ _ b (rw e)
@@ -185,6 +191,6 @@ module _ (text : List ℕ) (passes : imageVerdict text ≡ fine) (s : State) (si
   abbrev image : Image
   image = decoded (contents text)
 
-  pub tick-fits : (w m code : ℕ) (t : State) → tick image s w ≡ ticked m code t → unfit image t ≡ false
+  pub tick-fits : (w m code : ℕ) (t : State) → tick image s w ≡ finished m code t → unfit image t ≡ false
   tick-fits w m code t e = fits image t
       (subst (Keeps image (image-sound text passes)) e (tick-keeps image (image-sound text passes) s (unfits image s sized fit) w))

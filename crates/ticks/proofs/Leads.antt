@@ -9,22 +9,22 @@ use native.Mathlib.Omega.{arith}
 use borrow.Author.Tests.{eqb-true, eqb-false, eq-eqb, ne-eqb}
 use Rattle.lists.specs.Pick.{pick}
 use Rattle.lists.proofs.Tests.{or-cases, or-true-l, or-true-r, and-l, and-r, and-true, not-true, not-false}
-use Rattle.image.specs.Image.{Image, Label, Row}
-use Rattle.image.proofs.Sound.{nthRow, endOf, Reaches, Sound}
+use Rattle.image.specs.Image.{Image, Label, Row, nthRow}
+use Rattle.image.specs.inner.Sound.{endOf, Reaches, SoundImage}
 use Rattle.state.specs.State.{labelAt, entryAt}
 use Rattle.fitness.specs.Fitness.{isCall, callable, mayCarry, ofHandler}
 use Rattle.fitness.proofs.Fitness.{callable-range}
-use Rattle.rows.specs.Rows.{matches, Choice, row, none, bestRow, found, missing, leads}
+use Rattle.rows.specs.Rows.{matches, Choice, row, noChoice, bestRow, found, missing, leads}
 use Rattle.rows.specs.Choices.{Best}
 use Rattle.rows.proofs.BestRows.{best-is}
 
-module _ (i : Image) (sound : Sound i) where
+module _ (i : Image) (sound : SoundImage i) where
   -- a row that is taken is one of the label's
   pub row-leads : (l w b u : ℕ) → leads (bestRow l w b 0 (i .rows)) ≡ found u → Reaches i (labelAt i l .owner) u
   row-leads l w b u e = go (bestRow l w b 0 (i .rows)) refl
     where
       go : (x : Choice) → bestRow l w b 0 (i .rows) ≡ x → Reaches i (labelAt i l .owner) u
-      go none q = absurd (let p : missing ≡ found u = sym (ap leads q) ∙ e in let z : _≡_ {A = ℕ} 0 1 = cc in omega arith)
+      go noChoice q = absurd (let p : missing ≡ found u = sym (ap leads q) ∙ e in let z : _≡_ {A = ℕ} 0 1 = cc in omega arith)
       go (row k r) q =
           let best : Best l w b (i .rows) k r = best-is l w b (i .rows) k r q in
           let from : r .from ≡ l = eqb-true (r .from) l (and-l (eqb (r .from) l) (matches w b r) (best .matches)) in
@@ -36,14 +36,14 @@ module _ (i : Image) (sound : Sound i) where
 
   -- ---- labels by their kind
   pub data Sort (l : ℕ) : Type 0 where
-    first : l ≡ 0 → labelAt i l .kind ≡ 4 → labelAt i l .owner ≡ 1 → Sort l
-    second : l ≡ 1 → labelAt i l .kind ≡ 3 → labelAt i l .owner ≡ 0 → Sort l
-    other : 2 ≤ l → labelAt i l .kind ≤ 2 → Sort l
+    homeSort : l ≡ 0 → labelAt i l .kind ≡ 4 → labelAt i l .owner ≡ 1 → Sort l
+    returnSort : l ≡ 1 → labelAt i l .kind ≡ 3 → labelAt i l .owner ≡ 0 → Sort l
+    numberedSort : 2 ≤ l → labelAt i l .kind ≤ 2 → Sort l
 
   pub sort : (l : ℕ) → l < length (i .labels) → Sort l
-  sort zero m = first refl (ap (λ (x : Label). x .kind) (sound .home)) (ap (λ (x : Label). x .owner) (sound .home))
-  sort (suc zero) m = second refl (ap (λ (x : Label). x .kind) (sound .back)) (ap (λ (x : Label). x .owner) (sound .back))
-  sort (suc (suc l)) m = other (omega arith) (sound .others (suc (suc l)) (omega arith) m .kinds)
+  sort zero m = homeSort refl (ap (λ (x : Label). x .kind) (sound .home)) (ap (λ (x : Label). x .owner) (sound .home))
+  sort (suc zero) m = returnSort refl (ap (λ (x : Label). x .kind) (sound .back)) (ap (λ (x : Label). x .owner) (sound .back))
+  sort (suc (suc l)) m = numberedSort (omega arith) (sound .others (suc (suc l)) (omega arith) m .kinds)
 
   pub call-kind : (l : ℕ) → isCall (labelAt i l) ≡ true → (1 ≤ labelAt i l .kind) × (labelAt i l .kind ≤ 2)
   call-kind l e = go (or-cases (eqb (labelAt i l .kind) 1) (eqb (labelAt i l .kind) 2) e)
@@ -58,33 +58,33 @@ module _ (i : Image) (sound : Sound i) where
   called-range l m k = go (sort l m)
     where
       go : Sort l → (2 ≤ labelAt i l .called) × (labelAt i l .called ≤ length (i .entries))
-      go (first z q o) = absurd (omega arith)
-      go (second z q o) = absurd (omega arith)
-      go (other z q) = sound .others l z m .calls (λ p. omega arith)
+      go (homeSort z q o) = absurd (omega arith)
+      go (returnSort z q o) = absurd (omega arith)
+      go (numberedSort z q) = sound .others l z m .calls (λ p. omega arith)
 
   pub not-return : (l : ℕ) → l < length (i .labels) → (labelAt i l .kind ≡ 3 → ⊥) → l ≡ 1 → ⊥
   not-return l m k e = go (sort l m)
     where
       go : Sort l → ⊥
-      go (first z q o) = omega arith
-      go (second z q o) = k q
-      go (other z q) = omega arith
+      go (homeSort z q o) = omega arith
+      go (returnSort z q o) = k q
+      go (numberedSort z q) = omega arith
 
   end-other : (h : ℕ) → 2 ≤ h → endOf h ≡ 1
   end-other h l = ap (λ (t : Bool). pick t 0 1) (ne-eqb h 1 (λ p. omega arith))
 
   -- what a scheme of 2 and up may lead to may stand above a call that it serves
-  abbrev pub over : ℕ → ℕ → Bool
-  over k u = eqb u 1 || eqb (labelAt i u .owner) k
+  abbrev pub mayStandOver : ℕ → ℕ → Bool
+  mayStandOver k u = eqb u 1 || eqb (labelAt i u .owner) k
 
-  pub reaches-over : (k u : ℕ) → 2 ≤ k → Reaches i k u → over k u ≡ true
+  pub reaches-over : (k u : ℕ) → 2 ≤ k → Reaches i k u → mayStandOver k u ≡ true
   reaches-over k u l r = go (r .belongs)
     where
-      go : (labelAt i u .owner ≡ k) ⊎ (u ≡ endOf k) → over k u ≡ true
+      go : (labelAt i u .owner ≡ k) ⊎ (u ≡ endOf k) → mayStandOver k u ≡ true
       go (inl e) = or-true-r (eqb u 1) (eqb (labelAt i u .owner) k) (eq-eqb (labelAt i u .owner) k e)
       go (inr e) = or-true-l (eqb u 1) (eqb (labelAt i u .owner) k) (eq-eqb u 1 (e ∙ end-other k l))
 
-  over-owned : (k l : ℕ) → (l ≡ 1 → ⊥) → over k l ≡ true → labelAt i l .owner ≡ k
+  over-owned : (k l : ℕ) → (l ≡ 1 → ⊥) → mayStandOver k l ≡ true → labelAt i l .owner ≡ k
   over-owned k l n e = go (or-cases (eqb l 1) (eqb (labelAt i l .owner) k) e)
     where
       go : (eqb l 1 ≡ true) ⊎ (eqb (labelAt i l .owner) k ≡ true) → labelAt i l .owner ≡ k
@@ -102,20 +102,22 @@ module _ (i : Image) (sound : Sound i) where
     calls = isCall (labelAt i l) && eqb h (labelAt i l .called)
 
     pub carry-told : mayCarry i l h k a ≡ true
-        → (isCall (labelAt i l) ≡ true) × (h ≡ labelAt i l .called) × (callable i k ≡ true) × (over k a ≡ true)
+        → (isCall (labelAt i l) ≡ true) × (h ≡ labelAt i l .called) × (callable i k ≡ true) × (mayStandOver k a ≡ true)
     carry-told e =
-        let p : (calls && callable i k) ≡ true = and-l (calls && callable i k) (over k a) e in
+        let p : (calls && callable i k) ≡ true = and-l (calls && callable i k) (mayStandOver k a) e in
         let q : calls ≡ true = and-l calls (callable i k) p in (
           and-l (isCall (labelAt i l)) (eqb h (labelAt i l .called)) q,
           eqb-true h (labelAt i l .called) (and-r (isCall (labelAt i l)) (eqb h (labelAt i l .called)) q),
           and-r calls (callable i k) p,
-          and-r (calls && callable i k) (over k a) e,
+          and-r (calls && callable i k) (mayStandOver k a) e,
         )
 
-    pub may-carry : isCall (labelAt i l) ≡ true → h ≡ labelAt i l .called → callable i k ≡ true → over k a ≡ true → mayCarry i l h k a ≡ true
+    pub may-carry : isCall (labelAt i l) ≡ true → h ≡ labelAt i l .called → callable i k ≡ true
+        → mayStandOver k a ≡ true → mayCarry i l h k a ≡ true
     may-carry c e m o =
-        and-true (calls && callable i k) (over k a)
-        (and-true calls (callable i k) (and-true (isCall (labelAt i l)) (eqb h (labelAt i l .called)) c (eq-eqb h (labelAt i l .called) e)) m) o
+        and-true (calls && callable i k) (mayStandOver k a)
+        (and-true calls (callable i k) (and-true (isCall (labelAt i l)) (eqb h (labelAt i l .called)) c (eq-eqb h (labelAt i l .called) e))
+        m) o
 
   -- what is kept under a label is kept under what that leads to
   pub carry-leads : (l h k a u : ℕ) → (a ≡ 1 → ⊥) → mayCarry i l h k a ≡ true → Reaches i (labelAt i a .owner) u → mayCarry i l h k u ≡ true
@@ -132,7 +134,8 @@ module _ (i : Image) (sound : Sound i) where
       go (inl e) = e
       go (inr e) = ap (λ (l : ℕ). labelAt i l .owner) e ∙ ap (λ (x : Label). x .owner) (sound .home)
 
-  -- ---- the bottom: what scheme 1 leads to, and what the handler leads to; p and q say whether number and server are those of the one or the other
+  -- ---- the bottom: what scheme 1 leads to, and what the handler leads to;
+  -- p and q say whether number and server are those of the one or the other
   abbrev pub bottomBy : ℕ → Bool → Bool → Bool
   bottomBy l p q = not ((eqb (labelAt i l .owner) 1 && p) || (ofHandler i l && q))
 
@@ -144,16 +147,18 @@ module _ (i : Image) (sound : Sound i) where
     pub handler-bottom : 2 ≤ i .handler → Reaches i (i .handler) l → q ≡ true → bottomBy l p q ≡ false
     handler-bottom h r e = ap not (or-true-r (eqb (labelAt i l .owner) 1 && p) (ofHandler i l && q)
         (and-true (ofHandler i l) q
-        (and-true (not (eqb (i .handler) 0)) (over (i .handler) l) (ap not (ne-eqb (i .handler) 0 (λ z. omega arith)))
+        (and-true (not (eqb (i .handler) 0)) (mayStandOver (i .handler) l) (ap not (ne-eqb (i .handler) 0 (λ z. omega arith)))
         (reaches-over (i .handler) l h r)) e))
 
   pub home-bottom : (q : Bool) → bottomBy 0 true q ≡ false
   home-bottom q = first-bottom 0 true q (ap (λ (x : Label). x .owner) (sound .home)) refl
 
   handler-deep : (l : ℕ) → ofHandler i l ≡ true → (2 ≤ i .handler) × (i .handler ≤ length (i .entries))
-  handler-deep l e = sound .handled (eqb-false (i .handler) 0 (not-true (eqb (i .handler) 0) (and-l (not (eqb (i .handler) 0)) (over (i .handler) l) e)))
+  handler-deep l e = sound .handled
+      (eqb-false (i .handler) 0 (not-true (eqb (i .handler) 0) (and-l (not (eqb (i .handler) 0)) (mayStandOver (i .handler) l) e)))
 
-  pub bottom-leads : (l u : ℕ) (p q : Bool) → (l ≡ 1 → ⊥) → bottomBy l p q ≡ false → Reaches i (labelAt i l .owner) u → bottomBy u p q ≡ false
+  pub bottom-leads : (l u : ℕ) (p q : Bool) → (l ≡ 1 → ⊥) → bottomBy l p q ≡ false
+      → Reaches i (labelAt i l .owner) u → bottomBy u p q ≡ false
   bottom-leads l u p q n e r = go (or-cases (eqb (labelAt i l .owner) 1 && p) (ofHandler i l && q) (not-false _ e))
     where
       go : ((eqb (labelAt i l .owner) 1 && p) ≡ true) ⊎ ((ofHandler i l && q) ≡ true) → bottomBy u p q ≡ false
@@ -162,5 +167,6 @@ module _ (i : Image) (sound : Sound i) where
           first-bottom u p q (reaches-first u (subst (λ (h : ℕ). Reaches i h u) o r)) (and-r (eqb (labelAt i l .owner) 1) p a)
       go (inr a) =
           let m : ofHandler i l ≡ true = and-l (ofHandler i l) q a in
-          let o : labelAt i l .owner ≡ i .handler = over-owned (i .handler) l n (and-r (not (eqb (i .handler) 0)) (over (i .handler) l) m) in
+          let o : labelAt i l .owner ≡ i .handler =
+          over-owned (i .handler) l n (and-r (not (eqb (i .handler) 0)) (mayStandOver (i .handler) l) m) in
           handler-bottom u p q (handler-deep l m .0) (subst (λ (h : ℕ). Reaches i h u) o r) (and-r (ofHandler i l) q a)

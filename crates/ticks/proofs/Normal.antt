@@ -6,14 +6,16 @@ use native.Mathlib.Omega.{arith}
 use lib.Dec.{leb, eqb}
 use lib.ListN.{length, set, length-set}
 use Rattle.lists.specs.Pick.{pick}
-use Rattle.bits.specs.Results.{Results, withResult, cleared}
-use Rattle.bits.specs.Binding.{served}
+use Rattle.results.specs.Results.{Results, withResult, cleared}
+use Rattle.bindings.specs.Binding.{served}
+use Rattle.image.specs.Layout.{tickKind}
 use Rattle.image.specs.Image.{Image, Label}
 use Rattle.rows.specs.Rows.{Found, found, missing}
 use Rattle.state.specs.declared.State.{State}
 use Rattle.state.specs.State.{labelAt, entryAt, placeAt, numberAt, Sized}
 use Rattle.state.specs.Changes.{withBits}
-use Rattle.ticks.specs.Tick.{rowOf, Ticked, ticked, stopped, moved, dropping, alone, keepsFull, full, pushed, popped, tickBy, tick}
+use Rattle.ticks.specs.Tick.{rowLeads, MachineTick, finished, stopped, moved, dropping, alone}
+use Rattle.ticks.specs.Tick.{keepsFull, full, pushed, popped, tickBy, tick}
 
 length-result : (r h : ℕ) (b : Results) → length (withResult r h b) ≡ length b
 length-result r h b = go (eqb r 0)
@@ -29,8 +31,8 @@ pub record Same (s t : State) : Type 0 where
   pub bits : length (t .bits) ≡ length (s .bits)
   pub sized : Sized s → Sized t
 
-abbrev pub Normal : State → Ticked → Type 0
-Normal s (ticked m k t) = Same s t
+abbrev pub Normal : State → MachineTick → Type 0
+Normal s (finished m k t) = Same s t
 Normal s (stopped n) = 17 ≤ n
 
 module _ (i : Image) (s : State) where
@@ -82,7 +84,8 @@ module _ (i : Image) (s : State) where
   full-normal : (m : ℕ) (b : Results) → length b ≡ length (s .bits) → Normal s (full i s m b)
   full-normal m b e = go (keepsFull i s)
     where
-      go : (t : Bool) → Normal s (pick t (stopped 17) (ticked m 96 (alone s (entryAt i (i .handler)) (i .handler) (cleared (i .handler) b))))
+      go : (t : Bool) → Normal s (pick t (stopped 17)
+          (finished m 96 (alone s (entryAt i (i .handler)) (i .handler) (cleared (i .handler) b))))
       go true = omega arith
       go false = alone-same (cleared (i .handler) b) (length-set b (i .handler - 1) false ∙ e) (entryAt i (i .handler)) (i .handler)
 
@@ -103,12 +106,14 @@ module _ (i : Image) (s : State) where
 
     popped-normal : (w m : ℕ) (t : Bool) → Normal s (popped i s w m b t)
     popped-normal w m true = alone-same b e 0 1
-    popped-normal w m false = moved-normal m 3 _ (s .depth - 2) (rowOf i b (placeAt s (s .depth - 2)) w) (dropping-same b e)
+    popped-normal w m false = moved-normal m 3 _ (s .depth - 2) (rowLeads i b (placeAt s (s .depth - 2)) w) (dropping-same b e)
 
-    by-normal : (w l : ℕ) (x : Label) (k : ℕ) → Normal s (tickBy i s w l x b k)
-    by-normal w l x zero = moved-normal (x .mask) 0 _ (s .depth - 1) (rowOf i b l w) (bits-same b e)
-    by-normal w l x (suc zero) = pushed-normal (x .mask) (16 + x .called) (x .called) (served (s .serving) (x .called)) (leb (s .size) (s .depth))
-    by-normal w l x (suc (suc zero)) = pushed-normal (x .mask) (64 + x .called) (x .called) (served (s .serving) (x .called)) (leb (s .size) (s .depth))
+    by-normal : (w l : ℕ) (x : Label) (k : ℕ) → Normal s (tickBy i s w l x b (tickKind k))
+    by-normal w l x zero = moved-normal (x .mask) 0 _ (s .depth - 1) (rowLeads i b l w) (bits-same b e)
+    by-normal w l x (suc zero) = pushed-normal (x .mask) (16 + x .called) (x .called)
+        (served (s .serving) (x .called)) (leb (s .size) (s .depth))
+    by-normal w l x (suc (suc zero)) =
+        pushed-normal (x .mask) (64 + x .called) (x .called) (served (s .serving) (x .called)) (leb (s .size) (s .depth))
     by-normal w l x (suc (suc (suc zero))) = popped-normal w (x .mask) (leb (s .depth) 1)
     by-normal w l x (suc (suc (suc (suc k)))) = moved-normal (x .mask) 4 _ (s .depth - 1) (found (entryAt i 1)) (bits-same b e)
 

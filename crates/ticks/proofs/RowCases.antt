@@ -9,31 +9,32 @@ use lib.Dec.{eqb}
 use borrow.Author.Tests.{eq-eqb, ne-eqb}
 use Rattle.lists.specs.Pick.{pick}
 use Rattle.lists.proofs.Tests.{yes-pick, no-pick}
-use Rattle.bits.specs.Results.{Results, resultOf}
+use Rattle.results.specs.Results.{Results, resultOf}
 use Rattle.image.specs.Image.{Label}
-use Rattle.tables.specs.Table.{labelOf}
-use Rattle.tables.specs.Labels.{asLabel, Numbered}
+use Rattle.tables.specs.Table.{tableLabel}
+use Rattle.tables.specs.inner.Labels.{asLabel, NumberedLabel}
 use Rattle.tables.specs.declared.Label as declared
 use Rattle.rows.specs.Rows.{Found, found, missing, nextOf}
-use Rattle.rows.specs.Search.{Deciding}
-use Rattle.ticks.specs.Parts.{bitOf}
+use Rattle.rows.specs.inner.Search.{Deciding}
+use Rattle.ticks.specs.inner.TickContracts.{bitOf}
 
 -- ---- the bit that decides among the rows of label l, read as z
 bit-low : (r : Bool) → pick r 1 0 < 2
 bit-low true = omega arith
 bit-low false = omega arith
 
-module _ (b : List ℕ) (l : ℕ) (z : declared.Label) (read : asLabel z ≡ labelOf b l) (bs : Results) (bit : ℕ) (e : bit ≡ bitOf (z .kind) (z .called) bs) where
+module _ (b : List ℕ) (l : ℕ) (z : declared.Label) (read : asLabel z ≡ tableLabel b l) (bs : Results)
+    (bit : ℕ) (e : bit ≡ bitOf (z .kind) (z .called) bs) where
   pub bit-called : z .kind ≡ 2 → bit ≡ pick (resultOf (z .called) bs) 1 0
   bit-called k = e ∙ yes-pick (eqb (z .kind) 2) (pick (resultOf (z .called) bs) 1 0) 2 (eq-eqb (z .kind) 2 k)
 
   bit-none : (z .kind ≡ 2 → ⊥) → bit ≡ 2
   bit-none k = e ∙ no-pick (eqb (z .kind) 2) (pick (resultOf (z .called) bs) 1 0) 2 (ne-eqb (z .kind) 2 k)
 
-  pub bit-decides : Numbered b l → Deciding b l bit
+  pub bit-decides : NumberedLabel b l → Deciding b l bit
   bit-decides g = go (ℕ-discrete (z .kind) 2)
     where
-      kind : z .kind ≡ labelOf b l .kind
+      kind : z .kind ≡ tableLabel b l .kind
       kind = ap (λ (x : Label). x .kind) read
 
       go : Dec (z .kind ≡ 2) → Deciding b l bit

@@ -1,3 +1,3 @@
 pub mod Tick
-pub mod Parts
 pub mod Functions
+pub mod inner

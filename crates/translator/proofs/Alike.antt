@@ -5,15 +5,15 @@ use mathlib.Core.List.{List}
 use lib.Dec.{ltb}
 use lib.ListN.{length}
 use Rattle.frames.specs.Verdict.{Verdict, next, when}
-use Rattle.frames.specs.Answer.{lent}
-use Rattle.frames.proofs.Capitals.{Alike}
+use Rattle.frames.specs.Answer.{bufferOn}
+use Rattle.frames.proofs.Capitals.{ReadAlike}
 use Rattle.charts.proofs.Alike.{read-verdict}
 use Rattle.image.specs.Image.{imageText}
 use Rattle.chart_rows.specs.Rows.{rows}
 use Rattle.translator.specs.Table.{table}
 use Rattle.translator.specs.Entry.{translateVerdict, translate}
 
-module _ (t u : List ℕ) (A : Alike t u) where
+module _ (t u : List ℕ) (A : ReadAlike t u) where
   pub translate-verdict : translateVerdict t ≡ translateVerdict u
   unfolding translateVerdict
   translate-verdict =
@@ -21,4 +21,4 @@ module _ (t u : List ℕ) (A : Alike t u) where
 
   pub translates : (out : List ℕ) → translate t out ≡ translate u out
   unfolding translate
-  translates out = ap₂ (λ (v : Verdict) (c : List ℕ). lent v 1 (λ _. imageText (table c)) out) translate-verdict (A .contents)
+  translates out = ap₂ (λ (v : Verdict) (c : List ℕ). bufferOn v 1 (λ _. imageText (table c)) out) translate-verdict (A .contents)

@@ -7,7 +7,7 @@ use lib.Dec.{ltb}
 use lib.ListN.{length, take, replicate}
 use Rattle.frames.specs.Frame.{contents}
 use Rattle.frames.specs.Verdict.{Verdict, fine, refused, when}
-use Rattle.frames.specs.Answer.{success, refusal, reply, Lent, Lends, lent}
+use Rattle.frames.specs.Answer.{success, refusal, reply, BufferOutcome, GivesBuffer, bufferOn}
 use Rattle.frames.specs.declared.Answer.{Answer}
 use Rattle.frames.specs.declared.Answer.the-variants.{Done, Refused}
 use Rattle.frames.specs.Check.{textVerdict}
@@ -21,15 +21,16 @@ use Rattle.image.specs.Image.{imageText}
 use Rattle.chart_rows.specs.Rows.{rows}
 use Rattle.translator.specs.Table.{table}
 use Rattle.translator.specs.Entry.{translateVerdict, translate}
-use Rattle.chart_labels.specs.Ready.{Ready}
-use Rattle.translator.specs.Parts.{imageLent}
+use Rattle.chart_labels.specs.inner.ChartContracts.{Ready}
+use Rattle.translator.specs.inner.ImageBytes.{imageOutcome}
 
 -- a refusal with room for all of it is the verdict's, and counts 0
 lent-no : (v : Verdict) (unit : ℕ) (new : Unit {0} → List ℕ) (old : List ℕ) (k i m : ℕ) → (v ≡ fine → length (new tt) ≤ length old)
-    → lent v unit new old .reply ≡ refusal k i m → (v ≡ refused k i) × (m ≡ 0)
+    → bufferOn v unit new old .reply ≡ refusal k i m → (v ≡ refused k i) × (m ≡ 0)
 lent-no (refused k′ i′) unit new old k i m h e = (cc, cc)
 lent-no fine unit new old k i m h e =
-    absurd (let q : lent fine unit new old .reply ≡ success (length (new tt) / unit) = ap (λ (l : Lent). l .reply) (lent-fits unit new old (h refl)) in
+    absurd (let q : bufferOn fine unit new old .reply ≡ success (length (new tt) / unit) =
+    ap (λ (l : BufferOutcome). l .reply) (lent-fits unit new old (h refl)) in
     let z : _≡_ {A = ℕ} 0 1 = cc in omega arith)
 
 chart-room : (t zeros : List ℕ) → 2560 ≤ length zeros → readVerdict t ≡ fine → length (contents t) ≤ length zeros
@@ -42,7 +43,7 @@ module _ (t zeros : List ℕ) (room : 2560 ≤ length zeros) (a : Answer) (e : r
   read-no k i m q = lent-no (readVerdict t) 10 (λ _. contents t) zeros k i m (chart-room t zeros room) (sym e ∙ ap reply q)
 
   -- and the translator's
-  pub read-refused : (out : List ℕ) (k i m : ℕ) → a ≡ Refused k i m → Lends (translate t out) a out
+  pub read-refused : (out : List ℕ) (k i m : ℕ) → a ≡ Refused k i m → GivesBuffer (translate t out) a out
   unfolding translate translateVerdict
   read-refused out k i m q =
       let p : (readVerdict t ≡ refused k i) × (m ≡ 0) = read-no k i m q in
@@ -88,15 +89,16 @@ module _ (t held : List ℕ) (n : ℕ) (r : Read t held n) where
         accepted = next-rest (textVerdict 5888 t) (λ _. chartVerdict (contents t)) (r .accepted);
       })
 
-  same : (out : List ℕ) → imageLent (take (10 * n) held) out ≡ translate t out
+  same : (out : List ℕ) → imageOutcome (take (10 * n) held) out ≡ translate t out
   unfolding translate translateVerdict
   same out =
-      ap (λ (c : List ℕ). imageLent c out) (r .chart)
-      ∙ ap (λ v. lent v 1 (λ _. imageText (table (contents t))) out)
+      ap (λ (c : List ℕ). imageOutcome c out) (r .chart)
+      ∙ ap (λ v. bufferOn v 1 (λ _. imageText (table (contents t))) out)
       (sym (next-on (readVerdict t) (λ _. when 10 (ltb 1024 (length (rows (contents t))))) (r .accepted)))
 
-  pub translated : (out out′ : List ℕ) (a : Answer) → Lends (imageLent (take (10 * n) held) out) a out′ → Lends (translate t out) a out′
-  translated out out′ a lends = subst (λ (x : Lent). Lends x a out′) (same out) lends
+  pub translated : (out out′ : List ℕ) (a : Answer) → GivesBuffer (imageOutcome (take (10 * n) held) out) a out′
+      → GivesBuffer (translate t out) a out′
+  translated out out′ a lends = subst (λ (x : BufferOutcome). GivesBuffer x a out′) (same out) lends
 
 pub zeros-long : 2560 ≤ length (replicate {A = ℕ} 2560 0)
 zeros-long = let n : length (replicate {A = ℕ} 2560 0) ≡ 2560 = refl in omega arith

@@ -15,25 +15,25 @@ use Rattle.lists.specs.Numbers.{range, count}
 use Rattle.lists.specs.Sequences.{concatMap, filter, mapFrom, written}
 use Rattle.lists.proofs.Tests.{yes-pick, no-pick}
 use Rattle.lists.proofs.Counts.{count-suc, count-snoc}
-use Rattle.lists.proofs.Ranges.{filter-yes, filter-no}
+use Rattle.lists.proofs.Ranges.{mapFrom-cons, filter-yes, filter-no}
 use Rattle.lists.proofs.Joins.{concat-cons, concat-map, concat-append, length-concat-range}
 use Rattle.lists.proofs.Written.{written-more, written-front}
 use Rattle.frames.specs.Frame.{size}
 use Rattle.frames.specs.Verdict.{fine, when}
-use Rattle.frames.specs.Answer.{Lends}
+use Rattle.frames.specs.Answer.{GivesBuffer}
 use Rattle.frames.specs.declared.Answer.the-variants.{Done, Refused}
 use Rattle.frames.proofs.Chains.{when-holds, when-fails}
 use Rattle.frames.proofs.Lent.{lent-refused, lent-short, lent-done}
 use Rattle.charts.specs.Chart.{Chart, handler, schemes}
 use Rattle.image.specs.Image.{Row, entryFrame, labelFrame, rowFrame, imageFrames, imageText}
-use Rattle.chart_labels.specs.Labels.{numbered, label, entry, homeLabel, returnLabel, labelOf, numberedNodes}
+use Rattle.chart_labels.specs.Labels.{numbered, label, entry, homeLabel, returnLabel, stopLabel, numberedNodes}
 use Rattle.chart_rows.specs.Rows.{rows}
 use Rattle.translator.specs.Table.{table}
-use Rattle.row_text.specs.Parts.{rowsBytes, nodeRowsBytes}
-use Rattle.translator.specs.Parts.{joined, tableBytes, sizeRefusal, imageLent}
-use Rattle.chart_rows.specs.Parts.{nodeRows}
-use Rattle.label_text.specs.Parts.{headerBytes, entryBytes, fixedBytes, nodeLabelBytes, upTo, Put}
-use Rattle.translator.specs.Ready.{Sizes}
+use Rattle.row_text.specs.inner.RowBytes.{rowsBytes, nodeRowsBytes}
+use Rattle.translator.specs.inner.ImageBytes.{framesBytes, tableBytes, sizeRefusal, imageOutcome}
+use Rattle.chart_rows.specs.inner.NodeRows.{nodeRows}
+use Rattle.label_text.specs.inner.LabelBytes.{headerBytes, entryBytes, fixedBytes, nodeLabelBytes, upTo, Put}
+use Rattle.translator.specs.inner.TranslatorContracts.{Sizes}
 use Rattle.translator.proofs.LabelLaws.{length-labels, length-entries}
 use Rattle.chart_text.proofs.SpreadSteps.{written-before}
 use Rattle.translator.proofs.ImageBytes.{bytes-length, image-length}
@@ -41,15 +41,12 @@ use Rattle.chart_labels.proofs.LabelSteps.{label-own}
 use Rattle.chart_rows.proofs.RowSteps.{below-all}
 use Rattle.row_text.proofs.RowPuts.{rows-append}
 
-from-cons : {A B : Type 0} (f : ℕ → A → B) (i : ℕ) (x : A) (xs : List A) → mapFrom f i (x ∷ xs) ≡ f i x ∷ mapFrom f (suc i) xs
-unfolding mapFrom
-from-cons f i x xs = refl
-
 -- ---- entries
-entries-from : (c : Chart) (i n : ℕ) → joined (mapFrom entryFrame (suc i) (map (entry c) (range (suc i) n))) ≡ concatMap (entryBytes c) (range i n)
+entries-from : (c : Chart) (i n : ℕ)
+    → framesBytes (mapFrom entryFrame (suc i) (map (entry c) (range (suc i) n))) ≡ concatMap (entryBytes c) (range i n)
 entries-from c i zero = unfold mapFrom concatMap in refl
 entries-from c i (suc n) =
-    ap joined (from-cons entryFrame (suc i) (entry c (suc i)) (map (entry c) (range (suc (suc i)) n)))
+    ap framesBytes (mapFrom-cons entryFrame (suc i) (entry c (suc i)) (map (entry c) (range (suc (suc i)) n)))
     ∙ concat-cons (λ f. f) (entryFrame (suc i) (entry c (suc i))) (mapFrom entryFrame (suc (suc i)) (map (entry c) (range (suc (suc i)) n)))
     ∙ ap₂ (λ (x y : List ℕ). x ++ y) (ap (λ (k : ℕ). entryFrame k (entry c k)) (sym (add-one i))) (entries-from c (suc i) n)
     ∙ sym (concat-cons (entryBytes c) i (range (suc i) n))
@@ -57,55 +54,56 @@ entries-from c i (suc n) =
 -- ---- labels
 module _ (c : Chart) where
   labels-from : (i n : ℕ)
-      → joined (mapFrom labelFrame (2 + count (numbered c) 0 i) (map (labelOf c) (filter (numbered c) (range i n))))
+      → framesBytes (mapFrom labelFrame (2 + count (numbered c) 0 i) (map (stopLabel c) (filter (numbered c) (range i n))))
       ≡ concatMap (nodeLabelBytes c) (range i n)
   labels-from i zero = unfold mapFrom concatMap filter in refl
   labels-from i (suc n) = go (numbered c i) refl (labels-from (suc i) n)
     where
       go : (b : Bool) → numbered c i ≡ b
-          → joined (mapFrom labelFrame (2 + count (numbered c) 0 (suc i)) (map (labelOf c) (filter (numbered c) (range (suc i) n))))
+          → framesBytes (mapFrom labelFrame (2 + count (numbered c) 0 (suc i)) (map (stopLabel c) (filter (numbered c) (range (suc i) n))))
           ≡ concatMap (nodeLabelBytes c) (range (suc i) n)
-          → joined (mapFrom labelFrame (2 + count (numbered c) 0 i) (map (labelOf c) (filter (numbered c) (range i (suc n)))))
+          → framesBytes (mapFrom labelFrame (2 + count (numbered c) 0 i) (map (stopLabel c) (filter (numbered c) (range i (suc n)))))
           ≡ concatMap (nodeLabelBytes c) (range i (suc n))
       go true e ih =
           let p : pick {A = ℕ} (numbered c (0 + i)) 1 0 ≡ 1 =
           ap (λ (j : ℕ). pick {A = ℕ} (numbered c j) 1 0) (zero-add i) ∙ yes-pick (numbered c i) 1 0 e in
           let s : suc (2 + count (numbered c) 0 i) ≡ 2 + count (numbered c) 0 (suc i) = omega (arith, count-snoc (numbered c) 0 i, p) in
-          ap (λ (vs : List ℕ). joined (mapFrom labelFrame (2 + count (numbered c) 0 i) (map (labelOf c) vs)))
+          ap (λ (vs : List ℕ). framesBytes (mapFrom labelFrame (2 + count (numbered c) 0 i) (map (stopLabel c) vs)))
           (filter-yes (numbered c) i (range (suc i) n) e)
-          ∙ ap joined (from-cons labelFrame (2 + count (numbered c) 0 i) (labelOf c i) (map (labelOf c) (filter (numbered c) (range (suc i) n))))
-          ∙ concat-cons (λ f. f) (labelFrame (2 + count (numbered c) 0 i) (labelOf c i))
-          (mapFrom labelFrame (suc (2 + count (numbered c) 0 i)) (map (labelOf c) (filter (numbered c) (range (suc i) n))))
+          ∙ ap framesBytes (mapFrom-cons labelFrame (2 + count (numbered c) 0 i) (stopLabel c i)
+          (map (stopLabel c) (filter (numbered c) (range (suc i) n))))
+          ∙ concat-cons (λ f. f) (labelFrame (2 + count (numbered c) 0 i) (stopLabel c i))
+          (mapFrom labelFrame (suc (2 + count (numbered c) 0 i)) (map (stopLabel c) (filter (numbered c) (range (suc i) n))))
           ∙ ap₂ (λ (x y : List ℕ). x ++ y)
-          (ap (λ (l : ℕ). labelFrame l (labelOf c i)) (sym (label-own c i e))
-          ∙ sym (yes-pick (numbered c i) (labelFrame (label c i) (labelOf c i)) [] e))
-          (ap (λ (l : ℕ). joined (mapFrom labelFrame l (map (labelOf c) (filter (numbered c) (range (suc i) n))))) s ∙ ih)
+          (ap (λ (l : ℕ). labelFrame l (stopLabel c i)) (sym (label-own c i e))
+          ∙ sym (yes-pick (numbered c i) (labelFrame (label c i) (stopLabel c i)) [] e))
+          (ap (λ (l : ℕ). framesBytes (mapFrom labelFrame l (map (stopLabel c) (filter (numbered c) (range (suc i) n))))) s ∙ ih)
           ∙ sym (concat-cons (nodeLabelBytes c) i (range (suc i) n))
       go false e ih =
           let p : pick {A = ℕ} (numbered c (0 + i)) 1 0 ≡ 0 =
           ap (λ (j : ℕ). pick {A = ℕ} (numbered c j) 1 0) (zero-add i) ∙ no-pick (numbered c i) 1 0 e in
           let s : 2 + count (numbered c) 0 i ≡ 2 + count (numbered c) 0 (suc i) = omega (arith, count-snoc (numbered c) 0 i, p) in
-          ap (λ (vs : List ℕ). joined (mapFrom labelFrame (2 + count (numbered c) 0 i) (map (labelOf c) vs)))
+          ap (λ (vs : List ℕ). framesBytes (mapFrom labelFrame (2 + count (numbered c) 0 i) (map (stopLabel c) vs)))
           (filter-no (numbered c) i (range (suc i) n) e)
-          ∙ ap (λ (l : ℕ). joined (mapFrom labelFrame l (map (labelOf c) (filter (numbered c) (range (suc i) n))))) s ∙ ih
+          ∙ ap (λ (l : ℕ). framesBytes (mapFrom labelFrame l (map (stopLabel c) (filter (numbered c) (range (suc i) n))))) s ∙ ih
           ∙ sym (concat-cons (nodeLabelBytes c) i (range (suc i) n)
           ∙ ap (λ (x : List ℕ). x ++ concatMap (nodeLabelBytes c) (range (suc i) n))
-          (no-pick (numbered c i) (labelFrame (label c i) (labelOf c i)) [] e))
+          (no-pick (numbered c i) (labelFrame (label c i) (stopLabel c i)) [] e))
 
   none-before : 2 + count (numbered c) 0 0 ≡ 2
   unfolding count
   none-before = refl
 
-  labels-joined : joined (mapFrom labelFrame 0 (homeLabel ∷ returnLabel ∷ map (labelOf c) (numberedNodes c)))
+  labels-joined : framesBytes (mapFrom labelFrame 0 (homeLabel ∷ returnLabel ∷ map (stopLabel c) (numberedNodes c)))
       ≡ fixedBytes ++ upTo (nodeLabelBytes c) (size c)
   labels-joined =
-      ap joined (from-cons labelFrame 0 homeLabel (returnLabel ∷ map (labelOf c) (numberedNodes c)))
-      ∙ concat-cons (λ f. f) (labelFrame 0 homeLabel) (mapFrom labelFrame 1 (returnLabel ∷ map (labelOf c) (numberedNodes c)))
+      ap framesBytes (mapFrom-cons labelFrame 0 homeLabel (returnLabel ∷ map (stopLabel c) (numberedNodes c)))
+      ∙ concat-cons (λ f. f) (labelFrame 0 homeLabel) (mapFrom labelFrame 1 (returnLabel ∷ map (stopLabel c) (numberedNodes c)))
       ∙ ap (λ (x : List ℕ). labelFrame 0 homeLabel ++ x)
-      (ap joined (from-cons labelFrame 1 returnLabel (map (labelOf c) (numberedNodes c)))
-      ∙ concat-cons (λ f. f) (labelFrame 1 returnLabel) (mapFrom labelFrame 2 (map (labelOf c) (numberedNodes c)))
+      (ap framesBytes (mapFrom-cons labelFrame 1 returnLabel (map (stopLabel c) (numberedNodes c)))
+      ∙ concat-cons (λ f. f) (labelFrame 1 returnLabel) (mapFrom labelFrame 2 (map (stopLabel c) (numberedNodes c)))
       ∙ ap (λ (x : List ℕ). labelFrame 1 returnLabel ++ x)
-      (ap (λ (l : ℕ). joined (mapFrom labelFrame l (map (labelOf c) (numberedNodes c)))) (sym none-before) ∙ labels-from 0 (size c)))
+      (ap (λ (l : ℕ). framesBytes (mapFrom labelFrame l (map (stopLabel c) (numberedNodes c)))) (sym none-before) ∙ labels-from 0 (size c)))
       ∙ sym (append-assoc (labelFrame 0 homeLabel) (labelFrame 1 returnLabel) (upTo (nodeLabelBytes c) (size c)))
 
   -- ---- rows
@@ -119,13 +117,13 @@ module _ (c : Chart) where
   rows-parted = ap rowsBytes (sym (below-all c (size c) refl)) ∙ rows-each (range 0 (size c))
 
   -- ---- the whole
-  abbrev pub parts : ℕ → ℕ → ℕ → List ℕ
-  parts highest last n =
+  abbrev pub imageParts : ℕ → ℕ → ℕ → List ℕ
+  imageParts highest last n =
       headerBytes highest last n (handler c)
       ++ (upTo (entryBytes c) highest ++ (fixedBytes ++ (upTo (nodeLabelBytes c) (size c) ++ upTo (nodeRowsBytes c) (size c))))
 
   pub image-parts : (highest own n : ℕ) → highest ≡ schemes c → own ≡ count (numbered c) 0 (size c) → n ≡ length (rows c)
-      → tableBytes c ≡ parts highest (own + 1) n
+      → tableBytes c ≡ imageParts highest (own + 1) n
   unfolding imageFrames table
   image-parts highest own n eh eo en =
       let h : headerBytes (length (table c .entries)) (length (table c .labels) - 1) (length (table c .rows)) (handler c)
@@ -136,7 +134,7 @@ module _ (c : Chart) where
       ∙ ap₂ (λ (x y : List ℕ). x ++ y) h
       (concat-append (λ f. f) (mapFrom entryFrame 1 (map (entry c) (range 1 (schemes c)))) _
       ∙ ap₂ (λ (x y : List ℕ). x ++ y) (entries-from c 0 (schemes c) ∙ ap (upTo (entryBytes c)) (sym eh))
-      (concat-append (λ f. f) (mapFrom labelFrame 0 (homeLabel ∷ returnLabel ∷ map (labelOf c) (numberedNodes c))) (map rowFrame (rows c))
+      (concat-append (λ f. f) (mapFrom labelFrame 0 (homeLabel ∷ returnLabel ∷ map (stopLabel c) (numberedNodes c))) (map rowFrame (rows c))
       ∙ ap₂ (λ (x y : List ℕ). x ++ y) labels-joined (concat-map (λ f. f) rowFrame (rows c) ∙ rows-parted)
       ∙ append-assoc fixedBytes (upTo (nodeLabelBytes c) (size c)) (upTo (nodeRowsBytes c) (size c))))
 
@@ -153,14 +151,14 @@ module _ (c : Chart) where
           → length (concatMap (nodeLabelBytes c) (range i (suc n))) ≡ 10 * count (numbered c) i (suc n)
       go true e ih =
           let p : length (nodeLabelBytes c i) ≡ 10 =
-          ap (λ (x : List ℕ). length x) (yes-pick (numbered c i) (labelFrame (label c i) (labelOf c i)) [] e) in
+          ap (λ (x : List ℕ). length x) (yes-pick (numbered c i) (labelFrame (label c i) (stopLabel c i)) [] e) in
           let q : pick {A = ℕ} (numbered c i) 1 0 ≡ 1 = yes-pick (numbered c i) 1 0 e in
           ap (λ (x : List ℕ). length x) (concat-cons (nodeLabelBytes c) i (range (suc i) n))
           ∙ length-append (nodeLabelBytes c i) (concatMap (nodeLabelBytes c) (range (suc i) n))
           ∙ omega (arith, p, q, ih, count-suc (numbered c) i n)
       go false e ih =
           let p : length (nodeLabelBytes c i) ≡ 0 =
-          ap (λ (x : List ℕ). length x) (no-pick (numbered c i) (labelFrame (label c i) (labelOf c i)) [] e) in
+          ap (λ (x : List ℕ). length x) (no-pick (numbered c i) (labelFrame (label c i) (stopLabel c i)) [] e) in
           let q : pick {A = ℕ} (numbered c i) 1 0 ≡ 0 = no-pick (numbered c i) 1 0 e in
           ap (λ (x : List ℕ). length x) (concat-cons (nodeLabelBytes c) i (range (suc i) n))
           ∙ length-append (nodeLabelBytes c i) (concatMap (nodeLabelBytes c) (range (suc i) n))
@@ -275,14 +273,15 @@ module _ (c : Chart) (old : List ℕ) (highest own number : ℕ) (eh : highest �
   allowed : length (rows c) ≤ 1024 → when 10 (ltb 1024 (length (rows c))) ≡ fine
   allowed few = when-fails 10 (ltb 1024 (length (rows c))) (le-ltb 1024 (length (rows c)) few)
 
-  pub image-refused : (number ≡ 0 → ⊥) → Lends (imageLent c old) (Refused number 0 0) old
+  pub image-refused : (number ≡ 0 → ⊥) → GivesBuffer (imageOutcome c old) (Refused number 0 0) old
   image-refused n = go (decLt 1024 (length (rows c))) (decLt (length old) (23 * (3 + highest + own + length (rows c))))
     where
-      same : (k : ℕ) → k ≡ number → Lends (imageLent c old) (Refused k 0 0) old → Lends (imageLent c old) (Refused number 0 0) old
-      same k q l = subst (λ (x : ℕ). Lends (imageLent c old) (Refused x 0 0) old) q l
+      same : (k : ℕ) → k ≡ number → GivesBuffer (imageOutcome c old) (Refused k 0 0) old
+          → GivesBuffer (imageOutcome c old) (Refused number 0 0) old
+      same k q l = subst (λ (x : ℕ). GivesBuffer (imageOutcome c old) (Refused x 0 0) old) q l
 
       go : Dec (1024 < length (rows c)) → Dec (length old < 23 * (3 + highest + own + length (rows c)))
-          → Lends (imageLent c old) (Refused number 0 0) old
+          → GivesBuffer (imageOutcome c old) (Refused number 0 0) old
       go (yes h) d =
           same 10 (refusal-rows c (3 + highest + own) (length old) h ∙ sym e)
           (lent-refused (when 10 (ltb 1024 (length (rows c)))) 1 (λ _. imageText (table c)) old 10 0
@@ -309,7 +308,7 @@ module _ (c : Chart) (old : List ℕ) (highest own number : ℕ) (eh : highest �
         go (yes h) = absurd (omega (arith, refusal-room c (3 + highest + own) (length old) image-few h))
         go (no h) = omega arith
 
-    pub image-fits : (out : List ℕ) (n : ℕ) → Put old 0 (imageText (table c)) n out → Lends (imageLent c old) (Done n) out
+    pub image-fits : (out : List ℕ) (n : ℕ) → Put old 0 (imageText (table c)) n out → GivesBuffer (imageOutcome c old) (Done n) out
     image-fits out n put =
         let l : length (imageText (table c)) ≡ 23 * (3 + highest + own + length (rows c)) =
         image-long c highest own (length (rows c)) sizes in

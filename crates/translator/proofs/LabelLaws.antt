@@ -11,15 +11,15 @@ use lib.Dec.{eqb}
 use borrow.Author.Tests.{eq-eqb, ne-eqb}
 use Rattle.lists.specs.Pick.{pick}
 use Rattle.lists.specs.Numbers.{count}
-use Rattle.lists.proofs.Tests.{yes-pick, split}
+use Rattle.lists.proofs.Tests.{yes-pick, and-no, split}
 use Rattle.lists.proofs.Counts.{count-le, count-below, count-apart, count-yes, count-pass, count-miss2}
 use Rattle.lists.proofs.Ranges.{length-map-range, getD-map-range, length-filter, getD-filter}
 use Rattle.frames.specs.Frame.{size}
 use Rattle.charts.specs.Chart.{Chart, kind, scheme, is, schemes, begin, end}
 use Rattle.walk.specs.Stops.{stops}
 use Rattle.walk.proofs.Facts.{Facts}
-use Rattle.image.proofs.Sound.{noLabel, nthLabel}
-use Rattle.chart_labels.specs.Labels.{numbered, numberedNodes, label, entry, homeLabel, returnLabel, labelOf}
+use Rattle.image.specs.inner.Sound.{noLabel, nthLabel}
+use Rattle.chart_labels.specs.Labels.{numbered, numberedNodes, label, entry, homeLabel, returnLabel, stopLabel}
 use Rattle.chart_rows.specs.Rows.{rows}
 use Rattle.translator.specs.Table.{table}
 
@@ -37,7 +37,7 @@ module _ (c : Chart) where
 
   pub length-labels : length (table c .labels) ≡ suc (suc (count (numbered c) 0 (size c)))
   unfolding table
-  length-labels = ap (λ (n : ℕ). suc (suc n)) (length-map (numberedNodes c) (labelOf c) ∙ length-filter (numbered c) 0 (size c))
+  length-labels = ap (λ (n : ℕ). suc (suc n)) (length-map (numberedNodes c) (stopLabel c) ∙ length-filter (numbered c) 0 (size c))
 
   pub label-low : (v : ℕ) → numbered c v ≡ true → 2 ≤ label c v
   label-low v e = omega (arith, label-is v e)
@@ -45,12 +45,12 @@ module _ (c : Chart) where
   pub label-inside : (v : ℕ) → v < size c → numbered c v ≡ true → label c v < length (table c .labels)
   label-inside v l e = omega (arith, label-is v e, length-labels, count-below (numbered c) v (size c) l e)
 
-  pub label-holds : (v : ℕ) → v < size c → numbered c v ≡ true → nthLabel (table c) (label c v) ≡ labelOf c v
+  pub label-holds : (v : ℕ) → v < size c → numbered c v ≡ true → nthLabel (table c) (label c v) ≡ stopLabel c v
   label-holds v l e = ap (nthLabel (table c)) (label-is v e) ∙ at
     where
-      at : nthLabel (table c) (suc (suc (count (numbered c) 0 v))) ≡ labelOf c v
+      at : nthLabel (table c) (suc (suc (count (numbered c) 0 v))) ≡ stopLabel c v
       at = unfold table in
-          getD-filter (labelOf c) noLabel (numbered c) 0 (size c) v l (ap (numbered c) (zero-add v) ∙ e) ∙ ap (labelOf c) (zero-add v)
+          getD-filter (stopLabel c) noLabel (numbered c) 0 (size c) v l (ap (numbered c) (zero-add v) ∙ e) ∙ ap (stopLabel c) (zero-add v)
 
   pub labels-apart : (u v : ℕ) → numbered c u ≡ true → numbered c v ≡ true → label c u ≡ label c v → u ≡ v
   labels-apart u v a b e = count-apart (numbered c) u v a b (omega (arith, label-is u a, label-is v b, e))
@@ -66,7 +66,13 @@ module _ (c : Chart) where
       go : (k < count (numbered c) 0 n) ⊎ (count (numbered c) 0 n ≤ k) → (t : Bool) → numbered c n ≡ t
           → (k < count (numbered c) 0 n → Bearer c n (suc (suc k))) → Bearer c (suc n) (suc (suc k))
       go (inl g) t e ih = let x = ih g in record { node = x .node; inside = omega (arith, x .inside); own = x .own; is = x .is }
-      go (inr g) true e ih = record { node = n; inside = omega arith; own = e; is = label-is n e ∙ omega (arith, next, count-yes (numbered c) n e) }
+      go (inr g) true e ih = record {
+        node = n;
+        inside = omega arith;
+        own = e;
+        is = label-is n e
+            ∙ omega (arith, next, count-yes (numbered c) n e);
+      }
       go (inr g) false e ih = absurd (omega (arith, next, count-pass (numbered c) n e))
 
   pub bearer : (l : ℕ) → 2 ≤ l → l < length (table c .labels) → Bearer c (size c) l
@@ -84,16 +90,12 @@ module _ (c : Chart) where
   labels-two = omega (arith, length-labels)
 
   -- the Begin and the End of scheme 1 have no label of their own, so a byte holds every label
-  and-none-r : (a b : Bool) → b ≡ false → (a && b) ≡ false
-  and-none-r true b e = e
-  and-none-r false b e = refl
-
   first-unnumbered : (v : ℕ) → kind c v ≡ 0 → scheme c v ≡ 1 → numbered c v ≡ false
   first-unnumbered v k s =
       unfold stops in rw (stops, ne-eqb (kind c v) 3 (λ e. omega arith), eq-eqb (kind c v) 0 k, eq-eqb (scheme c v) 1 s)
 
   end-unnumbered : (v : ℕ) → kind c v ≡ 1 → numbered c v ≡ false
-  end-unnumbered v k = and-none-r (stops c v) (not (is c 1 v)) (ap not (eq-eqb (kind c v) 1 k))
+  end-unnumbered v k = and-no (stops c v) (not (is c 1 v)) (ap not (eq-eqb (kind c v) 1 k))
 
   pub labels-few : Facts c → length (table c .labels) ≤ 256
   labels-few F =

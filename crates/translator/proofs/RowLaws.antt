@@ -1,4 +1,5 @@
--- For each numbered stop of a sound chart, every word and every bit just one row matches, and it leads to the label of the stop where the walk goes.
+-- For each numbered stop of a sound chart, every word and every bit just one row matches,
+-- and it leads to the label of the stop where the walk goes.
 use mathlib.Core.Path.{_≡_, refl, sym, _∙_, ap, subst}
 use mathlib.Core.Logic.{_⊎_, inl, inr}
 use mathlib.Core.Bool.{Bool, true, false, _&&_, _||_, not}
@@ -16,24 +17,25 @@ use Rattle.lists.specs.Sequences.{filter}
 use Rattle.lists.proofs.Tests.{and-l, and-r, and-true, not-true, yes-pick, no-pick}
 use Rattle.lists.proofs.Filters.{concat-only, one-passes}
 use Rattle.bits.specs.Word.{bit, agrees}
-use Rattle.bits.proofs.BitLaws.{bit-none, bit-cases, Mask, Agree, Clash, mask-none, agree-none, mask-0, mask-1, agree-0, agree-1, clash-here-0, clash-here-1}
+use Rattle.bits.proofs.BitLaws.{bit-none, bit-cases, Mask, Agree, Clash, mask-none, agree-none, mask-0}
+use Rattle.bits.proofs.BitLaws.{mask-1, agree-0, agree-1, clash-here-0, clash-here-1}
 use Rattle.frames.specs.Frame.{size}
 use Rattle.charts.specs.Chart.{Chart, kind, scheme, argument, next0, next1, is}
-use Rattle.charts.proofs.Accepted.{Sound}
+use Rattle.charts.proofs.Accepted.{SoundChart}
 use Rattle.charts.proofs.Nodes.{Target, conditions, arc0, arc1}
 use Rattle.charts.proofs.Rank.{rank-le}
 use Rattle.walk.specs.Stops.{stops, byArc, byWord}
 use Rattle.walk.proofs.Follow.{stops-other, stops-condition, stops-begin, follow-condition, takes-0, takes-1}
-use Rattle.image.specs.Image.{Row}
-use Rattle.image.proofs.Sound.{noRow}
+use Rattle.image.specs.Image.{Row, noRow}
 use Rattle.chart_labels.specs.Labels.{numbered, label}
 use Rattle.chart_rows.specs.Rows.{paths, rowsOf, rows}
 use Rattle.translator.proofs.LabelLaws.{labels-apart}
-use Rattle.translator.proofs.Matching.{matching, targets, targets-concat, in-first, in-second, paths-none, paths-miss, paths-hit}
+use Rattle.translator.proofs.Matching.{matchingRow, targets, targets-concat, in-first, in-second, paths-none, paths-miss, paths-hit}
 
 -- ---- the rows of a node by its kind
 module _ (c : Chart) (v : ℕ) where
-  pub rows-function : kind c v ≡ 4 → rowsOf c v ≡ paths (size c) c (label c v) 0 0 0 (next0 c v) ++ paths (size c) c (label c v) 1 0 0 (next1 c v)
+  pub rows-function : kind c v ≡ 4
+      → rowsOf c v ≡ paths (size c) c (label c v) 0 0 0 (next0 c v) ++ paths (size c) c (label c v) 1 0 0 (next1 c v)
   unfolding rowsOf
   rows-function k = rw (rowsOf, eq-eqb (kind c v) 4 k)
 
@@ -52,7 +54,7 @@ module _ (c : Chart) (v : ℕ) where
 rows-other : (c : Chart) (u m w b : ℕ) → (label c u ≡ m → ⊥) → targets m w b (rowsOf c u) ≡ []
 rows-other c u m w b ne = go (ℕ-discrete (kind c u) 4) (ℕ-discrete (kind c u) 3)
   where
-    elsewhere : (r : Row) → r .from ≡ label c u → matching m w b r ≡ false
+    elsewhere : (r : Row) → r .from ≡ label c u → matchingRow m w b r ≡ false
     elsewhere r e =
         ap (λ (x : Bool). x && (agrees w (r .care) (r .values) && (eqb (r .bit) 2 || eqb (r .bit) b)))
         (ne-eqb (r .from) m (λ q. ne (sym e ∙ q)))
@@ -73,7 +75,8 @@ rows-other c u m w b ne = go (ℕ-discrete (kind c u) 4) (ℕ-discrete (kind c u
     go (no n) (no k) = ap (targets m w b) (rows-plain c u n k) ∙ none 2 0 0 (next0 c u)
 
 -- so among all rows those of the node itself decide
-pub rows-here : (c : Chart) (v w b : ℕ) → v < size c → numbered c v ≡ true → targets (label c v) w b (rows c) ≡ targets (label c v) w b (rowsOf c v)
+pub rows-here : (c : Chart) (v w b : ℕ) → v < size c → numbered c v ≡ true
+    → targets (label c v) w b (rows c) ≡ targets (label c v) w b (rowsOf c v)
 unfolding rows
 rows-here c v w b l e =
     targets-concat (label c v) w b (rowsOf c) (filter (numbered c) (range 0 (size c)))
@@ -83,7 +86,7 @@ rows-here c v w b l e =
 pub numbered-stop : (c : Chart) (v : ℕ) → stops c v ≡ true → (kind c v ≡ 1 → ⊥) → numbered c v ≡ true
 numbered-stop c v s n = and-true (stops c v) (not (is c 1 v)) s (ap not (ne-eqb (kind c v) 1 n))
 
-module _ (c : Chart) (a : Sound c) where
+module _ (c : Chart) (a : SoundChart c) where
   -- all paths from an arc's end, with nothing tested yet
   from-arc : (l w f b : ℕ) → (eqb f 2 || eqb f b) ≡ true → (h u : ℕ) → Target c h u
       → targets l w b (paths (size c) c l f 0 0 u) ≡ label c (byArc c w u) ∷ []
@@ -118,7 +121,8 @@ module _ (c : Chart) (a : Sound c) where
   pub row-condition : (v w b : ℕ) → v < size c → kind c v ≡ 3 → stops c v ≡ true
       → targets (label c v) w b (rows c) ≡ label c (byWord c w v) ∷ []
   row-condition v w b l k s =
-      rows-here c v w b l (numbered-stop c v s (λ e. omega arith)) ∙ ap (targets (label c v) w b) (rows-condition c v k) ∙ go (bit-cases w (argument c v))
+      rows-here c v w b l (numbered-stop c v s (λ e. omega arith)) ∙ ap (targets (label c v) w b) (rows-condition c v k)
+      ∙ go (bit-cases w (argument c v))
     where
       two : 0 + 2 ^ argument c v ≡ 2 ^ argument c v
       two = zero-add (2 ^ argument c v)
@@ -159,7 +163,8 @@ module _ (c : Chart) (a : Sound c) where
           (label c (byArc c w (next1 c v)) ∷ [])
           (paths-miss c a (label c v) w 2 b (size c) (scheme c v) (2 ^ argument c v) 0 (next0 c v) t₀ mask₀
           (subst (λ (x : ℕ). Clash w x 0) two (clash-here-0 0 0 (argument c v) free mask-none w o)))
-          (paths-hit c a (label c v) w 2 b refl (size c) (scheme c v) (2 ^ argument c v) (2 ^ argument c v) (next1 c v) t₁ (rank-le c (next1 c v)) mask₁
+          (paths-hit c a (label c v) w 2 b refl (size c) (scheme c v) (2 ^ argument c v)
+          (2 ^ argument c v) (next1 c v) t₁ (rank-le c (next1 c v)) mask₁
           (subst (λ (x : ℕ). Agree w x x) two (agree-1 0 0 (argument c v) free mask-none w (agree-none w) o)))
           ∙ ap (λ (u : ℕ). label c (byArc c w u) ∷ []) (sym (takes-1 c w v o))
 
@@ -175,12 +180,13 @@ module _ (c : Chart) (a : Sound c) where
       none true false = refl
       none false y = refl
 
-      off : (f x : ℕ) → (eqb f 2 || eqb f x) ≡ false → (r : Row) → r .from ≡ label c v → r .bit ≡ f → matching (label c v) w x r ≡ false
+      off : (f x : ℕ) → (eqb f 2 || eqb f x) ≡ false → (r : Row) → r .from ≡ label c v → r .bit ≡ f → matchingRow (label c v) w x r ≡ false
       off f x q r e g =
           ap (λ (y : Bool). eqb (r .from) (label c v) && (agrees w (r .care) (r .values) && y)) (ap (λ (y : ℕ). eqb y 2 || eqb y x) g ∙ q)
           ∙ none (eqb (r .from) (label c v)) (agrees w (r .care) (r .values))
 
-      go : (b : Bool) → targets (label c v) w (pick b 1 0) (paths (size c) c (label c v) 0 0 0 (next0 c v) ++ paths (size c) c (label c v) 1 0 0 (next1 c v))
+      go : (b : Bool) → targets (label c v) w (pick b 1 0)
+          (paths (size c) c (label c v) 0 0 0 (next0 c v) ++ paths (size c) c (label c v) 1 0 0 (next1 c v))
           ≡ label c (byArc c w (pick b (next1 c v) (next0 c v))) ∷ []
       go false =
           in-first (label c v) w 0 (paths (size c) c (label c v) 0 0 0 (next0 c v))
@@ -195,19 +201,20 @@ module _ (c : Chart) (a : Sound c) where
 
 -- ---- all kinds at once
 -- the stop where the walk goes from the numbered stop v, by a word and, from a function, by the bit of the scheme called
-unfoldable pub onward : Chart → ℕ → Bool → ℕ → ℕ
-onward c w b v = pick (is c 4 v) (byArc c w (pick b (next1 c v) (next0 c v))) (pick (is c 3 v) (byWord c w v) (byArc c w (next0 c v)))
+unfoldable pub onwardStop : Chart → ℕ → Bool → ℕ → ℕ
+onwardStop c w b v = pick (is c 4 v) (byArc c w (pick b (next1 c v) (next0 c v))) (pick (is c 3 v) (byWord c w v) (byArc c w (next0 c v)))
 
-module _ (c : Chart) (a : Sound c) (v w : ℕ) (b : Bool) (l : v < size c) (e : numbered c v ≡ true) where
+module _ (c : Chart) (a : SoundChart c) (v w : ℕ) (b : Bool) (l : v < size c) (e : numbered c v ≡ true) where
   -- just one row matches, and this is where it leads
-  pub one-row : targets (label c v) w (pick b 1 0) (rows c) ≡ label c (onward c w b v) ∷ []
-  unfolding onward
+  pub one-row : targets (label c v) w (pick b 1 0) (rows c) ≡ label c (onwardStop c w b v) ∷ []
+  unfolding onwardStop
   one-row = go (ℕ-discrete (kind c v) 4) (ℕ-discrete (kind c v) 3)
     where
-      go : Dec (kind c v ≡ 4) → Dec (kind c v ≡ 3) → targets (label c v) w (pick b 1 0) (rows c) ≡ label c (onward c w b v) ∷ []
+      go : Dec (kind c v ≡ 4) → Dec (kind c v ≡ 3) → targets (label c v) w (pick b 1 0) (rows c) ≡ label c (onwardStop c w b v) ∷ []
       go (yes k) x =
           row-function c a v w b l k
-          ∙ ap (λ (u : ℕ). label c u ∷ []) (sym (yes-pick (is c 4 v) (byArc c w (pick b (next1 c v) (next0 c v))) _ (eq-eqb (kind c v) 4 k)))
+          ∙ ap (λ (u : ℕ). label c u ∷ [])
+          (sym (yes-pick (is c 4 v) (byArc c w (pick b (next1 c v) (next0 c v))) _ (eq-eqb (kind c v) 4 k)))
       go (no n) (yes k) =
           row-condition c a v w (pick b 1 0) l k (and-l (stops c v) (not (is c 1 v)) e)
           ∙ ap (λ (u : ℕ). label c u ∷ [])
@@ -222,12 +229,13 @@ module _ (c : Chart) (a : Sound c) (v w : ℕ) (b : Bool) (l : v < size c) (e : 
           ∙ no-pick (is c 3 v) (byWord c w v) (byArc c w (next0 c v)) (ne-eqb (kind c v) 3 k)))
 
   -- so two rows that match are the same row
-  pub same-row : (i j : ℕ) → i < length (rows c) → j < length (rows c) → matching (label c v) w (pick b 1 0) (getD (rows c) i noRow) ≡ true
-      → matching (label c v) w (pick b 1 0) (getD (rows c) j noRow) ≡ true → i ≡ j
+  pub same-row : (i j : ℕ) → i < length (rows c) → j < length (rows c)
+      → matchingRow (label c v) w (pick b 1 0) (getD (rows c) i noRow) ≡ true
+      → matchingRow (label c v) w (pick b 1 0) (getD (rows c) j noRow) ≡ true → i ≡ j
   unfolding targets
-  same-row = one-passes (matching (label c v) w (pick b 1 0)) noRow (rows c)
+  same-row = one-passes (matchingRow (label c v) w (pick b 1 0)) noRow (rows c)
       (omega (
         arith,
-        sym (length-map (filter (matching (label c v) w (pick b 1 0)) (rows c)) (λ (r : Row). r .next))
+        sym (length-map (filter (matchingRow (label c v) w (pick b 1 0)) (rows c)) (λ (r : Row). r .next))
             ∙ ap (λ (us : List ℕ). length us) one-row,
       ))

@@ -12,10 +12,10 @@ use lib.Pow.{pow-lt}
 use borrow.Author.Tests.{eqb-true, eqb-false}
 use Rattle.lists.specs.Pick.{pick}
 use Rattle.lists.specs.Numbers.{range, count}
-use Rattle.lists.specs.Sequences.{concatMap, filter}
+use Rattle.lists.specs.Sequences.{concatMap, filter, All}
 use Rattle.lists.proofs.Tests.{and-r, not-true}
 use Rattle.lists.proofs.Counts.{count-snoc}
-use Rattle.lists.proofs.Joins.{All, all-append, all-of, all-concat, all-range, all-filter}
+use Rattle.lists.proofs.Joins.{all-append, all-of, all-concat, all-range, all-filter}
 use Rattle.bits.specs.Word.{bit}
 use Rattle.bits.proofs.MaskLaws.{more-small, more-within-0, more-within-1}
 use Rattle.frames.specs.Frame.{size}
@@ -23,9 +23,9 @@ use Rattle.charts.specs.Chart.{Chart, is, kind, scheme, argument, next0, next1,
 use Rattle.walk.specs.Stops.{stops}
 use Rattle.walk.proofs.Facts.{Facts, Target}
 use Rattle.walk.proofs.Follow.{goes-on}
-use Rattle.image.specs.Image.{Label, Row}
-use Rattle.image.proofs.Sound.{noRow, nthLabel, endOf, Reaches, SoundRow}
-use Rattle.chart_labels.specs.Labels.{numbered, numberedNodes, label, labelOf}
+use Rattle.image.specs.Image.{Label, Row, noRow}
+use Rattle.image.specs.inner.Sound.{nthLabel, endOf, Reaches, SoundRow}
+use Rattle.chart_labels.specs.Labels.{numbered, numberedNodes, label, stopLabel}
 use Rattle.chart_rows.specs.Rows.{paths, rowsOf, rows}
 use Rattle.translator.specs.Table.{table}
 use Rattle.translator.proofs.LabelLaws.{label-is, label-low, label-inside, label-holds, labels-two}
@@ -68,10 +68,14 @@ module _ (c : Chart) (F : Facts c) where
   paths-good (suc n) l f h care values v s w t =
       go (λ care values v s w t. paths-good n l f h care values v s w t) (stops c v) refl
     where
-      go : ((care values v : ℕ) → care < 65536 → bitAnd values care ≡ values → Target c h v → All (PathRow c l f h) (paths n c l f care values v))
+      go : ((care values v : ℕ) → care < 65536 → bitAnd values care ≡ values → Target c h v
+          → All (PathRow c l f h) (paths n c l f care values v))
           → (b : Bool) → stops c v ≡ b → All (PathRow c l f h) (paths (suc n) c l f care values v)
       go ih true e =
-          rw (paths, e) (record { leaving = refl; flag = refl; cares = s; within = w; leading = label-reaches c h v (t .inside) (t .same) }, tt)
+          rw (paths, e) (
+            record { leaving = refl; flag = refl; cares = s; within = w; leading = label-reaches c h v (t .inside) (t .same) },
+            tt,
+          )
       go ih false e = further (eqb (bit care (argument c v)) 1) refl
         where
           three : kind c v ≡ 3
@@ -85,14 +89,18 @@ module _ (c : Chart) (F : Facts c) where
 
           further : (b : Bool) → eqb (bit care (argument c v)) 1 ≡ b → All (PathRow c l f h) (paths (suc n) c l f care values v)
           further true q =
-              rw (paths, e, q) (ih care values (taken c values v) s w (pick-target h (eqb (bit values (argument c v)) 0) (next0 c v) (next1 c v) t₀ t₁))
+              rw (paths, e, q) (ih care values (taken c values v) s w
+              (pick-target h (eqb (bit values (argument c v)) 0) (next0 c v) (next1 c v) t₀ t₁))
           further false q =
               let free : bit care (argument c v) ≡ 1 → ⊥ = eqb-false (bit care (argument c v)) 1 q in
-              let small : care + 2 ^ argument c v < 65536 = more-small (argument c v) 16 care (omega (arith, F .conditions v (t .inside) three)) s free in
+              let small : care + 2 ^ argument c v < 65536 =
+              more-small (argument c v) 16 care (omega (arith, F .conditions v (t .inside) three)) s free in
               rw (paths, e, q) (all-append (PathRow c l f h)
-              (paths n c l f (care + 2 ^ argument c v) values (next0 c v)) (paths n c l f (care + 2 ^ argument c v) (values + 2 ^ argument c v) (next1 c v))
+              (paths n c l f (care + 2 ^ argument c v) values (next0 c v))
+              (paths n c l f (care + 2 ^ argument c v) (values + 2 ^ argument c v) (next1 c v))
               (ih (care + 2 ^ argument c v) values (next0 c v) small (more-within-0 (argument c v) values care free w) t₀)
-              (ih (care + 2 ^ argument c v) (values + 2 ^ argument c v) (next1 c v) small (more-within-1 (argument c v) values care free w) t₁))
+              (ih (care + 2 ^ argument c v) (values + 2 ^ argument c v) (next1 c v) small
+              (more-within-1 (argument c v) values care free w) t₁))
 
   -- ---- the rows of a node
   module _ (v : ℕ) (l : v < size c) (n : numbered c v ≡ true) where
@@ -105,7 +113,7 @@ module _ (c : Chart) (F : Facts c) where
     row-good : (f : ℕ) → f ≤ 2 → (f < 2 → is c 4 v ≡ true) → (r : Row) → PathRow c (label c v) f (scheme c v) r → Good r
     unfolding Good
     row-good f m four r p =
-        let at : nthLabel (table c) (r .from) ≡ labelOf c v = ap (nthLabel (table c)) (p .leaving) ∙ label-holds c v l n in (
+        let at : nthLabel (table c) (r .from) ≡ stopLabel c v = ap (nthLabel (table c)) (p .leaving) ∙ label-holds c v l n in (
           record {
             low = omega (arith, p .leaving, label-low c v n);
             high = omega (arith, p .leaving, label-inside c v l n);
@@ -138,16 +146,20 @@ module _ (c : Chart) (F : Facts c) where
         none z = absurd (omega arith)
 
         go : (p : Bool) → is c 4 v ≡ p → (q : Bool) → is c 3 v ≡ q → All Good (rowsOf c v)
-        go true p q r = rw (rowsOf, p) (all-append Good (paths (size c) c (label c v) 0 0 0 (next0 c v)) (paths (size c) c (label c v) 1 0 0 (next1 c v))
+        go true p q r = rw (rowsOf, p)
+            (all-append Good (paths (size c) c (label c v) 0 0 0 (next0 c v)) (paths (size c) c (label c v) 1 0 0 (next1 c v))
             (of-paths 0 0 0 (next0 c v) (omega arith) (λ z. p) (omega arith) (and-zero-l 0) t₀)
-            (of-paths 1 0 0 (next1 c v) (omega arith) (λ z. p) (omega arith) (and-zero-l 0) (F .arc1 v l (omega (arith, eqb-true (kind c v) 4 p)))))
+            (of-paths 1 0 0 (next1 c v) (omega arith) (λ z. p) (omega arith) (and-zero-l 0)
+            (F .arc1 v l (omega (arith, eqb-true (kind c v) 4 p)))))
         go false p true r =
             let three : kind c v ≡ 3 = eqb-true (kind c v) 3 r in
             let small : 2 ^ argument c v < 65536 = pow-lt {i = argument c v} {j = 16} (omega (arith, F .conditions v l three)) in
             rw (rowsOf, p, r) (all-append Good
-            (paths (size c) c (label c v) 2 (2 ^ argument c v) 0 (next0 c v)) (paths (size c) c (label c v) 2 (2 ^ argument c v) (2 ^ argument c v) (next1 c v))
+            (paths (size c) c (label c v) 2 (2 ^ argument c v) 0 (next0 c v))
+            (paths (size c) c (label c v) 2 (2 ^ argument c v) (2 ^ argument c v) (next1 c v))
             (of-paths 2 (2 ^ argument c v) 0 (next0 c v) (omega arith) none small (and-zero-l (2 ^ argument c v)) t₀)
-            (of-paths 2 (2 ^ argument c v) (2 ^ argument c v) (next1 c v) (omega arith) none small (and-self (2 ^ argument c v)) (F .arc1 v l (omega arith))))
+            (of-paths 2 (2 ^ argument c v) (2 ^ argument c v) (next1 c v) (omega arith) none small
+            (and-self (2 ^ argument c v)) (F .arc1 v l (omega arith))))
         go false p false r = rw (rowsOf, p, r) (of-paths 2 0 0 (next0 c v) (omega arith) none (omega arith) (and-zero-l 0) t₀)
 
     pub rows-of-sound : All (SoundRow (table c)) (rowsOf c v)
@@ -160,7 +172,8 @@ module _ (c : Chart) (F : Facts c) where
 
 -- ---- the rows of all nodes
 pub numbered-nodes : (c : Chart) → All (λ v. (v < size c) × (numbered c v ≡ true)) (numberedNodes c)
-numbered-nodes c = all-filter (λ v. v < size c) (numbered c) (range 0 (size c)) (all-range (λ v. v < size c) 0 (size c) (λ i h. omega arith))
+numbered-nodes c = all-filter (λ v. v < size c) (numbered c) (range 0 (size c))
+    (all-range (λ v. v < size c) 0 (size c) (λ i h. omega arith))
 
 pub rows-sound : (c : Chart) → Facts c → All (SoundRow (table c)) (rows c)
 unfolding rows
@@ -200,9 +213,11 @@ from-rising c F (suc n) a m h l = go (λ m k. from-rising c F n (suc a) m (omega
         → (b : Bool) → numbered c a ≡ b → Rising m (concatMap (rowsOf c) (filter (numbered c) (range a (suc n))))
     go ih true e =
         rw (filter, e) (rising-append m (label c a) (rowsOf c a) (concatMap (rowsOf c) (filter (numbered c) (range (suc a) n)))
-        (omega (arith, label-is c a e)) (rows-of-leave c F a (omega arith) e) (ih (label c a) (omega (arith, label-is c a e, count-snoc (numbered c) 0 a))))
+        (omega (arith, label-is c a e)) (rows-of-leave c F a (omega arith) e)
+        (ih (label c a) (omega (arith, label-is c a e, count-snoc (numbered c) 0 a))))
     go ih false e = rw (filter, e) (ih m (omega (arith, count-snoc (numbered c) 0 a)))
 
-pub rows-rising : (c : Chart) → Facts c → (k : ℕ) → suc k < length (rows c) → getD (rows c) k noRow .from ≤ getD (rows c) (suc k) noRow .from
+pub rows-rising : (c : Chart) → Facts c → (k : ℕ) → suc k < length (rows c)
+    → getD (rows c) k noRow .from ≤ getD (rows c) (suc k) noRow .from
 unfolding rows
 rows-rising c F = rising-at 0 (rows c) (from-rising c F (size c) 0 0 (omega arith) (omega arith))

@@ -15,13 +15,13 @@ use Rattle.frames.specs.Verdict.{fine}
 use Rattle.charts.specs.Chart.{Chart, is, kind, scheme, argument, result, mask, schemes}
 use Rattle.walk.specs.Stops.{start}
 use Rattle.walk.proofs.Facts.{Facts, StopOf}
-use Rattle.image.specs.Image.{Label, Row, imageText}
+use Rattle.image.specs.Image.{Label, Row, imageText, noRow}
 use Rattle.image.specs.Decode.{decoded}
 use Rattle.image.specs.Check.{imageVerdict}
-use Rattle.image.proofs.Sound.{noLabel, noRow, nthLabel, Reaches, SoundLabel, SoundRow, Sound}
+use Rattle.image.specs.inner.Sound.{noLabel, nthLabel, Reaches, SoundLabel, SoundRow, SoundImage}
 use Rattle.image.proofs.Decoded.{image-decoded}
 use Rattle.image.proofs.Passes.{image-fine}
-use Rattle.chart_labels.specs.Labels.{numbered, numberedNodes, labelOf}
+use Rattle.chart_labels.specs.Labels.{numbered, numberedNodes, stopLabel}
 use Rattle.chart_rows.specs.Rows.{rows}
 use Rattle.translator.specs.Table.{table}
 use Rattle.translator.proofs.LabelLaws.{label-home, label-return, labels-two, labels-few, length-entries, entry-holds, rows-are}
@@ -45,7 +45,8 @@ module _ (c : Chart) (F : Facts c) where
 
     made-sound : (p q z : Bool) → is c 4 v ≡ p → is c 2 v ≡ q → eqb (argument c v) 0 ≡ z → SoundLabel (schemes c) (made p q z)
     unfolding made
-    made-sound true true z e f g = let a : kind c v ≡ 4 = eqb-true (kind c v) 4 e in let b : kind c v ≡ 2 = eqb-true (kind c v) 2 f in absurd (omega arith)
+    made-sound true true z e f g = let a : kind c v ≡ 4 = eqb-true (kind c v) 4 e in
+        let b : kind c v ≡ 2 = eqb-true (kind c v) 2 f in absurd (omega arith)
     made-sound true false z e f g = record {
       kinds = omega arith;
       some = F .owned v l .0;
@@ -83,23 +84,23 @@ module _ (c : Chart) (F : Facts c) where
       calls = λ o. absurd (o refl);
     }
 
-    pub label-sound : SoundLabel (schemes c) (labelOf c v)
+    pub label-sound : SoundLabel (schemes c) (stopLabel c v)
     unfolding made
     label-sound = made-sound (is c 4 v) (is c 2 v) (eqb (argument c v) 0) refl refl refl
 
-  label-at : (k : ℕ) → k < length (numberedNodes c) → nthLabel (table c) (suc (suc k)) ≡ labelOf c (getD (numberedNodes c) k 0)
+  label-at : (k : ℕ) → k < length (numberedNodes c) → nthLabel (table c) (suc (suc k)) ≡ stopLabel c (getD (numberedNodes c) k 0)
   unfolding table
-  label-at k l = getD-map (labelOf c) (numberedNodes c) k 0 noLabel l
+  label-at k l = getD-map (stopLabel c) (numberedNodes c) k 0 noLabel l
 
   labels-count : length (table c .labels) ≡ suc (suc (length (numberedNodes c)))
   unfolding table
-  labels-count = ap (λ (n : ℕ). suc (suc n)) (length-map (numberedNodes c) (labelOf c))
+  labels-count = ap (λ (n : ℕ). suc (suc n)) (length-map (numberedNodes c) (stopLabel c))
 
   others-sound : (l : ℕ) → 2 ≤ l → l < length (table c .labels) → SoundLabel (schemes c) (nthLabel (table c) l)
   others-sound l h k =
       let m : l - 2 < length (numberedNodes c) = omega (arith, labels-count) in
       let v : ℕ = getD (numberedNodes c) (l - 2) 0 in
-      let e : nthLabel (table c) l ≡ labelOf c v = ap (nthLabel (table c)) (omega arith) ∙ label-at (l - 2) m in
+      let e : nthLabel (table c) l ≡ stopLabel c v = ap (nthLabel (table c)) (omega arith) ∙ label-at (l - 2) m in
       let g : (v < size c) × (numbered c v ≡ true) =
       all-at (λ v. (v < size c) × (numbered c v ≡ true)) 0 (numberedNodes c) (numbered-nodes c) (l - 2) m in
       subst (SoundLabel (schemes c)) (sym e) (label-sound v (g .0))
@@ -110,7 +111,7 @@ module _ (c : Chart) (F : Facts c) where
   table-handled n = let r = F .handled n in (r .0, omega (arith, length-entries c))
 
   module _ (few : length (rows c) ≤ 1024) where
-    pub table-sound : Sound (table c)
+    pub table-sound : SoundImage (table c)
     table-sound = record {
       first = omega (arith, length-entries c, F .first);
       most = omega (arith, length-entries c, F .most);
@@ -121,7 +122,8 @@ module _ (c : Chart) (F : Facts c) where
       starts = λ h l.
           let m : h < schemes c = omega (arith, length-entries c) in
           let s : StopOf c (suc h) (start c (suc h)) = F .starts (suc h) (omega arith) m in
-          subst (λ (x : ℕ). Reaches (table c) (suc h) x) (sym (entry-holds c h m)) (label-reaches c (suc h) (start c (suc h)) (s .inside) (s .same));
+          subst (λ (x : ℕ). Reaches (table c) (suc h) x) (sym (entry-holds c h m))
+          (label-reaches c (suc h) (start c (suc h)) (s .inside) (s .same));
       home = label-home c;
       back = label-return c;
       others = λ l h k. subst (λ (n : ℕ). SoundLabel n (nthLabel (table c) l)) (sym (length-entries c)) (others-sound l h k);

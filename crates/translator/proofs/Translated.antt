@@ -47,11 +47,13 @@ module _ (t out : List ℕ) (n : ℕ) (done : translate t out .reply ≡ success
 -- an answer's count is no more than the buffer has
 pub done-room : (t out : List ℕ) (a : Answer) (n : ℕ) → reply a ≡ translate t out .reply → a ≡ Done n → n ≤ length out
 done-room t out a n e d =
-    let s : Success (translateVerdict t) 1 (imageText (table (contents t))) out n (translate t out) = translate-told t out n (sym e ∙ ap reply d) in
+    let s : Success (translateVerdict t) 1 (imageText (table (contents t))) out n (translate t out) =
+    translate-told t out n (sym e ∙ ap reply d) in
     omega (arith, s .count, s .fits)
 
 -- that many characters of it can be handed on
-module _ (t out held : List ℕ) (a : Answer) (n : ℕ) (e : reply a ≡ translate t out .reply) (d : a ≡ Done n) (k : length held ≡ length out) where
+module _ (t out held : List ℕ) (a : Answer) (n : ℕ) (e : reply a ≡ translate t out .reply)
+    (d : a ≡ Done n) (k : length held ≡ length out) where
   pub done-fits : n ≤ length held
   done-fits = omega (arith, done-room t out a n e d)
 

@@ -1,6 +1,3 @@
-pub mod Labels
-pub mod Rows
 pub mod Table
 pub mod Entry
-pub mod Ready
-pub mod Parts
+pub mod inner

@@ -1,10 +1,15 @@
 // The image of an accepted chart: 10 and 16 are settled before anything is written.
+use chart_rows::COUNTED;
+use chart_rows::NOTES;
 use chart_rows::count_rows;
 use chart_rows::note_nodes;
 use chart_text::spread;
 use charts::handler_scheme;
 use frames::Answer;
+use frames::refusals::MANY_ROWS;
+use frames::refusals::NO_ROOM;
 use frames::refused;
+use frames::sizes::*;
 use label_text::put_entries;
 use label_text::put_fixed;
 use label_text::put_header;
@@ -13,15 +18,15 @@ use row_bounds::bound_rows;
 use row_text::put_rows;
 ghost use mathlib.Core.Path.{_≡_};
 ghost use Prim.Native.Nat.{_≤_};
-ghost use Rattle.frames.specs.Answer.{Lends};
+ghost use Rattle.frames.specs.Answer.{GivesBuffer};
 ghost use Rattle.charts.specs.Chart.{schemes};
 ghost use Rattle.image.specs.Image.{imageText};
-ghost use Rattle.chart_rows.specs.Ready.{Noted};
-ghost use Rattle.label_text.specs.Parts.{Put};
+ghost use Rattle.chart_rows.specs.inner.PathContracts.{Noted};
+ghost use Rattle.label_text.specs.inner.LabelBytes.{Put};
 ghost use Rattle.translator.specs.Table.{table};
-ghost use Rattle.chart_labels.specs.Ready.{Ready};
-ghost use Rattle.translator.specs.Ready.{ImageRoom};
-ghost use Rattle.translator.specs.Parts.{tableBytes, sizeRefusal, imageLent};
+ghost use Rattle.chart_labels.specs.inner.ChartContracts.{Ready};
+ghost use Rattle.translator.specs.inner.TranslatorContracts.{ImageRoom};
+ghost use Rattle.translator.specs.inner.ImageBytes.{tableBytes, sizeRefusal, imageOutcome};
 
 // 10, or 16 where there is no room for so many frames before the rows and for the rows, or 0. Where a bound on the rows
 // excludes both, the paths are not walked to count them.
@@ -31,17 +36,17 @@ fn size_refusal(records: &[u8], notes: &[u8], before: usize, room: usize) -> u8
     ensures { λ r. ⌜ r ≡ sizeRefusal (now (records .entry)) before room ⌝ }
 {
     let bound = bound_rows(records, notes);
-    if bound <= 1024 {
-        if 23 * (before + bound) <= room {
+    if bound <= ROWS {
+        if LINE * (before + bound) <= room {
             return 0;
         }
     }
-    let total = count_rows(records, notes, 1025);
-    if total > 1024 {
-        return 10;
+    let total = count_rows(records, notes, COUNTED);
+    if total > ROWS {
+        return MANY_ROWS;
     }
-    if room < 23 * (before + total) {
-        return 16;
+    if room < LINE * (before + total) {
+        return NO_ROOM;
     }
     0
 }
@@ -51,15 +56,15 @@ fn put_table(records: &[u8], notes: &[u8], highest: u8, own: usize, out: &mut [u
     requires { ⌜ ImageRoom (now records) (now notes) highest own (now out) ⌝ }
     ensures { λ r. ⌜ Put (now (out .entry)) 0 (tableBytes (now (records .entry))) r (now (out .exit)) ⌝ }
 {
-    put_entries(records, notes, highest, out, 10);
-    let fixed = 10 + 10 * (highest as usize);
+    put_entries(records, notes, highest, out, FRAME);
+    let fixed = FRAME + FRAME * (highest as usize);
     put_fixed(out, fixed);
     let first = fixed + 20;
     put_labels(records, notes, out, first);
-    let row = first + 10 * own;
+    let row = first + FRAME * own;
     let end = put_rows(records, notes, out, row);
     let handler = handler_scheme(records);
-    put_header(out, highest, (own + 1) as u8, (end - row) / 10, handler);
+    put_header(out, highest, (own + 1) as u8, (end - row) / FRAME, handler);
     end
 }
 
@@ -69,17 +74,17 @@ fn put_image(records: &[u8], notes: &[u8], highest: u8, own: usize, out: &mut [u
     ensures { λ r. ⌜ Put (now (out .entry)) 0 (imageText (table (now (records .entry)))) r (now (out .exit)) ⌝ }
 {
     let end = put_table(records, notes, highest, own, out);
-    let n = end / 10;
+    let n = end / FRAME;
     spread(out, n);
-    23 * n
+    LINE * n
 }
 
 pub fn write_image(records: &[u8], highest: u8, out: &mut [u8]) -> Answer
     requires { ⌜ Ready (now records) ⌝ }
     requires { ⌜ highest ≡ schemes (now records) ⌝ }
-    ensures { λ r. ⌜ Lends (imageLent (now (records .entry)) (now (out .entry))) r (now (out .exit)) ⌝ }
+    ensures { λ r. ⌜ GivesBuffer (imageOutcome (now (records .entry)) (now (out .entry))) r (now (out .exit)) ⌝ }
 {
-    let mut notes = [0u8; 512];
+    let mut notes = [0u8; NOTES];
     let own = note_nodes(records, &mut notes);
     let number = size_refusal(records, &notes, 3 + highest as usize + own, out.len());
     if number != 0 {

@@ -11,10 +11,10 @@ use Rattle.lists.specs.Pick.{pick}
 use Rattle.lists.proofs.Tests.{or-l, or-r, not-false, yes-pick, no-pick}
 use Rattle.frames.specs.Frame.{contents}
 use Rattle.frames.specs.Verdict.{Verdict, fine, refused, next, when}
-use Rattle.frames.specs.Answer.{refusal, number, reply, judged}
+use Rattle.frames.specs.Answer.{refusal, replyNumber, reply, judged}
 use Rattle.frames.specs.declared.Answer.{Answer}
 use Rattle.frames.specs.declared.Answer.the-variants.{Refused}
-use Rattle.frames.proofs.Refuses.{Refuses, when-refuses}
+use Rattle.frames.proofs.Refuses.{RefusesWith, when-refuses}
 use Rattle.image.proofs.Refuses.{Early, early-image}
 use Rattle.image.specs.Image.{Image}
 use Rattle.image.specs.Decode.{decoded}
@@ -26,24 +26,24 @@ use Rattle.state.specs.Bytes.{stateOf, bytesOf}
 use Rattle.state.proofs.ResultBytes.{state-back, held-back}
 use Rattle.runs.specs.declared.TickReport.{TickReport}
 use Rattle.runs.specs.Run.{run, runVerdict}
-use Rattle.runs.specs.Advance.{Advance, advance}
-use Rattle.runs.specs.InPlace.{ifTicked, AdvancesOn}
+use Rattle.runs.specs.TickOutcome.{TickOutcome, imageTick}
+use Rattle.runs.specs.InPlace.{ifTicked, GivesTickOn}
 use Rattle.machine.specs.Live.{liveVerdict, liveRun, liveTick}
 use Rattle.machine.proofs.Held.{tick-held}
 use Rattle.machine.proofs.OneTick.{advance-by}
 use Rattle.spindles.specs.declared.SpinReport.{SpinReport}
 use Rattle.spindles.specs.Spindles.{noneLeft, findsNone}
-use Rattle.spindles.specs.Parts as parts
-use Rattle.spindles.specs.Parts.{badRecord, refusedHead, Turn, stayed, turnBy, turnOn, turn, Turns, TurnsOn}
-use Rattle.spindles.proofs.OneCall.{ticksBy, live-tick-by}
-use Rattle.turning.specs.Parts.{depthIn, settled, Settles}
+use Rattle.spindles.specs.inner.HeadAndTurn as parts
+use Rattle.spindles.specs.inner.HeadAndTurn.{badRecord, refusedHead, TurnOutcome, stayed, turnBy, turnOn, turn, GivesTurn, GivesTurnOn}
+use Rattle.spindles.proofs.OneCall.{tickByVerdict, live-tick-by}
+use Rattle.turning.specs.inner.TurnContracts.{depthIn, settledReport, GivesSettled}
 
 -- ---- a tick leaves bytes that hold its state
-abbrev Held : List ℕ → Advance → Type 0
+abbrev Held : List ℕ → TickOutcome → Type 0
 Held b x = stateOf (ifTicked x (bytesOf (x .state)) b) ≡ x .state
 
-image-held : (t b : List ℕ) (w : ℕ) → Held b (advance t (stateOf b) w)
-unfolding advance run
+image-held : (t b : List ℕ) (w : ℕ) → Held b (imageTick t (stateOf b) w)
+unfolding imageTick run
 image-held t b w = tick-held b (decoded (contents t)) w (runVerdict t (stateOf b) (w ∷ []) (0 ∷ []) (0 ∷ []))
 
 table-held : (t b : List ℕ) (w : ℕ) → Held b (liveTick t (stateOf b) w)
@@ -59,17 +59,17 @@ module _ (s : State) (sum taken : ℕ) (e : badRecord sum taken ≡ false) where
       (le-ltb (s .depth) (s .depth) (omega arith))
       ∙ ap (stayed n i s) (let q : taken + s .depth - s .depth ≡ taken = omega arith in q))
 
-  turn-ticks : (v : Verdict) (i : Image) (w : ℕ) → turn v s sum taken (ticksBy v i s w) ≡ turnBy s taken (ticksBy v i s w)
+  turn-ticks : (v : Verdict) (i : Image) (w : ℕ) → turn v s sum taken (tickByVerdict v i s w) ≡ turnBy s taken (tickByVerdict v i s w)
   unfolding turn
   turn-ticks (refused n j) i w = stayed-by n j
-  turn-ticks fine i w = ap (λ (t : Bool). turnOn (when 15 t) s taken (ticksBy fine i s w)) e
+  turn-ticks fine i w = ap (λ (t : Bool). turnOn (when 15 t) s taken (tickByVerdict fine i s w)) e
 
-  turn-image : (t : List ℕ) (w : ℕ) → turn (imageVerdict t) s sum taken (advance t s w) ≡ turnBy s taken (advance t s w)
-  turn-image t w = subst (λ (x : Advance). turn (imageVerdict t) s sum taken x ≡ turnBy s taken x) (sym (advance-by t s w))
+  turn-image : (t : List ℕ) (w : ℕ) → turn (imageVerdict t) s sum taken (imageTick t s w) ≡ turnBy s taken (imageTick t s w)
+  turn-image t w = subst (λ (x : TickOutcome). turn (imageVerdict t) s sum taken x ≡ turnBy s taken x) (sym (advance-by t s w))
       (turn-ticks (imageVerdict t) (decoded (contents t)) w)
 
   turn-table : (b : List ℕ) (w : ℕ) → turn (when 11 (badTable b)) s sum taken (liveTick b s w) ≡ turnBy s taken (liveTick b s w)
-  turn-table b w = subst (λ (x : Advance). turn (when 11 (badTable b)) s sum taken x ≡ turnBy s taken x) (sym (live-tick-by b s w))
+  turn-table b w = subst (λ (x : TickOutcome). turn (when 11 (badTable b)) s sum taken x ≡ turnBy s taken x) (sym (live-tick-by b s w))
       (turn-ticks (when 11 (badTable b)) (tableImage b) w)
 
 -- a record that holds is the sum, and at most 64
@@ -88,7 +88,7 @@ module _ (before new : List ℕ) (ticked : TickReport) (taken d₀ d₁ : ℕ) (
 
   pub settles-none : b ≡ true → (a : Answer) → a ≡ Refused 26 0 0 → (r : SpinReport)
       → r ≡ record { answer = a; mask = 0; code = 0; taken = taken }
-      → Settles before new ticked taken r before
+      → GivesSettled before new ticked taken r before
   settles-none l a f r e = record {
     report = e ∙ ap (λ (x : Answer). record { answer = x; mask = 0; code = 0; taken = taken }) f
         ∙ sym (yes-pick (noneLeft (depthIn before) (depthIn new) taken) _ _ (test-is ∙ l));
@@ -96,7 +96,7 @@ module _ (before new : List ℕ) (ticked : TickReport) (taken d₀ d₁ : ℕ) (
   }
 
   pub settles-free : b ≡ false
-      → Settles before new ticked taken
+      → GivesSettled before new ticked taken
       (record { answer = ticked .answer; mask = ticked .mask; code = ticked .code; taken = taken + d₁ - d₀ }) new
   settles-free l = record {
     report = ap₂ (λ (x y : ℕ). record { answer = ticked .answer; mask = ticked .mask; code = ticked .code; taken = taken + y - x }) e₀ e₁
@@ -106,7 +106,7 @@ module _ (before new : List ℕ) (ticked : TickReport) (taken d₀ d₁ : ℕ) (
 
 module _ (before new after : List ℕ) (ticked : TickReport) (taken : ℕ) (r : SpinReport) where
   -- with the tick in place
-  module _ (x : Advance) (held : Held before x) (made : AdvancesOn x before ticked new) where
+  module _ (x : TickOutcome) (held : Held before x) (made : GivesTickOn x before ticked new) where
     deep : depthIn new ≡ x .state .depth
     deep = ap (λ (b : List ℕ). stateOf b .depth) (made .bytes) ∙ ap (λ (s : State). s .depth) held
 
@@ -114,8 +114,9 @@ module _ (before new after : List ℕ) (ticked : TickReport) (taken : ℕ) (r : 
         → r ≡ pick b (record { answer = Refused 26 0 0; mask = 0; code = 0; taken = taken })
         (record { answer = ticked .answer; mask = ticked .mask; code = ticked .code; taken = taken + x .state .depth - depthIn before })
         → after ≡ pick b before new
-        → TurnsOn (pick b (stayed 26 0 (stateOf before) taken)
-        (record { reply = x .reply; mask = x .mask; code = x .code; taken = taken + x .state .depth - depthIn before; state = x .state })) before r after
+        → GivesTurnOn (pick b (stayed 26 0 (stateOf before) taken)
+        (record { reply = x .reply; mask = x .mask; code = x .code; taken = taken + x .state .depth - depthIn before; state = x .state }))
+        before r after
     turned true e f = record {
       answered = ap (λ (y : SpinReport). reply (y .answer)) e;
       mask = ap (λ (y : SpinReport). y .mask) e;
@@ -131,7 +132,7 @@ module _ (before new after : List ℕ) (ticked : TickReport) (taken : ℕ) (r : 
       bytes = f ∙ made .bytes;
     }
 
-    settled-turns : Settles before new ticked taken r after → TurnsOn (turnBy (stateOf before) taken x) before r after
+    settled-turns : GivesSettled before new ticked taken r after → GivesTurnOn (turnBy (stateOf before) taken x) before r after
     settled-turns z =
         turned (findsNone taken (stateOf before) x)
         (z .report ∙ ap
@@ -142,43 +143,43 @@ module _ (before new after : List ℕ) (ticked : TickReport) (taken : ℕ) (r : 
 
 -- a turn whose record holds
 module _ (t before new after : List ℕ) (ticked : TickReport) (sum taken w : ℕ) (r : SpinReport) (good : badRecord sum taken ≡ false)
-    (settles : Settles before new ticked taken r after) where
-  pub image-turns : AdvancesOn (advance t (stateOf before) w) before ticked new
-      → TurnsOn (turn (imageVerdict t) (stateOf before) sum taken (advance t (stateOf before) w)) before r after
+    (settles : GivesSettled before new ticked taken r after) where
+  pub image-turns : GivesTickOn (imageTick t (stateOf before) w) before ticked new
+      → GivesTurnOn (turn (imageVerdict t) (stateOf before) sum taken (imageTick t (stateOf before) w)) before r after
   image-turns made =
-      subst (λ (y : Turn). TurnsOn y before r after) (sym (turn-image (stateOf before) sum taken good t w))
-      (settled-turns before new after ticked taken r (advance t (stateOf before) w) (image-held t before w) made settles)
+      subst (λ (y : TurnOutcome). GivesTurnOn y before r after) (sym (turn-image (stateOf before) sum taken good t w))
+      (settled-turns before new after ticked taken r (imageTick t (stateOf before) w) (image-held t before w) made settles)
 
-  pub table-turns : AdvancesOn (liveTick t (stateOf before) w) before ticked new
-      → TurnsOn (turn (when 11 (badTable t)) (stateOf before) sum taken (liveTick t (stateOf before) w)) before r after
+  pub table-turns : GivesTickOn (liveTick t (stateOf before) w) before ticked new
+      → GivesTurnOn (turn (when 11 (badTable t)) (stateOf before) sum taken (liveTick t (stateOf before) w)) before r after
   table-turns made =
-      subst (λ (y : Turn). TurnsOn y before r after) (sym (turn-table (stateOf before) sum taken good t w))
+      subst (λ (y : TurnOutcome). GivesTurnOn y before r after) (sym (turn-table (stateOf before) sum taken good t w))
       (settled-turns before new after ticked taken r (liveTick t (stateOf before) w) (table-held t before w) made settles)
 
 -- ---- a record that does not hold: the head is refused, and no number of an image or a table is 0
-abbrev pub Numbered : Verdict → Type 0
-Numbered v = Refuses (λ n. 1 ≤ n) v
+abbrev pub NumberedVerdict : Verdict → Type 0
+NumberedVerdict v = RefusesWith (λ n. 1 ≤ n) v
 
-pub image-numbered : (t : List ℕ) → Numbered (imageVerdict t)
+pub image-numbered : (t : List ℕ) → NumberedVerdict (imageVerdict t)
 image-numbered t = go (imageVerdict t) (early-image t)
   where
-    go : (v : Verdict) → Refuses Early v → Numbered v
+    go : (v : Verdict) → RefusesWith Early v → NumberedVerdict v
     go fine e = tt
     go (refused n i) e = e .0
 
-pub table-numbered : (b : List ℕ) → Numbered (when 11 (badTable b))
+pub table-numbered : (b : List ℕ) → NumberedVerdict (when 11 (badTable b))
 table-numbered b = when-refuses (λ n. 1 ≤ n) 11 (badTable b) (omega arith)
 
-pub record-refused : (v : Verdict) → Numbered v → (before : List ℕ) (sum taken : ℕ) (x : Advance) (r : SpinReport)
+pub record-refused : (v : Verdict) → NumberedVerdict v → (before : List ℕ) (sum taken : ℕ) (x : TickOutcome) (r : SpinReport)
     → badRecord sum taken ≡ true
-    → parts.Refuses (refusedHead v 0) taken r → TurnsOn (turn v (stateOf before) sum taken x) before r before
+    → parts.GivesRefusedHead (refusedHead v 0) taken r → GivesTurnOn (turn v (stateOf before) sum taken x) before r before
 unfolding turn refusedHead
 record-refused v numbered before sum taken x r e z =
-    subst (λ (t : Bool). TurnsOn (turnOn (next v λ _. when 15 t) (stateOf before) taken x) before r before) (sym e)
+    subst (λ (t : Bool). GivesTurnOn (turnOn (next v λ _. when 15 t) (stateOf before) taken x) before r before) (sym e)
     (go v numbered (z .answered))
   where
-    go : (u : Verdict) → Numbered u → reply (r .answer) ≡ judged (next u λ _. refused 15 0) 0
-        → TurnsOn (turnOn (next u λ _. when 15 true) (stateOf before) taken x) before r before
+    go : (u : Verdict) → NumberedVerdict u → reply (r .answer) ≡ judged (next u λ _. refused 15 0) 0
+        → GivesTurnOn (turnOn (next u λ _. when 15 true) (stateOf before) taken x) before r before
     go fine l q = record { answered = q; mask = z .mask; code = z .code; taken = z .taken; bytes = refl }
     go (refused n i) l q = record {
       answered = q;
@@ -189,7 +190,7 @@ record-refused v numbered before sum taken x r e z =
     }
 
 -- ---- by value: the bytes are those of the state, and what they then hold is handed back
-module _ (b : List ℕ) (v : Verdict) (sum taken : ℕ) (x : Advance) (held : Held b x) where
+module _ (b : List ℕ) (v : Verdict) (sum taken : ℕ) (x : TickOutcome) (held : Held b x) where
   left : (n : ℕ) → stateOf (pick (eqb n 0) (bytesOf (stateOf b)) b) ≡ stateOf b
   left n = go (eqb n 0)
     where
@@ -197,18 +198,25 @@ module _ (b : List ℕ) (v : Verdict) (sum taken : ℕ) (x : Advance) (held : He
       go true = held-back b
       go false = refl
 
-  turn-held : let y = turn v (stateOf b) sum taken x in stateOf (pick (eqb (number (y .reply)) 0) (bytesOf (y .state)) b) ≡ y .state
+  turn-held : let y = turn v (stateOf b) sum taken x in stateOf (pick (eqb (replyNumber (y .reply)) 0) (bytesOf (y .state)) b) ≡ y .state
   unfolding turn
   turn-held = go (next v λ _. when 15 (badRecord sum taken))
     where
       by : (t : Bool) → let y = pick t (stayed 26 0 (stateOf b) taken)
-          (record { reply = x .reply; mask = x .mask; code = x .code; taken = taken + x .state .depth - stateOf b .depth; state = x .state }) in
-          stateOf (pick (eqb (number (y .reply)) 0) (bytesOf (y .state)) b) ≡ y .state
+          (record {
+            reply = x .reply;
+            mask = x .mask;
+            code = x .code;
+            taken =
+                taken + x .state .depth - stateOf b .depth;
+            state = x .state;
+          }) in
+          stateOf (pick (eqb (replyNumber (y .reply)) 0) (bytesOf (y .state)) b) ≡ y .state
       by true = refl
       by false = held
 
       go : (u : Verdict)
-          → let y = turnOn u (stateOf b) taken x in stateOf (pick (eqb (number (y .reply)) 0) (bytesOf (y .state)) b) ≡ y .state
+          → let y = turnOn u (stateOf b) taken x in stateOf (pick (eqb (replyNumber (y .reply)) 0) (bytesOf (y .state)) b) ≡ y .state
       go (refused n i) = left n
       go fine = by (findsNone taken (stateOf b) x)
 
@@ -219,12 +227,12 @@ module _ (state : State) (sized : Sized state) (bits : length (state .bits) ≡ 
   pub start-depth : stateOf bytes .depth ≡ state .depth
   start-depth = ap (λ (s : State). s .depth) holds
 
-  value-turn : (v : Verdict) (go : State → Advance) → Held bytes (go (stateOf bytes))
+  value-turn : (v : Verdict) (go : State → TickOutcome) → Held bytes (go (stateOf bytes))
       → (sum taken : ℕ) (r : SpinReport) (after : List ℕ) (u : State)
-      → u ≡ stateOf after → TurnsOn (turn v (stateOf bytes) sum taken (go (stateOf bytes))) bytes r after
-      → Turns (turn v state sum taken (go state)) r u
+      → u ≡ stateOf after → GivesTurnOn (turn v (stateOf bytes) sum taken (go (stateOf bytes))) bytes r after
+      → GivesTurn (turn v state sum taken (go state)) r u
   value-turn v go held sum taken r after u q z =
-      subst (λ (s : State). Turns (turn v s sum taken (go s)) r u) holds
+      subst (λ (s : State). GivesTurn (turn v s sum taken (go s)) r u) holds
       (record {
         answered = z .answered;
         mask = z .mask;
@@ -234,11 +242,11 @@ module _ (state : State) (sized : Sized state) (bits : length (state .bits) ≡ 
       })
 
   pub image-value : (t : List ℕ) (sum taken w : ℕ) (r : SpinReport) (after : List ℕ) (u : State) → u ≡ stateOf after
-      → TurnsOn (turn (imageVerdict t) (stateOf bytes) sum taken (advance t (stateOf bytes) w)) bytes r after
-      → Turns (turn (imageVerdict t) state sum taken (advance t state w)) r u
-  image-value t sum taken w = value-turn (imageVerdict t) (λ s. advance t s w) (image-held t bytes w) sum taken
+      → GivesTurnOn (turn (imageVerdict t) (stateOf bytes) sum taken (imageTick t (stateOf bytes) w)) bytes r after
+      → GivesTurn (turn (imageVerdict t) state sum taken (imageTick t state w)) r u
+  image-value t sum taken w = value-turn (imageVerdict t) (λ s. imageTick t s w) (image-held t bytes w) sum taken
 
   pub table-value : (b : List ℕ) (sum taken w : ℕ) (r : SpinReport) (after : List ℕ) (u : State) → u ≡ stateOf after
-      → TurnsOn (turn (when 11 (badTable b)) (stateOf bytes) sum taken (liveTick b (stateOf bytes) w)) bytes r after
-      → Turns (turn (when 11 (badTable b)) state sum taken (liveTick b state w)) r u
+      → GivesTurnOn (turn (when 11 (badTable b)) (stateOf bytes) sum taken (liveTick b (stateOf bytes) w)) bytes r after
+      → GivesTurn (turn (when 11 (badTable b)) state sum taken (liveTick b state w)) r u
   table-value b sum taken w = value-turn (when 11 (badTable b)) (λ s. liveTick b s w) (table-held b bytes w) sum taken

@@ -1,17 +1,18 @@
 // A turn that takes the spindle's state and hands one back, with the four depths.
-use super::Turned;
+use super::SpinStateReport;
 use crate::in_place::live_turn_bytes;
 use crate::in_place::turn_bytes;
 use state::State;
 use state_bytes::bytes_of;
 use state_bytes::state_of;
 ghost use Prim.Native.Nat.{_+_, _≤_};
+ghost use Rattle.frames.specs.Refusals.{BAD-HEADER};
 ghost use Rattle.frames.specs.Verdict.{when};
 ghost use Rattle.image.specs.Check.{imageVerdict};
 ghost use Rattle.tables.specs.Table.{badTable};
-ghost use Rattle.runs.specs.Advance.{advance};
+ghost use Rattle.runs.specs.TickOutcome.{imageTick};
 ghost use Rattle.machine.specs.Live.{liveTick};
-ghost use Rattle.spindles.specs.Parts.{turn, Turns};
+ghost use Rattle.spindles.specs.inner.HeadAndTurn.{turn, GivesTurn};
 
 pub fn turn_state(
     image: &[u8],
@@ -22,15 +23,16 @@ pub fn turn_state(
     d: u8,
     taken: usize,
     word: u16,
-) -> Turned
+) -> SpinStateReport
     requires { ⌜ state .depth ≤ a + b + c + d ⌝ }
-    ensures { λ r. ⌜ Turns (turn (imageVerdict (now (image .entry))) state (a + b + c + d) taken (advance (now (image .entry)) state word)) (r .report) (r .state) ⌝ }
+    ensures { λ r. ⌜ GivesTurn (turn (imageVerdict (now (image .entry)))
+        state (a + b + c + d) taken (imageTick (now (image .entry)) state word)) (r .report) (r .state) ⌝ }
 {
     let sum = a as usize + b as usize + c as usize + d as usize;
     let mut bytes = bytes_of(state);
     let report = turn_bytes(image, &mut bytes, sum, taken, word);
     let after = state_of(bytes);
-    Turned {
+    SpinStateReport {
         report,
         state: after,
     }
@@ -45,15 +47,16 @@ pub fn live_turn_state(
     d: u8,
     taken: usize,
     word: u16,
-) -> Turned
+) -> SpinStateReport
     requires { ⌜ state .depth ≤ a + b + c + d ⌝ }
-    ensures { λ r. ⌜ Turns (turn (when 11 (badTable (now (table .entry)))) state (a + b + c + d) taken (liveTick (now (table .entry)) state word)) (r .report) (r .state) ⌝ }
+    ensures { λ r. ⌜ GivesTurn (turn (when BAD-HEADER (badTable (now (table .entry))))
+        state (a + b + c + d) taken (liveTick (now (table .entry)) state word)) (r .report) (r .state) ⌝ }
 {
     let sum = a as usize + b as usize + c as usize + d as usize;
     let mut bytes = bytes_of(state);
     let report = live_turn_bytes(table, &mut bytes, sum, taken, word);
     let after = state_of(bytes);
-    Turned {
+    SpinStateReport {
         report,
         state: after,
     }

@@ -1,4 +1,5 @@
 // A head that is refused, and a turn on the bytes of the spindle's state: on an image, and live on a prepared table.
+use frames::refusals::*;
 use frames::refused;
 use machine::TickReport;
 use machine::live_tick_bytes;
@@ -7,28 +8,31 @@ use spindles::SpinReport;
 use spindles::bad_record;
 use spindles::none_left;
 use spindles::turned_back;
+use state::layout::STATE_BYTES;
 use state_places::depth_of;
 use tables::bad_table;
 ghost use Prim.Native.Nat.{_≤_};
+ghost use Rattle.frames.specs.Refusals.{BAD-HEADER};
 ghost use Rattle.frames.specs.Verdict.{when};
 ghost use Rattle.image.specs.Check.{imageVerdict};
 ghost use Rattle.tables.specs.Table.{badTable};
 ghost use Rattle.state.specs.Bytes.{stateOf};
-ghost use Rattle.runs.specs.Advance.{advance};
+ghost use Rattle.runs.specs.TickOutcome.{imageTick};
 ghost use Rattle.machine.specs.Live.{liveTick};
-ghost use Rattle.spindles.specs.Parts.{refusedHead, Refuses, turn, TurnsOn};
-ghost use Rattle.turning.specs.Parts.{Settles};
+ghost use Rattle.spindles.specs.inner.HeadAndTurn.{refusedHead, GivesRefusedHead, turn, GivesTurnOn};
+ghost use Rattle.turning.specs.inner.TurnContracts.{GivesSettled};
+ghost use Rattle.spindles.specs.Layout.{STORE};
 
 // A bad head: 25, then what the image check tries, then 15, by the tick of a state of zeros, which fits no image: so the table is in one
 // frame of the stack alone.
 pub fn refuse_head(image: &[u8], spindle: usize, taken: usize) -> SpinReport
-    ensures { λ r. ⌜ Refuses (refusedHead (imageVerdict (now (image .entry))) spindle) taken r ⌝ }
+    ensures { λ r. ⌜ GivesRefusedHead (refusedHead (imageVerdict (now (image .entry))) spindle) taken r ⌝ }
 {
     if 3 < spindle {
-        let answer = refused(25, 0);
+        let answer = refused(NO_SPINDLE, 0);
         return turned_back(answer, taken);
     }
-    let mut zeros = [0u8; 130];
+    let mut zeros = [0u8; STATE_BYTES];
     let report = tick_bytes(image, &mut zeros, 0);
     let unfit = report.answer;
     turned_back(unfit, taken)
@@ -36,31 +40,36 @@ pub fn refuse_head(image: &[u8], spindle: usize, taken: usize) -> SpinReport
 
 // The same where there is a table: 25, 11, 15.
 pub fn live_refuse_head(table: &[u8], spindle: usize, taken: usize) -> SpinReport
-    ensures { λ r. ⌜ Refuses (refusedHead (when 11 (badTable (now (table .entry)))) spindle) taken r ⌝ }
+    ensures { λ r. ⌜ GivesRefusedHead (refusedHead (when BAD-HEADER (badTable (now (table .entry)))) spindle) taken r ⌝ }
 {
     if 3 < spindle {
-        let answer = refused(25, 0);
+        let answer = refused(NO_SPINDLE, 0);
         return turned_back(answer, taken);
     }
     if bad_table(table) {
-        let answer = refused(11, 0);
+        let answer = refused(BAD_HEADER, 0);
         return turned_back(answer, taken);
     }
-    let unfit = refused(15, 0);
+    let unfit = refused(UNFIT, 0);
     turned_back(unfit, taken)
 }
 
 // After the tick: where it ended deeper than it began and no place is left, it is undone and refused with 26.
-fn settle(old: [u8; 130], bytes: &mut [u8; 130], report: TickReport, taken: usize) -> SpinReport
+fn settle(
+    old: [u8; STATE_BYTES],
+    bytes: &mut [u8; STATE_BYTES],
+    report: TickReport,
+    taken: usize,
+) -> SpinReport
     requires { ⌜ stateOf old .depth ≤ taken ⌝ }
-    requires { ⌜ taken ≤ 64 ⌝ }
-    ensures { λ r. ⌜ Settles old (now (bytes .entry)) report taken r (now (bytes .exit)) ⌝ }
+    requires { ⌜ taken ≤ STORE ⌝ }
+    ensures { λ r. ⌜ GivesSettled old (now (bytes .entry)) report taken r (now (bytes .exit)) ⌝ }
 {
     let before = depth_of(&old) as usize;
     let after = depth_of(bytes) as usize;
     if none_left(before, after, taken) {
         *bytes = old;
-        let full = refused(26, 0);
+        let full = refused(NO_PLACE, 0);
         return turned_back(full, taken);
     }
     let answer = report.answer;
@@ -75,13 +84,14 @@ fn settle(old: [u8; 130], bytes: &mut [u8; 130], report: TickReport, taken: usiz
 // A spindle's turn, with the sum of the four depths: what the image check tries, 15, 17, 26, 18.
 pub fn turn_bytes(
     image: &[u8],
-    bytes: &mut [u8; 130],
+    bytes: &mut [u8; STATE_BYTES],
     sum: usize,
     taken: usize,
     word: u16,
 ) -> SpinReport
     requires { ⌜ stateOf (now bytes) .depth ≤ sum ⌝ }
-    ensures { λ r. ⌜ TurnsOn (turn (imageVerdict (now (image .entry))) (stateOf (now (bytes .entry))) sum taken (advance (now (image .entry)) (stateOf (now (bytes .entry))) word)) (now (bytes .entry)) r (now (bytes .exit)) ⌝ }
+    ensures { λ r. ⌜ GivesTurnOn (turn (imageVerdict (now (image .entry))) (stateOf (now (bytes .entry))) sum taken
+        (imageTick (now (image .entry)) (stateOf (now (bytes .entry))) word)) (now (bytes .entry)) r (now (bytes .exit)) ⌝ }
 {
     if bad_record(sum, taken) {
         return refuse_head(image, 0, taken);
@@ -94,13 +104,14 @@ pub fn turn_bytes(
 // The same on a prepared table: 11, 15, 17, 26, 18.
 pub fn live_turn_bytes(
     table: &[u8],
-    bytes: &mut [u8; 130],
+    bytes: &mut [u8; STATE_BYTES],
     sum: usize,
     taken: usize,
     word: u16,
 ) -> SpinReport
     requires { ⌜ stateOf (now bytes) .depth ≤ sum ⌝ }
-    ensures { λ r. ⌜ TurnsOn (turn (when 11 (badTable (now (table .entry)))) (stateOf (now (bytes .entry))) sum taken (liveTick (now (table .entry)) (stateOf (now (bytes .entry))) word)) (now (bytes .entry)) r (now (bytes .exit)) ⌝ }
+    ensures { λ r. ⌜ GivesTurnOn (turn (when BAD-HEADER (badTable (now (table .entry)))) (stateOf (now (bytes .entry))) sum taken
+        (liveTick (now (table .entry)) (stateOf (now (bytes .entry))) word)) (now (bytes .entry)) r (now (bytes .exit)) ⌝ }
 {
     if bad_record(sum, taken) {
         return live_refuse_head(table, 0, taken);

@@ -12,7 +12,7 @@ use spindles::SpinReport;
 use state::State;
 
 // A turn's report, and the state after it.
-pub struct Turned {
+pub struct SpinStateReport {
     pub report: SpinReport,
     pub state: State,
 }

@@ -1,4 +1,5 @@
--- A code 60 hexadecimal is made exactly at a call that finds as many schemes open as places, where there is a handler and it is not the first of them.
+-- A code 60 hexadecimal is made exactly at a call that finds as many schemes open as places,
+-- where there is a handler and it is not the first of them.
 use Prim.Native.Nat.{ℕ, _+_, _<_}
 use mathlib.Core.Bool.{Bool, true, false, _&&_}
 use mathlib.Core.Path.{_≡_, refl}
@@ -11,18 +12,18 @@ use Rattle.walk.specs.Stops.{Stop, plain, call, function, test, home, ba
 use Rattle.walk.specs.Walk.{isDrop}
 use Rattle.walk.proofs.Facts.{Facts}
 use Rattle.walk.proofs.Views.{View, a-plain, a-call, a-function, a-home, a-back, a-begin, a-condition}
-use Rattle.walk.proofs.Trace.{Position, codeOf, dropsAt, tickAt, Good, view-of}
+use Rattle.walk.proofs.Trace.{WalkPosition, stopCode, dropsAt, tickAt, Good, view-of}
 
-abbrev pub isCall : Stop → Bool
-isCall (plain m r u) = false
-isCall (call m r h u) = true
-isCall (function h u₀ u₁) = true
-isCall (test u) = false
-isCall home = false
-isCall back = false
+abbrev pub isCallStop : Stop → Bool
+isCallStop (plain m r u) = false
+isCallStop (call m r h u) = true
+isCallStop (function h u₀ u₁) = true
+isCallStop (test u) = false
+isCallStop home = false
+isCallStop back = false
 
 module _ (c : Chart) (facts : Facts c) where
-  drop-by : (d : Bool) (v : ℕ) → v < size c → {s : Stop} → View c v s → eqb (codeOf d s) 96 ≡ (isCall s && d)
+  drop-by : (d : Bool) (v : ℕ) → v < size c → {s : Stop} → View c v s → eqb (stopCode d s) 96 ≡ (isCallStop s && d)
   drop-by d v l (a-plain e a) = refl
   drop-by true v l (a-call e a) = refl
   drop-by false v l (a-call e a) = ne-eqb (16 + argument c v) 96 (λ q. omega (arith, facts .calls v l e a, facts .most))
@@ -33,5 +34,5 @@ module _ (c : Chart) (facts : Facts c) where
   drop-by d v l (a-begin e) = refl
   drop-by d v l (a-condition e) = refl
 
-  pub drop-exactly : (n : ℕ) (x : Position) → Good c x → isDrop (tickAt n c x) ≡ (isCall (stopAt c (x .now .node)) && dropsAt n c x)
+  pub drop-exactly : (n : ℕ) (x : WalkPosition) → Good c x → isDrop (tickAt n c x) ≡ (isCallStop (stopAt c (x .now .node)) && dropsAt n c x)
   drop-exactly n x g = drop-by (dropsAt n c x) (x .now .node) (g .top .inside) (view-of c facts x g)

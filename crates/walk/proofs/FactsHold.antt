@@ -7,14 +7,15 @@ use Rattle.frames.specs.Frame.{contents}
 use Rattle.frames.specs.Verdict.{fine}
 use Rattle.charts.specs.Chart.{Chart}
 use Rattle.charts.specs.Entry.{readVerdict}
-use Rattle.charts.proofs.Accepted.{Accepted, Sound, accepted, accepted-bytes}
-use Rattle.charts.proofs.Nodes.{kinds, owned, schemes-most, schemes-first, conditions, results, TheNode, begins, ends, handled, arc0, arc1, calls, functions}
+use Rattle.charts.proofs.Accepted.{Accepted, SoundChart, accepted, accepted-bytes}
+use Rattle.charts.proofs.Nodes.{kinds, owned, schemes-most, schemes-first, conditions, results, TheNode}
+use Rattle.charts.proofs.Nodes.{begins, ends, handled, arc0, arc1, calls, functions}
 use Rattle.walk.proofs.Facts.{Facts}
 use Rattle.walk.proofs.Follow.{follows, tests, starts}
 
 pub facts-of : (c : Chart) → Accepted c → ((k : ℕ) → getD c k 0 < 256) → Facts c
 facts-of c a bytes =
-    let s : Sound c = a .sound in
+    let s : SoundChart c = a .sound in
     record {
       whole = a .whole;
       some = a .some;

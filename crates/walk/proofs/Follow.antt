@@ -11,7 +11,7 @@ use Rattle.lists.proofs.Tests.{no-both, and-true, yes-pick, no-pick, cases}
 use Rattle.bits.specs.Word.{bit}
 use Rattle.frames.specs.Frame.{size}
 use Rattle.charts.specs.Chart.{Chart, kind, scheme, argument, next0, next1, is, schemes, begin, taken}
-use Rattle.charts.proofs.Accepted.{Sound}
+use Rattle.charts.proofs.Accepted.{SoundChart}
 use Rattle.charts.proofs.Nodes.{Target, TheNode, begins, arc0, arc1}
 use Rattle.charts.proofs.Rank.{rank, rank-le, rank-some, rank-falls0, rank-falls1}
 use Rattle.walk.specs.Stops.{stops, start, follow, byArc, byWord}
@@ -65,7 +65,7 @@ taken-by P c w v p q = go (eqb (bit w (argument c v)) 0) refl
 pub target-as : (c : Chart) {h g u : ℕ} → h ≡ g → Target c h u → Target c g u
 target-as c e t = record { inside = t .inside; same = t .same ∙ e; entered = t .entered }
 
-module _ (c : Chart) (a : Sound c) where
+module _ (c : Chart) (a : SoundChart c) where
   pub condition-arc0 : (h v : ℕ) → Target c h v → kind c v ≡ 3 → Target c h (next0 c v)
   condition-arc0 h v t k = target-as c (t .same) (arc0 c a v (t .inside) (λ e. omega arith))
 
@@ -105,7 +105,8 @@ module _ (c : Chart) (a : Sound c) where
       go true s ih = follow-stays (suc n) c w v s ∙ sym (follow-stays n c w v s)
       go false s ih =
           let k : kind c v ≡ 3 = goes-on c v (t .entered) s in
-          follow-goes (suc n) c w v s ∙ ih (taken-end h w v t k) (omega (arith, taken-falls w v (t .inside) k)) ∙ sym (follow-goes n c w v s)
+          follow-goes (suc n) c w v s ∙ ih (taken-end h w v t k) (omega (arith, taken-falls w v (t .inside) k))
+          ∙ sym (follow-goes n c w v s)
 
   pub follows : (h v w : ℕ) → Target c h v → StopOf c h (byArc c w v)
   follows h v w t = follow-stop (size c) h w v t (rank-le c v)
@@ -130,7 +131,8 @@ module _ (c : Chart) (a : Sound c) where
   -- ---- where a scheme starts
   -- the node after a Begin that is no stop
   first-stop : (h v : ℕ) → TheNode c 0 h v → v ≡ begin c h → stops c v ≡ false → stops c (next0 c v) ≡ true
-  first-stop h v b e s = go (arc0 c a v (b .inside) (λ q. omega (arith, b .kinded))) (ℕ-discrete (kind c (next0 c v)) 3) (cases (eqb (scheme c v) 1))
+  first-stop h v b e s = go (arc0 c a v (b .inside) (λ q. omega (arith, b .kinded)))
+      (ℕ-discrete (kind c (next0 c v)) 3) (cases (eqb (scheme c v) 1))
     where
       go : Target c (scheme c v) (next0 c v) → Dec (kind c (next0 c v) ≡ 3)
           → (eqb (scheme c v) 1 ≡ true) ⊎ (eqb (scheme c v) 1 ≡ false) → stops c (next0 c v) ≡ true
@@ -150,9 +152,11 @@ module _ (c : Chart) (a : Sound c) where
   starts h l m =
       let b : TheNode c 0 h (begin c h) = begins c a h l m in
       ⊎-elim
-      (λ (s : stops c (begin c h) ≡ true). subst (λ (u : ℕ). StopOf c h u) (sym (yes-pick (stops c (begin c h)) (begin c h) (next0 c (begin c h)) s))
+      (λ (s : stops c (begin c h) ≡ true). subst (λ (u : ℕ). StopOf c h u)
+      (sym (yes-pick (stops c (begin c h)) (begin c h) (next0 c (begin c h)) s))
       (record { inside = b .inside; same = b .same; stopping = s }))
-      (λ (s : stops c (begin c h) ≡ false). subst (λ (u : ℕ). StopOf c h u) (sym (no-pick (stops c (begin c h)) (begin c h) (next0 c (begin c h)) s))
+      (λ (s : stops c (begin c h) ≡ false). subst (λ (u : ℕ). StopOf c h u)
+      (sym (no-pick (stops c (begin c h)) (begin c h) (next0 c (begin c h)) s))
       (stays h (next0 c (begin c h))
       (target-as c (b .same) (arc0 c a (begin c h) (b .inside) (λ q. omega (arith, b .kinded)))) (first-stop h (begin c h) b refl s)))
       (cases (stops c (begin c h)))

@@ -1,4 +1,5 @@
--- With no handler the number of places does not matter, and where every number is served by its own scheme the walk of an accepted chart is the
+-- With no handler the number of places does not matter,
+-- and where every number is served by its own scheme the walk of an accepted chart is the
 -- unbounded walk.
 use Prim.Native.Nat.{ℕ, zero, suc, _+_}
 use mathlib.Core.Bool.{Bool, true, false}
@@ -6,21 +7,22 @@ use mathlib.Core.Path.{_≡_, refl, ap, _∙_, sym, subst}
 use mathlib.Core.List.{List, [], _∷_, _++_}
 use lib.ListN.{length}
 use native.Mathlib.Omega.{arith}
-use Rattle.bits.specs.Results.{Results, noResults, resultOf, withResult, cleared}
-use Rattle.bits.specs.Binding.{ownBinding}
+use Rattle.results.specs.Results.{Results, noResults, resultOf, withResult, cleared}
+use Rattle.bindings.specs.Binding.{ownBinding}
 use Rattle.frames.specs.Frame.{contents}
 use Rattle.frames.specs.Verdict.{fine}
 use Rattle.charts.specs.Entry.{readVerdict}
 use Rattle.charts.specs.Chart.{Chart, scheme, argument, result, mask, handler, end}
 use Rattle.walk.specs.Stops.{start, Stop, plain, call, function, test, home, back, stopAt}
-use Rattle.walk.specs.Walk.{Signal, signals, Tick, tick, drops, walk}
-use Rattle.walk.specs.Unswapped.{Course, spent, ended, after, Performer, resume, calls, act, perform, carriedOn, walkFrom}
+use Rattle.walk.specs.Walk.{Signal, signals, Tick, oneTick, drops, walk}
+use Rattle.walk.specs.Unswapped.{Course, spent, ended, after, Performer, resume, performCall, act, perform, carriedOn, walkFrom}
 use Rattle.walk.specs.Unswapped.{walk as unswappedWalk}
 use Rattle.walk.specs.Unbounded as unbounded
 use Rattle.walk.proofs.Facts.{StopOf, Facts}
 use Rattle.walk.proofs.FactsHold.{facts}
 use Rattle.walk.proofs.Views.{View, a-plain, a-call, a-function, a-home, a-back, a-begin, a-condition, view}
-use Rattle.walk.proofs.Trace.{Position, tickOf, movedBy, dropsAt, tickAt, move, trace, atHome, home-stop, arc-to, function-to, begin-to}
+use Rattle.walk.proofs.Trace.{WalkPosition, stopTick, movedBy, dropsAt, tickAt, move, trace}
+use Rattle.walk.proofs.Trace.{positionAtHome, home-stop, arc-to, function-to, begin-to}
 use Rattle.walk.proofs.Recursion.{walk-trace}
 use Rattle.walk.proofs.OwnBinding.{own-binding}
 
@@ -29,18 +31,18 @@ no-drop : (c : Chart) → handler c ≡ 0 → (n : ℕ) (f : Bool) (o : ℕ) →
 no-drop c h n true o = refl
 no-drop c h n false o = rw h refl
 
-any-trace : (c : Chart) → handler c ≡ 0 → (n m : ℕ) (ws : List Signal) (x : Position) → trace n c ws x ≡ trace m c ws x
+any-trace : (c : Chart) → handler c ≡ 0 → (n m : ℕ) (ws : List Signal) (x : WalkPosition) → trace n c ws x ≡ trace m c ws x
 unfolding trace
 any-trace c h n m [] x = refl
 any-trace c h n m (w ∷ ws) x =
     let o : ℕ = suc (length (x .callers)) in
     let s : Stop = stopAt c (x .now .node) in
     let e : dropsAt n c x ≡ dropsAt m c x = no-drop c h n (x .first) o ∙ sym (no-drop c h m (x .first) o) in
-    ap (λ (d : Bool). tickOf d o (x .now) s ∷ trace n c ws (movedBy c d (x .now) (x .callers) w (x .results) (x .first) s)) e
+    ap (λ (d : Bool). stopTick d o (x .now) s ∷ trace n c ws (movedBy c d (x .now) (x .callers) w (x .results) (x .first) s)) e
     ∙ ap (λ (ts : List Tick). tickAt m c x ∷ ts) (any-trace c h n m ws (move m c w x))
 
 pub any-places : (c : Chart) → handler c ≡ 0 → (n m : ℕ) (ws : List Signal) → walk n c ws ≡ walk m c ws
-any-places c h n m ws = walk-trace n c ws ∙ any-trace c h n m ws (atHome c noResults) ∙ sym (walk-trace m c ws)
+any-places c h n m ws = walk-trace n c ws ∙ any-trace c h n m ws (positionAtHome c noResults) ∙ sym (walk-trace m c ws)
 
 -- ---- where no call drops, both perform alike
 abbrev alike : unbounded.Course → Course
@@ -65,12 +67,12 @@ module _ (go : Performer) (free : unbounded.Performer) (ih : Alike go free) wher
 
   module _ (c : Chart) (d : ℕ → Bool) (never : (o : ℕ) → d o ≡ false) where
     alike-call : (o v m k h : ℕ) (f : ℕ → Results → ℕ) (ws : List ℕ) (b : Results)
-        → calls go c o v m k h f ws b (d o)
-        ≡ alike (unbounded.resume free o (tick v (scheme c v) m (k + h) o) f (free (suc o) (start c h) ws (cleared h b)))
+        → performCall go c o v m k h f ws b (d o)
+        ≡ alike (unbounded.resume free o (oneTick v (scheme c v) m (k + h) o) f (free (suc o) (start c h) ws (cleared h b)))
     alike-call o v m k h f ws b =
-        ap (calls go c o v m k h f ws b) (never o)
-        ∙ ap (resume go o (tick v (scheme c v) m (k + h) o) f) (ih (suc o) (start c h) ws (cleared h b))
-        ∙ alike-resume o (tick v (scheme c v) m (k + h) o) f (free (suc o) (start c h) ws (cleared h b))
+        ap (performCall go c o v m k h f ws b) (never o)
+        ∙ ap (resume go o (oneTick v (scheme c v) m (k + h) o) f) (ih (suc o) (start c h) ws (cleared h b))
+        ∙ alike-resume o (oneTick v (scheme c v) m (k + h) o) f (free (suc o) (start c h) ws (cleared h b))
 
     alike-act : (o v w : ℕ) (ws : List ℕ) (b : Results) (s : Stop) → act go c d o v w ws b s ≡ alike (unbounded.act free c o v w ws b s)
     alike-act o v w ws b (plain m r u) = alike-on _ o _ ws _
@@ -111,10 +113,11 @@ module _ (c : Chart) (facts : Facts c) where
       endless-act : {s : Stop} → View c v s → Endless (unbounded.act go c o v w ws b s)
       endless-act (a-plain e a) = endless-on _ o _ ws _ (own _ (arc-to c facts v w (g .inside) (λ p. omega arith)))
       endless-act (a-call e a) =
-          endless-resume o (tick v (scheme c v) (mask c v) (16 + argument c v) o) _ (λ x d. own _ (arc-to c facts v x (g .inside) (λ p. omega arith)))
+          endless-resume o (oneTick v (scheme c v) (mask c v) (16 + argument c v) o) _
+          (λ x d. own _ (arc-to c facts v x (g .inside) (λ p. omega arith)))
           (go (suc o) (start c (argument c v)) ws (cleared (argument c v) (withResult (result c v) (scheme c v) b)))
       endless-act (a-function e) =
-          endless-resume o (tick v (scheme c v) 0 (64 + argument c v) o) _
+          endless-resume o (oneTick v (scheme c v) 0 (64 + argument c v) o) _
           (λ x d. own _ (function-to c facts v x (resultOf (argument c v) d) (g .inside) e))
           (go (suc o) (start c (argument c v)) ws (cleared (argument c v) b))
       endless-act (a-home e s) = endless-on _ o _ ws b (facts .starts 1 (omega arith) (facts .first))
@@ -129,7 +132,8 @@ module _ (c : Chart) (facts : Facts c) where
   endless (suc k) o v (w ∷ ws) b g = endless-act (unbounded.perform k c) (endless k) o v w ws b g (view c v (facts .kinds v (g .inside)))
 
   -- ---- the two walks
-  carried-ticks : (go : Bool → ℕ → List ℕ → Results → List Tick) (r : unbounded.Course) → Endless r → carriedOn go c (alike r) ≡ unbounded.ticksOf r
+  carried-ticks : (go : Bool → ℕ → List ℕ → Results → List Tick) (r : unbounded.Course)
+      → Endless r → carriedOn go c (alike r) ≡ unbounded.ticksOf r
   carried-ticks go r (endless-spent ts) = refl
 
   alike-walks : handler c ≡ 0 → (n : ℕ) (ws : List ℕ) → unswappedWalk n c ws ≡ unbounded.walk c ws

@@ -1,4 +1,5 @@
--- Where every number is served by its own scheme, the walk of an accepted chart is the walk with no rebinding: an open scheme goes by its own
+-- Where every number is served by its own scheme, the walk of an accepted chart is the walk with no rebinding:
+-- an open scheme goes by its own
 -- number.
 use Prim.Native.Nat.{ℕ, zero, suc, _+_, _-_, _≤_}
 use mathlib.Core.Bool.{Bool, true, false}
@@ -7,14 +8,15 @@ use mathlib.Core.List.{List, [], _∷_, _++_}
 use lib.ListN.{length, length-map}
 use native.Mathlib.Omega.{arith}
 use Rattle.lists.proofs.Ranges.{getD-range}
-use Rattle.bits.specs.Results.{Results, noResults, resultOf, cleared}
-use Rattle.bits.specs.Binding.{ownBinding, served}
+use Rattle.results.specs.Results.{Results, noResults, resultOf, cleared}
+use Rattle.bindings.specs.Binding.{ownBinding, served}
 use Rattle.frames.specs.Frame.{contents}
 use Rattle.frames.specs.Verdict.{fine}
 use Rattle.charts.specs.Entry.{readVerdict}
 use Rattle.charts.specs.Chart.{Chart, scheme, argument, mask, handler, schemes, end}
 use Rattle.walk.specs.Stops.{start, Stop}
-use Rattle.walk.specs.Walk.{Signal, signals, Tick, tick, Course, spent, ended, dropped, after, Performer, resume, calls, act, perform}
+use Rattle.walk.specs.Walk.{Signal, signals, Tick, oneTick, Course, spent, ended, dropped, after}
+use Rattle.walk.specs.Walk.{Performer, resume, performCall, act, perform}
 use Rattle.walk.specs.Walk.{drops, bottom, carriedOn, walkFrom, walk}
 use Rattle.walk.specs.Unswapped as unswapped
 use Rattle.walk.proofs.Facts.{StopOf, Facts}
@@ -27,7 +29,8 @@ pub served-own : (h : ℕ) → 1 ≤ h → h ≤ 16 → served ownBinding h ≡ 
 served-own h l m = getD-range 1 16 (h - 1) 0 (omega arith) ∙ omega arith
 
 pub own-serves : (c : Chart) → Facts c → Serves c ownBinding
-own-serves c facts h l m = let e : served ownBinding h ≡ h = served-own h (omega arith) (omega (arith, facts .most)) in (omega arith, omega arith)
+own-serves c facts h l m = let e : served ownBinding h ≡ h =
+    served-own h (omega arith) (omega (arith, facts .most)) in (omega arith, omega arith)
 
 abbrev own : List ℕ → List Signal
 own = signals ownBinding
@@ -37,7 +40,8 @@ module _ (c : Chart) where
   data Alike : Course → unswapped.Course → Type 0 where
     both-spent : (ts : List Tick) → Alike (spent ts) (unswapped.spent ts)
     both-ended : (ts : List Tick) (w : ℕ) (ws : List ℕ) (b : Results) → Alike (ended ts w (own ws) b) (unswapped.ended ts w ws b)
-    both-dropped : (ts : List Tick) (ws : List ℕ) (b : Results) → (handler c ≡ 0 → ⊥) → Alike (dropped ts (own ws) b) (unswapped.dropped ts ws b)
+    both-dropped : (ts : List Tick) (ws : List ℕ) (b : Results) → (handler c ≡ 0 → ⊥)
+        → Alike (dropped ts (own ws) b) (unswapped.dropped ts ws b)
 
   alike-after : (ts : List Tick) {r : Course} {q : unswapped.Course} → Alike r q → Alike (after ts r) (unswapped.after ts q)
   alike-after ts (both-spent us) = both-spent (ts ++ us)
@@ -57,18 +61,22 @@ module _ (c : Chart) where
       alike-resume o g ts f s (both-dropped us ws b n) = both-dropped (ts ++ us) ws b n
 
       -- a call of number h by stop v
-      alike-call : (o v m j h : ℕ) (f : ℕ → Results → ℕ) (ws : List ℕ) (b : Results) → ((w : ℕ) (b : Results) → StopOf c (scheme c v) (f w b))
+      alike-call : (o v m j h : ℕ) (f : ℕ → Results → ℕ) (ws : List ℕ) (b : Results)
+          → ((w : ℕ) (b : Results) → StopOf c (scheme c v) (f w b))
           → (2 ≤ h) × (h ≤ schemes c) → (t : Bool) → (t ≡ true → handler c ≡ 0 → ⊥)
-          → Alike (calls go c o (scheme c v) v m j h (served ownBinding h) f (own ws) b t) (unswapped.calls free c o v m j h f ws b t)
+          → Alike (performCall go c o (scheme c v) v m j h (served ownBinding h) f (own ws) b t)
+          (unswapped.performCall free c o v m j h f ws b t)
       alike-call o v m j h f ws b s l true n = both-dropped _ ws _ (n refl)
       alike-call o v m j h f ws b s l false n =
-          subst (λ (k : ℕ). Alike (calls go c o (scheme c v) v m j h k f (own ws) b false) (unswapped.calls free c o v m j h f ws b false))
+          subst (λ (k : ℕ). Alike (performCall go c o (scheme c v) v m j h k f (own ws) b false)
+          (unswapped.performCall free c o v m j h f ws b false))
           (sym (served-own h (omega arith) (omega (arith, facts .most))))
-          (alike-resume o (scheme c v) (tick v (scheme c v) m (j + h) o) f s
+          (alike-resume o (scheme c v) (oneTick v (scheme c v) m (j + h) o) f s
           (ih (suc o) h (start c h) ws (cleared h b) (facts .starts h (omega arith) (l .1))))
 
       alike-act : (o v w : ℕ) (ws : List ℕ) (b : Results) → StopOf c (scheme c v) v → {s : Stop} → View c v s
-          → Alike (act go c d o (scheme c v) v (record { word = w; binding = ownBinding }) (own ws) b s) (unswapped.act free c d o v w ws b s)
+          → Alike (act go c d o (scheme c v) v (record { word = w; binding = ownBinding }) (own ws) b s)
+          (unswapped.act free c d o v w ws b s)
       alike-act o v w ws b g (a-plain e a) = alike-after _ (ih o _ _ ws _ (arc-to c facts v w (g .inside) (λ p. omega arith)))
       alike-act o v w ws b g (a-call e a) =
           alike-call o v (mask c v) 16 (argument c v) _ ws _ (λ x y. arc-to c facts v x (g .inside) (λ p. omega arith))

@@ -7,12 +7,14 @@ use lib.ListN.{length}
 use native.Mathlib.Omega.{arith}
 use native.Mathlib.Nat.{le-of-suc-le-suc, not-suc-le-zero}
 use Rattle.lists.specs.Pick.{pick}
-use Rattle.bits.specs.Results.{Results, noResults, cleared}
+use Rattle.results.specs.Results.{Results, noResults, cleared}
 use Rattle.charts.specs.Chart.{Chart, handler, end}
 use Rattle.walk.specs.Stops.{start, Stop, plain, call, function, test, home, back, stopAt}
-use Rattle.walk.specs.Walk.{Signal, Tick, tick, Course, spent, ended, dropped, after, Performer, resume, calls, act, perform, drops}
+use Rattle.walk.specs.Walk.{Signal, Tick, oneTick, Course, spent, ended, dropped, after}
+use Rattle.walk.specs.Walk.{Performer, resume, performCall, act, perform, drops}
 use Rattle.walk.specs.Walk.{bottom, carriedOn, walkFrom, walk}
-use Rattle.walk.proofs.Trace.{Open, opens, on, at, one, tickOf, resumedBy, resumed, returned, handling, called, movedBy, trace, atHome}
+use Rattle.walk.proofs.Trace.{Open, opens, movedTo, at, tickOf, stopTick, resumedBy, resumed, positionReturned}
+use Rattle.walk.proofs.Trace.{positionHandling, positionCalled, movedBy, trace, positionAtHome}
 
 -- ---- a scheme that has ended, or was dropped, leaves fewer than n words
 abbrev Shorter : ℕ → Course → Type 0
@@ -36,16 +38,18 @@ Short go = (o g v : ℕ) (ws : List Signal) (b : Results) → Shorter (length ws
 module _ (go : Performer) (ih : Short go) where
   shorter-resume : (o g m : ℕ) (ts : List Tick) (f : ℕ → Results → ℕ) (r : Course) → Shorter m r → Shorter m (resume go o g ts f r)
   shorter-resume o g m ts f (spent us) h = tt
-  shorter-resume o g m ts f (ended us w ws b) h = shorter-after (length ws) m (ts ++ us) (go o g (f w b) ws b) (omega arith) (ih o g (f w b) ws b)
+  shorter-resume o g m ts f (ended us w ws b) h =
+      shorter-after (length ws) m (ts ++ us) (go o g (f w b) ws b) (omega arith) (ih o g (f w b) ws b)
   shorter-resume o g m ts f (dropped us ws b) h = h
 
   step : (ts : List Tick) (o g v : ℕ) (ws : List Signal) (b : Results) → Shorter (suc (length ws)) (after ts (go o g v ws b))
   step ts o g v ws b = shorter-after (length ws) _ ts (go o g v ws b) (omega arith) (ih o g v ws b)
 
   step-in : (c : Chart) (o g v m j h k : ℕ) (f : ℕ → Results → ℕ) (ws : List Signal) (b : Results) (d : Bool)
-      → Shorter (suc (length ws)) (calls go c o g v m j h k f ws b d)
+      → Shorter (suc (length ws)) (performCall go c o g v m j h k f ws b d)
   step-in c o g v m j h k f ws b false = let r : Course = go (suc o) h (start c k) ws (cleared h b) in
-      shorter-resume o g _ (tick v g m (j + h) o) f r (shorter-le (length ws) _ r (omega arith) (ih (suc o) h (start c k) ws (cleared h b)))
+      shorter-resume o g _ (oneTick v g m (j + h) o) f r
+      (shorter-le (length ws) _ r (omega arith) (ih (suc o) h (start c k) ws (cleared h b)))
   step-in c o g v m j h k f ws b true = omega arith
 
   shorter-act : (c : Chart) (d : ℕ → Bool) (o g v : ℕ) (w : Signal) (ws : List Signal) (b : Results) (s : Stop)
@@ -67,13 +71,13 @@ shorter (suc k) c d o g v (w ∷ ws) b = shorter-act (perform k c d) (shorter k 
 module _ (n : ℕ) (c : Chart) where
   abbrev onward : List Open → Bool → Course → List Tick
   onward ks f (spent ts) = ts
-  onward ks f (ended ts w ws b) = ts ++ trace n c ws (returned c ks w b f)
-  onward ks f (dropped ts ws b) = ts ++ trace n c ws (handling c b)
+  onward ks f (ended ts w ws b) = ts ++ trace n c ws (positionReturned c ks w b f)
+  onward ks f (dropped ts ws b) = ts ++ trace n c ws (positionHandling c b)
 
   onward-after : (ks : List Open) (f : Bool) (ts : List Tick) (r : Course) → onward ks f (after ts r) ≡ ts ++ onward ks f r
   onward-after ks f ts (spent us) = refl
-  onward-after ks f ts (ended us w ws b) = append-assoc ts us (trace n c ws (returned c ks w b f))
-  onward-after ks f ts (dropped us ws b) = append-assoc ts us (trace n c ws (handling c b))
+  onward-after ks f ts (ended us w ws b) = append-assoc ts us (trace n c ws (positionReturned c ks w b f))
+  onward-after ks f ts (dropped us ws b) = append-assoc ts us (trace n c ws (positionHandling c b))
 
   abbrev performed : ℕ → Open → List Open → List Signal → Results → Bool → Course
   performed k x ks ws b f = perform k c (drops n c f) (suc (length ks)) (x .number) (x .node) ws b
@@ -86,33 +90,35 @@ module _ (n : ℕ) (c : Chart) where
     -- the scheme goes on
     same-after : (ts : List Tick) (ws : List Signal) (x : Open) (ks : List Open) (b : Results) (f : Bool) → length ws ≤ k
         → ts ++ trace n c ws (at x ks b f) ≡ onward ks f (after ts (performed k x ks ws b f))
-    same-after ts ws x ks b f l = ap (λ (us : List Tick). ts ++ us) (ih ws x ks b f l) ∙ sym (onward-after ks f ts (performed k x ks ws b f))
+    same-after ts ws x ks b f l = ap (λ (us : List Tick). ts ++ us) (ih ws x ks b f l)
+        ∙ sym (onward-after ks f ts (performed k x ks ws b f))
 
     -- the caller x goes on, from the node that g gives
-    module _ (x : Open) (ks : List Open) (f : Bool) (g : ℕ → Results → ℕ) (e : (w : ℕ) (b : Results) → g w b ≡ resumed c (x .node) w b) where
+    module _ (x : Open) (ks : List Open) (f : Bool) (g : ℕ → Results → ℕ)
+        (e : (w : ℕ) (b : Results) → g w b ≡ resumed c (x .node) w b) where
       same-resume : (ts : List Tick) (r : Course) → Shorter (suc k) r
           → ts ++ onward (x ∷ ks) f r ≡ onward ks f (resume (perform k c (drops n c f)) (suc (length ks)) (x .number) ts g r)
       same-resume ts (spent us) l = refl
       same-resume ts (ended us w ws b) l =
-          sym (append-assoc ts us (trace n c ws (at (on x (resumed c (x .node) w b)) ks b f)))
-          ∙ rw (e w b) (same-after (ts ++ us) ws (on x (resumed c (x .node) w b)) ks b f (le-of-suc-le-suc l))
-      same-resume ts (dropped us ws b) l = sym (append-assoc ts us (trace n c ws (handling c b)))
+          sym (append-assoc ts us (trace n c ws (at (movedTo x (resumed c (x .node) w b)) ks b f)))
+          ∙ rw (e w b) (same-after (ts ++ us) ws (movedTo x (resumed c (x .node) w b)) ks b f (le-of-suc-le-suc l))
+      same-resume ts (dropped us ws b) l = sym (append-assoc ts us (trace n c ws (positionHandling c b)))
 
       -- a call: the scheme called, and then the caller; or a drop
       same-call : (m j h i : ℕ) (ws : List Signal) (b : Results) → length ws ≤ k → (d : Bool)
-          → one (x .node) (x .number) m (pick d 96 (j + h)) (suc (length ks)) ∷ trace n c ws (called c x ks h i b f d)
-          ≡ onward ks f (calls (perform k c (drops n c f)) c (suc (length ks)) (x .number) (x .node) m j h i g ws b d)
+          → tickOf (x .node) (x .number) m (pick d 96 (j + h)) (suc (length ks)) ∷ trace n c ws (positionCalled c x ks h i b f d)
+          ≡ onward ks f (performCall (perform k c (drops n c f)) c (suc (length ks)) (x .number) (x .node) m j h i g ws b d)
       same-call m j h i ws b l true = refl
       same-call m j h i ws b l false =
           let y : Open = opens (start c i) h i in
           let r : Course = performed k y (x ∷ ks) ws (cleared h b) f in
-          ap (λ (us : List Tick). one (x .node) (x .number) m (j + h) (suc (length ks)) ∷ us) (ih ws y (x ∷ ks) (cleared h b) f l)
-          ∙ same-resume (tick (x .node) (x .number) m (j + h) (suc (length ks))) r
+          ap (λ (us : List Tick). tickOf (x .node) (x .number) m (j + h) (suc (length ks)) ∷ us) (ih ws y (x ∷ ks) (cleared h b) f l)
+          ∙ same-resume (oneTick (x .node) (x .number) m (j + h) (suc (length ks))) r
           (shorter-le (length ws) (suc k) r (omega arith) (shorter k c (drops n c f) _ h (start c i) ws (cleared h b)))
 
     same-act : (x : Open) (ks : List Open) (w : Signal) (ws : List Signal) (b : Results) (f : Bool) → length ws ≤ k
         → (s : Stop) → stopAt c (x .node) ≡ s → let d = drops n c f (suc (length ks)) in
-        tickOf d (suc (length ks)) x s ∷ trace n c ws (movedBy c d x ks w b f s)
+        stopTick d (suc (length ks)) x s ∷ trace n c ws (movedBy c d x ks w b f s)
         ≡ onward ks f (act (perform k c (drops n c f)) c (drops n c f) (suc (length ks)) (x .number) (x .node) w ws b s)
     same-act x ks w ws b f l (plain m r u) q = same-after _ ws _ ks _ f l
     same-act x ks w ws b f l (call m r h u) q =
@@ -137,7 +143,8 @@ module _ (n : ℕ) (c : Chart) where
   walk-from zero f v [] b l = refl
   walk-from zero f v (w ∷ ws) b l = absurd (not-suc-le-zero l)
   walk-from (suc k) f v ws b l =
-      go (perform (length ws) c (drops n c f) 1 (bottom c f) v ws b) (shorter (length ws) c (drops n c f) 1 (bottom c f) v ws b) (walk-from k)
+      go (perform (length ws) c (drops n c f) 1 (bottom c f) v ws b)
+      (shorter (length ws) c (drops n c f) 1 (bottom c f) v ws b) (walk-from k)
       ∙ sym (same (length ws) ws (opens v (bottom c f) (bottom c f)) [] b f (omega arith))
     where
       go : (r : Course) → Shorter (length ws) r
@@ -148,6 +155,6 @@ module _ (n : ℕ) (c : Chart) where
       go (ended ts w us d) s ih = ap (λ (xs : List Tick). ts ++ xs) (ih false (end c 1) us d (omega arith))
       go (dropped ts us d) s ih = ap (λ (xs : List Tick). ts ++ xs) (ih true (start c (handler c)) us d (omega arith))
 
-  pub walk-trace : (ws : List Signal) → walk n c ws ≡ trace n c ws (atHome c noResults)
+  pub walk-trace : (ws : List Signal) → walk n c ws ≡ trace n c ws (positionAtHome c noResults)
   unfolding walk
   walk-trace ws = walk-from (length ws) false (end c 1) ws noResults (omega arith)

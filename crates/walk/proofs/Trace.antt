@@ -10,8 +10,8 @@ use borrow.Author.Tests.{eqb-false}
 use native.Mathlib.Omega.{arith}
 use Rattle.lists.specs.Pick.{pick}
 use Rattle.lists.proofs.Tests.{no-both, and-l, and-r, not-true}
-use Rattle.bits.specs.Results.{Results, resultOf, withResult, cleared}
-use Rattle.bits.specs.Binding.{Binding, served}
+use Rattle.results.specs.Results.{Results, resultOf, withResult, cleared}
+use Rattle.bindings.specs.Binding.{Binding, served}
 use Rattle.frames.specs.Frame.{size}
 use Rattle.charts.specs.Chart.{Chart, kind, scheme, argument, next0, next1, handler, schemes, end}
 use Rattle.walk.specs.Stops.{stops, start, byArc, byWord, Stop, plain, call, function, test, home, back, stopAt}
@@ -30,42 +30,42 @@ abbrev pub opens : ℕ → ℕ → ℕ → Open
 opens v g k = record { node = v; number = g; server = k }
 
 -- the same scheme, at another node
-abbrev pub on : Open → ℕ → Open
-on x v = opens v (x .number) (x .server)
+abbrev pub movedTo : Open → ℕ → Open
+movedTo x v = opens v (x .number) (x .server)
 
 -- the last scheme opened, the callers of unfinished calls, the last one first, and whether the handler is the first open scheme
-pub record Position : Type 0 where
+pub record WalkPosition : Type 0 where
   pub now : Open
   pub callers : List Open
   pub results : Results
   pub first : Bool
 
-abbrev pub at : Open → List Open → Results → Bool → Position
+abbrev pub at : Open → List Open → Results → Bool → WalkPosition
 at x ks b f = record { now = x; callers = ks; results = b; first = f }
 
 -- mask and code of a stop's tick, where a call drops the open schemes or not
-abbrev pub maskOf : Stop → ℕ
-maskOf (plain m r u) = m
-maskOf (call m r h u) = m
-maskOf (function h u₀ u₁) = 0
-maskOf (test u) = 0
-maskOf home = 0
-maskOf back = 0
+abbrev pub stopMask : Stop → ℕ
+stopMask (plain m r u) = m
+stopMask (call m r h u) = m
+stopMask (function h u₀ u₁) = 0
+stopMask (test u) = 0
+stopMask home = 0
+stopMask back = 0
 
-abbrev pub codeOf : Bool → Stop → ℕ
-codeOf d (plain m r u) = 0
-codeOf d (call m r h u) = pick d 96 (16 + h)
-codeOf d (function h u₀ u₁) = pick d 96 (64 + h)
-codeOf d (test u) = 0
-codeOf d home = 4
-codeOf d back = 3
+abbrev pub stopCode : Bool → Stop → ℕ
+stopCode d (plain m r u) = 0
+stopCode d (call m r h u) = pick d 96 (16 + h)
+stopCode d (function h u₀ u₁) = pick d 96 (64 + h)
+stopCode d (test u) = 0
+stopCode d home = 4
+stopCode d back = 3
 
-abbrev pub one : ℕ → ℕ → ℕ → ℕ → ℕ → Tick
-one v g m k o = record { node = v; number = g; mask = m; code = k; opened = o }
+abbrev pub tickOf : ℕ → ℕ → ℕ → ℕ → ℕ → Tick
+tickOf v g m k o = record { node = v; number = g; mask = m; code = k; opened = o }
 
 -- the tick of scheme x at a stop that does s, with o schemes open
-abbrev pub tickOf : Bool → ℕ → Open → Stop → Tick
-tickOf d o x s = one (x .node) (x .number) (maskOf s) (codeOf d s) o
+abbrev pub stopTick : Bool → ℕ → Open → Stop → Tick
+stopTick d o x s = tickOf (x .node) (x .number) (stopMask s) (stopCode d s) o
 
 -- where caller k goes on when its call has ended
 abbrev pub resumedBy : Chart → ℕ → ℕ → Results → Stop → ℕ
@@ -80,41 +80,41 @@ abbrev pub resumed : Chart → ℕ → ℕ → Results → ℕ
 resumed c k w b = resumedBy c k w b (stopAt c k)
 
 -- where a walk begins, and where a drop leads
-abbrev pub atHome : Chart → Results → Position
-atHome c b = at (opens (end c 1) 1 1) [] b false
+abbrev pub positionAtHome : Chart → Results → WalkPosition
+positionAtHome c b = at (opens (end c 1) 1 1) [] b false
 
-abbrev pub handling : Chart → Results → Position
-handling c b = at (opens (start c (handler c)) (handler c) (handler c)) [] b true
+abbrev pub positionHandling : Chart → Results → WalkPosition
+positionHandling c b = at (opens (start c (handler c)) (handler c) (handler c)) [] b true
 
 -- with no caller left the handler has ended
-abbrev pub returned : Chart → List Open → ℕ → Results → Bool → Position
-returned c [] w b f = atHome c b
-returned c (k ∷ ks) w b f = at (on k (resumed c (k .node) w b)) ks b f
+abbrev pub positionReturned : Chart → List Open → ℕ → Results → Bool → WalkPosition
+positionReturned c [] w b f = positionAtHome c b
+positionReturned c (k ∷ ks) w b f = at (movedTo k (resumed c (k .node) w b)) ks b f
 
 -- a call of number h, which scheme k serves
-abbrev pub called : Chart → Open → List Open → ℕ → ℕ → Results → Bool → Bool → Position
-called c x ks h k b f true = handling c (cleared (handler c) b)
-called c x ks h k b f false = at (opens (start c k) h k) (x ∷ ks) (cleared h b) f
+abbrev pub positionCalled : Chart → Open → List Open → ℕ → ℕ → Results → Bool → Bool → WalkPosition
+positionCalled c x ks h k b f true = positionHandling c (cleared (handler c) b)
+positionCalled c x ks h k b f false = at (opens (start c k) h k) (x ∷ ks) (cleared h b) f
 
-abbrev pub movedBy : Chart → Bool → Open → List Open → Signal → Results → Bool → Stop → Position
-movedBy c d x ks w b f (plain m r u) = at (on x (byArc c (w .word) u)) ks (withResult r (x .number) b) f
-movedBy c d x ks w b f (call m r h u) = called c x ks h (served (w .binding) h) (withResult r (x .number) b) f d
-movedBy c d x ks w b f (function h u₀ u₁) = called c x ks h (served (w .binding) h) b f d
-movedBy c d x ks w b f (test u) = at (on x (byWord c (w .word) u)) ks b f
-movedBy c d x ks w b f home = at (on x (start c 1)) ks b f
-movedBy c d x ks w b f back = returned c ks (w .word) b f
+abbrev pub movedBy : Chart → Bool → Open → List Open → Signal → Results → Bool → Stop → WalkPosition
+movedBy c d x ks w b f (plain m r u) = at (movedTo x (byArc c (w .word) u)) ks (withResult r (x .number) b) f
+movedBy c d x ks w b f (call m r h u) = positionCalled c x ks h (served (w .binding) h) (withResult r (x .number) b) f d
+movedBy c d x ks w b f (function h u₀ u₁) = positionCalled c x ks h (served (w .binding) h) b f d
+movedBy c d x ks w b f (test u) = at (movedTo x (byWord c (w .word) u)) ks b f
+movedBy c d x ks w b f home = at (movedTo x (start c 1)) ks b f
+movedBy c d x ks w b f back = positionReturned c ks (w .word) b f
 
 -- with n places: whether a call drops here, the tick that is made at a position, and the position after it
-abbrev pub dropsAt : ℕ → Chart → Position → Bool
+abbrev pub dropsAt : ℕ → Chart → WalkPosition → Bool
 dropsAt n c x = drops n c (x .first) (suc (length (x .callers)))
 
-abbrev pub tickAt : ℕ → Chart → Position → Tick
-tickAt n c x = tickOf (dropsAt n c x) (suc (length (x .callers))) (x .now) (stopAt c (x .now .node))
+abbrev pub tickAt : ℕ → Chart → WalkPosition → Tick
+tickAt n c x = stopTick (dropsAt n c x) (suc (length (x .callers))) (x .now) (stopAt c (x .now .node))
 
-abbrev pub move : ℕ → Chart → Signal → Position → Position
+abbrev pub move : ℕ → Chart → Signal → WalkPosition → WalkPosition
 move n c w x = movedBy c (dropsAt n c x) (x .now) (x .callers) w (x .results) (x .first) (stopAt c (x .now .node))
 
-unfoldable pub trace : ℕ → Chart → List Signal → Position → List Tick
+unfoldable pub trace : ℕ → Chart → List Signal → WalkPosition → List Tick
 trace n c [] x = []
 trace n c (w ∷ ws) x = tickAt n c x ∷ trace n c ws (move n c w x)
 
@@ -136,11 +136,11 @@ Under c g x [] = (x .number ≡ g) × (x .server ≡ g)
 Under c g x (k ∷ ks) = Caller c (x .number) k × Under c g k ks
 
 -- it does not matter where the scheme stands
-pub under-on : (c : Chart) (g : ℕ) (x : Open) (u : ℕ) (ks : List Open) → Under c g x ks → Under c g (on x u) ks
+pub under-on : (c : Chart) (g : ℕ) (x : Open) (u : ℕ) (ks : List Open) → Under c g x ks → Under c g (movedTo x u) ks
 under-on c g x u [] h = h
 under-on c g x u (k ∷ ks) h = h
 
-pub record Good (c : Chart) (x : Position) : Type 0 where
+pub record Good (c : Chart) (x : WalkPosition) : Type 0 where
   pub top : StopOf c (x .now .server) (x .now .node)
   pub under : Under c (bottom c (x .first)) (x .now) (x .callers)
   pub handled : x .first ≡ true → handler c ≡ 0 → ⊥
@@ -150,10 +150,10 @@ pub home-stop : (c : Chart) → Facts c → StopOf c 1 (end c 1)
 home-stop c facts = let e = facts .ends 1 (omega arith) (facts .first) in
     record { inside = e .0; same = e .2; stopping = end-stops c (end c 1) (e .1) }
 
-pub home-good : (c : Chart) → Facts c → (b : Results) → Good c (atHome c b)
+pub home-good : (c : Chart) → Facts c → (b : Results) → Good c (positionAtHome c b)
 home-good c facts b = record { top = home-stop c facts; under = (refl, refl); handled = λ q. no-both false q refl }
 
-pub handling-good : (c : Chart) → Facts c → (b : Results) → (handler c ≡ 0 → ⊥) → Good c (handling c b)
+pub handling-good : (c : Chart) → Facts c → (b : Results) → (handler c ≡ 0 → ⊥) → Good c (positionHandling c b)
 handling-good c facts b n = let l = facts .handled n in
     record { top = facts .starts (handler c) (omega (arith, l)) (l .1); under = (refl, refl); handled = λ q. n }
 
@@ -192,12 +192,12 @@ module _ (c : Chart) (facts : Facts c) where
 
   -- a good position stays good after any move
   module _ (x : Open) (ks : List Open) (b : Results) (f : Bool) (g : Good c (at x ks b f)) where
-    stays : (u : ℕ) (d : Results) → StopOf c (scheme c (x .node)) u → Good c (at (on x u) ks d f)
+    stays : (u : ℕ) (d : Results) → StopOf c (scheme c (x .node)) u → Good c (at (movedTo x u) ks d f)
     stays u d s = record { top = stop-as c (g .top .same) s; under = under-on c (bottom c f) x u ks (g .under); handled = g .handled }
 
     called-good : (d : Results) (s : Binding) → Serves c s → (kind c (x .node) ≡ 2) ⊎ (kind c (x .node) ≡ 4)
         → (2 ≤ argument c (x .node)) × (argument c (x .node) ≤ schemes c) → (t : Bool) → (t ≡ true → handler c ≡ 0 → ⊥)
-        → Good c (called c x ks (argument c (x .node)) (served s (argument c (x .node))) d f t)
+        → Good c (positionCalled c x ks (argument c (x .node)) (served s (argument c (x .node))) d f t)
     called-good d s serves e l true n = handling-good c facts (cleared (handler c) d) (n refl)
     called-good d s serves e l false n =
         let k = serves (argument c (x .node)) (l .0) (l .1) in
@@ -207,10 +207,10 @@ module _ (c : Chart) (facts : Facts c) where
           handled = g .handled;
         }
 
-    returned-good : (w : ℕ) → Good c (returned c ks w b f)
+    returned-good : (w : ℕ) → Good c (positionReturned c ks w b f)
     returned-good w = go ks (g .under)
       where
-        go : (ks : List Open) → Under c (bottom c f) x ks → Good c (returned c ks w b f)
+        go : (ks : List Open) → Under c (bottom c f) x ks → Good c (positionReturned c ks w b f)
         go [] u = home-good c facts b
         go (k ∷ ks) u = record {
           top = resumes-to (x .number) k w b (u .0);
@@ -228,25 +228,25 @@ module _ (c : Chart) (facts : Facts c) where
     moved-good d n w serves (a-begin e) = stays _ b (begin-to (x .node) (w .word) (g .top .inside) e (g .top .stopping))
     moved-good d n w serves (a-condition e) = stays _ b (facts .tests (x .node) (w .word) (g .top .inside) e)
 
-  pub view-of : (x : Position) → Good c x → View c (x .now .node) (stopAt c (x .now .node))
+  pub view-of : (x : WalkPosition) → Good c x → View c (x .now .node) (stopAt c (x .now .node))
   view-of x g = view c (x .now .node) (facts .kinds (x .now .node) (g .top .inside))
 
-  pub moves : (n : ℕ) (w : Signal) (x : Position) → Serves c (w .binding) → Good c x → Good c (move n c w x)
+  pub moves : (n : ℕ) (w : Signal) (x : WalkPosition) → Serves c (w .binding) → Good c x → Good c (move n c w x)
   moves n w x serves g = moved-good (x .now) (x .callers) (x .results) (x .first) g (dropsAt n c x)
       (drop-handler n c (x .first) (suc (length (x .callers)))) w serves (view-of x g)
 
 -- ---- the trace of joined words
-unfoldable pub reached : ℕ → Chart → List Signal → Position → Position
-reached n c [] x = x
-reached n c (w ∷ ws) x = reached n c ws (move n c w x)
+unfoldable pub positionReached : ℕ → Chart → List Signal → WalkPosition → WalkPosition
+positionReached n c [] x = x
+positionReached n c (w ∷ ws) x = positionReached n c ws (move n c w x)
 
-pub trace-length : (n : ℕ) (c : Chart) (ws : List Signal) (x : Position) → length (trace n c ws x) ≡ length ws
+pub trace-length : (n : ℕ) (c : Chart) (ws : List Signal) (x : WalkPosition) → length (trace n c ws x) ≡ length ws
 unfolding trace
 trace-length n c [] x = refl
 trace-length n c (w ∷ ws) x = ap suc (trace-length n c ws (move n c w x))
 
-pub trace-append : (n : ℕ) (c : Chart) (ws us : List Signal) (x : Position)
-    → trace n c (ws ++ us) x ≡ trace n c ws x ++ trace n c us (reached n c ws x)
-unfolding trace reached
+pub trace-append : (n : ℕ) (c : Chart) (ws us : List Signal) (x : WalkPosition)
+    → trace n c (ws ++ us) x ≡ trace n c ws x ++ trace n c us (positionReached n c ws x)
+unfolding trace positionReached
 trace-append n c [] us x = refl
 trace-append n c (w ∷ ws) us x = ap (λ (ts : List Tick). tickAt n c x ∷ ts) (trace-append n c ws us (move n c w x))

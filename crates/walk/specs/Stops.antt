@@ -4,13 +4,14 @@ use mathlib.Core.Bool.{Bool, true, false, _&&_, not}
 use lib.Dec.{eqb}
 use Rattle.lists.specs.Pick.{pick}
 use Rattle.frames.specs.Frame.{size}
+use Rattle.charts.specs.Layout.{BEGIN, END, OPERATION, CONDITION, FUNCTION}
 use Rattle.charts.specs.Chart.{Chart, scheme, argument, next0, next1, result, mask, is, begin, taken}
 
 -- a condition stops only as the first node of scheme 1; a Begin only before a condition, and not in scheme 1
 unfoldable pub stops : Chart → ℕ → Bool
-stops c v = elim (is c 3 v) [
+stops c v = elim (is c CONDITION v) [
   | true ↦ eqb (scheme c v) 1 && eqb (next0 c (begin c 1)) v
-  | false ↦ elim (is c 0 v) [ true ↦ not (eqb (scheme c v) 1) && is c 3 (next0 c v) | false ↦ true ]
+  | false ↦ elim (is c BEGIN v) [ true ↦ not (eqb (scheme c v) 1) && is c CONDITION (next0 c v) | false ↦ true ]
 ]
 
 -- the stop where performing a scheme starts
@@ -44,13 +45,13 @@ pub data Stop : Type 0 where
   back : Stop
 
 unfoldable pub stopAt : Chart → ℕ → Stop
-stopAt c v = elim (is c 2 v) [
+stopAt c v = elim (is c OPERATION v) [
   | true ↦ pick (eqb (argument c v) 0) (plain (mask c v) (result c v) (next0 c v)) (call (mask c v) (result c v) (argument c v) (next0 c v))
-  | false ↦ elim (is c 4 v) [
+  | false ↦ elim (is c FUNCTION v) [
     | true ↦ function (argument c v) (next0 c v) (next1 c v)
-    | false ↦ elim (is c 1 v) [
+    | false ↦ elim (is c END v) [
       | true ↦ pick (eqb (scheme c v) 1) home back
-      | false ↦ test (pick (is c 3 v) v (next0 c v))
+      | false ↦ test (pick (is c CONDITION v) v (next0 c v))
     ]
   ]
 ]

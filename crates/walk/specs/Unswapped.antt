@@ -1,17 +1,21 @@
--- The walk with no rebinding: words with no binding beside them; each call performs the scheme that it names, and each result goes to the bit of
--- the stop's own scheme. Under ownBinding the walk of an accepted chart is this one, by the law own-binding; only laws of charts with no rebinding
+-- The walk with no rebinding: words with no binding beside them;
+-- each call performs the scheme that it names, and each result goes to the bit of
+-- the stop's own scheme. Under ownBinding the walk of an accepted chart is this one, by the law own-binding;
+-- only laws of charts with no rebinding
 -- speak of it.
 use Prim.Native.Nat.{ℕ, zero, suc, _+_}
 use mathlib.Core.Bool.{Bool, true, false}
 use mathlib.Core.List.{List, [], _∷_, _++_}
 use lib.ListN.{length}
 use Rattle.lists.specs.Pick.{pick}
-use Rattle.bits.specs.Results.{Results, noResults, resultOf, withResult, cleared}
+use Rattle.results.specs.Results.{Results, noResults, resultOf, withResult, cleared}
+use Rattle.frames.specs.Codes.{PLAIN-CODE, RETURN-CODE, HOME-CODE, OPERATION-CALL-CODE, FUNCTION-CALL-CODE, DROP-CODE}
 use Rattle.charts.specs.Chart.{Chart, scheme, handler, end}
 use Rattle.walk.specs.Stops.{start, byArc, byWord, Stop, plain, call, function, test, home, back, stopAt}
-use Rattle.walk.specs.Walk.{Tick, tick, drops}
+use Rattle.walk.specs.Walk.{Tick, oneTick, drops}
 
--- performing a scheme: the words ran out after these ticks; or its End was reached: the ticks, the End's word, the words left, the result bits;
+-- performing a scheme: the words ran out after these ticks; or its End was reached:
+-- the ticks, the End's word, the words left, the result bits;
 -- or all open schemes were dropped: the ticks, the words left, the result bits
 pub data Course : Type 0 where
   spent : List Tick → Course
@@ -33,21 +37,24 @@ resume go o ts f (spent us) = spent (ts ++ us)
 resume go o ts f (ended us w ws b) = after (ts ++ us) (go o (f w b) ws b)
 resume go o ts f (dropped us ws b) = dropped (ts ++ us) ws b
 
--- a call of scheme h by stop v with o open, after which the caller goes on by f: it clears the bit of h and h is performed; or all open schemes
+-- a call of scheme h by stop v with o open, after which the caller goes on by f:
+-- it clears the bit of h and h is performed; or all open schemes
 -- are dropped, and the bit of the handler is cleared
-abbrev pub calls : Performer → Chart → ℕ → ℕ → ℕ → ℕ → ℕ → (ℕ → Results → ℕ) → List ℕ → Results → Bool → Course
-calls go c o v m k h f ws b false = resume go o (tick v (scheme c v) m (k + h) o) f (go (suc o) (start c h) ws (cleared h b))
-calls go c o v m k h f ws b true = dropped (tick v (scheme c v) m 96 o) ws (cleared (handler c) b)
+abbrev pub performCall : Performer → Chart → ℕ → ℕ → ℕ → ℕ → ℕ → (ℕ → Results → ℕ) → List ℕ → Results → Bool → Course
+performCall go c o v m k h f ws b false = resume go o (oneTick v (scheme c v) m (k + h) o) f (go (suc o) (start c h) ws (cleared h b))
+performCall go c o v m k h f ws b true = dropped (oneTick v (scheme c v) m DROP-CODE o) ws (cleared (handler c) b)
 
 -- one stop v of a scheme with o open, by its word w, and what follows it; v's own result is written before its call; d tells of a number of
 -- open schemes whether a call drops them
 abbrev pub act : Performer → Chart → (ℕ → Bool) → ℕ → ℕ → ℕ → List ℕ → Results → Stop → Course
-act go c d o v w ws b (plain m r u) = after (tick v (scheme c v) m 0 o) (go o (byArc c w u) ws (withResult r (scheme c v) b))
-act go c d o v w ws b (call m r h u) = calls go c o v m 16 h (λ x e. byArc c x u) ws (withResult r (scheme c v) b) (d o)
-act go c d o v w ws b (function h u₀ u₁) = calls go c o v 0 64 h (λ x e. byArc c x (pick (resultOf h e) u₁ u₀)) ws b (d o)
-act go c d o v w ws b (test u) = after (tick v (scheme c v) 0 0 o) (go o (byWord c w u) ws b)
-act go c d o v w ws b home = after (tick v (scheme c v) 0 4 o) (go o (start c 1) ws b)
-act go c d o v w ws b back = ended (tick v (scheme c v) 0 3 o) w ws b
+act go c d o v w ws b (plain m r u) = after (oneTick v (scheme c v) m PLAIN-CODE o) (go o (byArc c w u) ws (withResult r (scheme c v) b))
+act go c d o v w ws b (call m r h u) =
+    performCall go c o v m OPERATION-CALL-CODE h (λ x e. byArc c x u) ws (withResult r (scheme c v) b) (d o)
+act go c d o v w ws b (function h u₀ u₁) =
+    performCall go c o v 0 FUNCTION-CALL-CODE h (λ x e. byArc c x (pick (resultOf h e) u₁ u₀)) ws b (d o)
+act go c d o v w ws b (test u) = after (oneTick v (scheme c v) 0 PLAIN-CODE o) (go o (byWord c w u) ws b)
+act go c d o v w ws b home = after (oneTick v (scheme c v) 0 HOME-CODE o) (go o (start c 1) ws b)
+act go c d o v w ws b back = ended (oneTick v (scheme c v) 0 RETURN-CODE o) w ws b
 
 -- k is at least the number of words
 unfoldable pub perform : ℕ → Chart → (ℕ → Bool) → Performer

@@ -6,8 +6,9 @@ use mathlib.Core.List.{List, [], _∷_, _++_, map}
 use lib.Dec.{eqb}
 use lib.ListN.{length}
 use Rattle.lists.specs.Pick.{pick}
-use Rattle.bits.specs.Results.{Results, noResults, resultOf, withResult, cleared}
-use Rattle.bits.specs.Binding.{Binding, served}
+use Rattle.results.specs.Results.{Results, noResults, resultOf, withResult, cleared}
+use Rattle.bindings.specs.Binding.{Binding, served}
+use Rattle.frames.specs.Codes.{PLAIN-CODE, RETURN-CODE, HOME-CODE, OPERATION-CALL-CODE, FUNCTION-CALL-CODE, DROP-CODE}
 use Rattle.charts.specs.Chart.{Chart, handler, end}
 use Rattle.walk.specs.Stops.{start, byArc, byWord, Stop, plain, call, function, test, home, back, stopAt}
 
@@ -20,7 +21,8 @@ pub record Signal : Type 0 where
 abbrev pub signals : Binding → List ℕ → List Signal
 signals s ws = map (λ w. record { word = w; binding = s }) ws
 
--- a tick (the paper's word for one step): the stop that makes it, the number that its scheme was called by, its mask, its code, and how many
+-- a tick (the paper's word for one step):
+-- the stop that makes it, the number that its scheme was called by, its mask, its code, and how many
 -- schemes were open
 pub record Tick : Type 0 where
   pub node : ℕ
@@ -29,14 +31,15 @@ pub record Tick : Type 0 where
   pub code : ℕ
   pub opened : ℕ
 
-abbrev pub tick : ℕ → ℕ → ℕ → ℕ → ℕ → List Tick
-tick v g m k o = record { node = v; number = g; mask = m; code = k; opened = o } ∷ []
+abbrev pub oneTick : ℕ → ℕ → ℕ → ℕ → ℕ → List Tick
+oneTick v g m k o = record { node = v; number = g; mask = m; code = k; opened = o } ∷ []
 
 -- a call that was not made: all open schemes were dropped, code 60 hexadecimal
 abbrev pub isDrop : Tick → Bool
-isDrop t = eqb (t .code) 96
+isDrop t = eqb (t .code) DROP-CODE
 
--- performing a scheme: the words ran out after these ticks; or its End was reached: the ticks, the End's word, the words left, the result bits;
+-- performing a scheme: the words ran out after these ticks; or its End was reached:
+-- the ticks, the End's word, the words left, the result bits;
 -- or all open schemes were dropped: the ticks, the words left, the result bits
 pub data Course : Type 0 where
   spent : List Tick → Course
@@ -52,7 +55,8 @@ after ts (dropped us ws b) = dropped (ts ++ us) ws b
 abbrev pub Performer : Type 0
 Performer = ℕ → ℕ → ℕ → List Signal → Results → Course
 
--- after a call's course the caller, itself called by number g, goes on from the stop that f gives for the End's word and the result bits; a drop
+-- after a call's course the caller, itself called by number g, goes on from the stop that f gives for the End's word and the result bits;
+-- a drop
 -- ends the caller too
 abbrev pub resume : Performer → ℕ → ℕ → List Tick → (ℕ → Results → ℕ) → Course → Course
 resume go o g ts f (spent us) = spent (ts ++ us)
@@ -61,20 +65,22 @@ resume go o g ts f (dropped us ws b) = dropped (ts ++ us) ws b
 
 -- a call of number h by stop v with o open, after which the caller goes on by f: it clears the bit of h, and the scheme k that serves h is
 -- performed; or all open schemes are dropped, and the bit of the handler is cleared
-abbrev pub calls : Performer → Chart → ℕ → ℕ → ℕ → ℕ → ℕ → ℕ → ℕ → (ℕ → Results → ℕ) → List Signal → Results → Bool → Course
-calls go c o g v m j h k f ws b false = resume go o g (tick v g m (j + h) o) f (go (suc o) h (start c k) ws (cleared h b))
-calls go c o g v m j h k f ws b true = dropped (tick v g m 96 o) ws (cleared (handler c) b)
+abbrev pub performCall : Performer → Chart → ℕ → ℕ → ℕ → ℕ → ℕ → ℕ → ℕ → (ℕ → Results → ℕ) → List Signal → Results → Bool → Course
+performCall go c o g v m j h k f ws b false = resume go o g (oneTick v g m (j + h) o) f (go (suc o) h (start c k) ws (cleared h b))
+performCall go c o g v m j h k f ws b true = dropped (oneTick v g m DROP-CODE o) ws (cleared (handler c) b)
 
--- one stop v of a scheme that was called by number g, with o open, by its word, and what follows it; v's own result is written, to the bit of g,
+-- one stop v of a scheme that was called by number g, with o open, by its word, and what follows it;
+-- v's own result is written, to the bit of g,
 -- before its call; d tells of a number of open schemes whether a call drops them
 abbrev pub act : Performer → Chart → (ℕ → Bool) → ℕ → ℕ → ℕ → Signal → List Signal → Results → Stop → Course
-act go c d o g v w ws b (plain m r u) = after (tick v g m 0 o) (go o g (byArc c (w .word) u) ws (withResult r g b))
-act go c d o g v w ws b (call m r h u) = calls go c o g v m 16 h (served (w .binding) h) (λ x e. byArc c x u) ws (withResult r g b) (d o)
+act go c d o g v w ws b (plain m r u) = after (oneTick v g m PLAIN-CODE o) (go o g (byArc c (w .word) u) ws (withResult r g b))
+act go c d o g v w ws b (call m r h u) =
+    performCall go c o g v m OPERATION-CALL-CODE h (served (w .binding) h) (λ x e. byArc c x u) ws (withResult r g b) (d o)
 act go c d o g v w ws b (function h u₀ u₁) =
-    calls go c o g v 0 64 h (served (w .binding) h) (λ x e. byArc c x (pick (resultOf h e) u₁ u₀)) ws b (d o)
-act go c d o g v w ws b (test u) = after (tick v g 0 0 o) (go o g (byWord c (w .word) u) ws b)
-act go c d o g v w ws b home = after (tick v g 0 4 o) (go o g (start c 1) ws b)
-act go c d o g v w ws b back = ended (tick v g 0 3 o) (w .word) ws b
+    performCall go c o g v 0 FUNCTION-CALL-CODE h (served (w .binding) h) (λ x e. byArc c x (pick (resultOf h e) u₁ u₀)) ws b (d o)
+act go c d o g v w ws b (test u) = after (oneTick v g 0 PLAIN-CODE o) (go o g (byWord c (w .word) u) ws b)
+act go c d o g v w ws b home = after (oneTick v g 0 HOME-CODE o) (go o g (start c 1) ws b)
+act go c d o g v w ws b back = ended (oneTick v g 0 RETURN-CODE o) (w .word) ws b
 
 -- k is at least the number of words
 unfoldable pub perform : ℕ → Chart → (ℕ → Bool) → Performer

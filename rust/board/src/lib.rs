@@ -10,7 +10,10 @@ use std::io::{Read, Write};
 use std::process::{Child, ChildStdin, ChildStdout, Command, Stdio};
 
 pub use count::{Count, Counting};
-use interface::{Answer, Cause, Fillings, Library, Meaning, Priced, Prices, State, Ticked, PRICED_WORDS};
+use interface::{
+    Answer, CauseReport, FillingsReport, Library, Meaning, PricedReport, Prices, State, TickReport,
+    PRICED_WORDS,
+};
 pub use message::Call;
 use message::{state_bytes, take_state, Message, Told, HEAD, STATE_BYTES};
 
@@ -152,25 +155,25 @@ impl<'a> Board<'a> {
         words: &[u16],
         masks: &mut [u32],
         codes: &mut [u8],
-    ) -> Option<Priced> {
+    ) -> Option<PricedReport> {
         let mut message = Message::new(Call::PricedRun, image);
         let in_flash = words.len() == PRICED_WORDS + 1 && words.iter().all(|word| *word == 0);
         message.value = if in_flash { words.len() as u32 } else { 0 };
         message.words = [prices.as_slice(), if in_flash { &[] } else { words }].concat();
         message.state = *state;
         let told = self.ran_with(&mut message, masks, codes)?;
-        Some(Priced { answer: told.answer(), state: message.state, price: told.price })
+        Some(PricedReport { answer: told.answer(), state: message.state, price: told.price })
     }
 
     /// Row and mask come back as the message's masks, the bit as its code.
-    fn told_cause(&self, image: &[u8], state: &State, word: u16) -> Option<Cause> {
+    fn told_cause(&self, image: &[u8], state: &State, word: u16) -> Option<CauseReport> {
         let mut message = Message::new(Call::Cause, image);
         (message.state, message.words) = (*state, vec![word]);
         (message.masks, message.codes) = (vec![u32::MAX; 2], vec![u8::MAX]);
         let told = self.made(&mut message)?;
         assert_eq!(message.state, *state, "a cause changed the state");
         let number = |at: usize| u16::try_from(message.masks[at]).expect("it was written");
-        Some(Cause { answer: told.answer(), row: number(0), mask: number(1), bit: message.codes[0] })
+        Some(CauseReport { answer: told.answer(), row: number(0), mask: number(1), bit: message.codes[0] })
     }
 
     /// Both lists go to the board and come back as its output, the firsts before the counts; the value says how many are firsts.
@@ -209,13 +212,13 @@ impl<'a> Board<'a> {
 
     /// The size goes to the board as the value, ticks and conditions in the places of the scheme and of the places taken; the counts come
     /// back as its masks.
-    fn counted(&self, image: &[u8], size: usize, ticks: usize, conditions: usize) -> Option<Fillings> {
+    fn counted(&self, image: &[u8], size: usize, ticks: usize, conditions: usize) -> Option<FillingsReport> {
         let mut message = Message::new(Call::CountFillings, image);
         (message.value, message.masks) = (as_wide_as_there(size), vec![u32::MAX; 3]);
         (message.scheme, message.taken) = (as_wide_as_there(ticks), as_wide_as_there(conditions));
         let answer = self.made(&mut message)?.answer();
         let [ended, full, unmatched] = [0, 1, 2].map(|at: usize| message.masks[at]);
-        Some(Fillings { answer, ended, full, unmatched })
+        Some(FillingsReport { answer, ended, full, unmatched })
     }
 
     /// The states go to the board and come back as its output; the value is the spindle's number.
@@ -227,7 +230,7 @@ impl<'a> Board<'a> {
         spindle: usize,
         input: &[u8],
         word: u16,
-    ) -> Option<Ticked> {
+    ) -> Option<TickReport> {
         let mut message = Message::new(call, input);
         let recorded = as_wide_as_there(*taken);
         (message.value, message.taken) = (as_wide_as_there(spindle), recorded);
@@ -241,14 +244,14 @@ impl<'a> Board<'a> {
         if message.taken != recorded {
             *taken = message.taken as usize;
         }
-        Some(Ticked { answer: told.answer(), mask: message.masks[0], code: message.codes[0] })
+        Some(TickReport { answer: told.answer(), mask: message.masks[0], code: message.codes[0] })
     }
 
-    fn ticked(&self, call: Call, input: &[u8], state: &mut State, word: u16) -> Option<Ticked> {
+    fn ticked(&self, call: Call, input: &[u8], state: &mut State, word: u16) -> Option<TickReport> {
         let (mut masks, mut codes) = ([0], [0]);
         let (answer, after) = self.ran(call, input, state, &[word], &mut masks, &mut codes)?;
         *state = after;
-        Some(Ticked { answer, mask: masks[0], code: codes[0] })
+        Some(TickReport { answer, mask: masks[0], code: codes[0] })
     }
 }
 
@@ -315,12 +318,12 @@ impl Library for Board<'_> {
         words: &[u16],
         masks: &mut [u32],
         codes: &mut [u8],
-    ) -> Priced {
+    ) -> PricedReport {
         self.paid(image, state, prices, words, masks, codes)
             .unwrap_or_else(|| self.instead.priced_run(image, state, prices, words, masks, codes))
     }
 
-    fn tick(&self, image: &[u8], state: &mut State, word: u16) -> Ticked {
+    fn tick(&self, image: &[u8], state: &mut State, word: u16) -> TickReport {
         self.ticked(Call::Tick, image, state, word).unwrap_or_else(|| self.instead.tick(image, state, word))
     }
 
@@ -331,7 +334,7 @@ impl Library for Board<'_> {
         spindle: usize,
         image: &[u8],
         word: u16,
-    ) -> Ticked {
+    ) -> TickReport {
         self.spun(Call::Spin, states, taken, spindle, image, word)
             .unwrap_or_else(|| self.instead.spin(states, taken, spindle, image, word))
     }
@@ -341,7 +344,7 @@ impl Library for Board<'_> {
             .unwrap_or_else(|| self.instead.rebind(image, state, number, scheme))
     }
 
-    fn cause(&self, image: &[u8], state: &State, word: u16) -> Cause {
+    fn cause(&self, image: &[u8], state: &State, word: u16) -> CauseReport {
         self.told_cause(image, state, word).unwrap_or_else(|| self.instead.cause(image, state, word))
     }
 
@@ -357,7 +360,7 @@ impl Library for Board<'_> {
         self.fetched(frames, number, text).unwrap_or_else(|| self.instead.little_chart(frames, number, text))
     }
 
-    fn count_fillings(&self, image: &[u8], size: usize, ticks: usize, conditions: usize) -> Fillings {
+    fn count_fillings(&self, image: &[u8], size: usize, ticks: usize, conditions: usize) -> FillingsReport {
         self.counted(image, size, ticks, conditions)
             .unwrap_or_else(|| self.instead.count_fillings(image, size, ticks, conditions))
     }
@@ -378,7 +381,7 @@ impl Library for Board<'_> {
             .unwrap_or_else(|| self.instead.live_run(table, state, words, masks, codes))
     }
 
-    fn live_tick(&self, table: &[u8], state: &mut State, word: u16) -> Ticked {
+    fn live_tick(&self, table: &[u8], state: &mut State, word: u16) -> TickReport {
         self.ticked(Call::LiveTick, table, state, word)
             .unwrap_or_else(|| self.instead.live_tick(table, state, word))
     }
@@ -390,7 +393,7 @@ impl Library for Board<'_> {
         spindle: usize,
         table: &[u8],
         word: u16,
-    ) -> Ticked {
+    ) -> TickReport {
         self.spun(Call::LiveSpin, states, taken, spindle, table, word)
             .unwrap_or_else(|| self.instead.live_spin(states, taken, spindle, table, word))
     }

@@ -1,7 +1,9 @@
 //! Safe calls of the C functions. Each borrows its buffers for the call: no reference is null, and what is borrowed for
 //! writing overlaps nothing else, which is all that the header asks.
 
-use interface::{Answer, Cause, Fillings, Library, Meaning, Priced, Prices, State, Ticked};
+use interface::{
+    Answer, CauseReport, FillingsReport, Library, Meaning, PricedReport, Prices, State, TickReport,
+};
 
 use crate::c;
 
@@ -167,14 +169,14 @@ fn ran(
 }
 
 /// A tick, on an image or on a table.
-fn ticked(call: c::Tick, image: &[u8], state: &mut State, word: u16) -> Ticked {
+fn ticked(call: c::Tick, image: &[u8], state: &mut State, word: u16) -> TickReport {
     let mut kept = c::State::from(&*state);
     let (mut mask, mut code) = (0, 0);
     let answer = answered(|index, count| unsafe {
         call(image.as_ptr(), image.len(), &mut kept, word, &mut mask, &mut code, index, count)
     });
     *state = State::from(&kept);
-    Ticked { answer, mask, code }
+    TickReport { answer, mask, code }
 }
 
 /// The tick of a spindle, by an image or by a table.
@@ -185,7 +187,7 @@ fn spun(
     spindle: usize,
     image: &[u8],
     word: u16,
-) -> Ticked {
+) -> TickReport {
     let mut kept: Vec<c::State> = states.iter().map(c::State::from).collect();
     let (mut mask, mut code) = (0, 0);
     let answer = answered(|index, count| unsafe {
@@ -204,7 +206,7 @@ fn spun(
         )
     });
     states.iter_mut().zip(&kept).for_each(|(state, kept)| *state = State::from(kept));
-    Ticked { answer, mask, code }
+    TickReport { answer, mask, code }
 }
 
 /// A rebinding, by an image or by a table.
@@ -263,7 +265,7 @@ impl Library for Proved {
         words: &[u16],
         masks: &mut [u32],
         codes: &mut [u8],
-    ) -> Priced {
+    ) -> PricedReport {
         let mut kept = c::State::from(state);
         let mut price = u64::MAX;
         let answer = answered(|index, count| unsafe {
@@ -283,10 +285,10 @@ impl Library for Proved {
                 count,
             )
         });
-        Priced { answer, state: State::from(&kept), price }
+        PricedReport { answer, state: State::from(&kept), price }
     }
 
-    fn tick(&self, image: &[u8], state: &mut State, word: u16) -> Ticked {
+    fn tick(&self, image: &[u8], state: &mut State, word: u16) -> TickReport {
         ticked(c::fairleadow_tick, image, state, word)
     }
 
@@ -297,7 +299,7 @@ impl Library for Proved {
         spindle: usize,
         image: &[u8],
         word: u16,
-    ) -> Ticked {
+    ) -> TickReport {
         spun(c::fairleadow_spin, states, taken, spindle, image, word)
     }
 
@@ -305,7 +307,7 @@ impl Library for Proved {
         rebound(c::fairleadow_rebind, image, state, number, scheme)
     }
 
-    fn cause(&self, image: &[u8], state: &State, word: u16) -> Cause {
+    fn cause(&self, image: &[u8], state: &State, word: u16) -> CauseReport {
         let kept = c::State::from(state);
         let (mut row, mut mask, mut bit) = (u16::MAX, u16::MAX, u8::MAX);
         let answer = answered(|index, count| unsafe {
@@ -321,7 +323,7 @@ impl Library for Proved {
                 count,
             )
         });
-        Cause { answer, row, mask, bit }
+        CauseReport { answer, row, mask, bit }
     }
 
     fn list_rows(&self, image: &[u8], firsts: &mut [u16], counts: &mut [u16]) -> Answer {
@@ -349,7 +351,7 @@ impl Library for Proved {
         })
     }
 
-    fn count_fillings(&self, image: &[u8], size: usize, ticks: usize, conditions: usize) -> Fillings {
+    fn count_fillings(&self, image: &[u8], size: usize, ticks: usize, conditions: usize) -> FillingsReport {
         let (mut ended, mut full, mut unmatched) = (u32::MAX, u32::MAX, u32::MAX);
         let answer = answered(|index, count| unsafe {
             c::fairleadow_count_fillings(
@@ -365,7 +367,7 @@ impl Library for Proved {
                 count,
             )
         });
-        Fillings { answer, ended, full, unmatched }
+        FillingsReport { answer, ended, full, unmatched }
     }
 
     fn prepare(&self, image: &[u8], table: &mut [u8]) -> Answer {
@@ -383,7 +385,7 @@ impl Library for Proved {
         ran(c::fairleadow_live_run, table, state, words, masks, codes)
     }
 
-    fn live_tick(&self, table: &[u8], state: &mut State, word: u16) -> Ticked {
+    fn live_tick(&self, table: &[u8], state: &mut State, word: u16) -> TickReport {
         ticked(c::fairleadow_live_tick, table, state, word)
     }
 
@@ -394,7 +396,7 @@ impl Library for Proved {
         spindle: usize,
         table: &[u8],
         word: u16,
-    ) -> Ticked {
+    ) -> TickReport {
         spun(c::fairleadow_live_spin, states, taken, spindle, table, word)
     }
 

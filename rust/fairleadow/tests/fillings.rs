@@ -9,7 +9,7 @@ use reference::entry::translated;
 use reference::fillings::walked;
 use reference::frames::{text_of, Frame};
 use reference::samples::{chart_p, with_handler};
-use reference::{Fillings, Reference};
+use reference::{FillingsReport, Reference};
 
 /// Number, index and count, and the three counts, which are filled before.
 type Told = ((u8, usize, usize), [u32; 3]);
@@ -115,7 +115,7 @@ fn as_many_lists_as_there_may_be() {
                 longest = longest.max(begun.elapsed().as_secs_f64());
                 let place = format!("{name}, {size} places, {ticks} ticks, {conditions} conditions");
                 assert_eq!(got, Reference.count_fillings(&image, size, ticks, conditions), "{place}");
-                let Fillings { ended, full, unmatched, .. } = got;
+                let FillingsReport { ended, full, unmatched, .. } = got;
                 assert_eq!((ended + full, unmatched), (1 << (ticks * conditions), 0), "{place}");
                 // the walk goes on past a call that is too deep, and never comes back from that of scheme 2
                 if ticks <= 16 {

@@ -1,5 +1,5 @@
-//! Live calls of the proved library: on prepared tables they are runs, ticks, rebindings and ticks of spindles, and each byte of chart P's table
-//! at each of its values, with a handler and without, is answered for as the reference does.
+//! Live calls of the proved library: on prepared tables they are runs, ticks, rebindings and ticks of spindles, and each byte of chart P's
+//! table at each of its values, with a handler and without, is answered for as the reference does.
 
 use fairleadow::{Library, Proved};
 use reference::compare::live_alike;

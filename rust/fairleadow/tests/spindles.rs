@@ -1,7 +1,7 @@
 //! Ticks of spindles by the C functions: which bytes of the list they leave, every length of it, every value of each byte, and records and
 //! numbers of all widths.
 
-use fairleadow::{c, Answer, Library, Proved, Ticked, SPINDLES, TABLE};
+use fairleadow::{c, Answer, Library, Proved, TickReport, SPINDLES, TABLE};
 use reference::entry::translated;
 use reference::frames::text_of;
 use reference::samples::with_handler;
@@ -153,7 +153,7 @@ fn made(
     ground: &[u8],
     start: &[State],
     taken: usize,
-) -> (Ticked, Vec<State>, usize) {
+) -> (TickReport, Vec<State>, usize) {
     let (mut states, mut record) = (start.to_vec(), taken);
     let call = if live { <dyn Library>::live_spin } else { <dyn Library>::spin };
     (call(library, &mut states, &mut record, 1, ground, 0), states, record)

@@ -36,7 +36,7 @@ impl State {
 
 /// What the tick of a lent state hands back.
 #[derive(Clone, Copy, Debug, PartialEq, Eq)]
-pub struct Ticked {
+pub struct TickReport {
     pub answer: Answer,
     pub mask: u32,
     pub code: u8,
@@ -47,7 +47,7 @@ pub type Prices = [u16; OPERATIONS];
 
 /// What a priced run hands back: what the run does, and the price of its finished ticks in cents, 0 with a refusal other than 17 and 18.
 #[derive(Clone, Copy, Debug, PartialEq, Eq)]
-pub struct Priced {
+pub struct PricedReport {
     pub answer: Answer,
     pub state: State,
     pub price: u64,
@@ -56,7 +56,7 @@ pub struct Priced {
 /// What made a tick go where it went: the row taken, by its number among the image's rows, from 0; a mask of conditions that decide
 /// on it; and the result bit of the number called where the label is a function call's, else 2. With a refusal all three are 0.
 #[derive(Clone, Copy, Debug, PartialEq, Eq)]
-pub struct Cause {
+pub struct CauseReport {
     pub answer: Answer,
     pub row: u16,
     pub mask: u16,
@@ -66,7 +66,7 @@ pub struct Cause {
 /// How often the stack fills: of all lists of words that are tried, how many run to their end, how many get 17, and how many get 18.
 /// With a refusal all three are 0.
 #[derive(Clone, Copy, Debug, PartialEq, Eq)]
-pub struct Fillings {
+pub struct FillingsReport {
     pub answer: Answer,
     pub ended: u32,
     pub full: u32,
@@ -130,14 +130,14 @@ pub trait Library {
         words: &[u16],
         masks: &mut [u32],
         codes: &mut [u8],
-    ) -> Priced;
+    ) -> PricedReport;
 
     /// One tick of a lent state: what a run of one word does. A refused tick emits nothing: mask and code 0.
-    fn tick(&self, image: &[u8], state: &mut State, word: u16) -> Ticked {
+    fn tick(&self, image: &[u8], state: &mut State, word: u16) -> TickReport {
         let (mut masks, mut codes) = ([0], [0]);
         let (answer, after) = self.run(image, state, &[word], &mut masks, &mut codes);
         *state = after;
-        Ticked { answer, mask: masks[0], code: codes[0] }
+        TickReport { answer, mask: masks[0], code: codes[0] }
     }
 
     /// One tick of a spindle by its own image: the four states stand in one list, and `taken` is how many places they have taken
@@ -151,7 +151,7 @@ pub trait Library {
         spindle: usize,
         image: &[u8],
         word: u16,
-    ) -> Ticked;
+    ) -> TickReport;
 
     /// From now on a call of this number opens this scheme, under the number called; schemes that are open go on as they are. Tries what
     /// the image check tries, then 15 and 22; counts 0.
@@ -159,7 +159,7 @@ pub trait Library {
 
     /// The cause of the tick that a state would make: every word that agrees with this one on the mask takes the same row. Tries
     /// what the image check tries, then 15, 21 and 18; counts 0.
-    fn cause(&self, image: &[u8], state: &State, word: u16) -> Cause;
+    fn cause(&self, image: &[u8], state: &State, word: u16) -> CauseReport;
 
     /// For each label of an image, from 0 on, the number of its first row among the image's rows, from 0, and how many rows it has;
     /// 0 and 0 where it has none. Tries what the image check tries, then 16, for either buffer; counts labels.
@@ -178,7 +178,7 @@ pub trait Library {
     /// their end, how many get 17 and how many get 18, each from a fresh state of so many places. No words is one empty list, and no
     /// conditions is one list of zeros; the three sum to 2 to the power of ticks times conditions. Tries what the image check tries,
     /// then 14 and 28: ticks times conditions above 16, or more than 16 conditions, or more than 65,536 ticks; counts 0.
-    fn count_fillings(&self, image: &[u8], size: usize, ticks: usize, conditions: usize) -> Fillings;
+    fn count_fillings(&self, image: &[u8], size: usize, ticks: usize, conditions: usize) -> FillingsReport;
 
     /// An image's lines to the table that live runs and live ticks take. Tries what the image check tries, then 16;
     /// counts bytes.
@@ -196,11 +196,11 @@ pub trait Library {
     ) -> (Answer, State);
 
     /// One tick on a table: what a live run of one word does. A refused tick emits nothing: mask and code 0.
-    fn live_tick(&self, table: &[u8], state: &mut State, word: u16) -> Ticked {
+    fn live_tick(&self, table: &[u8], state: &mut State, word: u16) -> TickReport {
         let (mut masks, mut codes) = ([0], [0]);
         let (answer, after) = self.live_run(table, state, &[word], &mut masks, &mut codes);
         *state = after;
-        Ticked { answer, mask: masks[0], code: codes[0] }
+        TickReport { answer, mask: masks[0], code: codes[0] }
     }
 
     /// One tick of a spindle by its own table: what one by its image does. Tries 25, 11, 15, 17, 26 and 18; counts 1.
@@ -211,7 +211,7 @@ pub trait Library {
         spindle: usize,
         table: &[u8],
         word: u16,
-    ) -> Ticked;
+    ) -> TickReport;
 
     /// A rebinding by a table: what a rebinding by its image does. Tries 11, 15 and 22; counts 0.
     fn live_rebind(&self, table: &[u8], state: &mut State, number: usize, scheme: usize) -> Answer;

@@ -2,7 +2,7 @@
 
 pub mod prices;
 
-use fairleadow::{Answer, Library, Priced, Prices, Proved, OPERATIONS};
+use fairleadow::{Answer, Library, PricedReport, Prices, Proved, OPERATIONS};
 
 use crate::columns::aligned;
 use crate::names::Names;
@@ -23,7 +23,7 @@ impl Bill {
     pub fn of(subject: &Subject, places: usize, prices: Prices, words: &[u16]) -> Result<Bill, Problem> {
         let state = fresh(places)?;
         let (mut masks, mut codes) = (vec![0; words.len()], vec![0; words.len()]);
-        let Priced { answer, price, .. } =
+        let PricedReport { answer, price, .. } =
             Proved.priced_run(&subject.image.text, &state, &prices, words, &mut masks, &mut codes);
         if !matches!(answer.number(), 0 | 17 | 18) {
             return Err(subject.problem(answer));

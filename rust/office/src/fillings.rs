@@ -1,6 +1,6 @@
 //! How often stacks of 1 to 32 places fill, over all lists of words of some conditions: a table, with a bar for each stack.
 
-use fairleadow::{Answer, Fillings, Library, COUNTED_BITS, COUNTED_TICKS, PLACES};
+use fairleadow::{Answer, FillingsReport, Library, COUNTED_BITS, COUNTED_TICKS, PLACES};
 
 use crate::columns::aligned;
 use crate::image::Image;
@@ -33,7 +33,7 @@ impl Lists {
 /// What was counted of each stack, that of 1 place first.
 pub struct Drawing {
     lists: Lists,
-    stacks: Vec<Fillings>,
+    stacks: Vec<FillingsReport>,
 }
 
 impl Drawing {

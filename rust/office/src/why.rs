@@ -3,7 +3,7 @@
 mod subject;
 mod told;
 
-use fairleadow::{Answer, Cause, Library, Proved, State, Ticked};
+use fairleadow::{Answer, CauseReport, Library, Proved, State, TickReport};
 
 use crate::explain;
 use crate::kind::Kind;
@@ -19,9 +19,9 @@ pub struct Asked {
     pub number: usize,
     pub word: u16,
     pub before: State,
-    pub ticked: Ticked,
+    pub ticked: TickReport,
     pub after: State,
-    pub cause: Cause,
+    pub cause: CauseReport,
 }
 
 /// The tick of this number of a run from a fresh state by the words, with swaps before some of them, or the last one; a tick that is

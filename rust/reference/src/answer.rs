@@ -1,7 +1,7 @@
 //! What an entry point answers, and how a refusal becomes that.
 
 pub use interface::Answer;
-use interface::Ticked;
+use interface::TickReport;
 
 /// Success with this count, or the refusal.
 pub fn answered(counted: Result<usize, Refusal>) -> Answer {
@@ -9,9 +9,9 @@ pub fn answered(counted: Result<usize, Refusal>) -> Answer {
 }
 
 /// What a tick hands back for its mask and code, or for its refusal.
-pub fn ticked(made: Result<(u32, u8), Refusal>) -> Ticked {
+pub fn ticked(made: Result<(u32, u8), Refusal>) -> TickReport {
     let (mask, code) = made.unwrap_or((0, 0));
-    Ticked { answer: answered(made.map(|_| 1)), mask, code }
+    TickReport { answer: answered(made.map(|_| 1)), mask, code }
 }
 
 /// A refusal found before anything is written: its count is 0.

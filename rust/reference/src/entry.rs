@@ -18,7 +18,7 @@ use crate::row_list::row_list;
 use crate::spindles::Head;
 use crate::state::{can_rebind, fresh_state, Shape, State};
 use crate::translator;
-use interface::{Cause, Fillings, Priced, Ticked, SPINDLES};
+use interface::{CauseReport, FillingsReport, PricedReport, TickReport, SPINDLES};
 
 /// Writes all of it, or refuses with 16 and writes nothing.
 fn put<T: Copy>(all: &[T], out: &mut [T]) -> Result<(), Refusal> {
@@ -146,7 +146,7 @@ pub fn priced_run(
     words: &[u16],
     masks: &mut [u32],
     codes: &mut [u8],
-) -> Priced {
+) -> PricedReport {
     let ready = image_for(image, state).and_then(|image| {
         refuse_if(27, words.len() > PRICED_WORDS)?;
         roomy(words, masks, codes)?;
@@ -156,9 +156,9 @@ pub fn priced_run(
         Ok(image) => {
             let tick = |s: &State, word| machine::tick(&image, s, word);
             let (answer, state) = run_ticks(tick, *state, words, masks, codes);
-            Priced { answer, state, price: price(prices, &masks[..answer.count()]) }
+            PricedReport { answer, state, price: price(prices, &masks[..answer.count()]) }
         }
-        Err(refusal) => Priced { answer: refusal.into(), state: *state, price: 0 },
+        Err(refusal) => PricedReport { answer: refusal.into(), state: *state, price: 0 },
     }
 }
 
@@ -197,7 +197,7 @@ pub fn rebind(image: &[u8], state: &mut State, number: usize, scheme: usize) -> 
 }
 
 /// Refusal 25, what the image check tries, then 15, 17, 26 and 18; counts 1.
-pub fn spin(states: &mut [State], taken: &mut usize, spindle: usize, image: &[u8], word: u16) -> Ticked {
+pub fn spin(states: &mut [State], taken: &mut usize, spindle: usize, image: &[u8], word: u16) -> TickReport {
     ticked(refuse_if(25, spindle >= SPINDLES).and_then(|()| {
         let image = image_from_text(image)?;
         let fits = |state: &State| machine::fits(&image, state);
@@ -206,10 +206,10 @@ pub fn spin(states: &mut [State], taken: &mut usize, spindle: usize, image: &[u8
 }
 
 /// What the image check tries, then 15, 21 and 18; counts 0.
-pub fn cause(image: &[u8], state: &State, word: u16) -> Cause {
+pub fn cause(image: &[u8], state: &State, word: u16) -> CauseReport {
     match image_for(image, state).and_then(|image| cause_of(&image, state, word)) {
-        Ok(Found { row, mask, bit }) => Cause { answer: Answer::Done(0), row: row as u16, mask, bit },
-        Err(refusal) => Cause { answer: refusal.into(), row: 0, mask: 0, bit: 0 },
+        Ok(Found { row, mask, bit }) => CauseReport { answer: Answer::Done(0), row: row as u16, mask, bit },
+        Err(refusal) => CauseReport { answer: refusal.into(), row: 0, mask: 0, bit: 0 },
     }
 }
 
@@ -255,10 +255,10 @@ fn counted(image: &[u8], size: usize, ticks: usize, conditions: usize) -> Result
 }
 
 /// What the image check tries, then 14 and 28; counts 0.
-pub fn count_fillings(image: &[u8], size: usize, ticks: usize, conditions: usize) -> Fillings {
+pub fn count_fillings(image: &[u8], size: usize, ticks: usize, conditions: usize) -> FillingsReport {
     let counted = counted(image, size, ticks, conditions);
     let Counts { ended, full, unmatched } = counted.unwrap_or_default();
-    Fillings { answer: answered(counted.map(|_| 0)), ended, full, unmatched }
+    FillingsReport { answer: answered(counted.map(|_| 0)), ended, full, unmatched }
 }
 
 /// The image that a table holds, if the state fits: refusals 11 and 15.
@@ -274,7 +274,13 @@ pub fn live_rebind(table: &[u8], state: &mut State, number: usize, scheme: usize
 }
 
 /// Refusals 25, 11, 15, 17, 26 and 18; counts 1.
-pub fn live_spin(states: &mut [State], taken: &mut usize, spindle: usize, table: &[u8], word: u16) -> Ticked {
+pub fn live_spin(
+    states: &mut [State],
+    taken: &mut usize,
+    spindle: usize,
+    table: &[u8],
+    word: u16,
+) -> TickReport {
     ticked(refuse_if(25, spindle >= SPINDLES).and_then(|()| {
         let held = Held::of(table)?;
         Head { states, taken }.turn(spindle, |state| held.fits(state), |state| held.tick(state, word))

@@ -4,7 +4,7 @@
 use crate::answer::Answer;
 use crate::entry::minimised;
 use crate::frames::{text_of, Frame};
-use crate::library::{Cause, Fillings, Library, Meaning, Priced, Prices, Ticked};
+use crate::library::{CauseReport, FillingsReport, Library, Meaning, PricedReport, Prices, TickReport};
 use crate::state::State;
 use interface::{CHART_TEXT, IMAGE_TEXT, LABELS, LITTLE_TEXT, OPERATIONS, RECORDS, SPINDLES, TABLE};
 
@@ -74,7 +74,7 @@ impl Input {
 #[derive(Debug, PartialEq, Eq)]
 pub struct Made {
     pub answer: Answer,
-    pub cause: Option<Cause>,
+    pub cause: Option<CauseReport>,
     pub meaning: Option<Meaning>,
     pub bytes: Vec<u8>,
     pub numbers: Vec<u16>,
@@ -157,7 +157,7 @@ impl EntryPoint {
             EntryPoint::PricedRun => {
                 let mut paid = None;
                 let made = ran(words.len(), |masks, codes| {
-                    let Priced { answer, state, price } =
+                    let PricedReport { answer, state, price } =
                         library.priced_run(&text(), state, prices, words, masks, codes);
                     paid = Some(price);
                     (answer, state)
@@ -181,7 +181,7 @@ impl EntryPoint {
             EntryPoint::LittleChart => written(LITTLE_TEXT, |out| library.little_chart(*value, *chart, out)),
             EntryPoint::CountFillings => {
                 let (ticks, conditions) = *lists;
-                let Fillings { answer, ended, full, unmatched } =
+                let FillingsReport { answer, ended, full, unmatched } =
                     library.count_fillings(&text(), *value, ticks, conditions);
                 Made { masks: vec![ended, full, unmatched], ..answered(answer) }
             }
@@ -223,18 +223,18 @@ fn written(room: usize, call: impl FnOnce(&mut [u8]) -> Answer) -> Made {
     Made { bytes, ..answered(answer) }
 }
 
-fn ticked(state: &State, call: impl FnOnce(&mut State) -> Ticked) -> Made {
+fn ticked(state: &State, call: impl FnOnce(&mut State) -> TickReport) -> Made {
     let mut state = *state;
-    let Ticked { answer, mask, code } = call(&mut state);
+    let TickReport { answer, mask, code } = call(&mut state);
     Made { masks: vec![mask], codes: vec![code], state, ..answered(answer) }
 }
 
 /// The state is that of this spindle, the others take a place each; the record of places goes to the numbers.
-fn spun(state: &State, spindle: usize, call: impl FnOnce(&mut [State], &mut usize) -> Ticked) -> Made {
+fn spun(state: &State, spindle: usize, call: impl FnOnce(&mut [State], &mut usize) -> TickReport) -> Made {
     let mut states = vec![State { depth: 1, ..State::NONE }; SPINDLES];
     states[spindle] = *state;
     let mut taken = SPINDLES - 1 + usize::from(state.depth);
-    let Ticked { answer, mask, code } = call(&mut states, &mut taken);
+    let TickReport { answer, mask, code } = call(&mut states, &mut taken);
     Made { masks: vec![mask], codes: vec![code], states, numbers: vec![taken as u16], ..answered(answer) }
 }
 

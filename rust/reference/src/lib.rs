@@ -35,5 +35,7 @@ pub mod translator;
 pub mod walk;
 
 pub use answer::Answer;
-pub use library::{Cause, Fillings, Library, Meaning, Priced, Prices, Reference, Ticked};
+pub use library::{
+    CauseReport, FillingsReport, Library, Meaning, PricedReport, Prices, Reference, TickReport,
+};
 pub use state::{fresh_state, State};

@@ -1,7 +1,9 @@
 //! The reference as a library.
 
 use crate::{codes, entry};
-pub use interface::{Answer, Cause, Fillings, Library, Meaning, Priced, Prices, State, Ticked};
+pub use interface::{
+    Answer, CauseReport, FillingsReport, Library, Meaning, PricedReport, Prices, State, TickReport,
+};
 
 /// The reference itself.
 pub struct Reference;
@@ -50,7 +52,7 @@ impl Library for Reference {
         words: &[u16],
         masks: &mut [u32],
         codes: &mut [u8],
-    ) -> Priced {
+    ) -> PricedReport {
         entry::priced_run(image, state, prices, words, masks, codes)
     }
 
@@ -61,7 +63,7 @@ impl Library for Reference {
         spindle: usize,
         image: &[u8],
         word: u16,
-    ) -> Ticked {
+    ) -> TickReport {
         entry::spin(states, taken, spindle, image, word)
     }
 
@@ -69,7 +71,7 @@ impl Library for Reference {
         entry::rebind(image, state, number, scheme)
     }
 
-    fn cause(&self, image: &[u8], state: &State, word: u16) -> Cause {
+    fn cause(&self, image: &[u8], state: &State, word: u16) -> CauseReport {
         entry::cause(image, state, word)
     }
 
@@ -85,7 +87,7 @@ impl Library for Reference {
         entry::little_chart(frames, number, text)
     }
 
-    fn count_fillings(&self, image: &[u8], size: usize, ticks: usize, conditions: usize) -> Fillings {
+    fn count_fillings(&self, image: &[u8], size: usize, ticks: usize, conditions: usize) -> FillingsReport {
         entry::count_fillings(image, size, ticks, conditions)
     }
 
@@ -111,7 +113,7 @@ impl Library for Reference {
         spindle: usize,
         table: &[u8],
         word: u16,
-    ) -> Ticked {
+    ) -> TickReport {
         entry::live_spin(states, taken, spindle, table, word)
     }
 

@@ -3,7 +3,7 @@
 
 use crate::answer::{answered, ticked, Refusal};
 use crate::chart::Chart;
-use crate::library::Ticked;
+use crate::library::TickReport;
 use crate::state::{can_rebind, Binding, OWN};
 use crate::walk::{walk_told, Signal, Tick};
 use interface::{SPINDLES, STORE};
@@ -26,7 +26,7 @@ pub enum Turn {
 /// What a call answers, and the depths that it leaves; a rebinding has no mask and no code.
 #[derive(Clone, Debug, PartialEq, Eq)]
 pub struct Told {
-    pub ticked: Ticked,
+    pub ticked: TickReport,
     pub depths: [usize; SPINDLES],
 }
 
@@ -90,7 +90,7 @@ pub fn expected(spindles: [(&Chart, usize); SPINDLES], turns: &[Turn]) -> Vec<To
             Turn::Spin { spindle, word } => ticked(spindles[spindle].tick(word, left)),
             Turn::Rebind { spindle, number, scheme } => {
                 let answer = answered(spindles[spindle].rebind(number, scheme));
-                Ticked { answer, mask: 0, code: 0 }
+                TickReport { answer, mask: 0, code: 0 }
             }
         };
         let depths = std::array::from_fn(|k| spindles[k].depth);

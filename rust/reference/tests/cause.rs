@@ -8,7 +8,7 @@ use reference::frames::{text_of, Frame};
 use reference::generate::{images, runs, states, Random};
 use reference::image::{image_of, Image, Label, Row, FUNCTION_CALL, OPERATION_CALL, PLAIN};
 use reference::machine;
-use reference::{samples, Answer, Cause, State};
+use reference::{samples, Answer, CauseReport, State};
 
 /// All words that agree with one on a mask.
 fn agreeing(word: u16, mask: u16) -> impl Iterator<Item = u16> {
@@ -101,12 +101,12 @@ fn state(image: &Image, places: &[u8]) -> State {
     image.shape().state(3, places)
 }
 
-fn told(row: u16, mask: u16, bit: u8) -> Cause {
-    Cause { answer: Answer::Done(0), row, mask, bit }
+fn told(row: u16, mask: u16, bit: u8) -> CauseReport {
+    CauseReport { answer: Answer::Done(0), row, mask, bit }
 }
 
-fn refused(number: u8) -> Cause {
-    Cause { answer: Answer::Refused { number, index: 0, count: 0 }, row: 0, mask: 0, bit: 0 }
+fn refused(number: u8) -> CauseReport {
+    CauseReport { answer: Answer::Refused { number, index: 0, count: 0 }, row: 0, mask: 0, bit: 0 }
 }
 
 fn text(image: &Image) -> Vec<u8> {

@@ -7,7 +7,7 @@ use common::is_found;
 use reference::entry::image_from_text;
 use reference::image::{Image, Row, FUNCTION_CALL, OPERATION_CALL};
 use reference::machine::{row_label, tick};
-use reference::{Answer, Cause, Library, Reference, State};
+use reference::{Answer, CauseReport, Library, Reference, State};
 
 faults! {
     // which conditions decide
@@ -50,8 +50,8 @@ fn highest(mask: u16) -> u16 {
     mask.checked_ilog2().map_or(0, |condition| 1 << condition)
 }
 
-fn refused(number: u8) -> Cause {
-    Cause { answer: Answer::Refused { number, index: 0, count: 0 }, row: 0, mask: 0, bit: 0 }
+fn refused(number: u8) -> CauseReport {
+    CauseReport { answer: Answer::Refused { number, index: 0, count: 0 }, row: 0, mask: 0, bit: 0 }
 }
 
 impl Faulty {
@@ -103,7 +103,7 @@ impl Faulty {
     }
 
     /// What is told of a tick that takes a row of this label.
-    fn told(&self, image: &Image, state: &State, from: u8, word: u16) -> Cause {
+    fn told(&self, image: &Image, state: &State, from: u8, word: u16) -> CauseReport {
         let called = usize::from(image.labels[usize::from(from)].called).max(1);
         let open = |row: &Row| row.function_bit == 2 || state.results[called - 1] == (row.function_bit == 1);
         let (mut matching, mut conditions) = (Vec::new(), 0);
@@ -119,10 +119,13 @@ impl Faulty {
             }
         }
         let Some((number, row)) = self.taken(&matching) else {
-            return Cause { bit: if self.0 == TellsTheBitOfARefusedTick { 2 } else { 0 }, ..refused(18) };
+            return CauseReport {
+                bit: if self.0 == TellsTheBitOfARefusedTick { 2 } else { 0 },
+                ..refused(18)
+            };
         };
         let care = if self.0 == ForgetsTheCareMask { 0 } else { row.care };
-        Cause {
+        CauseReport {
             answer: Answer::Done(usize::from(self.0 == CountsATick)),
             row: self.row_number(image, number) as u16,
             mask: care | conditions,
@@ -131,7 +134,7 @@ impl Faulty {
     }
 
     /// What is told of a tick that takes no row.
-    fn told_of_none(&self, image: &Image, state: &State, word: u16) -> Cause {
+    fn told_of_none(&self, image: &Image, state: &State, word: u16) -> CauseReport {
         let top = state.places[usize::from(state.depth) - 1];
         let full = image.labels[usize::from(top)].calls() && tick(image, state, word).is_err();
         let alone = top == 1;
@@ -160,7 +163,7 @@ impl Library for Faulty {
         value_calls,
     );
 
-    fn cause(&self, text: &[u8], state: &State, word: u16) -> Cause {
+    fn cause(&self, text: &[u8], state: &State, word: u16) -> CauseReport {
         let right = Reference.cause(text, state, word);
         match right.answer.number() {
             0 | 18 | 21 => {}

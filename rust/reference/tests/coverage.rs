@@ -43,7 +43,17 @@ const TRIED: [(&str, &[u8]); 25] = [
 
 /// The calls that tick.
 const TICKS: [&str; 11] = [
-    "run", "priced_run", "tick", "runs", "live_run", "live_tick", "live_runs", "mixture", "spin", "live_spin", "spins",
+    "run",
+    "priced_run",
+    "tick",
+    "runs",
+    "live_run",
+    "live_tick",
+    "live_runs",
+    "mixture",
+    "spin",
+    "live_spin",
+    "spins",
 ];
 
 #[test]

@@ -11,7 +11,7 @@ use reference::entry::{self, image_from_text};
 use reference::frames::text_of;
 use reference::image::{Image, Label, FUNCTION_CALL, HOME, RETURN};
 use reference::machine::{self, Advanced};
-use reference::{Answer, Library, Reference, State, Ticked};
+use reference::{Answer, Library, Reference, State, TickReport};
 
 faults! {
     TurnsAllChartsBack,
@@ -277,7 +277,7 @@ impl Library for Faulty {
         ran
     }
 
-    fn tick(&self, image: &[u8], state: &mut State, word: u16) -> Ticked {
+    fn tick(&self, image: &[u8], state: &mut State, word: u16) -> TickReport {
         let mut ticked = Reference.tick(image, state, word);
         if self.fault == WritesARefusedTick && ticked.answer.number() != 0 {
             ticked.code = 4;

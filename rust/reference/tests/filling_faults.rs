@@ -8,7 +8,7 @@ use reference::entry::image_from_text;
 use reference::fillings::{each_list, stopped, Counts};
 use reference::image::Image;
 use reference::machine::{self, handles};
-use reference::{fresh_state, Answer, Fillings, Library, State};
+use reference::{fresh_state, Answer, FillingsReport, Library, State};
 
 faults! {
     // which lists are tried
@@ -247,7 +247,7 @@ impl Library for Faulty {
     as_the_reference!(chart_calls, check_image, cause, list_rows, minimise, prepare);
     as_the_reference!(run_calls, rebindings, spins, value_calls);
 
-    fn count_fillings(&self, text: &[u8], size: usize, ticks: usize, conditions: usize) -> Fillings {
+    fn count_fillings(&self, text: &[u8], size: usize, ticks: usize, conditions: usize) -> FillingsReport {
         let (size, ticks, conditions) = match self.0 {
             CutsTheSize => (size & 0xFF, ticks, conditions),
             CutsTheTicks => (size, ticks & 0xFFFF_FFFF, conditions),
@@ -259,7 +259,7 @@ impl Library for Faulty {
             Err((number, index)) => {
                 let answer = Answer::Refused { number, index, count: 0 };
                 let told = u32::from(self.0 == TellsCountsWithARefusal);
-                return Fillings { answer, ended: told, full: 0, unmatched: 0 };
+                return FillingsReport { answer, ended: told, full: 0, unmatched: 0 };
             }
         };
         // what a fault lets through is counted as far as it can be
@@ -277,7 +277,7 @@ impl Library for Faulty {
         let lists = counts.ended + counts.full + counts.unmatched;
         let count = if self.0 == CountsTheListsWithSuccess { lists as usize } else { 0 };
         let Counts { ended, full, unmatched } = counts;
-        Fillings { answer: Answer::Done(count), ended, full, unmatched }
+        FillingsReport { answer: Answer::Done(count), ended, full, unmatched }
     }
 }
 

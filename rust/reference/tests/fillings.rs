@@ -10,11 +10,12 @@ use reference::fillings::{each_list, too_many, walked};
 use reference::frames::{text_of, Frame};
 use reference::generate::{fillings, images, Random};
 use reference::image::Image;
-use reference::{samples, Answer, Fillings, Library};
+use reference::{samples, Answer, FillingsReport, Library};
 
 /// Ended, full and unmatched, of a call that is not refused.
 fn counts(image: &[u8], size: usize, ticks: usize, conditions: usize) -> (u32, u32, u32) {
-    let Fillings { answer, ended, full, unmatched } = entry::count_fillings(image, size, ticks, conditions);
+    let FillingsReport { answer, ended, full, unmatched } =
+        entry::count_fillings(image, size, ticks, conditions);
     assert_eq!(answer, Answer::Done(0));
     (ended, full, unmatched)
 }
@@ -157,9 +158,9 @@ fn a_patched_image_is_counted_by_hand() {
     assert_eq!(counts(&image, 2, 4, 0), (0, 0, 1));
 }
 
-fn refused(number: u8) -> Fillings {
+fn refused(number: u8) -> FillingsReport {
     let answer = Answer::Refused { number, index: 0, count: 0 };
-    Fillings { answer, ended: 0, full: 0, unmatched: 0 }
+    FillingsReport { answer, ended: 0, full: 0, unmatched: 0 }
 }
 
 /// Each ground of 28 by itself, and products that are small where they wrap or are cut.
@@ -219,8 +220,8 @@ fn refusals_are_tried_in_their_order() {
     let mut characters = image.clone();
     characters[23] = b'x';
     let second = Answer::Refused { number: 2, index: 1, count: 0 };
-    assert_eq!(count(&characters, 0, 17, 1), Fillings { answer: second, ..refused(2) });
-    assert_eq!(count(&characters, 2, 4, 1), Fillings { answer: second, ..refused(2) });
+    assert_eq!(count(&characters, 0, 17, 1), FillingsReport { answer: second, ..refused(2) });
+    assert_eq!(count(&characters, 2, 4, 1), FillingsReport { answer: second, ..refused(2) });
 }
 
 /// On images of any sort the three counts sum to the lists, and the two programs count alike.
@@ -262,7 +263,11 @@ fn on_a_translated_chart_the_walk_says_how_often_the_stack_fills() {
         let chart = chart_of(&records).expect("a valid chart");
         let full = walked(&chart, size, ticks, conditions);
         let ended = (1 << (ticks * conditions)) - full;
-        assert_eq!(found, Fillings { answer: Answer::Done(0), ended, full, unmatched: 0 }, "seed {seed}");
+        assert_eq!(
+            found,
+            FillingsReport { answer: Answer::Done(0), ended, full, unmatched: 0 },
+            "seed {seed}"
+        );
         some += usize::from(full > 0 && ended > 0);
         handled += usize::from(full > 0 && ended > 0 && chart.handler().is_some());
     }
@@ -279,7 +284,7 @@ fn samples_fill_the_stack_as_their_walks_say() {
         for size in 1..=4 {
             let found = entry::count_fillings(&image, size, 4, 2);
             let full = walked(&chart, size, 4, 2);
-            let wanted = Fillings { answer: Answer::Done(0), ended: 256 - full, full, unmatched: 0 };
+            let wanted = FillingsReport { answer: Answer::Done(0), ended: 256 - full, full, unmatched: 0 };
             assert_eq!(found, wanted, "{name} on {size} places");
             assert_eq!(Fast.count_fillings(&image, size, 4, 2), wanted, "{name} on {size} places");
         }

@@ -4,7 +4,7 @@
 mod common;
 
 use common::is_found;
-use reference::{Answer, Cause, Fillings, Library, Priced, Prices, Reference, State};
+use reference::{Answer, CauseReport, FillingsReport, Library, PricedReport, Prices, Reference, State};
 
 /// Which character is read in the place of each.
 type Reading = fn(u8) -> u8;
@@ -66,11 +66,11 @@ impl Library for Misreading {
         words: &[u16],
         masks: &mut [u32],
         codes: &mut [u8],
-    ) -> Priced {
+    ) -> PricedReport {
         Reference.priced_run(&self.read(image), state, prices, words, masks, codes)
     }
 
-    fn cause(&self, image: &[u8], state: &State, word: u16) -> Cause {
+    fn cause(&self, image: &[u8], state: &State, word: u16) -> CauseReport {
         Reference.cause(&self.read(image), state, word)
     }
 
@@ -86,7 +86,7 @@ impl Library for Misreading {
         Reference.minimise(&self.read(image), out)
     }
 
-    fn count_fillings(&self, image: &[u8], size: usize, ticks: usize, conditions: usize) -> Fillings {
+    fn count_fillings(&self, image: &[u8], size: usize, ticks: usize, conditions: usize) -> FillingsReport {
         Reference.count_fillings(&self.read(image), size, ticks, conditions)
     }
 

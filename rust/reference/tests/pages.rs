@@ -1,30 +1,31 @@
-//! docs/REFERENCE.md names definitions that stand where it says, and shows lines whose sums are right; docs/TRACE.md lists the edits.
+//! docs/REFERENCE.md and docs/ARCHITECTURE.md name definitions, laws and functions that stand where they say; the first shows lines
+//! whose sums are right; docs/TRACE.md lists the edits; a link leads to a file and, if it names one, to a heading of it.
 
 use std::collections::BTreeSet;
 use std::fs;
-use std::path::PathBuf;
+use std::path::{Path, PathBuf};
 
 fn root() -> PathBuf {
     PathBuf::from(env!("CARGO_MANIFEST_DIR")).join("../..")
 }
 
-fn reference() -> String {
-    fs::read_to_string(root().join("docs/REFERENCE.md")).expect("the page is there")
+fn page(path: impl AsRef<Path>) -> String {
+    let path = root().join(path);
+    fs::read_to_string(&path).unwrap_or_else(|_| panic!("{} is not there", path.display()))
 }
 
-/// Whether a file of definitions declares a name: as a function, a record or a data type.
-fn declares(definitions: &str, name: &str) -> bool {
-    definitions.lines().any(|line| {
+/// What may stand between `pub` and the name that is declared.
+const KINDS: [&str; 5] = ["record", "data", "fn", "struct", "enum"];
+
+/// Whether a file declares a name: a definition, a law or a function.
+fn declares(file: &str, name: &str) -> bool {
+    file.lines().any(|line| {
         let Some((_, after)) = line.split_once("pub ") else { return false };
-        let word = |text: &str| text.split([' ', ':', '{']).next().map(str::to_owned);
-        let kind = word(after).unwrap_or_default();
-        let declared =
-            if kind == "record" || kind == "data" { word(&after[kind.len() + 1..]) } else { Some(kind) };
-        declared.as_deref() == Some(name)
+        after.split([' ', ':', '{', '(']).find(|word| !KINDS.contains(word)) == Some(name)
     })
 }
 
-/// Each citation, as the names and the file: [`a`, `b` in crate/specs/File].
+/// Each citation, as the names and the file: [`a`, `b` in crate/specs/File]; of code the file is crate/src/file.
 fn citations(page: &str) -> Vec<(Vec<&str>, &str)> {
     page.split("[`")
         .skip(1)
@@ -37,23 +38,59 @@ fn citations(page: &str) -> Vec<(Vec<&str>, &str)> {
 }
 
 #[test]
-fn every_definition_that_the_reference_cites_stands_in_its_file() {
-    let page = reference();
-    let citations = citations(&page);
-    assert!(citations.len() > 40, "the page cites its definitions");
-    for (names, file) in citations {
-        let path = root().join("crates").join(format!("{file}.antt"));
-        let definitions =
-            fs::read_to_string(&path).unwrap_or_else(|_| panic!("{file} is cited and is not there"));
-        for name in names {
-            assert!(declares(&definitions, name), "{name} is cited and does not stand in {file}");
+fn every_name_that_is_cited_stands_in_its_file() {
+    for path in ["docs/REFERENCE.md", "docs/ARCHITECTURE.md"] {
+        let text = page(path);
+        let citations = citations(&text);
+        assert!(citations.len() > 40, "{path} cites what it speaks of");
+        for (names, file) in citations {
+            let ending = if file.contains("/src/") { "rt" } else { "antt" };
+            let cited = page(format!("crates/{file}.{ending}"));
+            for name in names {
+                assert!(declares(&cited, name), "{path} cites {name}, which does not stand in {file}");
+            }
+        }
+    }
+}
+
+/// The name by which a link leads to a heading: its words in small letters, joined by dashes.
+fn anchor(heading: &str) -> String {
+    // of a link in a heading the text alone counts
+    let parts = heading.split("](").enumerate();
+    let text: String = parts
+        .map(|(k, part)| if k == 0 { part } else { part.split_once(')').map_or("", |cut| cut.1) })
+        .collect();
+    let kept = text.chars().filter(|c| c.is_alphanumeric() || " -_".contains(*c));
+    kept.map(|c| if c == ' ' { '-' } else { c }).collect::<String>().to_lowercase()
+}
+
+fn headings(text: &str) -> BTreeSet<String> {
+    text.lines()
+        .filter(|line| line.starts_with('#'))
+        .map(|line| anchor(line.trim_start_matches('#').trim_start()))
+        .collect()
+}
+
+#[test]
+fn every_link_leads_to_a_file_and_a_heading() {
+    let names = ["ARCHITECTURE", "CHARTS", "DECISIONS", "MEASUREMENTS", "REFERENCE", "REFUSALS", "TRACE"];
+    let pages = names.iter().map(|name| format!("docs/{name}.md")).chain(["README.md".to_owned()]);
+    for path in pages {
+        let text = page(&path);
+        let links = text.split("](").skip(1).filter_map(|rest| rest.split_once(')')).map(|(link, _)| link);
+        for link in links.filter(|link| !link.starts_with("http")) {
+            let (file, heading) = link.split_once('#').unwrap_or((link, ""));
+            let there =
+                if file.is_empty() { PathBuf::from(&path) } else { Path::new(&path).with_file_name(file) };
+            assert!(root().join(&there).exists(), "{path} leads to {link}, which is not there");
+            assert!(heading.is_empty() || headings(&page(there)).contains(heading), "{path} leads to {link}");
         }
     }
 }
 
 #[test]
 fn every_line_that_the_reference_shows_sums_to_0() {
-    let page = reference();
+    let page = page("docs/REFERENCE.md");
     let lines: Vec<&str> = page
         .lines()
         .filter_map(|line| line.strip_prefix("    ")?.split(' ').next())
@@ -82,7 +119,7 @@ fn edits() -> BTreeSet<(String, String)> {
 
 #[test]
 fn the_trace_lists_the_edits_that_must_be_refused() {
-    let page = fs::read_to_string(root().join("docs/TRACE.md")).expect("the page is there");
+    let page = page("docs/TRACE.md");
     let (_, table) = page.split_once("| Crate | Edit |").expect("the table is there");
     let listed: BTreeSet<(String, String)> = table
         .lines()

@@ -8,7 +8,7 @@ use reference::generate::{images, prices, runs, states, Random};
 use reference::image::{image_of, Image, Label, Row, PLAIN};
 use reference::price::{cents, mask_price, price, PRICED_WORDS};
 use reference::walk::walk;
-use reference::{fresh_state, samples, Answer, Priced, Prices, State};
+use reference::{fresh_state, samples, Answer, PricedReport, Prices, State};
 
 /// Price 1 for bit 0, 2 for bit 1 and so on.
 fn rising() -> Prices {
@@ -60,7 +60,7 @@ fn the_largest_price_has_room() {
     let words = vec![0; PRICED_WORDS];
     let (mut masks, mut codes) = (vec![0; PRICED_WORDS], vec![9; PRICED_WORDS]);
     let priced = entry::priced_run(&image, &state, &[u16::MAX; 32], &words, &mut masks, &mut codes);
-    assert_eq!(priced, Priced { answer: Answer::Done(PRICED_WORDS), state, price: 1_374_368_563 });
+    assert_eq!(priced, PricedReport { answer: Answer::Done(PRICED_WORDS), state, price: 1_374_368_563 });
     assert!(masks.iter().all(|mask| *mask == u32::MAX) && codes.iter().all(|code| *code == 0));
 }
 

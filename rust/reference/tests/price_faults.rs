@@ -9,7 +9,7 @@ use common::is_found;
 use reference::entry::{self, image_from_text};
 use reference::machine;
 use reference::price::{cents, hundredths, mask_price, PRICED_WORDS};
-use reference::{Answer, Library, Priced, Prices, State};
+use reference::{Answer, Library, PricedReport, Prices, State};
 
 faults! {
     // what is summed
@@ -171,14 +171,14 @@ impl Library for Faulty {
         words: &[u16],
         masks: &mut [u32],
         codes: &mut [u8],
-    ) -> Priced {
+    ) -> PricedReport {
         let words = match self.fault {
             RunsTheFirst65536Words => &words[..words.len().min(PRICED_WORDS)],
             _ => words,
         };
         if let Some(answer) = self.refusal(image, state, words.len(), masks.len().min(codes.len())) {
             let price = if self.fault == KeepsThePriceFromBefore { self.last.get() } else { 0 };
-            return Priced { answer, state: *state, price };
+            return PricedReport { answer, state: *state, price };
         }
         let before = masks.to_vec();
         let (answer, after) = entry::run(image, state, words, masks, codes);
@@ -204,7 +204,7 @@ impl Library for Faulty {
         }
         self.last.set(price);
         let state = if self.fault == KeepsTheState { *state } else { after };
-        Priced { answer, state, price }
+        PricedReport { answer, state, price }
     }
 }
 

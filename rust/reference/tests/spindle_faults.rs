@@ -9,7 +9,7 @@ use reference::compare::compare_spins;
 use reference::entry::image_from_text;
 use reference::live::Held;
 use reference::machine::{self, Advanced};
-use reference::{Answer, Library, Reference, State, Ticked};
+use reference::{Answer, Library, Reference, State, TickReport};
 
 faults! {
     // 25
@@ -197,7 +197,7 @@ impl Faulty {
         taken: &mut usize,
         spindle: usize,
         ground: Result<Ground, Refusal>,
-    ) -> Ticked {
+    ) -> TickReport {
         let late = matches!(self.fault, TriesTheSpindleAfterTheImage | TriesTheSpindleAfterTheList);
         let number = match self.fault {
             CutsTheSpindle => spindle & 0xFF,
@@ -226,12 +226,12 @@ impl Faulty {
             return ticked(Err(Refusal::of(25)));
         }
         if !(ground.fits)(&states[number]) || !(ground.fits)(&states[0]) && self.fault == TicksTheFirstState {
-            return Ticked { answer: Answer::Done(1), mask: 0, code: 0 };
+            return TickReport { answer: Answer::Done(1), mask: 0, code: 0 };
         }
         let made = ticked(self.turned(states, taken, number, &ground));
         match (self.fault, made.answer.number()) {
-            (CountsNothing, 0) => Ticked { answer: Answer::Done(0), ..made },
-            (MaskWrittenBy26, 26) => Ticked { mask: 1, code: 0x12, ..made },
+            (CountsNothing, 0) => TickReport { answer: Answer::Done(0), ..made },
+            (MaskWrittenBy26, 26) => TickReport { mask: 1, code: 0x12, ..made },
             _ => made,
         }
     }
@@ -247,7 +247,7 @@ impl Library for Faulty {
         spindle: usize,
         image: &[u8],
         word: u16,
-    ) -> Ticked {
+    ) -> TickReport {
         if self.live {
             return Reference.spin(states, taken, spindle, image, word);
         }
@@ -268,7 +268,7 @@ impl Library for Faulty {
         spindle: usize,
         table: &[u8],
         word: u16,
-    ) -> Ticked {
+    ) -> TickReport {
         if !self.live {
             return Reference.live_spin(states, taken, spindle, table, word);
         }

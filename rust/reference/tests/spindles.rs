@@ -9,7 +9,7 @@ use reference::generate::{images, runs, states, Random};
 use reference::image::Image;
 use reference::prepare::table_of;
 use reference::samples::{chart_p, with_handler};
-use reference::{fresh_state, Answer, Reference, State, Ticked};
+use reference::{fresh_state, Answer, Reference, State, TickReport};
 
 /// The images of chart P, which calls as long as condition 0 is 1, and of a chart that calls whatever the word is, with a handler.
 fn chart_p_image() -> Vec<u8> {
@@ -37,7 +37,7 @@ fn head(sizes: [usize; 4]) -> Head {
 
 impl Head {
     /// The tick of a spindle by the image and, from the same head, by the table: the same.
-    fn spin(&mut self, spindle: usize, image: &[u8], word: u16) -> Ticked {
+    fn spin(&mut self, spindle: usize, image: &[u8], word: u16) -> TickReport {
         let (mut states, mut taken) = (self.states.clone(), self.taken);
         let live = live_spin(&mut states, &mut taken, spindle, &table(image), word);
         let ticked = spin(&mut self.states, &mut self.taken, spindle, image, word);
@@ -67,8 +67,8 @@ impl Head {
     }
 }
 
-fn refused(number: u8) -> Ticked {
-    Ticked { answer: Answer::Refused { number, index: 0, count: 0 }, mask: 0, code: 0 }
+fn refused(number: u8) -> TickReport {
+    TickReport { answer: Answer::Refused { number, index: 0, count: 0 }, mask: 0, code: 0 }
 }
 
 #[test]

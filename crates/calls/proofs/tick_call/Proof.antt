@@ -7,7 +7,7 @@ use Rattle.image.specs.Image.{Label}
 use Rattle.state.specs.declared.State.{State}
 use Rattle.state.specs.State.{placeAt, numberAt}
 use Rattle.state.specs.Bytes.{stateOf}
-use Rattle.ticks.specs.Parts.{topOf}
+use Rattle.ticks.specs.Tick.{topOf}
 use Rattle.ticks.proofs.TickCases.{depth-some, depth-most, size-most, called-few, numbered-as}
 use Rattle.calls.proofs.CallCases.{call-steps}
 use Rattle.calls.proofs.tick_call.Statement.{statement}
@@ -119,7 +119,8 @@ returns-2 c =
     let serves = entry .before in
     let l = label number in
     let size = sized (l .before) in
-    call-steps _ _ _ (start size .pre .0) _ (depth-read size) (omega (arith, size .size-of .ensures, l .before .before .before .if1 .left)) _
+    call-steps _ _ _ (start size .pre .0) _ (depth-read size)
+    (omega (arith, size .size-of .ensures, l .before .before .before .if1 .left)) _
     (top-read (l .before)) _ (l .label-read .ensures)
     _ (number .number-of .ensures ∙ ap (λ (d : ℕ). numberAt (state size) (d - 1)) (depth-read size))
     _ (serves .serving-of .ensures) _ (entry .server-entry .ensures) _ (c .code-of .ensures) _ _ _ _

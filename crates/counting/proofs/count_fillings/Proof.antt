@@ -6,9 +6,9 @@ use mathlib.Core.Path.{_≡_, sym, _∙_}
 use native.Mathlib.Omega.{arith}
 use lib.ListN.{take}
 use Rattle.frames.specs.Frame.{frameCount}
-use Rattle.tables.proofs.Made.{Made, image-made}
+use Rattle.tables.proofs.Made.{MadeTable, image-made}
 use Rattle.state.specs.State.{badSize}
-use Rattle.fillings.specs.Counts.{tooMany}
+use Rattle.fillings.specs.Counts.{tooManyLists}
 use Rattle.counting.proofs.EntryCases.{many-not, image-tells, size-tells, many-tells, all-tell}
 use Rattle.counting.proofs.count_fillings.Statement.{statement}
 use Rattle.counting.proofs.count_fillings.Tie as tie
@@ -18,7 +18,7 @@ abbrev accepted : tie.After-enum-told → tie.After-prepare-table
 accepted c = c .before .before .before
 
 made : (c : tie.After-enum-told) → let p = accepted c .prepare-table in
-    let t = accepted c .before .before .before .args .image .now in Made t (take (10 * frameCount t) (p .last .1 .0))
+    let t = accepted c .before .before .before .args .image .now in MadeTable t (take (10 * frameCount t) (p .last .1 .0))
 made c = let p = accepted c .prepare-table in image-made _ _ _ (p .result) (p .ensures) _ (c .enum-told .given .1)
 
 abbrev told : tie.Else2 → tie.After-enum-told
@@ -27,7 +27,7 @@ told c = c .before .before .before .before
 size-good : (c : tie.Else2) → badSize (accepted (told c) .before .before .before .args .size) ≡ false
 size-good c = let tried = c .before .before in sym (tried .before .bad-size .ensures) ∙ tried .if1 .left
 
-few : (c : tie.Else2) → let a = accepted (told c) .before .before .before .args in tooMany (a .n) (a .k) ≡ false
+few : (c : tie.Else2) → let a = accepted (told c) .before .before .before .args in tooManyLists (a .n) (a .k) ≡ false
 few c = sym (c .before .too-many .ensures) ∙ c .if2 .left
 
 -- ---- the needs

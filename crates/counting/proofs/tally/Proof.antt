@@ -5,8 +5,8 @@ use mathlib.Core.Path.{sym, _∙_, ap, ap₂}
 use Rattle.tables.specs.Table.{tableImage}
 use Rattle.state.specs.declared.State.{State}
 use Rattle.state.specs.Bytes.{stateOf}
-use Rattle.ticks.specs.Parts.{Stands}
-use Rattle.fill_counts.specs.Parts.{tallyOf}
+use Rattle.ticks.specs.inner.TickContracts.{TickAsked, Header}
+use Rattle.fill_counts.specs.inner.TallyContracts.{tallyOf}
 use Rattle.counting.proofs.EntryCases.{fresh-stands}
 use Rattle.counting.proofs.tally.Statement.{statement}
 use Rattle.counting.proofs.tally.Tie as tie
@@ -15,7 +15,7 @@ fresh-bytes-requires : tie.Need-fresh-bytes-requires
 fresh-bytes-requires c κs = search needs
 
 -- what both tallies ask
-stands : (c : tie.After-fresh-bytes) → Stands (c .before .before .args .table .now) (stateOf (c .fresh-bytes .result))
+stands : (c : tie.After-fresh-bytes) → TickAsked (c .before .before .args .table .now) (stateOf (c .fresh-bytes .result))
 stands c =
     let pre = c .before .before .pre in
     fresh-stands _ _ _ (pre .0) (pre .1 .0) (c .fresh-bytes .ensures)

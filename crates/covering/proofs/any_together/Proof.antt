@@ -4,13 +4,14 @@ use mathlib.Core.Path.{_≡_, sym, _∙_}
 use Prim.Native.Nat.{_-_, _≤_}
 use Rattle.lists.specs.Numbers.{any}
 use Rattle.lists.proofs.Searches.{any-here, any-on, any-over}
-use Rattle.covering.specs.Parts.{rowIn, togetherSome, togetherAny}
+use Rattle.covering.specs.inner.CoveringContracts.{rowInFrame, togetherSome, togetherAny}
 use Rattle.covering.proofs.any_together.Statement.{statement}
 use Rattle.covering.proofs.any_together.Tie as tie
 
 abbrev Inv-loop : tie.InvT-loop
 Inv-loop table first end f₀ f =
-    ((first ≤ f) × (f ≤ end)) × (any (λ f. togetherSome table (rowIn table f) first (f - first)) f (end - f) ≡ togetherAny table first (end - first))
+    ((first ≤ f) × (f ≤ end)) × (any (λ f. togetherSome table (rowInFrame table f) first (f - first))
+    f (end - f) ≡ togetherAny table first (end - first))
 
 abbrev μ-loop : tie.MeasureT-loop
 μ-loop table first end f₀ f = end - f
@@ -34,8 +35,11 @@ loop-less c = search needs
 
 loop-again : tie.Need-loop-again Inv-loop μ-loop
 loop-again c =
-    let found = c .before in
-    (search needs, sym (any-on _ _ _ (search needs) (sym (found .meets-before .ensures) ∙ c .if1 .left)) ∙ found .before .before .loop .inv .1)
+    let found = c .before in (
+      search needs,
+      sym (any-on _ _ _ (search needs) (sym (found .meets-before .ensures) ∙ c .if1 .left))
+          ∙ found .before .before .loop .inv .1,
+    )
 
 returns-2 : tie.Need-returns-2 Inv-loop μ-loop
 returns-2 c = sym (any-over _ _ _ (search needs)) ∙ c .before .loop .inv .1

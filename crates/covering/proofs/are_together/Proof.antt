@@ -1,6 +1,6 @@
 -- `covering::are_together` meets its contract: by `meets`, with what decides of the first row.
 use borrow.Author.Needs.{needs}
-use Rattle.covering.specs.Parts.{rowIn}
+use Rattle.covering.specs.inner.CoveringContracts.{rowInFrame}
 use Rattle.covering.proofs.CoverCases.{read-row}
 use Rattle.covering.proofs.are_together.Statement.{statement}
 use Rattle.covering.proofs.are_together.Tie as tie
@@ -22,7 +22,7 @@ returns c =
     let bit = c .before in
     let given = bit .before .before .before .before .args in
     read-row (given .table .now) (given .f) _ _ _ (bit .before .before .pair .ensures) (bit .before .pair2 .ensures) (bit .byte .ensures)
-    (rowIn (given .table .now) (given .g)) _ (c .meets .ensures)
+    (rowInFrame (given .table .now) (given .g)) _ (c .meets .ensures)
 
 pub are-together-spec : {M : Type 1} → statement M
 are-together-spec =

@@ -2,7 +2,8 @@
 use borrow.Author.Needs.{needs}
 use Prim.Native.Nat.{_+_, _-_}
 use native.Mathlib.Omega.{arith}
-use Rattle.covering.proofs.LoopCases.{Trying, some-frames, trying-start, end-after, end-inside, end-near, trying-hit, trying-on, trying-over}
+use Rattle.covering.proofs.LoopCases.{Trying, some-frames, trying-start, end-after, end-inside}
+use Rattle.covering.proofs.LoopCases.{end-near, trying-hit, trying-on, trying-over}
 use Rattle.covering.proofs.is_uneven.Statement.{statement}
 use Rattle.covering.proofs.is_uneven.Tie as tie
 
@@ -40,7 +41,8 @@ uneven-rows-requires c κs =
 returns : tie.Need-returns Inv-loop μ-loop
 returns c =
     let end = c .before .before in
-    trying-hit _ _ _ _ (end .before .before .loop .inv) (search needs) _ (end .rows-end .ensures) _ (c .before .uneven-rows .ensures) (c .if1 .taken)
+    trying-hit _ _ _ _ (end .before .before .loop .inv) (search needs) _ (end .rows-end .ensures)
+    _ (c .before .uneven-rows .ensures) (c .if1 .taken)
 
 add-l : tie.Need-add-l Inv-loop μ-loop
 add-l c = search needs
@@ -51,7 +53,8 @@ loop-less c = search needs
 loop-again : tie.Need-loop-again Inv-loop μ-loop
 loop-again c =
     let end = c .before .before in
-    trying-on _ _ _ _ (end .before .before .loop .inv) (search needs) _ (end .rows-end .ensures) _ (c .before .uneven-rows .ensures) (c .if1 .left)
+    trying-on _ _ _ _ (end .before .before .loop .inv) (search needs) _ (end .rows-end .ensures)
+    _ (c .before .uneven-rows .ensures) (c .if1 .left)
 
 returns-2 : tie.Need-returns-2 Inv-loop μ-loop
 returns-2 c = trying-over _ _ _ _ (c .before .loop .inv) (search needs)

@@ -33,7 +33,8 @@ returns-3 c =
     let second = bits .before .before in
     let given = second .before .before .before .args in
     meets-second (given .table .now) (given .g) (given .care) (given .values) (given .bit) _ _
-    (second .before .pair .ensures) (second .pair2 .ensures) (bits .before .if1 .left) (bits .if2 .left) _ (c .before .byte .ensures) (c .if3 .taken)
+    (second .before .pair .ensures) (second .pair2 .ensures) (bits .before .if1 .left)
+    (bits .if2 .left) _ (c .before .byte .ensures) (c .if3 .taken)
 
 returns-4 : tie.Need-returns-4
 returns-4 c =
@@ -41,7 +42,8 @@ returns-4 c =
     let second = bits .before .before in
     let given = second .before .before .before .args in
     meets-same (given .table .now) (given .g) (given .care) (given .values) (given .bit) _ _
-    (second .before .pair .ensures) (second .pair2 .ensures) (bits .before .if1 .left) (bits .if2 .left) _ (c .before .byte .ensures) (c .if3 .left)
+    (second .before .pair .ensures) (second .pair2 .ensures) (bits .before .if1 .left)
+    (bits .if2 .left) _ (c .before .byte .ensures) (c .if3 .left)
 
 pub meets-spec : {M : Type 1} → statement M
 meets-spec =

@@ -4,15 +4,16 @@ use mathlib.Core.Path.{_≡_, sym, _∙_}
 use Prim.Native.Nat.{_-_, _≤_}
 use Rattle.lists.specs.Numbers.{any}
 use Rattle.lists.proofs.Searches.{any-here, any-on, any-over}
-use Rattle.covering.specs.Sizes.{together}
-use Rattle.covering.specs.Parts.{rowIn, togetherSome}
+use Rattle.covering.specs.Matched.{together}
+use Rattle.covering.specs.inner.CoveringContracts.{rowInFrame, togetherSome}
 use Rattle.covering.proofs.CoverCases.{read-row}
 use Rattle.covering.proofs.meets_before.Statement.{statement}
 use Rattle.covering.proofs.meets_before.Tie as tie
 
 abbrev Inv-loop : tie.InvT-loop
 Inv-loop table first f care values bit g₀ g =
-    (g ≤ f) × (any (λ g. together (rowIn table f) (rowIn table g)) g (f - g) ≡ togetherSome table (rowIn table f) first (f - first))
+    (g ≤ f) × (any (λ g. together (rowInFrame table f) (rowInFrame table g)) g (f - g) ≡ togetherSome
+    table (rowInFrame table f) first (f - first))
 
 abbrev μ-loop : tie.MeasureT-loop
 μ-loop table first f care values bit g₀ g = f - g
@@ -38,8 +39,9 @@ returns c =
     let bit = loop .before in
     let given = bit .before .before .before .before .args in
     sym (any-here _ _ _ (search needs)
-    (sym (read-row (given .table .now) (given .f) _ _ _ (bit .before .before .pair .ensures) (bit .before .pair2 .ensures) (bit .byte .ensures)
-    (rowIn (given .table .now) (loop .loop .g)) _ (c .before .meets .ensures))
+    (sym (read-row (given .table .now) (given .f) _ _ _ (bit .before .before .pair .ensures)
+    (bit .before .pair2 .ensures) (bit .byte .ensures)
+    (rowInFrame (given .table .now) (loop .loop .g)) _ (c .before .meets .ensures))
     ∙ c .if1 .taken)) ∙ loop .loop .inv .1
 
 add-g : tie.Need-add-g Inv-loop μ-loop
@@ -55,8 +57,9 @@ loop-again c =
     let given = bit .before .before .before .before .args in (
       search needs,
       sym (any-on _ _ _ (search needs)
-          (sym (read-row (given .table .now) (given .f) _ _ _ (bit .before .before .pair .ensures) (bit .before .pair2 .ensures) (bit .byte .ensures)
-          (rowIn (given .table .now) (loop .loop .g)) _ (c .before .meets .ensures))
+          (sym (read-row (given .table .now) (given .f) _ _ _ (bit .before .before .pair .ensures)
+          (bit .before .pair2 .ensures) (bit .byte .ensures)
+          (rowInFrame (given .table .now) (loop .loop .g)) _ (c .before .meets .ensures))
           ∙ c .if1 .left)) ∙ loop .loop .inv .1,
     )
 

@@ -4,7 +4,7 @@ use mathlib.Core.Path.{_≡_, sym, _∙_}
 use Prim.Native.Nat.{_-_, _≤_}
 use Rattle.lists.specs.Numbers.{lowest}
 use Rattle.lists.proofs.Searches.{lowest-here, lowest-on, lowest-over}
-use Rattle.covering.specs.Parts.{isOther}
+use Rattle.covering.specs.inner.CoveringContracts.{isOther}
 use Rattle.covering.proofs.CoverCases.{other-yes, other-no}
 use Rattle.covering.proofs.rows_end.Statement.{statement}
 use Rattle.covering.proofs.rows_end.Tie as tie
@@ -25,7 +25,8 @@ returns : tie.Need-returns Inv-loop μ-loop
 returns c =
     let loop = c .before .before .before in
     let given = loop .before .before .args in
-    sym (lowest-here _ _ _ (search needs) (other-yes (given .table .now) (given .label) (loop .loop .g) _ (c .before .byte .ensures) (c .if1 .taken)))
+    sym (lowest-here _ _ _ (search needs)
+    (other-yes (given .table .now) (given .label) (loop .loop .g) _ (c .before .byte .ensures) (c .if1 .taken)))
     ∙ loop .loop .inv .1
 
 add-g : tie.Need-add-g Inv-loop μ-loop

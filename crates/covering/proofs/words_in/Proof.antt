@@ -2,12 +2,12 @@
 use borrow.Author.Needs.{needs}
 use Prim.Native.Nat.{_-_}
 use native.Mathlib.Omega.{arith}
-use Rattle.covering.proofs.CoverCases.{Summed, sum-start, sum-on, sum-all}
+use Rattle.covering.proofs.CoverCases.{SummedWords, sum-start, sum-on, sum-all}
 use Rattle.covering.proofs.words_in.Statement.{statement}
 use Rattle.covering.proofs.words_in.Tie as tie
 
 abbrev Inv-loop : tie.InvT-loop
-Inv-loop table first end bit total₀ f₀ total f = Summed table first end bit total f
+Inv-loop table first end bit total₀ f₀ total f = SummedWords table first end bit total f
 
 abbrev μ-loop : tie.MeasureT-loop
 μ-loop table first end bit total₀ f₀ total f = end - f

@@ -13,7 +13,8 @@ letter-digit-requires : tie.Need-letter-digit-requires
 letter-digit-requires c κs = search needs
 
 returns : tie.Need-returns
-returns c = ap₂ bitAnd (c .before .numeral-digit .ensures) (c .letter-digit .ensures) ∙ joined-is (c .before .before .args .c) (search needs)
+returns c = ap₂ bitAnd (c .before .numeral-digit .ensures) (c .letter-digit .ensures)
+    ∙ joined-is (c .before .before .args .c) (search needs)
 
 pub digit-spec : {M : Type 1} → statement M
 digit-spec = tie.close (tie.spec numeral-digit-requires letter-digit-requires returns)

@@ -1,7 +1,7 @@
 -- `fetching::fetch` meets its contract: the number is past the last chart, there is no room, or the text is written.
 use mathlib.Core.Path.{refl}
 use Rattle.lists.proofs.Tests.{not-true, not-false}
-use Rattle.fetching.proofs.Cases.{past-last, too-short, fetched}
+use Rattle.fetching.proofs.LittleChartCases.{past-last, too-short, fetched}
 use borrow.Author.Needs.{needs}
 use Rattle.fetching.proofs.fetch.Statement.{statement}
 use Rattle.fetching.proofs.fetch.Tie as tie

@@ -1,6 +1,6 @@
 -- `fetching::little_chart` meets its contract: the frame count is outside, or the chart is fetched.
 use mathlib.Core.Path.{refl, sym}
-use Rattle.fetching.proofs.Cases.{too-few, too-many, lent-long, lent-few, lent-fetched}
+use Rattle.fetching.proofs.LittleChartCases.{too-few, too-many, lent-long, lent-few, lent-fetched}
 use borrow.Author.Needs.{needs}
 use Rattle.fetching.proofs.little_chart.Statement.{statement}
 use Rattle.fetching.proofs.little_chart.Tie as tie

@@ -7,9 +7,9 @@ use Rattle.tables.specs.Table.{tableImage}
 use Rattle.state.specs.Bytes.{stateOf}
 use Rattle.ticks.specs.Tick.{tick}
 use Rattle.fill_counts.specs.declared.Tally.{Tally}
-use Rattle.fill_counts.specs.Parts.{tallyOf, allMeet}
-use Rattle.fill_counts.proofs.Turns.{shareOf, tally-none, went-share, stood-share, left-few, words-few}
-use Rattle.fill_counts.proofs.Turns.{Part, part-first, part-few, part-on, part-over}
+use Rattle.fill_counts.specs.inner.TallyContracts.{tallyOf, allMeet}
+use Rattle.fill_counts.proofs.TallyTurns.{shareOf, tally-none, went-share, stood-share, left-few, words-few}
+use Rattle.fill_counts.proofs.TallyTurns.{Part, part-first, part-few, part-on, part-over}
 use Rattle.runs.proofs.TurnCases.{stands-on}
 use borrow.Fn.Kinds.{In, Out}
 use borrow.Fn.PlainCycle.{Measures, is, falls, and}

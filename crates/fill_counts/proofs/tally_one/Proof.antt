@@ -1,7 +1,7 @@
 -- `fill_counts::tally_one` meets its contract: the words that are left tally as all of them do.
 use borrow.Author.Needs.{needs}
 use mathlib.Core.Path.{refl}
-use Rattle.fill_counts.proofs.Turns.{One, one-on, one-stood, one-over}
+use Rattle.fill_counts.proofs.TallyTurns.{One, one-on, one-stood, one-over}
 use Rattle.fill_counts.proofs.tally_one.Statement.{statement}
 use Rattle.fill_counts.proofs.tally_one.Tie as tie
 

@@ -5,14 +5,14 @@ use native.Mathlib.Omega.{arith}
 use Rattle.tables.specs.Table.{tableImage}
 use Rattle.state.specs.declared.State.{State}
 use Rattle.state.specs.Bytes.{stateOf}
-use Rattle.fit_places.proofs.UpwardCases.{Belongs, Passed, passed-all, bottom-stray, bottom-belongs}
+use Rattle.fit_places.proofs.UpwardCases.{Belongs, PassedPlaces, passed-all, bottom-stray, bottom-belongs}
 use Rattle.fit_places.proofs.UpwardCases.{pass-high, pass-miscalled, pass-stray, pass-belongs, pass-top, pass-next}
 use borrow.Author.Needs.{needs}
 use Rattle.fit_places.proofs.any_unfit.Statement.{statement}
 use Rattle.fit_places.proofs.any_unfit.Tie as tie
 
 abbrev Inv-loop : tie.InvT-loop
-Inv-loop table bytes schemes last depth bottom called₀ k₀ called k = Passed (tableImage table) (stateOf bytes) called k
+Inv-loop table bytes schemes last depth bottom called₀ k₀ called k = PassedPlaces (tableImage table) (stateOf bytes) called k
 
 abbrev μ-loop : tie.MeasureT-loop
 μ-loop table bytes schemes last depth bottom called₀ k₀ called k = depth - k
@@ -20,7 +20,8 @@ abbrev μ-loop : tie.MeasureT-loop
 abbrev At : (tie.InvT-loop → tie.MeasureT-loop → Type 0) → Type 0
 At stage = stage Inv-loop μ-loop
 
--- ---- the stages: H, M, the depth and the bottom are read, then its label, and that is tested; a turn begins, its place, server and number are
+-- ---- the stages: H, M, the depth and the bottom are read, then its label, and that is tested;
+-- a turn begins, its place, server and number are
 -- read and tested, then its label
 abbrev deep : At tie.After-place-of → At tie.After-depth-of
 deep c = c .before
@@ -67,7 +68,8 @@ turn-held c =
     let t = turn p in
     pass-belongs _ (state (first t)) _ _ _ (p .place-of2 .ensures) (deep (first t) .before .last-label .ensures)
     _ (t .loop .inv) (inside (p .before)) _ _ _ (deep (first t) .before .before .scheme-count .ensures) (m .before .number-of .ensures)
-    (m .before .before .server-of .ensures) _ (m .is-miscalled .ensures) (a .before .before .if5 .left) (m .before .before .before .if4 .left)
+    (m .before .before .server-of .ensures) _ (m .is-miscalled .ensures)
+    (a .before .before .if5 .left) (m .before .before .before .if4 .left)
     _ (a .before .label-of2 .ensures) _ (a .is-astray .ensures) (c .if6 .left)
 
 -- ---- the needs
@@ -130,7 +132,8 @@ returns-4 : At tie.Need-returns-4
 returns-4 c =
     let p = c .before in
     let t = turn p in
-    pass-high _ (state (first t)) _ _ _ (p .place-of2 .ensures) (deep (first t) .before .last-label .ensures) (inside (p .before)) (c .if4 .taken)
+    pass-high _ (state (first t)) _ _ _ (p .place-of2 .ensures) (deep (first t) .before .last-label .ensures)
+    (inside (p .before)) (c .if4 .taken)
 
 server-of-requires : At tie.Need-server-of-requires
 server-of-requires c κs = search needs
@@ -164,7 +167,8 @@ returns-6 c =
     let t = turn p in
     pass-stray _ (state (first t)) _ _ _ (p .place-of2 .ensures) (deep (first t) .before .last-label .ensures)
     _ (t .loop .inv) (inside (p .before)) _ _ _ (deep (first t) .before .before .scheme-count .ensures) (m .before .number-of .ensures)
-    (m .before .before .server-of .ensures) _ (m .is-miscalled .ensures) (a .before .before .if5 .left) (m .before .before .before .if4 .left)
+    (m .before .before .server-of .ensures) _ (m .is-miscalled .ensures)
+    (a .before .before .if5 .left) (m .before .before .before .if4 .left)
     _ (a .before .label-of2 .ensures) _ (a .is-astray .ensures) (c .if6 .taken)
 
 add-k : At tie.Need-add-k
@@ -180,8 +184,10 @@ returns-7 c =
     let m = called a in
     let p = place m in
     let t = turn p in
-    pass-top _ (state (first t)) _ _ _ (p .place-of2 .ensures) (deep (first t) .before .last-label .ensures) (m .before .before .before .if4 .left) _
-    (a .before .label-of2 .ensures) (turn-held (n .before)) _ (n .calls-none2 .ensures) _ (deep (first t) .depth-of .ensures) (c .if7 .taken)
+    pass-top _ (state (first t)) _ _ _ (p .place-of2 .ensures) (deep (first t) .before .last-label .ensures)
+    (m .before .before .before .if4 .left) _
+    (a .before .label-of2 .ensures) (turn-held (n .before)) _ (n .calls-none2 .ensures)
+    _ (deep (first t) .depth-of .ensures) (c .if7 .taken)
 
 loop-less : At tie.Need-loop-less
 loop-less c = search needs
@@ -193,7 +199,8 @@ loop-again c =
     let m = called a in
     let p = place m in
     let t = turn p in
-    pass-next _ (state (first t)) _ _ _ (p .place-of2 .ensures) (deep (first t) .before .last-label .ensures) (m .before .before .before .if4 .left) _
+    pass-next _ (state (first t)) _ _ _ (p .place-of2 .ensures) (deep (first t) .before .last-label .ensures)
+    (m .before .before .before .if4 .left) _
     (a .before .label-of2 .ensures) (turn-held (n .before)) _ (n .calls-none2 .ensures) (c .if7 .left)
 
 returns-8 : At tie.Need-returns-8

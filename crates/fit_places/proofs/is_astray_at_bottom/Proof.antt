@@ -7,7 +7,7 @@ use Rattle.image.specs.Decode.{handlerIn}
 use Rattle.state.specs.declared.State.{State}
 use Rattle.state.specs.State.{numberAt, serverAt}
 use Rattle.state.specs.Bytes.{stateOf}
-use Rattle.fitness.specs.Parts.{astray, own}
+use Rattle.fitness.specs.inner.FitnessContracts.{astray, own}
 use Rattle.fitness.proofs.FitCases.{bottom-first, bottom-none, bottom-handler, bottom-called}
 use borrow.Author.Needs.{needs}
 use Rattle.fit_places.proofs.is_astray_at_bottom.Statement.{statement}
@@ -60,7 +60,8 @@ is-first-requires c κs = search needs
 returns : tie.Need-returns
 returns c =
     let f = c .before in
-    bottom-first (handlerIn (start f .args .table .now)) (start f .args .owner) (start f .args .l) (number f) (server f) _ (first-is f) (c .if1 .taken)
+    bottom-first (handlerIn (start f .args .table .now)) (start f .args .owner) (start f .args .l)
+    (number f) (server f) _ (first-is f) (c .if1 .taken)
 
 handler-of-requires : tie.Need-handler-of-requires
 handler-of-requires c κs = search needs

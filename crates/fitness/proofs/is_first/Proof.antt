@@ -12,7 +12,8 @@ is-own-requires : tie.Need-is-own-requires
 is-own-requires c κs = search needs
 
 returns-2 : tie.Need-returns-2
-returns-2 c = let start = c .before .before in c .is-own .ensures ∙ first-own _ (start .args .number) (start .args .server) (c .before .if1 .left)
+returns-2 c = let start = c .before .before in c .is-own .ensures
+    ∙ first-own _ (start .args .number) (start .args .server) (c .before .if1 .left)
 
 pub is-first-spec : {M : Type 1} → statement M
 is-first-spec = tie.close (tie.spec returns is-own-requires returns-2)

@@ -42,7 +42,8 @@ returns c =
     let tested = c .before in
     let turn = tested .before .before .before in
     let handler = read turn in
-    served-found _ (state turn) _ _ _ _ (handler .before .scheme-count .ensures) (handler .handler-of .ensures) (tested .before .serving-of .ensures)
+    served-found _ (state turn) _ _ _ _ (handler .before .scheme-count .ensures)
+    (handler .handler-of .ensures) (tested .before .serving-of .ensures)
     _ (tested .is-misserved .ensures) (search needs) (turn .loop .inv) (c .if1 .taken)
 
 add-h : tie.Need-add-h Inv-loop μ-loop
@@ -56,13 +57,15 @@ loop-again c =
     let tested = c .before in
     let turn = tested .before .before .before in
     let handler = read turn in
-    served-next _ (state turn) _ _ _ _ (handler .before .scheme-count .ensures) (handler .handler-of .ensures) (tested .before .serving-of .ensures)
+    served-next _ (state turn) _ _ _ _ (handler .before .scheme-count .ensures)
+    (handler .handler-of .ensures) (tested .before .serving-of .ensures)
     _ (tested .is-misserved .ensures) (search needs) (turn .loop .inv) (c .if1 .left)
 
 returns-2 : tie.Need-returns-2 Inv-loop μ-loop
 returns-2 c =
     let turn = c .before in
-    served-all (tableImage (read turn .before .before .before .args .table .now)) (state turn) (turn .loop .h) (search needs) (turn .loop .inv)
+    served-all (tableImage (read turn .before .before .before .args .table .now))
+    (state turn) (turn .loop .h) (search needs) (turn .loop .inv)
 
 pub any-misserved-spec : {M : Type 1} → statement M
 any-misserved-spec =

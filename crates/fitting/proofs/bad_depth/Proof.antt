@@ -25,7 +25,8 @@ bad-size-requires c κs = search needs
 returns : tie.Need-returns
 returns c =
     let sized = c .before in
-    depth-size (held sized) _ _ (sized .before .before .size-of .ensures) (sized .before .depth-of .ensures) _ (sized .bad-size .ensures) (c .if1 .taken)
+    depth-size (held sized) _ _ (sized .before .before .size-of .ensures) (sized .before .depth-of .ensures)
+    _ (sized .bad-size .ensures) (c .if1 .taken)
 
 returns-2 : tie.Need-returns-2
 returns-2 c =

@@ -44,7 +44,8 @@ returns-3 c =
     let above = c .before in
     let places = above .before .before in
     let tested = places .before in
-    unfit-above _ (held (tested .before)) _ (depth-good tested) (places .any-unfit .ensures) _ (above .before .if2 .left) (above .any-filled .ensures)
+    unfit-above _ (held (tested .before)) _ (depth-good tested) (places .any-unfit .ensures)
+    _ (above .before .if2 .left) (above .any-filled .ensures)
     (c .if3 .taken)
 
 any-misserved-requires : tie.Need-any-misserved-requires

@@ -26,7 +26,8 @@ returns-2 : tie.Need-returns-2
 returns-2 c =
     let p = c .before in
     let h = handler p in
-    kept-return _ (stateOf (start h .args .bytes .now)) _ (h .handler-of .ensures) (p .before .if1 .left) _ (p .place-of .ensures) (c .if2 .taken)
+    kept-return _ (stateOf (start h .args .bytes .now)) _ (h .handler-of .ensures)
+    (p .before .if1 .left) _ (p .place-of .ensures) (c .if2 .taken)
 
 label-of-requires : tie.Need-label-of-requires
 label-of-requires c κs = search needs

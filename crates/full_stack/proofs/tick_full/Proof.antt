@@ -7,7 +7,7 @@ use Rattle.tables.proofs.TableReads.{handler-inside}
 use Rattle.state.specs.declared.State.{State}
 use Rattle.state.specs.State.{placeAt, numberAt}
 use Rattle.state.specs.Bytes.{stateOf}
-use Rattle.ticks.specs.Parts.{topOf}
+use Rattle.ticks.specs.Tick.{topOf}
 use Rattle.ticks.proofs.TickCases.{depth-some, depth-most, size-most, numbered-as}
 use Rattle.full_stack.proofs.FullCases.{full-kept, full-drops}
 use Rattle.full_stack.proofs.tick_full.Statement.{statement}
@@ -97,7 +97,8 @@ returns-2 c =
     let p = top entry in
     let d = deep p in
     let t = tested d in
-    full-drops _ _ _ (start t .pre .0) _ (t .keeps-full .ensures) (d .before .before .if1 .left) _ (top-read p) _ (label .label-read .ensures)
+    full-drops _ _ _ (start t .pre .0) _ (t .keeps-full .ensures) (d .before .before .if1 .left)
+    _ (top-read p) _ (label .label-read .ensures)
     _ (number .number-of .ensures ∙ ap (λ (k : ℕ). numberAt (state d) (k - 1)) (d .depth-of .ensures)) _ (handler .handler-of .ensures)
     _ (entry .entry-of .ensures) _ _ _ (first .put-result .ensures) (second .put-result2 .ensures) (c .put-alone .ensures)
 

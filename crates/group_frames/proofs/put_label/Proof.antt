@@ -50,7 +50,8 @@ returns c =
     let a = bytes .before in
     c .before .before .put-frame .ensures
     ∙ ap (λ (xs : List ℕ). written (a .args .out .now) (a .args .at) (frameText xs))
-    (label-bytes (a .args .table .now) (λ k. omega (arith, bytes .shared-slice-known .given k)) (a .args .f) (a .args .number) (a .pre .0 .0) _ _ _ _ _ _ _ _
+    (label-bytes (a .args .table .now) (λ k. omega (arith, bytes .shared-slice-known .given k))
+    (a .args .f) (a .args .number) (a .pre .0 .0) _ _ _ _ _ _ _ _
     (first .before .before .before .before .byte .ensures)
     (first .before .before .before .byte2 .ensures)
     (first .before .before .byte3 .ensures)

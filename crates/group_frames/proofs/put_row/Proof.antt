@@ -59,7 +59,8 @@ returns c =
     let a = bytes .before in
     c .before .before .put-frame .ensures
     ∙ ap (λ (xs : List ℕ). written (a .args .out .now) (a .args .at) (frameText xs))
-    (row-bytes (a .args .table .now) (λ k. omega (arith, bytes .shared-slice-known .given k)) (a .args .numbers .now) (a .args .f) _ _ _ _ _ _ _
+    (row-bytes (a .args .table .now) (λ k. omega (arith, bytes .shared-slice-known .given k))
+    (a .args .numbers .now) (a .args .f) _ _ _ _ _ _ _
     (led .before .before .byte .ensures)
     (led .byte2 .ensures)
     (c .before .before .before .before .before .before .before .before .before .byte3 .ensures)

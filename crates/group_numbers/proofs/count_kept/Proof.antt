@@ -4,14 +4,14 @@ use Prim.Native.Nat.{_-_}
 use Rattle.grouping.specs.Classes.{isFirst}
 use Rattle.frames.specs.Frame.{field}
 use mathlib.Core.Path.{_∙_, ap}
-use Rattle.group_numbers.proofs.NumberCases.{Counting, counting-start, counting-on, counting-all}
+use Rattle.group_numbers.proofs.NumberCases.{CountingKept, counting-start, counting-on, counting-all}
 use Prim.Native.Nat.{ℕ}
 use Rattle.lists.specs.Pick.{pick}
 use Rattle.group_numbers.proofs.count_kept.Statement.{statement}
 use Rattle.group_numbers.proofs.count_kept.Tie as tie
 
 abbrev Inv-loop : tie.InvT-loop
-Inv-loop table classes first end total₀ f₀ total f = Counting (λ f. isFirst classes (field table f 1)) first end total f
+Inv-loop table classes first end total₀ f₀ total f = CountingKept (λ f. isFirst classes (field table f 1)) first end total f
 
 abbrev μ-loop : tie.MeasureT-loop
 μ-loop table classes first end total₀ f₀ total f = end - f

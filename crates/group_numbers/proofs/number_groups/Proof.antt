@@ -1,13 +1,13 @@
 -- `group_numbers::number_groups` meets its contract: the labels below l have the numbers of their groups.
 use mathlib.Core.Path.{_∙_, sym}
 use Prim.Native.Nat.{_-_}
-use Rattle.group_numbers.proofs.NumberCases.{Turn, turn-start, turn-on, turn-all}
+use Rattle.group_numbers.proofs.NumberCases.{NumberTurn, turn-start, turn-on, turn-all}
 use borrow.Author.Needs.{needs}
 use Rattle.group_numbers.proofs.number_groups.Statement.{statement}
 use Rattle.group_numbers.proofs.number_groups.Tie as tie
 
 abbrev Inv-loop : tie.InvT-loop
-Inv-loop classes numbers₀ n groups₀ l₀ numbers groups l = Turn classes numbers n groups l
+Inv-loop classes numbers₀ n groups₀ l₀ numbers groups l = NumberTurn classes numbers n groups l
 
 abbrev μ-loop : tie.MeasureT-loop
 μ-loop classes numbers₀ n groups₀ l₀ numbers groups l = n - l

@@ -24,13 +24,18 @@ shared-slice-read-if1 c =
 
 cast-if1 : tie.Need-cast-if1
 cast-if1 c =
-    omega (arith, c .shared-slice-known4 .given (c .before .before .before .before .before .before .args .f - c .before .labels-from .result))
+    omega (
+      arith,
+      c .shared-slice-known4 .given
+          (c .before .before .before .before .before .before .args .f - c .before .labels-from .result),
+    )
 
 returns : tie.Need-returns
 returns c =
     let a = c .before .before .before .before .before .before .before in
     let m = c .before .before .labels-from in
-    nothing-put _ _ _ (label-skip _ _ _ (a .pre .0) (a .args .f) (a .pre .1 .0 .0) (a .pre .1 .0 .1) (m .result) (m .ensures) (c .if1 .taken))
+    nothing-put _ _ _ (label-skip _ _ _ (a .pre .0) (a .args .f) (a .pre .1 .0 .0)
+    (a .pre .1 .0 .1) (m .result) (m .ensures) (c .if1 .taken))
 
 shared-slice-read-put-label : tie.Need-shared-slice-read-put-label
 shared-slice-read-put-label c =

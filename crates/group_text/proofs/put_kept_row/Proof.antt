@@ -29,7 +29,8 @@ put-row-requires : tie.Need-put-row-requires
 put-row-requires c κs =
     let a = c .before .before .before .before .before .before .before .before in
     let x = c .before .before .before .byte in
-    let kept = row-kept _ _ _ (a .pre .0) (a .args .f) (a .pre .1 .0 .0) (a .pre .1 .0 .1) (x .result) (x .ensures) (c .before .if1 .left) in
+    let kept = row-kept _ _ _ (a .pre .0) (a .args .f) (a .pre .1 .0 .0) (a .pre .1 .0 .1)
+    (x .result) (x .ensures) (c .before .if1 .left) in
     ((a .pre .1 .0 .1, a .pre .0 .room), frame-room _ _ (a .args .out .now) _ kept refl _ (a .pre .1 .1))
 
 add-result : tie.Need-add-result

@@ -28,7 +28,8 @@ put-entry-requires : tie.Need-put-entry-requires
 put-entry-requires c κs =
     let a = c .before .before .before .before .before .before .before .before .before in
     let m = c .before .before .before .before .labels-from in
-    let kept = entry-kept _ _ _ (a .pre .0) (a .args .f) (a .pre .1 .0 .0) (m .result) (m .ensures) (c .before .before .before .if1 .taken) _
+    let kept = entry-kept _ _ _ (a .pre .0) (a .args .f) (a .pre .1 .0 .0) (m .result)
+    (m .ensures) (c .before .before .before .if1 .taken) _
     (c .before .before .byte .ensures) in
     frame-room _ _ (a .args .out .now) _ kept refl _ (a .pre .1 .1)
 

@@ -3,12 +3,13 @@ use borrow.Author.Needs.{needs}
 use Prim.Native.Nat.{_+_, _-_}
 use Rattle.image.specs.Decode.{lastLabel}
 use Rattle.tables.specs.Table.{tableImage}
-use Rattle.listing.proofs.FillCases.{Filling, filling-start, filling-on, filling-all}
+use Rattle.listing.proofs.FillCases.{FillingRows, filling-start, filling-on, filling-all}
 use Rattle.listing.proofs.fill_listing.Statement.{statement}
 use Rattle.listing.proofs.fill_listing.Tie as tie
 
 abbrev Inv-loop : tie.InvT-loop
-Inv-loop table firsts₀ counts₀ schemes last l₀ firsts counts l = Filling (tableImage table) (lastLabel table + 1) firsts₀ counts₀ firsts counts l
+Inv-loop table firsts₀ counts₀ schemes last l₀ firsts counts l =
+    FillingRows (tableImage table) (lastLabel table + 1) firsts₀ counts₀ firsts counts l
 
 abbrev μ-loop : tie.MeasureT-loop
 μ-loop table firsts₀ counts₀ schemes last l₀ firsts counts l = last + 1 - l

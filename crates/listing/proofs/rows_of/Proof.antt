@@ -8,16 +8,19 @@ use Rattle.listing.proofs.rows_of.Statement.{statement}
 use Rattle.listing.proofs.rows_of.Tie as tie
 
 -- ---- what the three frames are
-rise : (c : tie.After-rows-from) → let f = c .before .before .first-of .result in let e = c .before .end-of .result in (c .rows-from .result ≤ f) × (f ≤ e)
+rise : (c : tie.After-rows-from) → let f = c .before .before .first-of .result in let e =
+    c .before .end-of .result in (c .rows-from .result ≤ f) × (f ≤ e)
 rise c =
     let start = c .before .before .before .before .before in
-    frames-rise _ _ _ (start .pre) (search needs) _ _ _ (c .before .before .first-of .ensures) (c .before .end-of .ensures) (c .rows-from .ensures)
+    frames-rise _ _ _ (start .pre) (search needs) _ _ _ (c .before .before .first-of .ensures)
+    (c .before .end-of .ensures) (c .rows-from .ensures)
 
 few : (c : tie.After-rows-from) → let b = c .before .before .before .before .before .args .table .now in
     (c .before .end-of .result ≤ size b) × (size b < 65536)
 few c =
     let start = c .before .before .before .before in
-    frames-few _ _ _ (start .before .pre) (search needs) _ _ _ (c .before .before .first-of .ensures) (c .before .end-of .ensures) (c .rows-from .ensures)
+    frames-few _ _ _ (start .before .pre) (search needs) _ _ _ (c .before .before .first-of .ensures)
+    (c .before .end-of .ensures) (c .rows-from .ensures)
     (λ k. omega (arith, start .shared-slice-known .given k))
 
 -- ---- the needs
@@ -37,7 +40,8 @@ returns-2 : tie.Need-returns-2
 returns-2 c =
     let found = c .before in
     let start = found .before .before .before .before .before in
-    rows-none _ _ _ (start .pre) (search needs) _ _ _ (found .before .before .first-of .ensures) (found .before .end-of .ensures) (found .rows-from .ensures)
+    rows-none _ _ _ (start .pre) (search needs) _ _ _ (found .before .before .first-of .ensures)
+    (found .before .end-of .ensures) (found .rows-from .ensures)
     (omega (arith, rise found .0))
 
 sub-first : tie.Need-sub-first
@@ -56,7 +60,8 @@ returns-3 : tie.Need-returns-3
 returns-3 c =
     let found = c .before in
     let start = found .before .before .before .before .before in
-    rows-some _ _ _ (start .pre) (search needs) _ _ _ (found .before .before .first-of .ensures) (found .before .end-of .ensures) (found .rows-from .ensures)
+    rows-some _ _ _ (start .pre) (search needs) _ _ _ (found .before .before .first-of .ensures)
+    (found .before .end-of .ensures) (found .rows-from .ensures)
     (omega (arith, rise found .1))
 
 pub rows-of-spec : {M : Type 1} → statement M

@@ -7,7 +7,8 @@ use native.Mathlib.Omega.{arith}
 use borrow.Author.Needs.{needs}
 use Rattle.frames.specs.Frame.{size}
 use Rattle.little_seek.proofs.Leaves.{leaf-seeks}
-use Rattle.little_seek.proofs.Turns.{Seeking, still-few, seeking-first, seeking-done, number-low, placed-few, placed-inside, seeking-barred, seeking-on, seeking-found}
+use Rattle.little_seek.proofs.SeekTurns.{Seeking, still-few, seeking-first, seeking-done, number-low, placed-few}
+use Rattle.little_seek.proofs.SeekTurns.{placed-inside, seeking-barred, seeking-on, seeking-found}
 use borrow.Fn.Kinds.{In, Out}
 use borrow.Fn.PlainCycle.{Measures, is, falls, and}
 use Rattle.little_seek.proofs.seek.Reads as reads

@@ -3,13 +3,13 @@ use borrow.Author.Needs.{needs}
 use mathlib.Core.Path.{sym, _∙_, subst}
 use Prim.Native.Nat.{ℕ, _-_, _≤_}
 use native.Mathlib.Omega.{arith}
-use Rattle.grouping.specs.Parts.{Kept}
+use Rattle.grouping.specs.inner.GroupingContracts.{KeptClasses}
 use Rattle.grouping.proofs.Marked.{kept-start, kept-on}
 use Rattle.marking.proofs.mark.Statement.{statement}
 use Rattle.marking.proofs.mark.Tie as tie
 
 abbrev Inv-loop : tie.InvT-loop
-Inv-loop classes next kept marks₀ n l₀ marks l = (Kept l classes next kept marks) × (l ≤ n)
+Inv-loop classes next kept marks₀ n l₀ marks l = (KeptClasses l classes next kept marks) × (l ≤ n)
 
 abbrev μ-loop : tie.MeasureT-loop
 μ-loop classes next kept marks₀ n l₀ marks l = n - l
@@ -59,7 +59,7 @@ returns : tie.Need-returns Inv-loop μ-loop
 returns c =
     let given = c .before .before .before .before .before .before .args in
     let turn = c .before .loop in
-    subst (λ (k : ℕ). Kept k (given .classes .now) (given .next .now) (given .kept .now) (turn .marks))
+    subst (λ (k : ℕ). KeptClasses k (given .classes .now) (given .next .now) (given .kept .now) (turn .marks))
     (omega (arith, turn .inv .1, c .loop-test .left)) (turn .inv .0)
 
 pub mark-spec : {M : Type 1} → statement M

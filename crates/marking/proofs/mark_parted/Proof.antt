@@ -19,8 +19,12 @@ count-members-requires c κs =
     let last = c .before in
     let known = last .before .before .before .before .before .before in
     let given = known .before .pre .1 in
-    let refined = given .0 .0 in
-    (omega (arith, last .last-label .ensures, known .shared-slice-known .given 2), given .0 .1 (refined .rounds) (refined .now) .long, given .1 .1)
+    let refined = given .0 .0 in (
+      omega (arith, last .last-label .ensures, known .shared-slice-known .given 2),
+      given .0 .1
+          (refined .rounds) (refined .now) .long,
+      given .1 .1,
+    )
 
 keep-largest-requires : tie.Need-keep-largest-requires
 keep-largest-requires c κs =
@@ -73,8 +77,10 @@ returns c =
     let start = last .before .before .before .before .before .before .before in
     let refined = start .pre .1 .0 .0 in
     let more = start .pre .1 .0 .1 in (
-      next-marks (start .args .table .now) (start .pre .0) (refined .rounds) (start .args .classes .now) (refined .now) (start .args .next .now)
-          (more (refined .rounds) (refined .now)) _ (omega (arith, last .last-label .ensures)) _ _ (marked .mark .ensures) _ (noted .touch .ensures),
+      next-marks (start .args .table .now) (start .pre .0) (refined .rounds)
+          (start .args .classes .now) (refined .now) (start .args .next .now)
+          (more (refined .rounds) (refined .now)) _ (omega (arith, last .last-label .ensures))
+          _ _ (marked .mark .ensures) _ (noted .touch .ensures),
       chosen .keep-largest .ensures,
     )
 

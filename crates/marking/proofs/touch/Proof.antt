@@ -3,7 +3,7 @@ use borrow.Author.Needs.{needs}
 use mathlib.Core.Path.{sym, _∙_}
 use Prim.Native.Nat.{_-_, _+_, _≤_}
 use native.Mathlib.Omega.{arith}
-use Rattle.grouping.specs.Parts.{Touched}
+use Rattle.grouping.specs.inner.GroupingContracts.{Touched}
 use Rattle.grouping.proofs.Marked.{touched-start, touched-on, touched-all}
 use Rattle.marking.proofs.touch.Statement.{statement}
 use Rattle.marking.proofs.touch.Tie as tie

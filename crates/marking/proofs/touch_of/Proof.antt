@@ -6,7 +6,7 @@ use Prim.Native.Nat.{_-_}
 use Rattle.lists.specs.Numbers.{any}
 use Rattle.lists.specs.Pick.{pick}
 use Rattle.lists.proofs.Searches.{any-here, any-on, any-over}
-use Rattle.grouping.specs.Parts.{isMarked}
+use Rattle.grouping.specs.inner.GroupingContracts.{isMarked}
 use Rattle.grouping.proofs.Marked.{leads-marked, leads-unmarked}
 use Rattle.marking.proofs.touch_of.Statement.{statement}
 use Rattle.marking.proofs.touch_of.Tie as tie

@@ -2,7 +2,7 @@
 use mathlib.Core.Path.{subst}
 use Rattle.image.specs.Image.{Image}
 use Rattle.grouping.specs.Classes.{grouping}
-use Rattle.grouping.specs.Parts.{Classed}
+use Rattle.grouping.specs.inner.GroupingContracts.{Classed}
 use borrow.Author.Needs.{needs}
 use Rattle.minimising.proofs.minimise_in.Statement.{statement}
 use Rattle.minimising.proofs.minimise_in.Tie as tie
@@ -17,7 +17,8 @@ write-groups-requires c κs =
       record {
         table = s .pre .0 .0 .table;
         even = s .pre .0 .1;
-        classes = subst (λ (i : Image). Classed (s .args .table .now) (grouping i) (group .last .1 .0)) (s .pre .0 .0 .holds) (group .ensures);
+        classes = subst (λ (i : Image). Classed (s .args .table .now) (grouping i) (group .last .1 .0))
+            (s .pre .0 .0 .holds) (group .ensures);
       },
       s .pre .1 .1,
     )

@@ -1,7 +1,7 @@
 -- `minimising::write_groups` meets its contract: no room for the text, or all of it is written.
 use mathlib.Core.Path.{_∙_}
 use native.Mathlib.Omega.{arith}
-use Rattle.minimising.proofs.TableCases.{Counts, buffer-lowest, counts, smaller-short, pieces-room, smaller-done}
+use Rattle.minimising.proofs.TableCases.{CountedFirst, buffer-lowest, counts, smaller-short, pieces-room, smaller-done}
 use borrow.Author.Needs.{needs}
 use Rattle.minimising.proofs.write_groups.Statement.{statement}
 use Rattle.minimising.proofs.write_groups.Tie as tie
@@ -11,7 +11,8 @@ abbrev start : tie.After-count-kept → tie.Start
 start k = k .before .before .before .before .before .before .before .before .before .before .before .before
 
 told : (k : tie.After-count-kept) → let s = start k in let n = k .before .before .before .before .number-groups in
-    Counts (s .args .table .now) (s .args .classes .now) (n .last .1 .0) (k .before .before .before .before .before .before .before .byte .result)
+    CountedFirst (s .args .table .now) (s .args .classes .now) (n .last .1 .0)
+    (k .before .before .before .before .before .before .before .byte .result)
     (n .result) (k .count-kept .result)
 told k =
     let n = k .before .before .before .before in

@@ -13,7 +13,8 @@ returns c =
     let given = start .args in
     let m = start .pre .0 .0 .label in
     let l = start .pre .0 .1 .label in
-    parted-first (given .table .now) (given .classes .now) (given .marks .now) (given .touched .now) (start .pre .1 .1 .1) (given .m) (given .l)
+    parted-first (given .table .now) (given .classes .now) (given .marks .now)
+    (given .touched .now) (start .pre .1 .1 .1) (given .m) (given .l)
     (m .low) (m .high) (l .low) (l .high) (start .pre .1 .0) _ (c .before .are-parted-by .ensures) (c .if1 .taken)
 
 are-parted-by-requires-2 : tie.Need-are-parted-by-requires-2
@@ -25,7 +26,8 @@ returns-2 c =
     let given = start .args in
     let m = start .pre .0 .0 .label in
     let l = start .pre .0 .1 .label in
-    parted-second (given .table .now) (given .classes .now) (given .marks .now) (given .touched .now) (start .pre .1 .1 .1) (given .m) (given .l)
+    parted-second (given .table .now) (given .classes .now) (given .marks .now)
+    (given .touched .now) (start .pre .1 .1 .1) (given .m) (given .l)
     (m .low) (m .high) (l .low) (l .high) (start .pre .1 .0) _ (c .before .before .are-parted-by .ensures) (c .before .if1 .left) _
     (c .are-parted-by2 .ensures)
 

@@ -5,7 +5,7 @@ use mathlib.Core.Path.{sym, _∙_, _≡_}
 use Prim.Native.Nat.{_-_}
 use Rattle.lists.specs.Numbers.{any}
 use Rattle.lists.proofs.Searches.{any-here, any-on, any-over}
-use Rattle.grouping.specs.Parts.{isMarked, partsAny}
+use Rattle.grouping.specs.inner.GroupingContracts.{isMarked, partsAny}
 use Rattle.grouping.proofs.Marked.{by-none, by-told}
 use Rattle.parting.proofs.are_parted_by.Statement.{statement}
 use Rattle.parting.proofs.are_parted_by.Tie as tie
@@ -26,7 +26,8 @@ returns c =
     let start = c .before .before .before .before .before .before in
     let given = start .args in
     let label = start .pre .0 .0 .label in
-    by-none (given .table .now) (given .classes .now) (given .marks .now) (given .touched .now) (start .pre .1 .1) (given .m) (given .l) (label .low)
+    by-none (given .table .now) (given .classes .now) (given .marks .now) (given .touched .now)
+    (start .pre .1 .1) (given .m) (given .l) (label .low)
     (label .high) (c .if1 .taken) (given .least) (start .pre .0 .3)
 
 first-of-requires : tie.Need-first-of-requires Inv-loop μ-loop
@@ -66,7 +67,8 @@ loop-less : tie.Need-loop-less Inv-loop μ-loop
 loop-less c = search needs
 
 loop-again : tie.Need-loop-again Inv-loop μ-loop
-loop-again c = sym (any-on _ _ _ (search needs) (sym (c .before .parts-marked .ensures) ∙ c .if2 .left)) ∙ c .before .before .before .loop .inv
+loop-again c = sym (any-on _ _ _ (search needs) (sym (c .before .parts-marked .ensures) ∙ c .if2 .left))
+    ∙ c .before .before .before .loop .inv
 
 returns-3 : tie.Need-returns-3 Inv-loop μ-loop
 returns-3 c =

@@ -28,7 +28,8 @@ returns-2 c =
     let read = c .before .before .before in
     let start = read .before .before .before in
     let given = start .args in
-    parts-by (given .table .now) (given .classes .now) (given .f) (given .g) _ _ (start .pre .1 .1) (read .byte .ensures) (c .before .if1 .left) _
+    parts-by (given .table .now) (given .classes .now) (given .f) (given .g) _ _
+    (start .pre .1 .1) (read .byte .ensures) (c .before .if1 .left) _
     (c .are-together .ensures)
 
 pub parts-spec : {M : Type 1} → statement M

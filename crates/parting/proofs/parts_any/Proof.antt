@@ -6,7 +6,7 @@ use native.Mathlib.Omega.{arith}
 use lib.ListN.{getD}
 use Rattle.lists.specs.Numbers.{any}
 use Rattle.lists.proofs.Searches.{any-here, any-on, any-over}
-use Rattle.grouping.specs.Parts.{partsIn, partsAny}
+use Rattle.grouping.specs.inner.GroupingContracts.{partsIn, partsAny}
 use Rattle.parting.proofs.parts_any.Statement.{statement}
 use Rattle.parting.proofs.parts_any.Tie as tie
 

@@ -45,7 +45,8 @@ small c =
 
 inside : (c : At tie.After-skip-below) → 10 * (1 + labels (begun c) .byte .result + turn c .loop .l) + 1 < length (turn c .loop .table)
 inside c =
-    notes-place _ (start (begun c) .pre) (turn c .loop .inv) _ _ (labels (begun c) .byte .ensures) refl (omega (arith, last (begun c) .byte2 .ensures))
+    notes-place _ (start (begun c) .pre) (turn c .loop .inv) _ _ (labels (begun c) .byte .ensures)
+    refl (omega (arith, last (begun c) .byte2 .ensures))
 
 -- ---- the needs
 byte-requires : At tie.Need-byte-requires
@@ -64,7 +65,8 @@ cast-last : At tie.Need-cast-last
 cast-last c = search needs
 
 rows-from-requires : At tie.Need-rows-from-requires
-rows-from-requires c κs = let first = known (c .before .before .before) .before in omega (arith, rows-inside (first .args .table .now) (first .pre))
+rows-from-requires c κs = let first = known (c .before .before .before) .before in
+    omega (arith, rows-inside (first .args .table .now) (first .pre))
 
 loop-holds : At tie.Need-loop-holds
 loop-holds c = notes-start _ (start c .pre) _ (c .rows-from .ensures)
@@ -73,7 +75,8 @@ add-skip-below : At tie.Need-add-skip-below
 add-skip-below c = search needs
 
 skip-below-requires : At tie.Need-skip-below-requires
-skip-below-requires c κs = let at = c .before .before in (at .loop .inv .inside, omega (arith, notes-length _ (start (at .before) .pre) (at .loop .inv)))
+skip-below-requires c κs = let at = c .before .before in
+    (at .loop .inv .inside, omega (arith, notes-length _ (start (at .before) .pre) (at .loop .inv)))
 
 add-at : At tie.Need-add-at
 add-at c = search needs

@@ -56,7 +56,8 @@ returns-2 : tie.Need-returns-2
 returns-2 c = let told = c .before .before in image-short (text told) (accepted told) _ (c .before .if1 .taken) _ (c .refused .ensures)
 
 array-share-prefix-made : tie.Need-array-share-prefix-made
-array-share-prefix-made c = let told = c .before .before in omega (arith, frames-few (text told) (accepted told), made told .prepare-table .kept .1 .0)
+array-share-prefix-made c = let told = c .before .before in
+    omega (arith, frames-few (text told) (accepted told), made told .prepare-table .kept .1 .0)
 
 slice-aggregate-put-bytes : tie.Need-slice-aggregate-put-bytes
 slice-aggregate-put-bytes c =

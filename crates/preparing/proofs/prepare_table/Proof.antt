@@ -23,7 +23,8 @@ abbrev text : tie.After-enum-told → List ℕ
 text c = start (read c) .args .text .now
 
 accepted : (c : tie.After-enum-told) → imageVerdict (text c) ≡ fine
-accepted c = let read-image = read c .read-image in done-fine (read-image .result) _ 0 (read-image .ensures .0) _ (c .enum-told .given .1) .0
+accepted c = let read-image = read c .read-image in
+    done-fine (read-image .result) _ 0 (read-image .ensures .0) _ (c .enum-told .given .1) .0
 
 -- ---- the needs
 read-image-requires : tie.Need-read-image-requires
@@ -42,7 +43,8 @@ returns : tie.Need-returns
 returns c =
     let read-image = c .before .before .before .before .read-image in
     let told = c .enum-told2 .given in
-    table-refused _ (read-image .result) (read-image .ensures .0) (told .0 .0) (told .0 .1 .0) (told .0 .1 .1 .0) (told .1) _ _ (read-image .ensures .1)
+    table-refused _ (read-image .result) (read-image .ensures .0) (told .0 .0) (told .0 .1 .0)
+    (told .0 .1 .1 .0) (told .1) _ _ (read-image .ensures .1)
 
 mul-n : tie.Need-mul-n
 mul-n c = search needs

@@ -6,12 +6,12 @@ use Prim.Native.Nat.{_-_, _≤_}
 use Rattle.lists.specs.Numbers.{lowest}
 use Rattle.lists.proofs.Searches.{lowest-here, lowest-on, lowest-over}
 use Rattle.frames.specs.Frame.{field}
-use Rattle.tables.specs.Prepare.{reached}
+use Rattle.tables.specs.Prepare.{rowReached}
 use Rattle.preparing.proofs.skip_below.Statement.{statement}
 use Rattle.preparing.proofs.skip_below.Tie as tie
 
 abbrev Inv-loop : tie.InvT-loop
-Inv-loop b first end l f₀ f = (f ≤ end) × (lowest (reached b l) f (end - f) ≡ lowest (reached b l) first (end - first))
+Inv-loop b first end l f₀ f = (f ≤ end) × (lowest (rowReached b l) f (end - f) ≡ lowest (rowReached b l) first (end - first))
 
 abbrev μ-loop : tie.MeasureT-loop
 μ-loop b first end l f₀ f = end - f
@@ -31,7 +31,7 @@ returns c =
     let b = start .args .table .now in
     let l = start .args .l in
     let loop = c .before .before .before .loop in
-    sym (lowest-here (reached b l) _ _ (search needs) (le-leb l (field b (loop .f) 1) (search needs))) ∙ loop .inv .1
+    sym (lowest-here (rowReached b l) _ _ (search needs) (le-leb l (field b (loop .f) 1) (search needs))) ∙ loop .inv .1
 
 add-f : tie.Need-add-f Inv-loop μ-loop
 add-f c = search needs
@@ -46,7 +46,7 @@ loop-again c =
     let l = start .args .l in
     let loop = c .before .before .before .loop in (
       search needs,
-      sym (lowest-on (reached b l) _ _ (search needs) (lt-leb l (field b (loop .f) 1) (search needs))) ∙ loop .inv .1,
+      sym (lowest-on (rowReached b l) _ _ (search needs) (lt-leb l (field b (loop .f) 1) (search needs))) ∙ loop .inv .1,
     )
 
 returns-2 : tie.Need-returns-2 Inv-loop μ-loop

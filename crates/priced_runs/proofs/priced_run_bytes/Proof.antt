@@ -1,4 +1,5 @@
--- `priced_runs::priced_run_bytes` meets its contract: more words than are priced are refused, else the run is made and its masks are priced.
+-- `priced_runs::priced_run_bytes` meets its contract:
+-- more words than are priced are refused, else the run is made and its masks are priced.
 use Rattle.priced_runs.proofs.EntryCases.{many-priced, counted-inside, counted-few, run-priced}
 use borrow.Author.Needs.{needs}
 use Prim.Native.Nat.{_≤_}

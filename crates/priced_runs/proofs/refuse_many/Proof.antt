@@ -26,7 +26,8 @@ enum-told-2 : tie.Need-enum-told-2
 enum-told-2 c = search needs
 
 returns : tie.Need-returns
-returns c = let made = c .before .before .before .before .run-bytes in many-before _ _ _ _ _ (made .ensures .answered) _ _ _ (c .enum-told2 .given .1)
+returns c = let made = c .before .before .before .before .run-bytes in
+    many-before _ _ _ _ _ (made .ensures .answered) _ _ _ (c .enum-told2 .given .1)
 
 refused-requires : tie.Need-refused-requires
 refused-requires c κs = search needs

@@ -3,12 +3,12 @@ use borrow.Author.Needs.{needs}
 use Prim.Native.Nat.{_+_, _-_}
 use native.Mathlib.Omega.{arith}
 use lib.ListN.{length}
-use Rattle.prices.proofs.Sums.{Summed, summed-none, summed-more, summed-fits, summed-all}
+use Rattle.prices.proofs.Sums.{SummedTicks, summed-none, summed-more, summed-fits, summed-all}
 use Rattle.prices.proofs.hundredths_of.Statement.{statement}
 use Rattle.prices.proofs.hundredths_of.Tie as tie
 
 abbrev Inv-loop : tie.InvT-loop
-Inv-loop prices masks total₀ i₀ total i = Summed prices masks total i
+Inv-loop prices masks total₀ i₀ total i = SummedTicks prices masks total i
 
 abbrev μ-loop : tie.MeasureT-loop
 μ-loop prices masks total₀ i₀ total i = length masks - i
@@ -29,13 +29,17 @@ tick-price-requires c κs = c .before .before .before .before .before .pre .0
 onward : (c : tie.After-tick-price Inv-loop μ-loop)
     → let turn = c .before .before .before .loop in
     let start = c .before .before .before .before .before .before in
-    Summed (start .args .prices .now) (start .args .masks .now) (turn .total + c .tick-price .result) (turn .i + 1)
+    SummedTicks (start .args .prices .now) (start .args .masks .now) (turn .total + c .tick-price .result) (turn .i + 1)
 onward c = summed-more _ _ _ _ (c .before .before .before .loop .inv) (search needs) _ (c .tick-price .ensures)
 
 add-total : tie.Need-add-total Inv-loop μ-loop
 add-total c =
     let known = c .before .before .before .before .before .shared-slice-known in
-    omega (arith, summed-fits _ _ _ _ (onward c) (λ k. omega (arith, known .given k)) (c .before .before .before .before .before .before .pre .1))
+    omega (
+      arith,
+      summed-fits _ _ _ _ (onward c) (λ k. omega (arith, known .given k))
+          (c .before .before .before .before .before .before .pre .1),
+    )
 
 add-i : tie.Need-add-i Inv-loop μ-loop
 add-i c = search needs

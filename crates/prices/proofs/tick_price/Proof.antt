@@ -3,12 +3,12 @@ use borrow.Author.Needs.{needs}
 use Prim.Native.Nat.{_<_}
 use native.Mathlib.Omega.{arith}
 use lib.Count.{trailingZeros}
-use Rattle.prices.proofs.Bits.{Counted, counted-none, bit-inside, bit-fits, less-falls, counted-more, counted-all}
+use Rattle.prices.proofs.Bits.{CountedBits, counted-none, bit-inside, bit-fits, less-falls, counted-more, counted-all}
 use Rattle.prices.proofs.tick_price.Statement.{statement}
 use Rattle.prices.proofs.tick_price.Tie as tie
 
 abbrev Inv-loop : tie.InvT-loop
-Inv-loop prices mask total₀ rest₀ total rest = Counted prices mask total rest
+Inv-loop prices mask total₀ rest₀ total rest = CountedBits prices mask total rest
 
 abbrev μ-loop : tie.MeasureT-loop
 μ-loop prices mask total₀ rest₀ total rest = rest

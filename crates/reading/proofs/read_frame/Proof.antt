@@ -25,7 +25,8 @@ read c = c .before .before .before .before
 abbrev start : At tie.At-loop → At tie.Start
 start c = read c .before .before .before
 
-value : (c : At tie.At-loop) (k : ℕ) → k < 11 → getD (c .before .values-of .result) k 0 ≡ stored (start c .args .text .now) (start c .args .f) k
+value : (c : At tie.At-loop) (k : ℕ) → k < 11
+    → getD (c .before .values-of .result) k 0 ≡ stored (start c .args .text .now) (start c .args .f) k
 value c k h = values-at _ _ _ (read c .read-digits .ensures) _ (c .before .values-of .ensures) k h
 
 -- ---- the needs

@@ -6,7 +6,7 @@ use native.Mathlib.Omega.{arith}
 use lib.ListN.{getD}
 use borrow.Author.Needs.{needs}
 use Rattle.lists.proofs.Arrays.{Filled, filled-none, filled-turn, filled-all}
-use Rattle.reading.specs.Reads.{valueOf}
+use Rattle.reading.specs.inner.Reads.{valueOf}
 use Rattle.reading.proofs.ReadFrame.{value-made}
 use Rattle.reading.proofs.values_of.Statement.{statement}
 use Rattle.reading.proofs.values_of.Tie as tie

@@ -3,7 +3,7 @@ use borrow.Author.Needs.{needs}
 use mathlib.Core.Path.{_≡_, _∙_, ap}
 use Prim.Native.Nat.{ℕ, _-_}
 use native.Mathlib.Omega.{arith}
-use Rattle.tables.specs.Labels.{Numbered}
+use Rattle.tables.specs.inner.Labels.{NumberedLabel}
 use Rattle.state.specs.declared.State.{State}
 use Rattle.state.specs.State.{placeAt}
 use Rattle.state.specs.Bytes.{stateOf}
@@ -56,7 +56,7 @@ cast-label-read c = search needs
 abbrev place : tie.Else2 → tie.After-place-of
 place c = c .before .before
 
-numbered : (c : tie.Else2) → Numbered (start (depth (place c)) .args .table .now) (place c .place-of .result)
+numbered : (c : tie.Else2) → NumberedLabel (start (depth (place c)) .args .table .now) (place c .place-of .result)
 numbered c =
     let asked = start (depth (place c)) .pre in
     record {

@@ -4,7 +4,7 @@ use mathlib.Core.Path.{ap}
 use Prim.Native.Nat.{ℕ, _-_, _≤_}
 use native.Mathlib.Omega.{arith}
 use Rattle.state.specs.Bytes.{stateOf}
-use Rattle.ticks.specs.Parts.{TopBack}
+use Rattle.ticks.specs.inner.TickContracts.{TopBack}
 use Rattle.ticks.proofs.TickCases.{depth-most, size-most}
 use Rattle.returns.proofs.ReturnCases.{last-steps, back-stop, back-steps}
 use Rattle.returns.proofs.tick_back.Statement.{statement}
@@ -44,7 +44,8 @@ returns-2 : tie.Need-returns-2
 returns-2 c =
     let n = c .before .before in
     let other = n .before .before in
-    back-stop _ _ _ (back other) _ (n .next-beneath .ensures) (λ k. omega (arith, other .before .before .before .shared-slice-known .given k))
+    back-stop _ _ _ (back other) _ (n .next-beneath .ensures)
+    (λ k. omega (arith, other .before .before .before .shared-slice-known .given k))
     (c .before .if2 .taken) _ (c .no-row .ensures)
 
 most : (c : tie.After-next-beneath) → depth c .depth-of .result ≤ 32

@@ -23,7 +23,13 @@ bound-node-requires c κs =
 add-total : tie.Need-add-total Inv-loop μ-loop
 add-total c =
     let turn = c .before .before in
-    omega (arith, c .bound-node .ensures .1, turn .loop .inv .limited, turn .loop .inv .within, turn .before .before .before .before .pre .0 .chart .ready .few)
+    omega (
+      arith,
+      c .bound-node .ensures .1,
+      turn .loop .inv .limited,
+      turn .loop .inv .within,
+      turn .before .before .before .before .pre .0 .chart .ready .few,
+    )
 
 add-v : tie.Need-add-v Inv-loop μ-loop
 add-v c = search needs

@@ -5,7 +5,8 @@ use Rattle.rows.proofs.better_frame.Statement.{statement}
 use Rattle.rows.proofs.better_frame.Tie as tie
 
 returns : tie.Need-returns
-returns c = let start = c .before .before in better-only (start .args .table .now) (start .args .best) (start .args .f) (search needs) (c .if1 .taken)
+returns c = let start = c .before .before in
+    better-only (start .args .table .now) (start .args .best) (start .args .f) (search needs) (c .if1 .taken)
 
 pair-requires : tie.Need-pair-requires
 pair-requires c κs = search needs

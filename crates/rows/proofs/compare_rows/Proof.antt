@@ -4,7 +4,8 @@ use Prim.Native.Nat.{_+_, _-_}
 use mathlib.Core.Path.{sym, subst}
 use mathlib.Core.Logic.{⊎-elim}
 use native.Mathlib.Omega.{arith}
-use Rattle.rows.proofs.SearchCases.{end-within, few-frames, compared-some, compared-none, Searched, search-start, search-over, search-other, search-own}
+use Rattle.rows.proofs.SearchCases.{end-within, few-frames, compared-some, compared-none, Searched}
+use Rattle.rows.proofs.SearchCases.{search-start, search-over, search-other, search-own}
 use Rattle.rows.proofs.compare_rows.Statement.{statement}
 use Rattle.rows.proofs.compare_rows.Tie as tie
 
@@ -55,11 +56,15 @@ loop-again c =
     let first = test .before .before .first-of .result in
     let found = c .before .is-matching in
     ⊎-elim
-    (λ z. subst (Searched (given .table .now) (given .l) (given .word) (given .bit) first (ended .end-of .result) (loop .frame + 1)) (sym (z .2))
-    (search-own (given .table .now) (given .l) (given .word) (given .bit) first (ended .end-of .result) (loop .frame) (loop .best) (loop .inv) (start .pre .0)
+    (λ z. subst (Searched (given .table .now) (given .l) (given .word) (given .bit) first (ended .end-of .result) (loop .frame + 1))
+    (sym (z .2))
+    (search-own (given .table .now) (given .l) (given .word) (given .bit) first (ended .end-of .result)
+    (loop .frame) (loop .best) (loop .inv) (start .pre .0)
     (test .loop-test .taken) _ (ended .before .swap .ensures) (search needs) _ (found .ensures) (z .0 .taken) _ (z .1 .ensures)))
-    (λ z. subst (Searched (given .table .now) (given .l) (given .word) (given .bit) first (ended .end-of .result) (loop .frame + 1)) (sym (z .1))
-    (search-other (given .table .now) (given .l) (given .word) (given .bit) first (ended .end-of .result) (loop .frame) (loop .best) (loop .inv) (start .pre .0)
+    (λ z. subst (Searched (given .table .now) (given .l) (given .word) (given .bit) first (ended .end-of .result) (loop .frame + 1))
+    (sym (z .1))
+    (search-other (given .table .now) (given .l) (given .word) (given .bit) first (ended .end-of .result)
+    (loop .frame) (loop .best) (loop .inv) (start .pre .0)
     (test .loop-test .taken) _ (ended .before .swap .ensures) (search needs) _ (found .ensures) (z .0 .left)))
     (c .if1 .came)
 

@@ -14,7 +14,8 @@ end-of-requires c κs = search needs
 add-if1 : tie.Need-add-if1
 add-if1 c =
     let known = c .before .before in
-    let small = first-small (known .before .args .table .now) (known .before .args .l) (λ k. omega (arith, known .shared-slice-known .given k)) in
+    let small = first-small (known .before .args .table .now) (known .before .args .l)
+    (λ k. omega (arith, known .shared-slice-known .given k)) in
     let is = c .before .first-of .ensures in
     search needs
 
@@ -29,7 +30,8 @@ returns c =
     let first = ended .before in
     let known = first .before in
     let start = known .before in
-    one-found (start .args .table .now) (start .args .l) (start .args .word) (start .args .bit) _ _ (start .pre .0) (first .first-of .ensures)
+    one-found (start .args .table .now) (start .args .l) (start .args .word) (start .args .bit)
+    _ _ (start .pre .0) (first .first-of .ensures)
     (ended .end-of .ensures) (c .before .if1 .taken)
     (omega (arith, end-within _ _ _ (start .pre .0 .label .whole) (ended .end-of .ensures), c .before .if1 .taken))
     (few-frames _ (start .pre .0 .label .whole) (λ k. omega (arith, known .shared-slice-known .given k))) _ (c .one-row .ensures)

@@ -5,12 +5,12 @@ use mathlib.Core.Path.{sym, subst₂}
 use mathlib.Core.Logic.{⊎-elim}
 use native.Mathlib.Omega.{arith}
 use Rattle.frames.specs.Frame.{size}
-use Rattle.rows.proofs.SearchCases.{end-within, few-frames, Passed, pass-start, pass-over, pass-other, pass-own}
+use Rattle.rows.proofs.SearchCases.{end-within, few-frames, PassedRows, pass-start, pass-over, pass-other, pass-own}
 use Rattle.rows.proofs.last_match.Statement.{statement}
 use Rattle.rows.proofs.last_match.Tie as tie
 
 abbrev Inv-loop : tie.InvT-loop
-Inv-loop table schemes l word bit turned end f₀ frame₀ count₀ f frame count = Passed table l word bit f₀ end f frame count
+Inv-loop table schemes l word bit turned end f₀ frame₀ count₀ f frame count = PassedRows table l word bit f₀ end f frame count
 
 abbrev μ-loop : tie.MeasureT-loop
 μ-loop table schemes l word bit turned end f₀ frame₀ count₀ f frame count = end - f
@@ -28,7 +28,8 @@ loop-holds : tie.Need-loop-holds Inv-loop μ-loop
 loop-holds c =
     let known = c .before .before .before in
     let start = known .before in
-    pass-start (start .args .table .now) (start .args .l) (start .args .word) (start .args .bit) (c .first-of .result) (c .before .end-of .result)
+    pass-start (start .args .table .now) (start .args .l) (start .args .word) (start .args .bit)
+    (c .first-of .result) (c .before .end-of .result)
     (few-frames _ (start .pre .0 .label .whole) (λ k. omega (arith, known .shared-slice-known .given k)))
 
 is-matching-requires : tie.Need-is-matching-requires Inv-loop μ-loop
@@ -56,13 +57,15 @@ loop-again c =
     let found = c .before .is-matching in
     let inside : loop .f < size (given .table .now) =
     omega (arith, end-within _ _ _ (start .pre .0 .label .whole) (ended .end-of .ensures), test .loop-test .taken) in
-    let on = Passed (given .table .now) (given .l) (given .word) (given .bit) first (ended .end-of .result) (loop .f + 1) in
+    let on = PassedRows (given .table .now) (given .l) (given .word) (given .bit) first (ended .end-of .result) (loop .f + 1) in
     ⊎-elim
     (λ z. subst₂ on (sym (z .1)) (sym (z .2))
-    (pass-own (given .table .now) (given .l) (given .word) (given .bit) first (ended .end-of .result) (loop .f) (loop .frame) (loop .count) (loop .inv)
+    (pass-own (given .table .now) (given .l) (given .word) (given .bit) first (ended .end-of .result)
+    (loop .f) (loop .frame) (loop .count) (loop .inv)
     (start .pre .0) (test .loop-test .taken) inside _ (ended .before .swap .ensures) (search needs) _ (found .ensures) (z .0 .taken)))
     (λ z. subst₂ on (sym (z .1)) (sym (z .2))
-    (pass-other (given .table .now) (given .l) (given .word) (given .bit) first (ended .end-of .result) (loop .f) (loop .frame) (loop .count) (loop .inv)
+    (pass-other (given .table .now) (given .l) (given .word) (given .bit) first (ended .end-of .result)
+    (loop .f) (loop .frame) (loop .count) (loop .inv)
     (start .pre .0) (test .loop-test .taken) inside _ (ended .before .swap .ensures) (search needs) _ (found .ensures) (z .0 .left)))
     (c .if1 .came)
 

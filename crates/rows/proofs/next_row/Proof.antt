@@ -17,7 +17,8 @@ returns : tie.Need-returns
 returns c =
     let start = c .before .before .before .before in
     next-found (start .args .table .now) (start .args .l) (start .args .word) (start .args .bit) (start .pre .0 .label) _
-    (c .before .before .find-row .ensures .taken) _ (c .byte .ensures) (c .before .before .find-row .ensures .inside (c .before .if1 .taken))
+    (c .before .before .find-row .ensures .taken) _ (c .byte .ensures)
+    (c .before .before .find-row .ensures .inside (c .before .if1 .taken))
 
 returns-2 : tie.Need-returns-2
 returns-2 c =

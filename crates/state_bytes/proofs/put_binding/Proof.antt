@@ -2,13 +2,13 @@
 use Prim.Native.Nat.{_-_}
 use borrow.Author.Needs.{needs}
 use mathlib.Core.Path.{refl}
-use Rattle.lists.proofs.Fills.{Values, values-none, values-turn, values-all}
+use Rattle.lists.proofs.Fills.{ValuesFrom, values-none, values-turn, values-all}
 use Rattle.state.specs.Bytes.{servingByte}
 use Rattle.state_bytes.proofs.put_binding.Statement.{statement}
 use Rattle.state_bytes.proofs.put_binding.Tie as tie
 
 abbrev Inv-loop : tie.InvT-loop
-Inv-loop out₀ s k₀ out k = Values (servingByte s) out₀ out 50 16 k
+Inv-loop out₀ s k₀ out k = ValuesFrom (servingByte s) out₀ out 50 16 k
 
 abbrev μ-loop : tie.MeasureT-loop
 μ-loop out₀ s k₀ out k = 16 - k

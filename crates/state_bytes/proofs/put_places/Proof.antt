@@ -2,13 +2,13 @@
 use Prim.Native.Nat.{ℕ, _-_}
 use borrow.Author.Needs.{needs}
 use mathlib.Core.Path.{refl}
-use Rattle.lists.proofs.Fills.{Values, values-none, values-turn, values-all}
+use Rattle.lists.proofs.Fills.{ValuesFrom, values-none, values-turn, values-all}
 use lib.ListN.{getD}
 use Rattle.state_bytes.proofs.put_places.Statement.{statement}
 use Rattle.state_bytes.proofs.put_places.Tie as tie
 
 abbrev Inv-loop : tie.InvT-loop
-Inv-loop out₀ from values k₀ out k = Values (λ (j : ℕ). getD values j 0) out₀ out from 32 k
+Inv-loop out₀ from values k₀ out k = ValuesFrom (λ (j : ℕ). getD values j 0) out₀ out from 32 k
 
 abbrev μ-loop : tie.MeasureT-loop
 μ-loop out₀ from values k₀ out k = 32 - k

@@ -3,14 +3,14 @@ use Prim.Native.Nat.{_-_}
 use borrow.Author.Needs.{needs}
 use mathlib.Core.Bool.{false}
 use lib.ListN.{getD}
-use Rattle.lists.proofs.Fills.{Values, values-none, values-turn, values-all}
+use Rattle.lists.proofs.Fills.{ValuesFrom, values-none, values-turn, values-all}
 use Rattle.state.specs.Bytes.{resultByte}
 use Rattle.state.proofs.ResultBytes.{byte-is}
 use Rattle.state_bytes.proofs.put_results.Statement.{statement}
 use Rattle.state_bytes.proofs.put_results.Tie as tie
 
 abbrev Inv-loop : tie.InvT-loop
-Inv-loop out₀ s k₀ out k = Values (resultByte s) out₀ out 34 16 k
+Inv-loop out₀ s k₀ out k = ValuesFrom (resultByte s) out₀ out 34 16 k
 
 abbrev μ-loop : tie.MeasureT-loop
 μ-loop out₀ s k₀ out k = 16 - k

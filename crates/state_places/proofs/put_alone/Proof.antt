@@ -21,7 +21,8 @@ returns c =
     c .put-depth .ensures
     ∙ ap (λ (s : State). withDepth s 1)
     (c .before .before .open-place .ensures
-    ∙ ap (λ (s : State). withOpened s 0 (args .label) (args .scheme) (args .scheme)) (c .before .before .before .before .clear-places .ensures))
+    ∙ ap (λ (s : State). withOpened s 0 (args .label) (args .scheme) (args .scheme))
+    (c .before .before .before .before .clear-places .ensures))
 
 pub put-alone-spec : {M : Type 1} → statement M
 put-alone-spec =

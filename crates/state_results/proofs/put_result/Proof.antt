@@ -28,7 +28,8 @@ returns-3 : tie.Need-returns-3
 returns-3 c =
     let test = c .before .before in
     let place = test .before .result-place in
-    ap stateOf (c .put-byte .ensures) ∙ result-set _ _ _ _ (place .ensures) (search needs) (test .before .before .if1 .left) (test .if2 .left)
+    ap stateOf (c .put-byte .ensures)
+    ∙ result-set _ _ _ _ (place .ensures) (search needs) (test .before .before .if1 .left) (test .if2 .left)
 
 pub put-result-spec : {M : Type 1} → statement M
 put-result-spec =

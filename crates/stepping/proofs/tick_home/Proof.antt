@@ -36,7 +36,8 @@ put-place-requires c κs =
 returns : tie.Need-returns
 returns c =
     let depth = c .before .before .before in
-    home-steps _ _ _ (start depth .pre) _ _ _ (ap (λ (n : ℕ). n - 1) (depth .depth-of .ensures)) (c .before .entry-of .ensures) (c .put-place .ensures)
+    home-steps _ _ _ (start depth .pre) _ _ _ (ap (λ (n : ℕ). n - 1) (depth .depth-of .ensures))
+    (c .before .entry-of .ensures) (c .put-place .ensures)
 
 pub tick-home-spec : {M : Type 1} → statement M
 tick-home-spec =

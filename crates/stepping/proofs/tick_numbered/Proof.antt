@@ -4,11 +4,12 @@ use mathlib.Core.Path.{_≡_, _∙_, ap}
 use mathlib.Core.Logic.{⊎-elim}
 use Prim.Native.Nat.{ℕ, _-_}
 use native.Mathlib.Omega.{arith}
-use Rattle.tables.specs.Table.{labelOf}
-use Rattle.tables.specs.Labels.{Numbered}
+use Rattle.tables.specs.Table.{tableLabel}
+use Rattle.tables.specs.inner.Labels.{NumberedLabel}
 use Rattle.state.specs.State.{placeAt}
 use Rattle.state.specs.Bytes.{stateOf}
-use Rattle.ticks.specs.Parts.{topOf, topKind}
+use Rattle.ticks.specs.inner.TickContracts.{topKind}
+use Rattle.ticks.specs.Tick.{topOf}
 use Rattle.ticks.proofs.TickCases.{depth-some, depth-most, size-most, kind-low}
 use Rattle.stepping.proofs.StepCases.{high-stop}
 use Rattle.stepping.proofs.tick_numbered.Statement.{statement}
@@ -31,7 +32,7 @@ top-read c =
     c .place-of .ensures ∙ ap (λ (n : ℕ). placeAt s (n - 1)) (depth c .depth-of .ensures)
 
 abbrev TopLabel : tie.After-kind-read → Type 0
-TopLabel c = let begun = start (depth (place c)) in Numbered (begun .args .table .now) (topOf (stateOf (begun .args .bytes .now)))
+TopLabel c = let begun = start (depth (place c)) in NumberedLabel (begun .args .table .now) (topOf (stateOf (begun .args .bytes .now)))
 
 top-label : (c : tie.After-kind-read) → TopLabel c
 top-label c =
@@ -51,7 +52,7 @@ KindRead c =
 kind-read : (c : tie.After-kind-read) → KindRead c
 kind-read c =
     let p = place c in
-    c .kind-read .ensures ∙ ap (λ (l : ℕ). labelOf (start (depth p) .args .table .now) l .kind) (top-read p)
+    c .kind-read .ensures ∙ ap (λ (l : ℕ). tableLabel (start (depth p) .args .table .now) l .kind) (top-read p)
 
 -- ---- the needs
 depth-of-requires : tie.Need-depth-of-requires

@@ -5,7 +5,7 @@ use Prim.Native.Nat.{ℕ, _-_}
 use native.Mathlib.Omega.{arith}
 use Rattle.state.specs.State.{placeAt}
 use Rattle.state.specs.Bytes.{stateOf}
-use Rattle.ticks.specs.Parts.{topOf}
+use Rattle.ticks.specs.Tick.{topOf}
 use Rattle.ticks.proofs.TickCases.{depth-some, depth-most, size-most, two-up}
 use Rattle.stepping.proofs.tick_on.Statement.{statement}
 use Rattle.stepping.proofs.tick_on.Tie as tie

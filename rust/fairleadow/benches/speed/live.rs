@@ -1,5 +1,5 @@
-//! Preparing tables, live runs, live ticks, of spindles too, and live rebindings: the C functions, plain Rust that keeps its machine taken apart, and plain
-//! Rust on the same table.
+//! Preparing tables, live runs, live ticks, of spindles too, and live rebindings: the C functions, plain Rust that keeps its machine taken
+//! apart, and plain Rust on the same table.
 
 use std::cell::RefCell;
 use std::hint::black_box;

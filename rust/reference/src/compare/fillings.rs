@@ -3,14 +3,14 @@
 use super::{Case, Compared, Summary};
 use crate::frames::text_of;
 use crate::generate::{damage, fillings, letters};
-use crate::library::{Fillings, Library, Reference};
+use crate::library::{FillingsReport, Library, Reference};
 use crate::show;
 
 impl Summary {
     /// Notes which of the three counts are not 0, where there is more than one list.
-    fn note_fillings(&mut self, counted: &Fillings) {
+    fn note_fillings(&mut self, counted: &FillingsReport) {
         let some = |counts: &[u32]| usize::from(counts.iter().all(|count| *count > 0));
-        let Fillings { ended, full, unmatched, .. } = *counted;
+        let FillingsReport { ended, full, unmatched, .. } = *counted;
         self.fillings.full += some(&[ended, full]);
         self.fillings.unmatched += some(&[ended, unmatched]);
         self.fillings.both += some(&[full, unmatched]);

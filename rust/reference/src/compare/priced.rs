@@ -6,7 +6,7 @@ use crate::answer::Answer;
 use crate::expectation::Run;
 use crate::frames::text_of;
 use crate::generate::{images, letters, prices, runs};
-use crate::library::{Library, Priced, Prices, Reference};
+use crate::library::{Library, PricedReport, Prices, Reference};
 use crate::price::{hundredths, PRICED_WORDS};
 use crate::show;
 use crate::state::{fresh_state, State};
@@ -39,7 +39,7 @@ impl Case<'_> {
         let (ground, priced) =
             (Ground { bytes: &image, shown: show::text }, Run { prices: Some(prices), ..run });
         self.ran_by("priced_run", ground, &state, &priced, |library, masks, codes| {
-            let Priced { answer, state: after, price } =
+            let PricedReport { answer, state: after, price } =
                 library.priced_run(&image, &state, &prices, &priced.words, masks, codes);
             (answer, (after, price))
         })?;

@@ -8,7 +8,7 @@ use crate::check::chart_of;
 use crate::frames::{text_of, CHARACTERS};
 use crate::generate::spindles::{self, Drawn, Lent};
 use crate::generate::{letters, runs, states, tables};
-use crate::library::{Library, Reference, Ticked};
+use crate::library::{Library, Reference, TickReport};
 use crate::prepare::table_of;
 use crate::show;
 use crate::spindle_walks::{expected, Turn};
@@ -16,7 +16,7 @@ use crate::state::State;
 use interface::{SPINDLES, STORE};
 
 /// The tick of a spindle, by an image's text or by a table.
-type SpinCall<'a> = fn(&(dyn Library + 'a), &mut [State], &mut usize, usize, &[u8], u16) -> Ticked;
+type SpinCall<'a> = fn(&(dyn Library + 'a), &mut [State], &mut usize, usize, &[u8], u16) -> TickReport;
 
 /// A spindle's chart, and what the library made of it.
 struct Made {
@@ -151,7 +151,7 @@ impl<'a> Case<'a> {
         turn: &Turn,
         states: &mut [State; SPINDLES],
         taken: &mut usize,
-    ) -> (usize, Ticked) {
+    ) -> (usize, TickReport) {
         let live = self.random.once_in(2);
         match *turn {
             Turn::Spin { spindle, word } => {
@@ -168,7 +168,7 @@ impl<'a> Case<'a> {
                     true => self.library.live_rebind(table, state, number, scheme),
                     false => self.library.rebind(image, state, number, scheme),
                 };
-                (spindle, Ticked { answer, mask: 0, code: 0 })
+                (spindle, TickReport { answer, mask: 0, code: 0 })
             }
         }
     }

@@ -7,7 +7,7 @@ use crate::answer::Answer;
 use crate::expectation::Run;
 use crate::frames::text_of;
 use crate::generate::{damage, images, letters, runs, states};
-use crate::library::{Library, Reference, Ticked};
+use crate::library::{Library, Reference, TickReport};
 use crate::show;
 use crate::state::State;
 
@@ -15,7 +15,7 @@ use crate::state::State;
 type RunCall<'a> = fn(&(dyn Library + 'a), &[u8], &State, &[u16], &mut [u32], &mut [u8]) -> (Answer, State);
 
 /// A tick or a live tick, by what it ticks on.
-type TickCall<'a> = fn(&(dyn Library + 'a), &[u8], &mut State, u16) -> Ticked;
+type TickCall<'a> = fn(&(dyn Library + 'a), &[u8], &mut State, u16) -> TickReport;
 
 /// What a run or a tick is made on, an image's text or a table, and how that is shown.
 #[derive(Clone, Copy)]

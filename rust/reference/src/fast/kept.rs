@@ -4,7 +4,7 @@
 use super::machine::Machine;
 use super::{accepted, rebound, spindles, ticked_of, IMAGE_FRAMES};
 use crate::answer::{Answer, Refusal};
-use crate::library::Ticked;
+use crate::library::TickReport;
 use crate::state::State;
 
 pub struct Kept {
@@ -30,12 +30,12 @@ impl Kept {
     }
 
     /// Refusals 15, 17 and 18; counts 1.
-    pub fn tick(&self, state: &mut State, word: u16) -> Ticked {
+    pub fn tick(&self, state: &mut State, word: u16) -> TickReport {
         ticked_of(self.machine.live_tick(state, word))
     }
 
     /// Refusals 15, 17, 26 and 18 of a spindle of 0 to 3; counts 1.
-    pub fn spin(&self, states: &mut [State], taken: &mut usize, spindle: usize, word: u16) -> Ticked {
+    pub fn spin(&self, states: &mut [State], taken: &mut usize, spindle: usize, word: u16) -> TickReport {
         ticked_of(spindles::turn(states, taken, spindle, |state| self.machine.live_tick(state, word)))
     }
 }

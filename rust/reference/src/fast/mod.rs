@@ -18,7 +18,7 @@ mod table;
 use crate::answer::{answered, ticked, Answer, Refusal};
 use crate::fillings::Counts;
 use crate::frames::{Frame, CHARACTERS, CHART_TEXT, IMAGE_TEXT};
-use crate::library::{Cause, Fillings, Library, Meaning, Priced, Prices, Ticked};
+use crate::library::{CauseReport, FillingsReport, Library, Meaning, PricedReport, Prices, TickReport};
 use crate::state::{can_rebind, fresh_state, State};
 use interface::{COUNTED_BITS, COUNTED_TICKS, SPINDLES};
 pub use kept::Kept;
@@ -197,7 +197,7 @@ fn rebound(done: Result<(), u8>) -> Answer {
 }
 
 /// What a tick hands back for its mask and code, or for its refusal.
-fn ticked_of(made: Result<(u32, u8), u8>) -> Ticked {
+fn ticked_of(made: Result<(u32, u8), u8>) -> TickReport {
     ticked(made.map_err(Refusal::of))
 }
 
@@ -249,13 +249,13 @@ impl Library for Fast {
         words: &[u16],
         masks: &mut [u32],
         codes: &mut [u8],
-    ) -> Priced {
+    ) -> PricedReport {
         let mut frames = [[0; 10]; IMAGE_FRAMES];
         match accepted(image, &mut frames) {
             Ok((frames, parts)) => {
                 Machine::<false>::new(frames, &parts).priced_run(state, prices, words, masks, codes)
             }
-            Err(refusal) => Priced { answer: refusal.into(), state: *state, price: 0 },
+            Err(refusal) => PricedReport { answer: refusal.into(), state: *state, price: 0 },
         }
     }
 
@@ -266,7 +266,7 @@ impl Library for Fast {
         spindle: usize,
         image: &[u8],
         word: u16,
-    ) -> Ticked {
+    ) -> TickReport {
         if spindle >= SPINDLES {
             return ticked_of(Err(25));
         }
@@ -289,10 +289,10 @@ impl Library for Fast {
         }
     }
 
-    fn cause(&self, image: &[u8], state: &State, word: u16) -> Cause {
+    fn cause(&self, image: &[u8], state: &State, word: u16) -> CauseReport {
         let found = cause_of(image, state, word);
         let (row, mask, bit) = found.unwrap_or((0, 0, 0));
-        Cause { answer: answered(found.map(|_| 0)), row, mask, bit }
+        CauseReport { answer: answered(found.map(|_| 0)), row, mask, bit }
     }
 
     fn list_rows(&self, image: &[u8], firsts: &mut [u16], counts: &mut [u16]) -> Answer {
@@ -307,10 +307,10 @@ impl Library for Fast {
         answered(put_little(frames, number, text))
     }
 
-    fn count_fillings(&self, image: &[u8], size: usize, ticks: usize, conditions: usize) -> Fillings {
+    fn count_fillings(&self, image: &[u8], size: usize, ticks: usize, conditions: usize) -> FillingsReport {
         let counted = count(image, size, ticks, conditions);
         let Counts { ended, full, unmatched } = counted.unwrap_or_default();
-        Fillings { answer: answered(counted.map(|_| 0)), ended, full, unmatched }
+        FillingsReport { answer: answered(counted.map(|_| 0)), ended, full, unmatched }
     }
 
     fn prepare(&self, image: &[u8], table: &mut [u8]) -> Answer {
@@ -341,7 +341,7 @@ impl Library for Fast {
         (answer, after)
     }
 
-    fn live_tick(&self, table: &[u8], state: &mut State, word: u16) -> Ticked {
+    fn live_tick(&self, table: &[u8], state: &mut State, word: u16) -> TickReport {
         ticked_of(live::Table::of(table).ok_or(11).and_then(|table| table.fitting_tick(state, word)))
     }
 
@@ -352,7 +352,7 @@ impl Library for Fast {
         spindle: usize,
         table: &[u8],
         word: u16,
-    ) -> Ticked {
+    ) -> TickReport {
         if spindle >= SPINDLES {
             return ticked_of(Err(25));
         }

@@ -2,7 +2,7 @@
 
 use super::machine::Machine;
 use crate::answer::Refusal;
-use crate::library::{Priced, Prices};
+use crate::library::{PricedReport, Prices};
 use crate::state::State;
 use interface::PRICED_WORDS;
 
@@ -27,11 +27,11 @@ impl<const SCANS: bool> Machine<SCANS> {
         words: &[u16],
         masks: &mut [u32],
         codes: &mut [u8],
-    ) -> Priced {
+    ) -> PricedReport {
         if words.len() > PRICED_WORDS && self.fits(state) {
-            return Priced { answer: Refusal { number: 27, index: 0 }.into(), state: *state, price: 0 };
+            return PricedReport { answer: Refusal { number: 27, index: 0 }.into(), state: *state, price: 0 };
         }
         let (answer, state) = self.run(state, words, masks, codes);
-        Priced { answer, state, price: (hundredths(prices, &masks[..answer.count()]) + 50) / 100 }
+        PricedReport { answer, state, price: (hundredths(prices, &masks[..answer.count()]) + 50) / 100 }
     }
 }

@@ -45,9 +45,9 @@ macro_rules! as_the_reference {
             words: &[u16],
             masks: &mut [u32],
             codes: &mut [u8]
-        ) -> reference::Priced);
+        ) -> reference::PricedReport);
     };
-    (@cause) => { as_the_reference!(@fn cause(image: &[u8], state: &reference::State, word: u16) -> reference::Cause); };
+    (@cause) => { as_the_reference!(@fn cause(image: &[u8], state: &reference::State, word: u16) -> reference::CauseReport); };
     (@list_rows) => {
         as_the_reference!(@fn list_rows(image: &[u8], firsts: &mut [u16], counts: &mut [u16]) -> reference::Answer);
     };
@@ -61,7 +61,7 @@ macro_rules! as_the_reference {
             size: usize,
             ticks: usize,
             conditions: usize
-        ) -> reference::Fillings);
+        ) -> reference::FillingsReport);
     };
     (@prepare) => { as_the_reference!(@fn prepare(image: &[u8], table: &mut [u8]) -> reference::Answer); };
     (@live_run) => { as_the_reference!(@run live_run); };
@@ -84,7 +84,7 @@ macro_rules! as_the_reference {
             spindle: usize,
             image: &[u8],
             word: u16
-        ) -> reference::Ticked);
+        ) -> reference::TickReport);
     };
     (@meaning) => { as_the_reference!(@fn meaning(code: u8) -> reference::Meaning); };
     (@run $call:ident) => {

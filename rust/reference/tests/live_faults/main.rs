@@ -12,7 +12,7 @@ use reference::entry;
 use reference::image::{Label, FUNCTION_CALL, HOME, RETURN};
 use reference::live::Held;
 use reference::machine::Advanced;
-use reference::{Answer, Library, State, Ticked};
+use reference::{Answer, Library, State, TickReport};
 
 faults! {
     // what is prepared
@@ -334,14 +334,14 @@ impl Library for Faulty {
         }
     }
 
-    fn live_tick(&self, table: &[u8], state: &mut State, word: u16) -> Ticked {
+    fn live_tick(&self, table: &[u8], state: &mut State, word: u16) -> TickReport {
         let (mut masks, mut codes) = ([0], [0]);
         let (answer, after) = self.live_run(table, state, &[word], &mut masks, &mut codes);
         *state = after;
         if self.0 == WritesARefusedTick && answer.number() != 0 {
             codes[0] = 4;
         }
-        Ticked { answer, mask: masks[0], code: codes[0] }
+        TickReport { answer, mask: masks[0], code: codes[0] }
     }
 }
 

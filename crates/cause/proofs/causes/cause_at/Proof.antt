@@ -1,13 +1,13 @@
 -- `cause::causes::cause_at` meets its contract: the row that the search finds among the label's frames, or none.
 use mathlib.Core.Path.{refl}
 use native.Mathlib.Omega.{arith}
-use Rattle.bits.specs.Results.{Results}
-use Rattle.rows.specs.Search.{Deciding}
+use Rattle.results.specs.Results.{Results}
+use Rattle.rows.specs.inner.Search.{Deciding}
 use Rattle.rows.proofs.SearchCases.{end-within}
 use Rattle.state.specs.Bytes.{stateOf}
 use Rattle.ticks.proofs.RowCases.{bit-decides}
 use Rattle.cause.proofs.TableConditions.{rows-kept}
-use Rattle.cause.proofs.CauseCases.{Numbers, none-told, numbers, row-told}
+use Rattle.cause.proofs.CauseCases.{RowNumbers, none-told, numbers, row-told}
 use borrow.Author.Needs.{needs}
 use Rattle.cause.proofs.causes.cause_at.Statement.{statement}
 use Rattle.cause.proofs.causes.cause_at.Tie as tie
@@ -23,10 +23,12 @@ decides : (c : tie.After-bit-of) → Deciding (start c .args .table .now) (start
 decides c = bit-decides _ _ _ (c .before .label-read .ensures) (bits c) _ (c .bit-of .ensures) (start c .pre .label)
 
 numbered : (c : tie.Else1) → let asked = start (c .before .before) in
-    Numbers (asked .args .table .now) (asked .args .l) (asked .args .word) (c .before .before .bit-of .result) (c .before .find-row .result)
+    RowNumbers (asked .args .table .now) (asked .args .l) (asked .args .word)
+    (c .before .before .bit-of .result) (c .before .find-row .result)
 numbered c =
     let read = c .before .before in
-    numbers _ _ _ (start read .pre) (bits read) _ (read .before .label-read .ensures) _ (read .bit-of .ensures) _ (c .before .find-row .ensures .taken)
+    numbers _ _ _ (start read .pre) (bits read) _ (read .before .label-read .ensures) _
+    (read .bit-of .ensures) _ (c .before .find-row .ensures .taken)
     (omega (arith, c .if1 .left))
 
 -- ---- the needs
@@ -52,7 +54,8 @@ returns : tie.Need-returns
 returns c =
     let found = c .before .before .before in
     let read = found .before in
-    none-told _ _ _ (start read .pre) (bits read) _ (read .before .label-read .ensures) _ (read .bit-of .ensures) _ (found .find-row .ensures .taken)
+    none-told _ _ _ (start read .pre) (bits read) _ (read .before .label-read .ensures) _
+    (read .bit-of .ensures) _ (found .find-row .ensures .taken)
     (omega (arith, c .before .before .if1 .taken)) _ (c .before .refused .ensures) _ (c .untold .ensures)
 
 first-of-requires : tie.Need-first-of-requires
@@ -70,7 +73,8 @@ against-rows-requires c κs =
     let asked = start (first .before .before .before) .pre in
     record {
       inside = end-within _ _ _ (asked .ordered .whole) (c .before .end-of .ensures);
-      kept = λ f p q. rows-kept _ _ (asked .ordered .sound) (asked .label .low) (asked .label .high) f (omega (arith, first .first-of .ensures))
+      kept = λ f p q. rows-kept _ _ (asked .ordered .sound) (asked .label .low)
+          (asked .label .high) f (omega (arith, first .first-of .ensures))
           (omega (arith, c .before .end-of .ensures));
     }
 
@@ -95,8 +99,10 @@ returns-2 c =
     let first = joined .before .before .before in
     let found = first .before .before in
     let read = found .before in
-    row-told _ _ _ (start read .pre) (bits read) _ (read .before .label-read .ensures) _ (read .bit-of .ensures) _ (found .find-row .ensures .taken)
-    (omega (arith, first .before .if1 .left)) _ _ _ _ _ _ (first .first-of .ensures) (joined .before .before .end-of .ensures) (joined .before .pair .ensures)
+    row-told _ _ _ (start read .pre) (bits read) _ (read .before .label-read .ensures) _
+    (read .bit-of .ensures) _ (found .find-row .ensures .taken)
+    (omega (arith, first .before .if1 .left)) _ _ _ _ _ _ (first .first-of .ensures)
+    (joined .before .before .end-of .ensures) (joined .before .pair .ensures)
     (decides read) (joined .against-rows .ensures) (c .rows-from .ensures) refl
 
 pub cause-at-spec : {M : Type 1} → statement M

@@ -27,7 +27,8 @@ untold-requires c κs = search needs
 returns : tie.Need-returns
 returns c =
     let t = tried (c .before .before .before) in
-    unfit-told _ _ _ (start t .pre) _ (t .is-unfit .ensures) (c .before .before .if1 .taken) _ (c .before .refused .ensures) _ (c .untold .ensures)
+    unfit-told _ _ _ (start t .pre) _ (t .is-unfit .ensures) (c .before .before .if1 .taken)
+    _ (c .before .refused .ensures) _ (c .untold .ensures)
 
 refused-requires-2 : tie.Need-refused-requires-2
 refused-requires-2 c κs = search needs
@@ -40,21 +41,24 @@ returns-2 c =
     let other = c .before .before .before in
     let left = other .before in
     let t = tried left in
-    rowless-told _ _ _ (start t .pre) _ (t .is-unfit .ensures) (other .if1 .left) _ (left .leaving-label .ensures) (c .before .before .if2 .taken) _
+    rowless-told _ _ _ (start t .pre) _ (t .is-unfit .ensures) (other .if1 .left) _
+    (left .leaving-label .ensures) (c .before .before .if2 .taken) _
     (c .before .refused2 .ensures) _ (c .untold2 .ensures)
 
 cause-at-requires : tie.Need-cause-at-requires
 cause-at-requires c κs =
     let left = c .before .before in
     let t = tried left in
-    left-placed _ _ (start t .args .word) (start t .pre) _ (t .is-unfit .ensures) (c .before .if1 .left) _ (left .leaving-label .ensures) (c .if2 .left)
+    left-placed _ _ (start t .args .word) (start t .pre) _ (t .is-unfit .ensures) (c .before .if1 .left)
+    _ (left .leaving-label .ensures) (c .if2 .left)
 
 returns-3 : tie.Need-returns-3
 returns-3 c =
     let other = c .before .before in
     let left = other .before in
     let t = tried left in
-    left-told _ _ _ (start t .pre) _ (t .is-unfit .ensures) (other .if1 .left) _ (left .leaving-label .ensures) (c .before .if2 .left) _ (c .cause-at .ensures)
+    left-told _ _ _ (start t .pre) _ (t .is-unfit .ensures) (other .if1 .left) _ (left .leaving-label .ensures)
+    (c .before .if2 .left) _ (c .cause-at .ensures)
 
 pub cause-table-spec : {M : Type 1} → statement M
 cause-table-spec =

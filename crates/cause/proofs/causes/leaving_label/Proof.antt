@@ -23,13 +23,15 @@ returns-2 : tie.Need-returns-2
 returns-2 c =
     let read = c .before .before in
     let top = read .before in
-    left-other _ _ _ _ (top .before .depth-of .ensures) (top .place-below .ensures) _ (read .label-of .ensures) (c .before .if1 .left) (c .if2 .taken)
+    left-other _ _ _ _ (top .before .depth-of .ensures) (top .place-below .ensures) _
+    (read .label-of .ensures) (c .before .if1 .left) (c .if2 .taken)
 
 returns-3 : tie.Need-returns-3
 returns-3 c =
     let read = c .before .before .before in
     let top = read .before in
-    left-last _ _ _ _ (top .before .depth-of .ensures) (top .place-below .ensures) _ (read .label-of .ensures) (c .before .if2 .left) (c .if3 .taken)
+    left-last _ _ _ _ (top .before .depth-of .ensures) (top .place-below .ensures) _
+    (read .label-of .ensures) (c .before .if2 .left) (c .if3 .taken)
 
 place-below-requires-2 : tie.Need-place-below-requires-2
 place-below-requires-2 c κs = search needs

@@ -24,7 +24,8 @@ returns : tie.Need-returns
 returns c =
     let t = c .before in
     let r = read t in
-    against-shut _ _ (r .before .args .word) (r .before .args .bit) (r .before .pre) (λ k. omega (arith, r .shared-slice-known .given k)) _ _
+    against-shut _ _ (r .before .args .word) (r .before .args .bit) (r .before .pre)
+    (λ k. omega (arith, r .shared-slice-known .given k)) _ _
     (t .before .byte .ensures) (t .lets-through .ensures) (not-true _ (c .if1 .taken))
 
 pair-requires : tie.Need-pair-requires
@@ -38,8 +39,10 @@ returns-2 c =
     let p = c .before in
     let t = tried p in
     let r = read t in
-    against-match _ _ (r .before .args .word) (r .before .args .bit) (r .before .pre) (λ k. omega (arith, r .shared-slice-known .given k)) _ _
-    (t .before .byte .ensures) (t .lets-through .ensures) (not-false _ (p .before .before .if1 .left)) _ _ (p .before .pair .ensures) (p .pair2 .ensures) (c .if2 .taken)
+    against-match _ _ (r .before .args .word) (r .before .args .bit) (r .before .pre)
+    (λ k. omega (arith, r .shared-slice-known .given k)) _ _
+    (t .before .byte .ensures) (t .lets-through .ensures) (not-false _ (p .before .before .if1 .left))
+    _ _ (p .before .pair .ensures) (p .pair2 .ensures) (c .if2 .taken)
 
 lowest-differing-requires : tie.Need-lowest-differing-requires
 lowest-differing-requires c κs = search needs
@@ -49,8 +52,10 @@ with-bit-requires c κs =
     let p = c .before .before in
     let t = tried p in
     let r = read t in
-    low-condition _ _ (r .before .args .word) (r .before .args .bit) (r .before .pre) (λ k. omega (arith, r .shared-slice-known .given k)) _ _
-    (t .before .byte .ensures) (t .lets-through .ensures) (not-false _ (p .before .before .if1 .left)) _ _ (p .before .pair .ensures) (p .pair2 .ensures)
+    low-condition _ _ (r .before .args .word) (r .before .args .bit) (r .before .pre)
+    (λ k. omega (arith, r .shared-slice-known .given k)) _ _
+    (t .before .byte .ensures) (t .lets-through .ensures) (not-false _ (p .before .before .if1 .left))
+    _ _ (p .before .pair .ensures) (p .pair2 .ensures)
     (c .before .if2 .left) _ (c .lowest-differing .ensures)
 
 returns-3 : tie.Need-returns-3
@@ -59,7 +64,8 @@ returns-3 c =
     let t = tried p in
     let r = read t in
     against-low _ _ (r .before .args .word) (r .before .args .bit) (r .before .pre) (λ k. omega (arith, r .shared-slice-known .given k)) _ _
-    (t .before .byte .ensures) (t .lets-through .ensures) (not-false _ (p .before .before .if1 .left)) _ _ (p .before .pair .ensures) (p .pair2 .ensures)
+    (t .before .byte .ensures) (t .lets-through .ensures) (not-false _ (p .before .before .if1 .left))
+    _ _ (p .before .pair .ensures) (p .pair2 .ensures)
     (c .before .before .if2 .left) _ (c .before .lowest-differing .ensures) _ (c .with-bit .ensures)
 
 pub against-row-spec : {M : Type 1} → statement M

@@ -1,12 +1,12 @@
 -- `cause::conditions::against_rows` meets its contract: the conditions of the rows passed stand in the mask.
 use borrow.Author.Needs.{needs}
 use native.Mathlib.Omega.{arith}
-use Rattle.cause.proofs.ConditionCases.{Joined, joined-none, joined-more, joined-all}
+use Rattle.cause.proofs.ConditionCases.{JoinedMask, joined-none, joined-more, joined-all}
 use Rattle.cause.proofs.conditions.against_rows.Statement.{statement}
 use Rattle.cause.proofs.conditions.against_rows.Tie as tie
 
 abbrev Inv-loop : tie.InvT-loop
-Inv-loop table first end word bit mask₀ f₀ mask f = Joined table word bit first end mask f
+Inv-loop table first end word bit mask₀ f₀ mask f = JoinedMask table word bit first end mask f
 
 abbrev μ-loop : tie.MeasureT-loop
 μ-loop table first end word bit mask₀ f₀ mask f = f
@@ -21,7 +21,11 @@ against-row-requires : tie.Need-against-row-requires Inv-loop μ-loop
 against-row-requires c κs =
     let loop = c .before .loop in
     let asked = c .before .before .before .pre in
-    record { inside = omega (arith, asked .inside, loop .inv .inside); kept = asked .kept _ (omega arith) (omega (arith, loop .inv .inside)) }
+    record {
+      inside = omega (arith, asked .inside, loop .inv .inside);
+      kept =
+          asked .kept _ (omega arith) (omega (arith, loop .inv .inside));
+    }
 
 loop-less : tie.Need-loop-less Inv-loop μ-loop
 loop-less c = search needs

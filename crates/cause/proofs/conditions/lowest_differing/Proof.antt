@@ -1,6 +1,6 @@
 -- `cause::conditions::lowest_differing` meets its contract: the loop keeps the lowest of the conditions passed.
 use native.Mathlib.Omega.{arith}
-use Rattle.cause.proofs.ConditionCases.{Passed, passed-here, passed-on, passed-all}
+use Rattle.cause.proofs.ConditionCases.{PassedCondition, passed-here, passed-on, passed-all}
 use borrow.Author.Needs.{needs}
 use mathlib.Core.Path.{refl}
 use Rattle.lists.specs.Numbers.{lowest}
@@ -8,7 +8,7 @@ use Rattle.cause.proofs.conditions.lowest_differing.Statement.{statemen
 use Rattle.cause.proofs.conditions.lowest_differing.Tie as tie
 
 abbrev Inv-loop : tie.InvT-loop
-Inv-loop word care values low₀ i₀ low i = Passed word care values low i
+Inv-loop word care values low₀ i₀ low i = PassedCondition word care values low i
 
 abbrev μ-loop : tie.MeasureT-loop
 μ-loop word care values low₀ i₀ low i = i

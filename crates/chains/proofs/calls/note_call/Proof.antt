@@ -21,7 +21,8 @@ low c =
     (omega (arith, l, c .field .ensures), l .1)
 
 within : (c : tie.After-field) → c .field .result < length (c .before .before .before .before .before .args .masks .now)
-within c = let s = c .before .before .before .before .before in omega (arith, low c, masks-long (s .args .records .now) (s .args .v) _ (s .pre .noted))
+within c = let s = c .before .before .before .before .before in
+    omega (arith, low c, masks-long (s .args .records .now) (s .args .v) _ (s .pre .noted))
 
 -- ---- the needs
 called-at-requires : tie.Need-called-at-requires
@@ -59,13 +60,15 @@ returns c =
     let k = read .before .before .called-at .result in
     ap (λ (x : ℕ). set (s .args .masks .now) (read .field .result) (bitOr (getD (s .args .masks .now) (read .field .result) 0) x))
     (shl-exact 1 k 32 (lit< tt) (omega (arith, low read)) ∙ one-mul (2 ^ k))
-    ∙ masks-more (s .args .records .now) (s .args .v) _ (s .pre .noted) _ _ (call .0) (read .field .ensures) (call .1) (low read .0) (low read .1)
+    ∙ masks-more (s .args .records .now) (s .args .v) _ (s .pre .noted) _ _ (call .0)
+    (read .field .ensures) (call .1) (low read .0) (low read .1)
 
 returns-2 : tie.Need-returns-2
 returns-2 c =
     let s = c .before .before .before .before in
     masks-same (s .args .records .now) (s .args .v) _ (s .pre .noted)
-    (call-none (s .args .records .now) (s .args .v) _ (c .before .called-at .ensures) (ready-facts (s .pre .ready)) (s .pre .inside) (c .if1 .left))
+    (call-none (s .args .records .now) (s .args .v) _ (c .before .called-at .ensures)
+    (ready-facts (s .pre .ready)) (s .pre .inside) (c .if1 .left))
 
 pub note-call-spec : {M : Type 1} → statement M
 note-call-spec =

@@ -5,7 +5,7 @@ use Prim.Native.Nat.{ℕ, _-_, _≤_}
 use lib.ListN.{length}
 use native.Mathlib.Omega.{arith}
 use borrow.Author.Needs.{needs}
-use Rattle.chains.specs.Masks.{callMasks}
+use Rattle.chains.specs.inner.Masks.{callMasks}
 use Rattle.chains.proofs.CallMasks.{masks-start, masks-long}
 use Rattle.chains.proofs.calls.note_calls.Statement.{statement}
 use Rattle.chains.proofs.calls.note_calls.Tie as tie

@@ -4,7 +4,7 @@ use mathlib.Core.Logic.{⊎-elim}
 use Prim.Native.Nat.{_-_, _≤_}
 use native.Mathlib.Omega.{arith}
 use borrow.Author.Needs.{needs}
-use Rattle.chains.specs.Masks.{calledBy}
+use Rattle.chains.specs.inner.Masks.{calledBy}
 use Rattle.chains.proofs.CallMasks.{called-yes, called-no}
 use Rattle.chains.proofs.chain.called_by.Statement.{statement}
 use Rattle.chains.proofs.chain.called_by.Tie as tie
@@ -38,8 +38,11 @@ loop-less c = search needs
 
 loop-again : tie.Need-loop-again Inv-loop μ-loop
 loop-again c =
-    let held = c .before .before .loop .inv in
-    (search needs, ⊎-elim (λ w. w .2 ∙ called-yes _ _ _ _ (held .1) (w .0 .taken)) (λ w. w .1 ∙ called-no _ _ _ _ (held .1) (w .0 .left)) (c .if1 .came))
+    let held = c .before .before .loop .inv in (
+      search needs,
+      ⊎-elim (λ w. w .2 ∙ called-yes _ _ _ _ (held .1) (w .0 .taken))
+          (λ w. w .1 ∙ called-no _ _ _ _ (held .1) (w .0 .left)) (c .if1 .came),
+    )
 
 returns : tie.Need-returns Inv-loop μ-loop
 returns c = c .before .loop .inv .1 ∙ ap (calledBy _ _) (omega (arith, c .before .loop .inv .0))

@@ -1,12 +1,12 @@
 -- `chains::chain::longest`: each round has the ends of the chains with one call more.
 use Prim.Native.Nat.{_-_}
 use borrow.Author.Needs.{needs}
-use Rattle.chains.proofs.CallMasks.{Round, round-first, round-found, round-next, round-over}
+use Rattle.chains.proofs.CallMasks.{MaskRound, round-first, round-found, round-next, round-over}
 use Rattle.chains.proofs.chain.longest.Statement.{statement}
 use Rattle.chains.proofs.chain.longest.Tie as tie
 
 abbrev Inv-loop : tie.InvT-loop
-Inv-loop masks ends₀ schemes₀ ends schemes = Round masks ends schemes
+Inv-loop masks ends₀ schemes₀ ends schemes = MaskRound masks ends schemes
 
 abbrev μ-loop : tie.MeasureT-loop
 μ-loop masks ends₀ schemes₀ ends schemes = 17 - schemes

@@ -9,7 +9,7 @@ use Rattle.frames.specs.Answer.{judged}
 use Rattle.frames.proofs.Chains.{when-holds, when-fails, next-refused, next-on}
 use Rattle.charts.specs.Chart.{Chart, schemes}
 use Rattle.charts.specs.Check.{badField, badScheme, badMarks, badArc, badCall, chartVerdict}
-use Rattle.chart_check.specs.Asked.{Passed, joinedVerdict}
+use Rattle.chart_check.specs.inner.CheckContracts.{Passed4To6, joinedVerdict}
 use Rattle.chart_check.proofs.Chain.{from5, from19, from6, from7, whole, stops, goes-on, answered}
 use borrow.Author.Needs.{needs}
 use Rattle.chart_check.proofs.check.check_chart.Statement.{statement}
@@ -57,9 +57,10 @@ after6 c = after19 (c .before .before)
 left-7 : (c : tie.Else4) → chartVerdict (after6 c) ≡ from7 (after6 c)
 left-7 c =
     let x = after6 c in
-    goes-on (chartVerdict x) 6 (badArc x) (size x) (from7 x) (left-6 (c .before .before)) _ (c .before .lowest-arc-and-call .ensures .arc) (c .if4 .left)
+    goes-on (chartVerdict x) 6 (badArc x) (size x) (from7 x) (left-6 (c .before .before)) _
+    (c .before .lowest-arc-and-call .ensures .arc) (c .if4 .left)
 
-passed : (c : tie.Else4) → Passed (after6 c)
+passed : (c : tie.Else4) → Passed4To6 (after6 c)
 passed c =
     let schemes = c .before .before .before .before in
     let fields = schemes .before in
@@ -74,7 +75,8 @@ left-8 : (c : tie.Else5) → let x = after6 (c .before) in chartVerdict x ≡ jo
 left-8 c =
     let on = c .before in
     let x = after6 on in
-    goes-on (chartVerdict x) 7 (badCall x) (size x) (joinedVerdict x) (left-7 on) _ (on .before .lowest-arc-and-call .ensures .call) (c .if5 .left)
+    goes-on (chartVerdict x) 7 (badCall x) (size x) (joinedVerdict x) (left-7 on) _
+    (on .before .lowest-arc-and-call .ensures .call) (c .if5 .left)
 
 -- ---- the needs
 check-fields-requires : tie.Need-check-fields-requires
@@ -130,7 +132,8 @@ returns-4 c =
     let on = bad .before .before in
     let x = after19 on in
     answered _ _ 6 _ (c .refused4 .ensures)
-    (stops (chartVerdict x) 6 (badArc x) (size x) (from7 x) (left-6 on) _ (bad .before .lowest-arc-and-call .ensures .arc) (bad .if4 .taken))
+    (stops (chartVerdict x) 6 (badArc x) (size x) (from7 x) (left-6 on) _
+    (bad .before .lowest-arc-and-call .ensures .arc) (bad .if4 .taken))
 
 refused-requires-5 : tie.Need-refused-requires-5
 refused-requires-5 c κs = search needs
@@ -141,7 +144,8 @@ returns-5 c =
     let on = bad .before in
     let x = after6 on in
     answered _ _ 7 _ (c .refused5 .ensures)
-    (stops (chartVerdict x) 7 (badCall x) (size x) (joinedVerdict x) (left-7 on) _ (on .before .lowest-arc-and-call .ensures .call) (bad .if5 .taken))
+    (stops (chartVerdict x) 7 (badCall x) (size x) (joinedVerdict x) (left-7 on) _
+    (on .before .lowest-arc-and-call .ensures .call) (bad .if5 .taken))
 
 check-joined-requires : tie.Need-check-joined-requires
 check-joined-requires c κs = passed (c .before)

@@ -35,7 +35,8 @@ join-requires c κs =
     record {
       long = long first;
       room = omega (arith, start (first .before) .pre .1 .room, first .follow .kept .1 .1 .1 .1 .0);
-      listed = enlisted-first _ _ _ _ _ (start (first .before) .pre .1 .none) (start (first .before) .pre .1 .room) (first .follow .ensures) .1;
+      listed = enlisted-first _ _ _ _ _ (start (first .before) .pre .1 .none)
+          (start (first .before) .pre .1 .room) (first .follow .ensures) .1;
     }
 
 slice-read-result : tie.Need-slice-read-result

@@ -44,7 +44,8 @@ returns-2 c =
     let back = c .before .before .before in
     let here = condition back in
     let a = start (here .before) .args in
-    circle-back (a .records .now) (a .v) _ (here .before .field .ensures) (here .if1 .left) _ _ (back .leads-back .ensures .0) (back .leads-back .ensures .1)
+    circle-back (a .records .now) (a .v) _ (here .before .field .ensures) (here .if1 .left) _ _
+    (back .leads-back .ensures .0) (back .leads-back .ensures .1)
 
 pub on-circle-spec : {M : Type 1} → statement M
 on-circle-spec =

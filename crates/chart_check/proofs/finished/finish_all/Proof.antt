@@ -5,7 +5,7 @@ use mathlib.Core.Logic.{⊎-elim}
 use mathlib.Core.Bool.{Bool}
 use mathlib.Core.List.{List}
 use lib.ListN.{length}
-use Rattle.charts.specs.Finished.{Finished}
+use Rattle.charts.specs.inner.Finished.{Finished}
 use borrow.Author.Needs.{needs}
 use Rattle.chart_check.proofs.finished.finish_all.Statement.{statement}
 use Rattle.chart_check.proofs.finished.finish_all.Tie as tie

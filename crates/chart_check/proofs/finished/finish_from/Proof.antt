@@ -10,7 +10,8 @@ use Rattle.chart_check.proofs.finished.finish_from.Statement.{statement
 use Rattle.chart_check.proofs.finished.finish_from.Tie as tie
 
 abbrev Inv-loop : tie.InvT-loop
-Inv-loop records unfinished₀ path₀ v n left₀ depth₀ at₀ unfinished path left depth at = (length path ≡ length path₀) × Standing records unfinished path left depth at
+Inv-loop records unfinished₀ path₀ v n left₀ depth₀ at₀ unfinished path left depth at = (length path ≡ length path₀)
+    × Standing records unfinished path left depth at
 
 abbrev μ-loop : tie.MeasureT-loop
 μ-loop records unfinished₀ path₀ v n left₀ depth₀ at₀ unfinished path left depth at = left + left + depth
@@ -82,8 +83,11 @@ loop-less-2 c = search needs
 
 loop-again-2 : tie.Need-loop-again-2 Inv-loop μ-loop
 loop-again-2 c =
-    let loop = turn (c .before .before) .loop in
-    (loop .inv .0, standing-back _ _ _ _ _ _ (loop .inv .1) _ (c .before .before .before .next-unfinished .ensures) (search needs) (c .before .if2 .left))
+    let loop = turn (c .before .before) .loop in (
+      loop .inv .0,
+      standing-back _ _ _ _ _ _ (loop .inv .1) _ (c .before .before .before .next-unfinished .ensures)
+          (search needs) (c .before .if2 .left),
+    )
 
 same-length-3 : tie.Need-same-length-3 Inv-loop μ-loop
 same-length-3 c = search needs

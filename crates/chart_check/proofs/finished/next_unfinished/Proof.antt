@@ -17,7 +17,8 @@ is-marked-requires c κs = search needs
 returns : tie.Need-returns
 returns c =
     let start = c .before .before .before .before .before in
-    next-first (start .args .records .now) (start .args .unfinished .now) (start .args .v) _ (c .before .before .field .ensures) (sym (c .before .is-marked .ensures) ∙ c .if1 .taken)
+    next-first (start .args .records .now) (start .args .unfinished .now) (start .args .v) _ (c .before .before .field .ensures)
+    (sym (c .before .is-marked .ensures) ∙ c .if1 .taken)
 
 field-requires-2 : tie.Need-field-requires-2
 field-requires-2 c κs = search needs
@@ -32,14 +33,16 @@ returns-2 : tie.Need-returns-2
 returns-2 c =
     let first = c .before .before .before .before in
     let start = first .before .before .before .before in
-    next-second (start .args .records .now) (start .args .unfinished .now) (start .args .v) _ (first .before .field .ensures) (sym (first .is-marked .ensures) ∙ c .before .before .before .if1 .left)
+    next-second (start .args .records .now) (start .args .unfinished .now) (start .args .v) _ (first .before .field .ensures)
+    (sym (first .is-marked .ensures) ∙ c .before .before .before .if1 .left)
     _ (c .before .before .field2 .ensures) (sym (c .before .is-marked2 .ensures) ∙ c .if2 .taken)
 
 returns-3 : tie.Need-returns-3
 returns-3 c =
     let first = c .before .before .before .before in
     let start = first .before .before .before .before in
-    next-none (start .args .records .now) (start .args .unfinished .now) (start .args .v) _ (first .before .field .ensures) (sym (first .is-marked .ensures) ∙ c .before .before .before .if1 .left)
+    next-none (start .args .records .now) (start .args .unfinished .now) (start .args .v) _ (first .before .field .ensures)
+    (sym (first .is-marked .ensures) ∙ c .before .before .before .if1 .left)
     _ (c .before .before .field2 .ensures) (sym (c .before .is-marked2 .ensures) ∙ c .if2 .left)
 
 pub next-unfinished-spec : {M : Type 1} → statement M

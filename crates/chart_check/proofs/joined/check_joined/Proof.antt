@@ -11,15 +11,18 @@ array-borrow-prefix-marks : tie.Need-array-borrow-prefix-marks
 array-borrow-prefix-marks c = search needs
 
 slice-aggregate-try-joined : tie.Need-slice-aggregate-try-joined
-slice-aggregate-try-joined c = let begun = c .before .before in sym (part-long 256 (size (begun .args .records .now)) false (begun .pre .few))
+slice-aggregate-try-joined c = let begun = c .before .before in
+    sym (part-long 256 (size (begun .args .records .now)) false (begun .pre .few))
 
 slice-aggregate-try-joined-2 : tie.Need-slice-aggregate-try-joined-2
 slice-aggregate-try-joined-2 c = search needs
 
 try-joined-requires : tie.Need-try-joined-requires
 try-joined-requires c κs =
-    let begun = c .before .before .before in
-    ((part-long 256 (size (begun .args .records .now)) false (begun .pre .few), begun .pre), record { few = begun .pre .few; room = search needs })
+    let begun = c .before .before .before in (
+      (part-long 256 (size (begun .args .records .now)) false (begun .pre .few), begun .pre),
+      record { few = begun .pre .few; room = search needs },
+    )
 
 returns : tie.Need-returns
 returns c = search needs

@@ -29,7 +29,12 @@ list-marked-requires c κs = search needs
 
 join-requires : tie.Need-join-requires
 join-requires c κs =
-    record { long = search needs; room = search needs; listed = listed-lowest _ _ _ _ (c .before .before .before .before .list-marked .ensures) }
+    record {
+      long = search needs;
+      room = search needs;
+      listed =
+          listed-lowest _ _ _ _ (c .before .before .before .before .list-marked .ensures);
+    }
 
 same-length : tie.Need-same-length
 same-length c = search needs

@@ -4,7 +4,7 @@ use Rattle.frames.specs.Frame.{size}
 use Rattle.frames.proofs.Chains.{lowest-refused, lowest-fine, judged-fine}
 use Rattle.charts.specs.Chart.{Chart}
 use Rattle.charts.specs.Check.{onCircle, cutOff}
-use Rattle.chart_check.specs.Asked.{joinedVerdict}
+use Rattle.chart_check.specs.inner.CheckContracts.{joinedVerdict}
 use Rattle.chart_check.proofs.Chain.{from9, stops, goes-on, answered}
 use borrow.Author.Needs.{needs}
 use Rattle.chart_check.proofs.joined.try_joined.Statement.{statement}

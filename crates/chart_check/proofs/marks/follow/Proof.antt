@@ -1,5 +1,5 @@
 -- `chart_check::marks::follow` meets its contract: by how many arcs count.
-use Rattle.graph.specs.Listed.{Listing, listing}
+use Rattle.graph.specs.inner.Listed.{Listing, listing}
 use Rattle.graph.proofs.Enlisted.{enlist-counted}
 use Rattle.chart_check.proofs.MarkCases.{marked-none, marked-one, marked-two}
 use borrow.Author.Needs.{needs}

@@ -5,13 +5,13 @@ use mathlib.Core.Bool.{Bool}
 use mathlib.Core.List.{List}
 use native.Mathlib.Omega.{arith}
 use lib.ListN.{length, getD}
-use Rattle.graph.specs.Listed.{Listed}
+use Rattle.graph.specs.inner.Listed.{Listed}
 use Rattle.graph.proofs.Marking.{Joining, joining-first, joining-done}
 use Rattle.graph.proofs.Lists.{list-node, list-few, Followed, followed-none, followed-more, followed-closed, joining-more}
 use Rattle.frames.specs.Frame.{size}
 use Rattle.charts.specs.Chart.{Chart}
-use Rattle.charts.specs.Marks.{arcsBy}
-use Rattle.chart_check.specs.Asked.{Lent}
+use Rattle.charts.specs.inner.Marks.{arcsBy}
+use Rattle.chart_check.specs.inner.CheckContracts.{ListedRoom}
 use Rattle.chart_check.proofs.MarkCases.{lent-enlisted}
 use borrow.Author.Needs.{needs}
 use Rattle.chart_check.proofs.marks.join.Statement.{statement}
@@ -47,7 +47,7 @@ read c = c .before .before .before
 few : (c : At tie.At-loop) → c .loop .end ≤ size (start c .args .records .now)
 few c = omega (arith, list-few (c .loop .marks) (c .loop .list) (c .loop .end) (c .loop .inv .listed), c .loop .inv .joining .long)
 
-lent : (c : At tie.At-loop) → Lent (start c .args .records .now) (c .loop .marks) (c .loop .list) (c .loop .end)
+lent : (c : At tie.At-loop) → ListedRoom (start c .args .records .now) (c .loop .marks) (c .loop .list) (c .loop .end)
 lent c =
     let inv = c .loop .inv in
     record { long = inv .joining .long; room = omega (arith, inv .same, start c .pre .room); listed = inv .listed }
@@ -78,7 +78,12 @@ follow-requires : tie.Need-follow-requires Inv-loop μ-loop
 follow-requires c κs =
     let here = turn (c .before .before) in
     let loop = here .loop in (
-      omega (arith, list-node (loop .marks) (loop .list) (loop .end) (loop .inv .listed) (loop .i) (search needs), loop .inv .joining .long),
+      omega (
+        arith,
+        list-node (loop .marks) (loop .list) (loop .end) (loop .inv .listed)
+            (loop .i) (search needs),
+        loop .inv .joining .long,
+      ),
       lent here,
     )
 
@@ -100,10 +105,12 @@ loop-again c =
     record {
       inside = omega (arith, left .longer .more);
       same = on .follow .kept .1 .1 .1 .1 .0 ∙ loop .inv .same;
-      joining = joining-more (size records) (arcsBy records conditions) (begun .args .marks .now) (loop .marks) _ (getD (loop .list) (loop .i) 0) (begun .pre .long)
+      joining = joining-more (size records) (arcsBy records conditions) (begun .args .marks .now)
+          (loop .marks) _ (getD (loop .list) (loop .i) 0) (begun .pre .long)
           (loop .inv .listed .are (loop .i) (search needs)) (left .marks) (loop .inv .joining);
       listed = left .listed;
-      followed = followed-more (size records) (arcsBy records conditions) (loop .marks) _ (loop .list) _ (loop .i) (loop .end) _ (loop .inv .joining .long)
+      followed = followed-more (size records) (arcsBy records conditions) (loop .marks) _
+          (loop .list) _ (loop .i) (loop .end) _ (loop .inv .joining .long)
           (search needs) (left .longer) (left .marks) (loop .inv .followed);
     }
 
@@ -120,7 +127,8 @@ returns c =
     let conditions = begun .args .conditions in
     let loop = c .before .loop in
     let e : loop .i ≡ loop .end = omega arith in (
-      joining-done (size records) (arcsBy records conditions) (begun .args .marks .now) (begun .pre .long) (loop .marks) (loop .inv .joining)
+      joining-done (size records) (arcsBy records conditions) (begun .args .marks .now)
+          (begun .pre .long) (loop .marks) (loop .inv .joining)
           (followed-closed (size records) (arcsBy records conditions) (loop .marks) (loop .list) (loop .end) (loop .inv .listed)
           (subst (λ (k : ℕ). Followed (size records) (arcsBy records conditions) (loop .marks) (loop .list) k) e (loop .inv .followed))),
       loop .inv .listed .counted,

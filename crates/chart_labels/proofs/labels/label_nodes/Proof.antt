@@ -1,4 +1,5 @@
--- `chart_labels::labels::label_nodes` meets its contract: the labels of the nodes passed stand in the buffer, and those of their own are counted.
+-- `chart_labels::labels::label_nodes` meets its contract:
+-- the labels of the nodes passed stand in the buffer, and those of their own are counted.
 use mathlib.Core.Logic.{inl, inr, ⊎-elim}
 -- `chart_labels::label_nodes`: the labels of the nodes before v stand in the buffer.
 use Prim.Native.Nat.{_-_}

@@ -1,13 +1,13 @@
 -- `chart_labels::begin`: what is left of the search is the whole search.
 use Prim.Native.Nat.{_-_}
-use Rattle.chart_labels.proofs.NodeSteps.{Search, search-start, search-hit, search-on, search-over}
+use Rattle.chart_labels.proofs.NodeSteps.{BeginSearch, search-start, search-hit, search-on, search-over}
 use mathlib.Core.Path.{sym, _∙_}
 use borrow.Author.Needs.{needs}
 use Rattle.chart_labels.proofs.nodes.begin.Statement.{statement}
 use Rattle.chart_labels.proofs.nodes.begin.Tie as tie
 
 abbrev Inv-loop : tie.InvT-loop
-Inv-loop records scheme n v₀ v = Search records scheme n v
+Inv-loop records scheme n v₀ v = BeginSearch records scheme n v
 
 abbrev μ-loop : tie.MeasureT-loop
 μ-loop records scheme n v₀ v = n - v

@@ -21,7 +21,8 @@ returns c =
     (ap (λ (x : ℕ). eqb x scheme) (c .field2 .ensures))
 
 returns-2 : tie.Need-returns-2
-returns-2 c = and-first _ _ _ (ne-eqb _ _ (λ e. c .if1 .left (c .before .field .ensures ∙ e))) (ap (λ (x : ℕ). eqb x 0) (c .before .field .ensures))
+returns-2 c = and-first _ _ _ (ne-eqb _ _ (λ e. c .if1 .left (c .before .field .ensures ∙ e)))
+    (ap (λ (x : ℕ). eqb x 0) (c .before .field .ensures))
 
 pub is-begin-spec : {M : Type 1} → statement M
 is-begin-spec = tie.close (tie.spec field-requires field-requires-2 returns returns-2)

@@ -15,7 +15,8 @@ field-requires : tie.Need-field-requires
 field-requires c κs = search needs
 
 returns : tie.Need-returns
-returns c = and-second _ _ _ (sym (c .before .before .stops .ensures) ∙ c .before .if1 .taken) (ap (λ (x : ℕ). not (eqb x 1)) (c .field .ensures))
+returns c = and-second _ _ _ (sym (c .before .before .stops .ensures) ∙ c .before .if1 .taken)
+    (ap (λ (x : ℕ). not (eqb x 1)) (c .field .ensures))
 
 returns-2 : tie.Need-returns-2
 returns-2 c = and-first _ _ _ (sym (c .before .stops .ensures) ∙ c .if1 .left) (c .before .stops .ensures)

@@ -56,7 +56,8 @@ loop-less c = search needs
 loop-again : tie.Need-loop-again Inv-loop μ-loop
 loop-again c =
     let read = c .before .before in
-    noting-begin _ _ _ _ (turn read .loop .inv) _ (search needs) _ _ (read .field .ensures) (c .before .if1 .taken) (c .field2 .ensures) (small c)
+    noting-begin _ _ _ _ (turn read .loop .inv) _ (search needs) _ _ (read .field .ensures)
+    (c .before .if1 .taken) (c .field2 .ensures) (small c)
 
 loop-less-2 : tie.Need-loop-less-2 Inv-loop μ-loop
 loop-less-2 c = search needs

@@ -35,7 +35,8 @@ returns-3 c =
     (c .before .field2 .ensures) (asked .leads) (c .if1 .left)
 
 returns-4 : tie.Need-returns-4
-returns-4 c = sym (stops-other _ _ (λ e. c .match .rest .0 .1 (c .before .field .ensures ∙ e)) (λ e. c .match .rest .1 (c .before .field .ensures ∙ e)))
+returns-4 c = sym (stops-other _ _ (λ e. c .match .rest .0 .1 (c .before .field .ensures ∙ e))
+    (λ e. c .match .rest .1 (c .before .field .ensures ∙ e)))
 
 pub stops-spec : {M : Type 1} → statement M
 stops-spec =

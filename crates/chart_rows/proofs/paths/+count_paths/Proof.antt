@@ -2,7 +2,7 @@
 use mathlib.Core.Path.{_≡_, refl}
 use lib.ListN.{getD}
 use Rattle.charts.proofs.Rank.{rank}
-use Rattle.chart_rows.specs.Parts.{number}
+use Rattle.chart_rows.specs.inner.NodeRows.{testedNumber}
 use Rattle.chart_rows.proofs.NumberLaws.{high-stops, low-goes, low-number}
 use Rattle.chart_rows.proofs.Settled.{Settled, is-settled}
 use Rattle.chart_rows.proofs.PathCases.{New, Fork, new-small, fork, stop-paths, count-none, count-stop, count-fork}
@@ -52,7 +52,7 @@ module _ (t : ℕ) where
   arrived c = is-settled _ (start c .pre .1 .noted .chart .ready) _ _ _ _ (start c .pre .1 .entered) (c .settle .ensures)
 
   noted : (c : At lts.After-settle) → let a = start c .args in
-      getD (a .notes .now) (256 + c .settle .result) 0 ≡ number (a .records .now) (c .settle .result)
+      getD (a .notes .now) (256 + c .settle .result) 0 ≡ testedNumber (a .records .now) (c .settle .result)
   noted c = start c .pre .1 .noted .numbers _ (arrived c .entered .inside)
 
   abbrev here : At lts.Else2 → At lts.After-settle

@@ -5,8 +5,8 @@ use Prim.Native.Nat.{_+_, _≤_, _<_}
 use lib.ListN.{length, getD}
 use Rattle.charts.specs.Chart.{taken}
 use Rattle.charts.proofs.Rank.{rank}
-use Rattle.chart_labels.specs.Ready.{Ready}
-use Rattle.chart_rows.specs.Parts.{number, known}
+use Rattle.chart_labels.specs.inner.ChartContracts.{Ready}
+use Rattle.chart_rows.specs.inner.NodeRows.{testedNumber, known}
 use Rattle.chart_rows.proofs.NumberLaws.{number-most, bit-known, bit-unknown, side-taken}
 use Rattle.chart_rows.proofs.Settled.{Passing, passing-start, passing-on, passing-done, known-goes, known-falls}
 use borrow.Author.Needs.{needs}
@@ -31,7 +31,7 @@ ready : (c : tie.At-loop Inv-loop μ-loop) → Ready (start c .args .records .no
 ready c = start c .pre .noted .chart .ready
 
 noted : (c : tie.At-loop Inv-loop μ-loop) → let a = start c .args in
-    getD (a .notes .now) (256 + c .loop .at) 0 ≡ number (a .records .now) (c .loop .at)
+    getD (a .notes .now) (256 + c .loop .at) 0 ≡ testedNumber (a .records .now) (c .loop .at)
 noted c = start c .pre .noted .numbers _ (c .loop .inv .entered .inside)
 
 bits : (c : tie.At-loop Inv-loop μ-loop) → let notes = start c .args .notes .now in
@@ -49,7 +49,8 @@ met : (c : tie.Then1 Inv-loop μ-loop) → let a = start (turn c) .args in
     known (a .records .now) (a .care) (turn c .loop .at) ≡ true
 met c =
     let here = turn c in
-    bit-known _ (ready here) _ _ (here .loop .inv .entered) (noted here) (start here .args .care) _ (omega (arith, start here .good .1 .1 .1 .0))
+    bit-known _ (ready here) _ _ (here .loop .inv .entered) (noted here) (start here .args .care)
+    _ (omega (arith, start here .good .1 .1 .1 .0))
     (c .before .bit-at .ensures) (c .if1 .taken)
 
 side : (c : tie.After-field Inv-loop μ-loop) → let here = turn (c .before .before) in let a = start here .args in
@@ -95,7 +96,8 @@ returns : tie.Need-returns Inv-loop μ-loop
 returns c =
     let here = c .before .before in
     passing-done _ _ _ _ _ (here .loop .inv)
-    (bit-unknown _ (ready here) _ _ (here .loop .inv .entered) (noted here) (start here .args .care) _ (omega (arith, start here .good .1 .1 .1 .0))
+    (bit-unknown _ (ready here) _ _ (here .loop .inv .entered) (noted here) (start here .args .care)
+    _ (omega (arith, start here .good .1 .1 .1 .0))
     (c .before .bit-at .ensures) (c .if1 .left))
 
 pub settle-spec : {M : Type 1} → statement M

@@ -2,7 +2,7 @@
 use mathlib.Core.Path.{_≡_, refl, sym, _∙_}
 use lib.Bits.{and-self}
 use Rattle.chart_rows.specs.Rows.{rowsOf}
-use Rattle.chart_rows.specs.Parts.{nodeRows}
+use Rattle.chart_rows.specs.inner.NodeRows.{nodeRows}
 use Rattle.chart_rows.proofs.NumberLaws.{small-number}
 use Rattle.chart_rows.proofs.RowSteps.{no-rows, own-rows, own-mask, other-entered, function-kind}
 use Rattle.chart_rows.proofs.RowSteps.{count-nothing, count-function, count-condition, count-other}

@@ -1,14 +1,14 @@
 -- `chart_rows::count_rows`: the rows of the nodes before v are counted, up to the limit.
 use Prim.Native.Nat.{_-_}
 use mathlib.Core.Path.{refl}
-use Rattle.chart_rows.proofs.RowSteps.{Counting, counting-start, counting-on, counting-done}
+use Rattle.chart_rows.proofs.RowSteps.{CountingRows, counting-start, counting-on, counting-done}
 use borrow.Author.Needs.{needs}
 use native.Mathlib.Omega.{arith}
 use Rattle.chart_rows.proofs.rows.count_rows.Statement.{statement}
 use Rattle.chart_rows.proofs.rows.count_rows.Tie as tie
 
 abbrev Inv-loop : tie.InvT-loop
-Inv-loop records labels most n total₀ v₀ total v = Counting records most total v
+Inv-loop records labels most n total₀ v₀ total v = CountingRows records most total v
 
 abbrev μ-loop : tie.MeasureT-loop
 μ-loop records labels most n total₀ v₀ total v = n - v

@@ -5,7 +5,8 @@ use lib.ListN.{take}
 use native.Mathlib.Omega.{arith}
 use borrow.Author.Needs.{needs}
 use Rattle.frames.specs.Frame.{contents}
-use Rattle.chart_text.proofs.Entries.{Formed, formed, formed-chart, chart-length, chart-asked, read-unformed, read-unsound, read-short, read-done}
+use Rattle.chart_text.proofs.Entries.{Formed, formed, formed-chart, chart-length, chart-asked}
+use Rattle.chart_text.proofs.Entries.{read-unformed, read-unsound, read-short, read-done}
 use Rattle.chart_text.proofs.entry.read_chart.Statement.{statement}
 use Rattle.chart_text.proofs.entry.read_chart.Tie as tie
 
@@ -47,7 +48,8 @@ enum-told c = search needs
 returns : tie.Need-returns
 returns c =
     let refusal = c .enum-told .given in
-    read-unformed _ _ _ (c .before .before .before .read-text .ensures .0) (refusal .0 .0) (refusal .0 .1 .0) (refusal .0 .1 .1 .0) (refusal .1)
+    read-unformed _ _ _ (c .before .before .before .read-text .ensures .0) (refusal .0 .0)
+    (refusal .0 .1 .0) (refusal .0 .1 .1 .0) (refusal .1)
 
 mul-end : tie.Need-mul-end
 mul-end c = omega (arith, known c .few)
@@ -71,7 +73,8 @@ returns-2 : tie.Need-returns-2
 returns-2 c =
     let check = c .before .before in
     let refusal = c .enum-told3 .given in
-    read-unsound _ _ _ (known (told check)) _ (chart (told check)) _ (check .check-chart .ensures) (refusal .0 .0) (refusal .0 .1 .0) (refusal .0 .1 .1 .0) (refusal .1)
+    read-unsound _ _ _ (known (told check)) _ (chart (told check)) _ (check .check-chart .ensures)
+    (refusal .0 .0) (refusal .0 .1 .0) (refusal .0 .1 .1 .0) (refusal .1)
 
 refused-requires : tie.Need-refused-requires
 refused-requires c κs = search needs

@@ -2,7 +2,7 @@
 use mathlib.Core.Path.{sym, _∙_}
 use native.Mathlib.Omega.{arith}
 use borrow.Author.Needs.{needs}
-use Rattle.chart_text.proofs.Entries.{Whole, whole, whole-asked, write-unwhole, write-unsound, write-short, write-done}
+use Rattle.chart_text.proofs.Entries.{WholeRecords, whole, whole-asked, write-unwhole, write-unsound, write-short, write-done}
 use Rattle.chart_text.proofs.entry.write_chart.Statement.{statement}
 use Rattle.chart_text.proofs.entry.write_chart.Tie as tie
 
@@ -10,7 +10,7 @@ use Rattle.chart_text.proofs.entry.write_chart.Tie as tie
 abbrev start : tie.Else1 → tie.Start
 start c = c .before .before .before .before
 
-known : (c : tie.Else1) → Whole (start c .args .records .now)
+known : (c : tie.Else1) → WholeRecords (start c .args .records .now)
 known c = whole _ (sym (c .before .bad-length .ensures) ∙ c .if1 .left)
 
 abbrev checked : tie.After-enum-told → tie.After-check-chart
@@ -41,7 +41,8 @@ returns-2 : tie.Need-returns-2
 returns-2 c =
     let check = c .before .before in
     let refusal = c .enum-told2 .given in
-    write-unsound _ _ (known (check .before)) _ (check .check-chart .ensures) (refusal .0 .0) (refusal .0 .1 .0) (refusal .0 .1 .1 .0) (refusal .1)
+    write-unsound _ _ (known (check .before)) _ (check .check-chart .ensures) (refusal .0 .0)
+    (refusal .0 .1 .0) (refusal .0 .1 .1 .0) (refusal .1)
 
 mul-count : tie.Need-mul-count
 mul-count c = omega (arith, known (checked c .before) .few)

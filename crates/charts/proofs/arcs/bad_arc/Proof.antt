@@ -2,7 +2,7 @@
 use mathlib.Core.Path.{_∙_, ap}
 use mathlib.Core.Logic.{inl, inr, ⊎-elim}
 use Rattle.charts.specs.Check.{badEnd}
-use Rattle.charts.proofs.Cases.{end-arc, single-arc, double-arc}
+use Rattle.charts.proofs.NodeCases.{end-arc, single-arc, double-arc}
 use borrow.Author.Needs.{needs}
 use Rattle.charts.proofs.arcs.bad_arc.Statement.{statement}
 use Rattle.charts.proofs.arcs.bad_arc.Tie as tie
@@ -23,7 +23,8 @@ bad-end-requires : tie.Need-bad-end-requires
 bad-end-requires c κs = search needs
 
 returns : tie.Need-returns
-returns c = end-arc (c .before .before .before .args .records .now) (c .before .before .before .args .v) _ (c .before .field .ensures) (c .match .keys1)
+returns c = end-arc (c .before .before .before .args .records .now) (c .before .before .before .args .v)
+    _ (c .before .field .ensures) (c .match .keys1)
 
 returns-2 : tie.Need-returns-2
 returns-2 c =

@@ -1,7 +1,7 @@
 -- `charts::arcs::bad_call` meets its contract: by the kind of the node.
 use mathlib.Core.Path.{sym, _∙_}
 use borrow.Author.Tests.{eq-eqb, ne-eqb, le-leb, lt-leb}
-use Rattle.charts.proofs.Cases.{operation-call, function-call, no-call}
+use Rattle.charts.proofs.NodeCases.{operation-call, function-call, no-call}
 use borrow.Author.Needs.{needs}
 use Rattle.charts.proofs.arcs.bad_call.Statement.{statement}
 use Rattle.charts.proofs.arcs.bad_call.Tie as tie

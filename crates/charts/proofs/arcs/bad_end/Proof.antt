@@ -1,6 +1,6 @@
 -- `charts::arcs::bad_end` meets its contract: by its tests in turn.
 use borrow.Author.Tests.{ne-eqb, le-leb, lt-leb}
-use Rattle.charts.proofs.Cases.{end-inside}
+use Rattle.charts.proofs.NodeCases.{end-inside}
 use borrow.Author.Needs.{needs}
 use Rattle.charts.proofs.arcs.bad_end.Statement.{statement}
 use Rattle.charts.proofs.arcs.bad_end.Tie as tie

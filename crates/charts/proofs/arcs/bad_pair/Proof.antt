@@ -1,5 +1,5 @@
 -- `charts::arcs::bad_pair` meets its contract: the two arcs in turn.
-use Rattle.charts.proofs.Cases.{pair-first, pair-second}
+use Rattle.charts.proofs.NodeCases.{pair-first, pair-second}
 use borrow.Author.Needs.{needs}
 use Rattle.charts.proofs.arcs.bad_pair.Statement.{statement}
 use Rattle.charts.proofs.arcs.bad_pair.Tie as tie

@@ -8,13 +8,13 @@ use native.Mathlib.Omega.{arith}
 use lib.ListN.{length}
 use Rattle.charts.specs.Check.{badField}
 use Rattle.charts.proofs.Nodes.{field-scheme}
-use Rattle.charts.proofs.PassLoops.{Counting, counting-none, begins-long, ends-long, counting-turn, counting-stop, counting-all}
+use Rattle.charts.proofs.PassLoops.{CountingNodes, counting-none, begins-long, ends-long, counting-turn, counting-stop, counting-all}
 use borrow.Author.Needs.{needs}
 use Rattle.charts.proofs.counts.count_schemes.Statement.{statement}
 use Rattle.charts.proofs.counts.count_schemes.Tie as tie
 
 abbrev Inv-loop : tie.InvT-loop
-Inv-loop records begins₀ ends₀ n highest₀ v₀ begins ends highest v = Counting records n v highest begins ends
+Inv-loop records begins₀ ends₀ n highest₀ v₀ begins ends highest v = CountingNodes records n v highest begins ends
 
 abbrev μ-loop : tie.MeasureT-loop
 μ-loop records begins₀ ends₀ n highest₀ v₀ begins ends highest v = n - v
@@ -44,13 +44,16 @@ bad-field-requires : tie.Need-bad-field-requires Inv-loop μ-loop
 bad-field-requires c κs = search needs
 
 same-length : tie.Need-same-length Inv-loop μ-loop
-same-length c = let t = c .before .before .before in begins-long _ _ _ _ _ _ (t .loop .inv) ∙ sym (ap (λ (xs : List ℕ). length xs) (start t .pre .1 .0))
+same-length c = let t = c .before .before .before in begins-long _ _ _ _ _ _ (t .loop .inv)
+    ∙ sym (ap (λ (xs : List ℕ). length xs) (start t .pre .1 .0))
 
 same-length-2 : tie.Need-same-length-2 Inv-loop μ-loop
-same-length-2 c = let t = c .before .before .before in ends-long _ _ _ _ _ _ (t .loop .inv) ∙ sym (ap (λ (xs : List ℕ). length xs) (start t .pre .1 .1))
+same-length-2 c = let t = c .before .before .before in ends-long _ _ _ _ _ _ (t .loop .inv)
+    ∙ sym (ap (λ (xs : List ℕ). length xs) (start t .pre .1 .1))
 
 returns : tie.Need-returns Inv-loop μ-loop
-returns c = counting-stop _ _ _ _ _ _ (c .before .before .before .loop .inv) (search needs) (sym (c .before .bad-field .ensures) ∙ c .if1 .taken)
+returns c = counting-stop _ _ _ _ _ _ (c .before .before .before .loop .inv) (search needs)
+    (sym (c .before .bad-field .ensures) ∙ c .if1 .taken)
 
 field-requires : tie.Need-field-requires Inv-loop μ-loop
 field-requires c κs = search needs

@@ -14,7 +14,12 @@ filled-from-requires : tie.Need-filled-from-requires
 filled-from-requires c κs = search needs
 
 returns-2 : tie.Need-returns-2
-returns-2 c = simp (c .filled-from .ensures, ← c .before .before .field .ensures, le-ltb 1 (c .before .before .field .result) (search needs))
+returns-2 c = simp (
+  c .filled-from .ensures,
+  ← c .before .before .field .ensures,
+  le-ltb
+      1 (c .before .before .field .result) (search needs),
+)
 
 pub bad-begin-spec : {M : Type 1} → statement M
 bad-begin-spec = tie.close (tie.spec field-requires returns filled-from-requires returns-2)

@@ -1,8 +1,9 @@
 -- `charts::fields::bad_use` meets its contract: by the kind.
 use Prim.Native.Nat.{ℕ}
 use mathlib.Core.Path.{sym, _∙_, ap}
+use Rattle.charts.specs.Layout.{kindOf}
 use Rattle.charts.specs.Check.{badUse}
-use Rattle.charts.proofs.Cases.{no-kind}
+use Rattle.charts.proofs.NodeCases.{no-kind}
 use borrow.Author.Needs.{needs}
 use Rattle.charts.proofs.fields.bad_use.Statement.{statement}
 use Rattle.charts.proofs.fields.bad_use.Tie as tie
@@ -25,35 +26,36 @@ filled-from-requires-2 c κs = search needs
 returns : tie.Need-returns
 returns c =
     c .bad-begin .ensures
-    ∙ ap (λ (k : ℕ). badUse (c .before .before .before .args .records .now) (c .before .before .before .args .v) k)
+    ∙ ap (λ (k : ℕ). badUse (c .before .before .before .args .records .now) (c .before .before .before .args .v) (kindOf k))
     (sym (c .before .match .keys1))
 
 returns-2 : tie.Need-returns-2
 returns-2 c =
     c .filled-from .ensures
-    ∙ ap (λ (k : ℕ). badUse (c .before .before .before .args .records .now) (c .before .before .before .args .v) k)
+    ∙ ap (λ (k : ℕ). badUse (c .before .before .before .args .records .now) (c .before .before .before .args .v) (kindOf k))
     (sym (c .before .match .keys2))
 
 returns-3 : tie.Need-returns-3
 returns-3 c =
     c .bad-operation .ensures
-    ∙ ap (λ (k : ℕ). badUse (c .before .before .before .args .records .now) (c .before .before .before .args .v) k)
+    ∙ ap (λ (k : ℕ). badUse (c .before .before .before .args .records .now) (c .before .before .before .args .v) (kindOf k))
     (sym (c .before .match .keys3))
 
 returns-4 : tie.Need-returns-4
 returns-4 c =
     c .bad-condition .ensures
-    ∙ ap (λ (k : ℕ). badUse (c .before .before .before .args .records .now) (c .before .before .before .args .v) k)
+    ∙ ap (λ (k : ℕ). badUse (c .before .before .before .args .records .now) (c .before .before .before .args .v) (kindOf k))
     (sym (c .before .match .keys4))
 
 returns-5 : tie.Need-returns-5
 returns-5 c =
     c .filled-from2 .ensures
-    ∙ ap (λ (k : ℕ). badUse (c .before .before .before .args .records .now) (c .before .before .before .args .v) k)
+    ∙ ap (λ (k : ℕ). badUse (c .before .before .before .args .records .now) (c .before .before .before .args .v) (kindOf k))
     (sym (c .before .match .keys5))
 
 returns-6 : tie.Need-returns-6
-returns-6 c = no-kind _ _ _ (c .match .rest .0 .0 .0 .0 .1) (c .match .rest .0 .0 .0 .1) (c .match .rest .0 .0 .1) (c .match .rest .0 .1) (c .match .rest .1)
+returns-6 c = no-kind _ _ _ (c .match .rest .0 .0 .0 .0 .1) (c .match .rest .0 .0 .0 .1)
+    (c .match .rest .0 .0 .1) (c .match .rest .0 .1) (c .match .rest .1)
 
 pub bad-use-spec : {M : Type 1} → statement M
 bad-use-spec =

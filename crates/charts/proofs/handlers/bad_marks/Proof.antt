@@ -46,7 +46,8 @@ loop-again c =
     let tried = c .before in
     let d = tried .before .before .loop .inv in
     let t = tried .marks-handler .ensures in
-    ⊎-elim (λ w. subst (Marking _ _ _) (sym (w .4)) (marking-mark _ _ _ _ d (search needs) (sym t ∙ w .0 .taken) _ (w .2 .ensures) (w .1 .left) (w .3 .left)))
+    ⊎-elim (λ w. subst (Marking _ _ _) (sym (w .4))
+    (marking-mark _ _ _ _ d (search needs) (sym t ∙ w .0 .taken) _ (w .2 .ensures) (w .1 .left) (w .3 .left)))
     (λ w. subst (Marking _ _ _) (sym (w .1)) (marking-pass _ _ _ _ d (search needs) (sym t ∙ w .0 .left)))
     (c .if1 .came)
 

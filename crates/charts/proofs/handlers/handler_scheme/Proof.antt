@@ -12,7 +12,8 @@ use Rattle.charts.proofs.handlers.handler_scheme.Statement.{statement}
 use Rattle.charts.proofs.handlers.handler_scheme.Tie as tie
 
 abbrev Inv-loop : tie.InvT-loop
-Inv-loop records n highest₀ v₀ highest v = (v ≤ n) × (n ≡ size records) × (highest ≡ Rattle.lists.specs.Numbers.highest (handlerAt records) 0 v)
+Inv-loop records n highest₀ v₀ highest v = (v ≤ n) × (n ≡ size records)
+    × (highest ≡ Rattle.lists.specs.Numbers.highest (handlerAt records) 0 v)
 
 abbrev μ-loop : tie.MeasureT-loop
 μ-loop records n highest₀ v₀ highest v = n - v

@@ -5,7 +5,7 @@ use mathlib.Core.Path.{_≡_, sym, _∙_, ap}
 use native.Mathlib.Omega.{arith}
 use Rattle.lists.specs.Numbers.{any}
 use Rattle.lists.proofs.Searches.{any-here, any-on, any-over}
-use Rattle.charts.specs.Counts.{notOne}
+use Rattle.charts.specs.inner.Counts.{notOne}
 use Rattle.charts.proofs.SchemeCounts.{one-each, not-begin, not-end}
 use Rattle.charts.proofs.schemes.any_not_one.Statement.{statement}
 use Rattle.charts.proofs.schemes.any_not_one.Tie as tie

@@ -33,8 +33,10 @@ returns : tie.Need-returns
 returns c =
     let a : List ℕ = now (c .before .before .before .args .out) in
     let i : ℕ = c .before .before .before .args .at in
-    let one : set a i (c .before .character .result) ≡ written a i (c .before .character .result ∷ []) = written-one a i (c .before .character .result) (omega arith) in
-    ap (λ (l : List ℕ). set l (i + 1) (c .character2 .result)) one ∙ written-snoc a i (c .before .character .result ∷ []) (c .character2 .result) (omega arith)
+    let one : set a i (c .before .character .result) ≡ written a i (c .before .character .result ∷ []) =
+    written-one a i (c .before .character .result) (omega arith) in
+    ap (λ (l : List ℕ). set l (i + 1) (c .character2 .result)) one
+    ∙ written-snoc a i (c .before .character .result ∷ []) (c .character2 .result) (omega arith)
     ∙ ap₂ (λ (x y : ℕ). written a i (x ∷ y ∷ [])) (c .before .character .ensures) (c .character2 .ensures)
 
 pub put-byte-spec : {M : Type 1} → statement M

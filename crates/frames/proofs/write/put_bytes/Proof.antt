@@ -3,12 +3,12 @@ use mathlib.Core.Path.{refl}
 use Prim.Native.Nat.{_-_}
 use lib.ListN.{length, getD}
 use borrow.Author.Needs.{needs}
-use Rattle.lists.proofs.Fills.{Values, values-none, values-turn, values-list}
+use Rattle.lists.proofs.Fills.{ValuesFrom, values-none, values-turn, values-list}
 use Rattle.frames.proofs.write.put_bytes.Statement.{statement}
 use Rattle.frames.proofs.write.put_bytes.Tie as tie
 
 abbrev Inv-loop : tie.InvT-loop
-Inv-loop out₀ at bytes n k₀ out k = Values (λ i. getD bytes i 0) out₀ out at (length bytes) k
+Inv-loop out₀ at bytes n k₀ out k = ValuesFrom (λ i. getD bytes i 0) out₀ out at (length bytes) k
 
 abbrev μ-loop : tie.MeasureT-loop
 μ-loop out₀ at bytes n k₀ out k = length bytes - k

@@ -58,7 +58,8 @@ loop-less c = search needs
 loop-again : tie.Need-loop-again Inv-loop μ-loop
 loop-again c =
     let put = c .before .before in
-    digits-turn _ _ _ _ _ _ _ (search needs) (turn put .loop .inv) (search needs) (small put) (put .put-byte .kept .0) (put .put-byte .ensures)
+    digits-turn _ _ _ _ _ _ _ (search needs) (turn put .loop .inv) (search needs) (small put)
+    (put .put-byte .kept .0) (put .put-byte .ensures)
 
 add-put-byte-2 : tie.Need-add-put-byte-2 Inv-loop μ-loop
 add-put-byte-2 c = search needs
@@ -84,7 +85,8 @@ same-length c = simp length-set (omega (arith, c .before .before .put-byte2 .kep
 returns : tie.Need-returns Inv-loop μ-loop
 returns c =
     let last = c .before .before in
-    digits-end _ _ _ _ _ _ _ (search needs) (last .before .before .before .loop .inv) (search needs) (search needs) (last .put-byte2 .ensures)
+    digits-end _ _ _ _ _ _ _ (search needs) (last .before .before .before .loop .inv)
+    (search needs) (search needs) (last .put-byte2 .ensures)
 
 pub put-frame-spec : {M : Type 1} → statement M
 put-frame-spec =

@@ -3,7 +3,7 @@ use mathlib.Core.Path.{_∙_, ap}
 use mathlib.Core.List.{List}
 use Prim.Native.Nat.{ℕ}
 use lib.Dec.{ltb}
-use Rattle.image.proofs.Cases.{counts-none, counts-many, counts-label, counts-rows}
+use Rattle.image.proofs.HeaderCases.{counts-none, counts-many, counts-label, counts-rows}
 use borrow.Author.Needs.{needs}
 use Rattle.image.proofs.counts.bad_counts.Statement.{statement}
 use Rattle.image.proofs.counts.bad_counts.Tie as tie

@@ -3,7 +3,7 @@ use mathlib.Core.Path.{_∙_, ap₂}
 use mathlib.Core.List.{List}
 use Prim.Native.Nat.{ℕ}
 use lib.Dec.{ltb}
-use Rattle.image.proofs.Cases.{handler-none, handler-first, handler-other}
+use Rattle.image.proofs.HeaderCases.{handler-none, handler-first, handler-other}
 use borrow.Author.Needs.{needs}
 use Rattle.image.proofs.counts.bad_handler.Statement.{statement}
 use Rattle.image.proofs.counts.bad_handler.Tie as tie

@@ -4,7 +4,7 @@ use mathlib.Core.Path.{_≡_, sym, _∙_}
 use Prim.Native.Nat.{_-_, _≤_}
 use Rattle.lists.proofs.Searches.{any-here, any-on, any-over}
 use Rattle.image.specs.Check.{filled}
-use Rattle.image.proofs.Cases.{unequal, equal}
+use Rattle.image.proofs.HeaderCases.{unequal, equal}
 use Rattle.image.proofs.table.filled_to.Statement.{statement}
 use Rattle.image.proofs.table.filled_to.Tie as tie
 
@@ -22,7 +22,8 @@ byte-requires c κs = search needs
 
 returns : tie.Need-returns Inv-loop μ-loop
 returns c =
-    sym (any-here _ _ _ (search needs) (unequal _ _ (λ e. c .if1 .taken (c .before .byte .ensures ∙ e)))) ∙ c .before .before .before .loop .inv .1
+    sym (any-here _ _ _ (search needs) (unequal _ _ (λ e. c .if1 .taken (c .before .byte .ensures ∙ e))))
+    ∙ c .before .before .before .loop .inv .1
 
 add-j : tie.Need-add-j Inv-loop μ-loop
 add-j c = search needs
@@ -31,8 +32,11 @@ loop-less : tie.Need-loop-less Inv-loop μ-loop
 loop-less c = search needs
 
 loop-again : tie.Need-loop-again Inv-loop μ-loop
-loop-again c =
-    (search needs, sym (any-on _ _ _ (search needs) (equal _ _ (sym (c .before .byte .ensures) ∙ c .if1 .left))) ∙ c .before .before .before .loop .inv .1)
+loop-again c = (
+  search needs,
+  sym (any-on _ _ _ (search needs) (equal _ _ (sym (c .before .byte .ensures) ∙ c .if1 .left)))
+      ∙ c .before .before .before .loop .inv .1,
+)
 
 returns-2 : tie.Need-returns-2 Inv-loop μ-loop
 returns-2 c = sym (any-over _ _ _ (search needs)) ∙ c .before .loop .inv .1

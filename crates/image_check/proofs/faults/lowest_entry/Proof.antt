@@ -1,13 +1,14 @@
 -- `image_check::faults::lowest_entry` meets its contract: the loop keeps what is left to search.
 use native.Mathlib.Omega.{arith}
 use Prim.Native.Nat.{_-_}
-use Rattle.image_check.specs.Parts.{faulty}
-use Rattle.image_check.proofs.FaultSearch.{Looking, looking-first, looking-found, looking-next, looking-over, first-holds, second-tells, entry-tests}
+use Rattle.image_check.specs.inner.CheckedFrames.{faulty}
+use Rattle.image_check.proofs.FaultSearch.{Looking, looking-first, looking-found, looking-next}
+use Rattle.image_check.proofs.FaultSearch.{looking-over, first-holds, second-tells, entry-tests}
 use borrow.Author.Needs.{needs}
 use mathlib.Core.Path.{_≡_}
 use mathlib.Core.Bool.{_||_}
 use Prim.Native.Nat.{_<_}
-use Rattle.image.specs.Check.{entryAt, strayFrame, badEntry}
+use Rattle.image.specs.Check.{entryPosition, strayFrame, badEntry}
 use Rattle.image_check.proofs.faults.lowest_entry.Statement.{statement}
 use Rattle.image_check.proofs.faults.lowest_entry.Tie as tie
 
@@ -19,7 +20,7 @@ abbrev μ-loop : tie.MeasureT-loop
 
 -- ---- the two tests in a turn of the loop
 tests : (c : tie.At-loop Inv-loop μ-loop) → let a = c .before .before .args in let b = a .table .now in let f = c .loop .f in f < a .end
-    → (strayFrame b f (entryAt f) || badEntry b f) ≡ faulty b f
+    → (strayFrame b f (entryPosition f) || badEntry b f) ≡ faulty b f
 tests c h =
     let a = c .before .before .args in
     entry-tests (a .table .now) (c .loop .f) (c .loop .inv .low) (omega (arith, c .before .before .pre))
@@ -45,7 +46,8 @@ returns-2 c =
     let straight = c .before .before in
     let turn = straight .before .before .before in
     looking-found _ _ _ _ (turn .loop .inv) (search needs)
-    (second-tells _ _ _ _ (straight .before .stray-entry .ensures) (tests turn (search needs)) (straight .if1 .left) _ (c .before .bad-entry .ensures) _ (c .if2 .taken))
+    (second-tells _ _ _ _ (straight .before .stray-entry .ensures) (tests turn (search needs))
+    (straight .if1 .left) _ (c .before .bad-entry .ensures) _ (c .if2 .taken))
 
 add-f : tie.Need-add-f Inv-loop μ-loop
 add-f c = search needs
@@ -58,7 +60,8 @@ loop-again c =
     let straight = c .before .before in
     let turn = straight .before .before .before in
     looking-next _ _ _ _ (turn .loop .inv) (search needs)
-    (second-tells _ _ _ _ (straight .before .stray-entry .ensures) (tests turn (search needs)) (straight .if1 .left) _ (c .before .bad-entry .ensures) _ (c .if2 .left))
+    (second-tells _ _ _ _ (straight .before .stray-entry .ensures) (tests turn (search needs))
+    (straight .if1 .left) _ (c .before .bad-entry .ensures) _ (c .if2 .left))
 
 returns-3 : tie.Need-returns-3 Inv-loop μ-loop
 returns-3 c = looking-over _ _ _ _ (c .before .loop .inv) (search needs)

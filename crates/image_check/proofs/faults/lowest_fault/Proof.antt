@@ -3,7 +3,7 @@ use mathlib.Core.Path.{_≡_, _∙_}
 use Prim.Native.Nat.{_-_}
 use Rattle.lists.specs.Numbers.{lowest}
 use Rattle.frames.specs.Frame.{size}
-use Rattle.image_check.specs.Parts.{faulty}
+use Rattle.image_check.specs.inner.CheckedFrames.{faulty}
 use Rattle.image_check.proofs.FaultSearch.{part-found, part-past, all-entries}
 use borrow.Author.Needs.{needs}
 use Rattle.image_check.proofs.faults.lowest_fault.Statement.{statement}
@@ -18,7 +18,8 @@ entries-good : (c : tie.Else1) → let b = start (c .before) .args .table .now i
     lowest (faulty b) labels (size b - labels) ≡ lowest (faulty b) 0 (size b)
 entries-good c =
     let b = start (c .before) .args .table .now in
-    part-past (faulty b) 1 _ (size b) _ (search needs) (search needs) (c .before .lowest-entry .ensures) (c .if1 .left) ∙ all-entries b (search needs)
+    part-past (faulty b) 1 _ (size b) _ (search needs) (search needs) (c .before .lowest-entry .ensures) (c .if1 .left)
+    ∙ all-entries b (search needs)
 
 -- ---- the needs
 labels-from-requires : tie.Need-labels-from-requires
@@ -30,7 +31,8 @@ lowest-entry-requires c κs = search needs
 returns : tie.Need-returns
 returns c =
     let b = start (c .before) .args .table .now in
-    part-found (faulty b) 1 _ (size b) _ (search needs) (search needs) (c .before .lowest-entry .ensures) (c .if1 .taken) ∙ all-entries b (search needs)
+    part-found (faulty b) 1 _ (size b) _ (search needs) (search needs) (c .before .lowest-entry .ensures) (c .if1 .taken)
+    ∙ all-entries b (search needs)
 
 rows-from-requires : tie.Need-rows-from-requires
 rows-from-requires c κs = search needs
@@ -41,7 +43,8 @@ lowest-label-requires c κs = search needs
 returns-2 : tie.Need-returns-2
 returns-2 c =
     let on = c .before .before .before in
-    part-found (faulty (start (on .before) .args .table .now)) _ _ _ _ (search needs) (search needs) (c .before .lowest-label .ensures) (c .if2 .taken)
+    part-found (faulty (start (on .before) .args .table .now)) _ _ _ _ (search needs)
+    (search needs) (c .before .lowest-label .ensures) (c .if2 .taken)
     ∙ entries-good on
 
 lowest-row-requires : tie.Need-lowest-row-requires

@@ -29,7 +29,8 @@ loop-less : tie.Need-loop-less Inv-loop μ-loop
 loop-less c = search needs
 
 loop-again : tie.Need-loop-again Inv-loop μ-loop
-loop-again c = searching-next _ _ _ (c .before .before .before .loop .inv) (search needs) (sym (c .before .stray-at .ensures) ∙ c .if1 .left)
+loop-again c = searching-next _ _ _ (c .before .before .before .loop .inv) (search needs)
+    (sym (c .before .stray-at .ensures) ∙ c .if1 .left)
 
 returns-2 : tie.Need-returns-2 Inv-loop μ-loop
 returns-2 c = searching-over _ _ _ (c .before .loop .inv) (search needs)

@@ -40,12 +40,14 @@ returns c = stray-entry _ _ _ (search needs) (c .stray-entry .ensures)
 returns-2 : tie.Need-returns-2
 returns-2 c =
     let a = start (c .before .before .before) .args in
-    stray-label _ _ _ _ (search needs) (label-above (a .table .now) (a .f) (search needs)) (c .before .labels-from .ensures) (c .stray-label .ensures)
+    stray-label _ _ _ _ (search needs) (label-above (a .table .now) (a .f) (search needs))
+    (c .before .labels-from .ensures) (c .stray-label .ensures)
 
 returns-3 : tie.Need-returns-3
 returns-3 c =
     let a = start (c .before .before .before) .args in
-    stray-row _ _ _ _ (search needs) (row-above (a .table .now) (a .f) (search needs)) (c .before .rows-from .ensures) (c .stray-row .ensures)
+    stray-row _ _ _ _ (search needs) (row-above (a .table .now) (a .f) (search needs))
+    (c .before .rows-from .ensures) (c .stray-row .ensures)
 
 returns-4 : tie.Need-returns-4
 returns-4 c = stray-header _ _ (search needs) (search needs) (search needs)

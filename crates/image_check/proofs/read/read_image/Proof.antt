@@ -49,7 +49,8 @@ slice-reshare-prefix-check-table : tie.Need-slice-reshare-prefix-check-table
 slice-reshare-prefix-check-table c = omega (arith, good (c .before) .most, read (c .before) .read-text .kept .1 .1 .0)
 
 slice-aggregate-check-table : tie.Need-slice-aggregate-check-table
-slice-aggregate-check-table c = let told = c .before .before in front-length (text told) _ _ _ (good told) (read told .read-text .ensures .1)
+slice-aggregate-check-table c = let told = c .before .before in
+    front-length (text told) _ _ _ (good told) (read told .read-text .ensures .1)
 
 check-table-requires : tie.Need-check-table-requires
 check-table-requires c κs =
@@ -62,8 +63,11 @@ same-length-2 c = search needs
 returns-2 : tie.Need-returns-2
 returns-2 c =
     let told = c .before .before .before in
-    let read-text = read told .read-text in
-    (read-done (text told) _ _ _ (good told) (read-text .ensures .1) (c .check-table .result) (c .check-table .ensures), read-text .ensures .1)
+    let read-text = read told .read-text in (
+      read-done (text told) _ _ _ (good told) (read-text .ensures .1) (c .check-table .result)
+          (c .check-table .ensures),
+      read-text .ensures .1,
+    )
 
 pub read-image-spec : {M : Type 1} → statement M
 read-image-spec =

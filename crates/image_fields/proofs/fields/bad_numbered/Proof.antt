@@ -4,7 +4,7 @@ use mathlib.Core.Bool.{false}
 use Prim.Native.Nat.{ℕ}
 use lib.Dec.{ltb}
 use Rattle.image.specs.Decode.{labelIn}
-use Rattle.image_fields.specs.Parts.{badKind}
+use Rattle.image_fields.specs.inner.FieldTests.{badKind}
 use Rattle.image_fields.proofs.FieldCases.{label-kind, label-unowned, label-owner, label-result}
 use borrow.Author.Needs.{needs}
 use Rattle.image_fields.proofs.fields.bad_numbered.Statement.{statement}
@@ -45,7 +45,8 @@ returns-3 : tie.Need-returns-3
 returns-3 c =
     let read = c .before .before .before in
     let a = owner read .args in
-    label-owner (a .table .now) (labelIn (a .table .now) (a .l)) (a .l) (search needs) (kind-good (read .before)) (search needs) (search needs)
+    label-owner (a .table .now) (labelIn (a .table .now) (a .l)) (a .l) (search needs)
+    (kind-good (read .before)) (search needs) (search needs)
 
 label-byte-requires-2 : tie.Need-label-byte-requires-2
 label-byte-requires-2 c κs = search needs
@@ -55,7 +56,8 @@ returns-4 c =
     let read = c .before .before .before .before in
     let a = owner read .args in
     ap (λ (n : ℕ). ltb 2 n) (c .label-byte2 .ensures)
-    ∙ label-result (a .table .now) (labelIn (a .table .now) (a .l)) (a .l) (search needs) (kind-good (read .before)) (search needs) (search needs)
+    ∙ label-result (a .table .now) (labelIn (a .table .now) (a .l)) (a .l) (search needs)
+    (kind-good (read .before)) (search needs) (search needs)
 
 pub bad-numbered-spec : {M : Type 1} → statement M
 bad-numbered-spec =

@@ -7,7 +7,7 @@ use Prim.Native.Nat.{ℕ, _+_}
 use Rattle.image.specs.Image.{Row}
 use Rattle.image.specs.Decode.{labelIn, rowIn, rowsFrom}
 use Rattle.image.specs.Check.{within, badBit}
-use Rattle.image_fields.specs.Parts.{badTest}
+use Rattle.image_fields.specs.inner.FieldTests.{badTest}
 use native.Mathlib.Omega.{arith}
 use Rattle.image_fields.proofs.FieldCases.{test-from, row-test, row-bit, row-next, row-filled, row-last, row-within}
 use borrow.Author.Needs.{needs}
@@ -108,7 +108,8 @@ returns-4 c =
     let bit = read next .before in
     let s = tested bit in
     row-last (table s) (s .args .k) _ _ (c .filled-to .ensures) (c .before .rows-from .ensures)
-    (row-filled (table s) (row s) (frame s) (test-good (bit .before .before)) (bit-good bit) (sym (leads next) ∙ not-false _ (good .if3 .left)))
+    (row-filled (table s) (row s) (frame s) (test-good (bit .before .before)) (bit-good bit)
+    (sym (leads next) ∙ not-false _ (good .if3 .left)))
 
 pub bad-row-spec : {M : Type 1} → statement M
 bad-row-spec =

@@ -32,10 +32,12 @@ returns-2 : tie.Need-returns-2
 returns-2 c = let a = owned (c .before) .args in within-owned (a .table .now) (a .h) (a .l) (search needs) (search needs)
 
 returns-3 : tie.Need-returns-3
-returns-3 c = let a = owned (c .before .before) .args in within-one (a .table .now) (a .h) (a .l) (search needs) (search needs) (search needs)
+returns-3 c = let a = owned (c .before .before) .args in
+    within-one (a .table .now) (a .h) (a .l) (search needs) (search needs) (search needs)
 
 returns-4 : tie.Need-returns-4
-returns-4 c = let a = owned (c .before .before) .args in within-other (a .table .now) (a .h) (a .l) (search needs) (search needs) (search needs)
+returns-4 c = let a = owned (c .before .before) .args in
+    within-other (a .table .now) (a .h) (a .l) (search needs) (search needs) (search needs)
 
 pub is-within-spec : {M : Type 1} → statement M
 is-within-spec =

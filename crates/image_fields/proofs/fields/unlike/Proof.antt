@@ -44,7 +44,8 @@ label-byte-requires-3 : tie.Need-label-byte-requires-3
 label-byte-requires-3 c κs = search needs
 
 returns-3 : tie.Need-returns-3
-returns-3 c = let s = third (c .before) in unlike-owner (s .args .kind) (s .args .owner) (label s) (search needs) (search needs) (search needs)
+returns-3 c = let s = third (c .before) in
+    unlike-owner (s .args .kind) (s .args .owner) (label s) (search needs) (search needs) (search needs)
 
 label-byte-requires-4 : tie.Need-label-byte-requires-4
 label-byte-requires-4 c κs = search needs

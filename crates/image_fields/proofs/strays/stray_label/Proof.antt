@@ -13,7 +13,8 @@ label-byte-requires c κs = search needs
 returns : tie.Need-returns
 returns c =
     let a = c .before .before .before .args in
-    other-kind (field (a .table .now) (labelsFrom (a .table .now) + a .l) 0) 17 (field (a .table .now) (labelsFrom (a .table .now) + a .l) 1) (a .l) (search needs)
+    other-kind (field (a .table .now) (labelsFrom (a .table .now) + a .l) 0) 17
+    (field (a .table .now) (labelsFrom (a .table .now) + a .l) 1) (a .l) (search needs)
 
 label-byte-requires-2 : tie.Need-label-byte-requires-2
 label-byte-requires-2 c κs = search needs

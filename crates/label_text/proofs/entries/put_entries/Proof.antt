@@ -2,8 +2,8 @@
 use Prim.Native.Nat.{_-_}
 use mathlib.Core.Path.{refl}
 use Rattle.lists.proofs.Fills.{Pieces, pieces-none, pieces-all}
-use Rattle.chart_labels.specs.Ready.{Begun}
-use Rattle.label_text.specs.Parts.{entryBytes}
+use Rattle.chart_labels.specs.inner.ChartContracts.{Begun}
+use Rattle.label_text.specs.inner.LabelBytes.{entryBytes}
 use Rattle.label_text.proofs.LabelPuts.{entries-turn}
 use borrow.Author.Needs.{needs}
 use Rattle.label_text.proofs.entries.put_entries.Statement.{statement}

@@ -1,6 +1,6 @@
 -- `label_text::put_labels`: the labels of the nodes before v stand in the buffer.
 use Prim.Native.Nat.{_-_}
-use Rattle.label_text.specs.Parts.{nodeLabelBytes}
+use Rattle.label_text.specs.inner.LabelBytes.{nodeLabelBytes}
 use Rattle.label_text.proofs.Puts.{Appended, appended-start, appended-room, appended-on, appended-done}
 use borrow.Author.Needs.{needs}
 use Rattle.label_text.proofs.label_frames.put_labels.Statement.{statement}

@@ -1,6 +1,6 @@
 -- `little_nodes::numbers::missing_count` meets its contract: two counts of 1 at most, added.
 use Rattle.little_nodes.proofs.Records.{both-small}
-use Rattle.little_search.specs.Search.{has}
+use Rattle.little_search.specs.inner.Search.{has}
 use borrow.Author.Needs.{needs}
 use Rattle.little_nodes.proofs.numbers.missing_count.Statement.{statement}
 use Rattle.little_nodes.proofs.numbers.missing_count.Tie as tie

@@ -3,7 +3,7 @@ use Prim.Native.Nat.{_+_, _-_, _≤_}
 use mathlib.Core.Path.{_≡_, sym, _∙_}
 use Rattle.lists.specs.Numbers.{any}
 use Rattle.lists.proofs.Searches.{any-here, any-on, any-over}
-use Rattle.little_search.specs.Search.{clashes}
+use Rattle.little_search.specs.inner.Search.{clashes}
 use Rattle.little_nodes.proofs.Tests.{any-start, clash-first, clash-second, clash-none}
 use borrow.Author.Needs.{needs}
 use Rattle.little_nodes.proofs.tried.any_clash.Statement.{statement}

@@ -6,7 +6,7 @@ use borrow.Author.Tests.{eq-eqb, ne-eqb}
 use Rattle.lists.specs.Numbers.{any}
 use Rattle.lists.proofs.Searches.{any-here, any-on, any-over}
 use Rattle.charts.specs.Chart.{is}
-use Rattle.little_search.specs.Search.{has}
+use Rattle.little_search.specs.inner.Search.{has}
 use Rattle.little_nodes.proofs.Tests.{any-start}
 use borrow.Author.Needs.{needs}
 use Rattle.little_nodes.proofs.tried.has_kind.Statement.{statement}

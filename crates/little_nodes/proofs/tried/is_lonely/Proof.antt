@@ -5,7 +5,7 @@ use mathlib.Core.Path.{_≡_, refl, sym, _∙_}
 use Rattle.lists.specs.Numbers.{any}
 use Rattle.lists.proofs.Searches.{any-here, any-on, any-over}
 use Rattle.frames.specs.Frame.{size}
-use Rattle.little_search.specs.Search.{leadsOther}
+use Rattle.little_search.specs.inner.Search.{leadsOther}
 use Rattle.little_nodes.proofs.Tests.{any-start, lonely-begin, lonely-by}
 use borrow.Author.Needs.{needs}
 use Rattle.little_nodes.proofs.tried.is_lonely.Statement.{statement}

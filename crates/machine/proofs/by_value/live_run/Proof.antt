@@ -33,7 +33,8 @@ returns c =
     let done = c .before .before .before .before .before in
     let made = done .before .before .before .before in
     let start = made .before .before .before .before .before in
-    live-run-value _ (sized start) (all-bits start) _ (made .bytes-of .ensures) _ _ _ _ _ _ _ _ _ (c .state-of .ensures) (done .live-run-bytes .ensures)
+    live-run-value _ (sized start) (all-bits start) _ (made .bytes-of .ensures) _ _ _ _ _ _ _
+    _ _ (c .state-of .ensures) (done .live-run-bytes .ensures)
 
 pub live-run-spec : {M : Type 1} → statement M
 live-run-spec =

@@ -27,7 +27,8 @@ returns c =
     let done = c .before in
     let made = done .before .before in
     let start = made .before .before in
-    live-tick-value _ (sized start) (all-bits start) _ (made .bytes-of .ensures) _ _ _ _ _ (c .state-of .ensures) (done .live-tick-bytes .ensures)
+    live-tick-value _ (sized start) (all-bits start) _ (made .bytes-of .ensures) _ _ _ _ _
+    (c .state-of .ensures) (done .live-tick-bytes .ensures)
 
 pub live-tick-spec : {M : Type 1} → statement M
 live-tick-spec =

@@ -33,7 +33,8 @@ returns c =
     let done = c .before .before .before .before .before in
     let made = done .before .before .before .before in
     let start = made .before .before .before .before .before in
-    run-value _ (sized start) (all-bits start) _ (made .bytes-of .ensures) _ _ _ _ _ _ _ _ _ (c .state-of .ensures) (done .run-bytes .ensures)
+    run-value _ (sized start) (all-bits start) _ (made .bytes-of .ensures) _ _ _ _ _ _
+    _ _ _ (c .state-of .ensures) (done .run-bytes .ensures)
 
 pub run-spec : {M : Type 1} → statement M
 run-spec =

@@ -50,7 +50,8 @@ returns-2 : tie.Need-returns-2
 returns-2 c =
     let done = c .before .before .before .before in
     let n = done .before .before .before .before .before in
-    live-runs _ _ _ (tried n .bad-table .ensures) _ _ _ _ (n .table-length .ensures) (n .before .if1 .left) _ _ _ _ (done .run-table .ensures)
+    live-runs _ _ _ (tried n .bad-table .ensures) _ _ _ _ (n .table-length .ensures)
+    (n .before .if1 .left) _ _ _ _ (done .run-table .ensures)
 
 pub live-run-bytes-spec : {M : Type 1} → statement M
 live-run-bytes-spec =

@@ -54,7 +54,8 @@ refused-requires c κs = search needs
 returns-2 : tie.Need-returns-2
 returns-2 c =
     let rows = c .before .before in
-    ap reply (c .refused .ensures) ∙ needed-wide _ _ _ (done (rows .before .before .before)) _ (rows .too-many-rows .ensures) (c .before .if1 .taken)
+    ap reply (c .refused .ensures)
+    ∙ needed-wide _ _ _ (done (rows .before .before .before)) _ (rows .too-many-rows .ensures) (c .before .if1 .taken)
 
 longest-chain-requires : tie.Need-longest-chain-requires
 longest-chain-requires c κs = read-ready _ _ _ (done (c .before .before .before .before))

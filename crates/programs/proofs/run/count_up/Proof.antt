@@ -1,12 +1,12 @@
 -- `programs::run::count_up` meets its contract: each place passed holds its own number.
 use Prim.Native.Nat.{_-_}
 use borrow.Author.Needs.{needs}
-use Rattle.programs.proofs.Runs.{Counted, counted-none, counted-turn, counted-all}
+use Rattle.programs.proofs.Runs.{CountedWords, counted-none, counted-turn, counted-all}
 use Rattle.programs.proofs.run.count_up.Statement.{statement}
 use Rattle.programs.proofs.run.count_up.Tie as tie
 
 abbrev Inv-loop : tie.InvT-loop
-Inv-loop all₀ i₀ all i = Counted all i
+Inv-loop all₀ i₀ all i = CountedWords all i
 
 abbrev μ-loop : tie.MeasureT-loop
 μ-loop all₀ i₀ all i = 64 - i

@@ -26,7 +26,11 @@ put-codes-requires : tie.Need-put-codes-requires
 put-codes-requires c κs =
     let told = c .before .before .before in
     let counts = done-count _ _ (told .answer .given .1) in
-    omega (arith, finished-room (start told .args .answer) (start told .args .codes .now) _ counts (start told .pre) (start told .args .out .now) (search needs))
+    omega (
+      arith,
+      finished-room (start told .args .answer) (start told .args .codes .now) _ counts
+          (start told .pre) (start told .args .out .now) (search needs),
+    )
 
 mul-result : tie.Need-mul-result
 mul-result c =
@@ -47,7 +51,11 @@ put-codes-requires-2 : tie.Need-put-codes-requires-2
 put-codes-requires-2 c κs =
     let told = c .before .before .before in
     let counts = refused-count _ _ _ _ (told .answer2 .given .1) in
-    omega (arith, finished-room (start-refused told .args .answer) (start-refused told .args .codes .now) _ counts (start-refused told .pre) (start-refused told .args .out .now) (search needs))
+    omega (
+      arith,
+      finished-room (start-refused told .args .answer) (start-refused told .args .codes .now) _ counts
+          (start-refused told .pre) (start-refused told .args .out .now) (search needs),
+    )
 
 mul-put-refusal : tie.Need-mul-put-refusal
 mul-put-refusal c =

@@ -27,7 +27,8 @@ returns c =
     let done = c .before in
     let made = done .before .before in
     let start = made .before .before in
-    rebind-value _ (whole start) (all-bits start) _ (made .bytes-of .ensures) _ _ _ _ _ _ (c .state-of .ensures) (done .rebind-bytes .ensures)
+    rebind-value _ (whole start) (all-bits start) _ (made .bytes-of .ensures) _ _ _ _ _
+    _ (c .state-of .ensures) (done .rebind-bytes .ensures)
 
 pub rebind-spec : {M : Type 1} → statement M
 rebind-spec =

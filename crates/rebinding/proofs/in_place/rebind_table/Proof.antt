@@ -1,4 +1,5 @@
--- `rebinding::in_place::rebind_table` meets its contract: the state is unfit, the rebinding is refused, or the byte of the number is written.
+-- `rebinding::in_place::rebind_table` meets its contract:
+-- the state is unfit, the rebinding is refused, or the byte of the number is written.
 use Rattle.rebinding.proofs.RebindCases.{unfit-rebinds, bad-rebinds, done-rebinds, number-within, scheme-most}
 use borrow.Author.Needs.{needs}
 use Rattle.rebinding.proofs.in_place.rebind_table.Statement.{statement}
@@ -30,7 +31,8 @@ cast-put-serving : tie.Need-cast-put-serving
 cast-put-serving c =
     let tried = c .before .before in
     let start = tried .before .before .before .before .before in
-    let most = scheme-most _ (start .pre) (start .args .number) (start .args .scheme) _ (tried .bad-rebinding .ensures) (c .before .if2 .left) in
+    let most = scheme-most _ (start .pre) (start .args .number) (start .args .scheme) _
+    (tried .bad-rebinding .ensures) (c .before .if2 .left) in
     search (needs, most)
 
 put-serving-requires : tie.Need-put-serving-requires

@@ -5,12 +5,12 @@ use Prim.Native.Nat.{_+_, _-_}
 use native.Mathlib.Omega.{arith}
 use Rattle.tables.specs.Table.{tableImage}
 use Rattle.grouping.proofs.Rounds.{holdsSame}
-use Rattle.grouping.proofs.TableRounds.{Filling, fill-start, fill-on, value-small, same-alike, first-all}
+use Rattle.grouping.proofs.TableRounds.{FillingClasses, fill-start, fill-on, value-small, same-alike, first-all}
 use Rattle.refining.proofs.first.first_classes.Statement.{statement}
 use Rattle.refining.proofs.first.first_classes.Tie as tie
 
 abbrev Inv-loop : tie.InvT-loop
-Inv-loop table classes₀ last l₀ classes l = Filling table (holdsSame (tableImage table)) classes last l
+Inv-loop table classes₀ last l₀ classes l = FillingClasses table (holdsSame (tableImage table)) classes last l
 
 abbrev μ-loop : tie.MeasureT-loop
 μ-loop table classes₀ last l₀ classes l = last + 1 - l
@@ -27,10 +27,18 @@ loop-holds c =
     fill-start _ _ _ _ (λ k. omega (arith, c .before .before .shared-slice-known .given k)) (start .pre .1) (c .last-label .ensures)
 
 lowest-same-requires : tie.Need-lowest-same-requires Inv-loop μ-loop
-lowest-same-requires c κs = (c .before .before .before .before .before .pre .0, omega (arith, c .before .loop .inv .small, c .loop-test .taken))
+lowest-same-requires c κs = (
+  c .before .before .before .before .before .pre .0,
+  omega
+      (arith, c .before .loop .inv .small, c .loop-test .taken),
+)
 
 cast-classes : tie.Need-cast-classes Inv-loop μ-loop
-cast-classes c = omega (arith, value-small _ _ _ _ _ (c .before .before .loop .inv) (search needs) _ (c .lowest-same .ensures ∙ same-alike _ _))
+cast-classes c = omega (
+  arith,
+  value-small _ _ _ _ _ (c .before .before .loop .inv)
+      (search needs) _ (c .lowest-same .ensures ∙ same-alike _ _),
+)
 
 slice-write-classes : tie.Need-slice-write-classes Inv-loop μ-loop
 slice-write-classes c = omega (arith, c .before .before .loop .inv .long, c .before .before .loop .inv .small, c .before .loop-test .taken)

@@ -1,5 +1,5 @@
 -- `grouping::first::is_same` meets its contract: field by field.
-use Rattle.tables.specs.Labels.{asLabel}
+use Rattle.tables.specs.inner.Labels.{asLabel}
 use Rattle.refining.proofs.SameCases.{same-1, same-2, same-3, same-4, same-5}
 use Rattle.refining.proofs.first.is_same.Statement.{statement}
 use Rattle.refining.proofs.first.is_same.Tie as tie

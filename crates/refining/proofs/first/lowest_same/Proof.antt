@@ -4,7 +4,7 @@ use mathlib.Core.Path.{_≡_, sym, _∙_}
 use Prim.Native.Nat.{_-_, _≤_}
 use Rattle.lists.specs.Numbers.{lowest}
 use Rattle.lists.proofs.Searches.{lowest-here, lowest-on, lowest-over, lowest-start}
-use Rattle.grouping.specs.Parts.{holdsSameOn}
+use Rattle.grouping.specs.inner.GroupingContracts.{holdsSameOn}
 use Rattle.refining.proofs.SameCases.{same-told}
 use Rattle.refining.proofs.first.lowest_same.Statement.{statement}
 use Rattle.refining.proofs.first.lowest_same.Tie as tie

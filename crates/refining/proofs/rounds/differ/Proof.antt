@@ -5,19 +5,19 @@ use Prim.Native.Nat.{ℕ, _-_, _≤_}
 use native.Mathlib.Nat.{sub-zero}
 use Rattle.lists.specs.Numbers.{any}
 use Rattle.lists.proofs.Searches.{any-here, any-on, any-over}
-use Rattle.grouping.specs.Parts.{differs}
+use Rattle.grouping.specs.inner.GroupingContracts.{classDiffers}
 use Rattle.refining.proofs.GroupSteps.{differs-yes, differs-no}
 use Rattle.refining.proofs.rounds.differ.Statement.{statement}
 use Rattle.refining.proofs.rounds.differ.Tie as tie
 
 abbrev Inv-loop : tie.InvT-loop
-Inv-loop classes next n l₀ l = (l ≤ n) × (any (differs classes next) l (n - l) ≡ any (differs classes next) 0 n)
+Inv-loop classes next n l₀ l = (l ≤ n) × (any (classDiffers classes next) l (n - l) ≡ any (classDiffers classes next) 0 n)
 
 abbrev μ-loop : tie.MeasureT-loop
 μ-loop classes next n l₀ l = n - l
 
 loop-holds : tie.Need-loop-holds Inv-loop μ-loop
-loop-holds c = (search needs, ap (λ (k : ℕ). any (differs (c .args .classes .now) (c .args .next .now)) 0 k) (sub-zero (c .args .n)))
+loop-holds c = (search needs, ap (λ (k : ℕ). any (classDiffers (c .args .classes .now) (c .args .next .now)) 0 k) (sub-zero (c .args .n)))
 
 shared-slice-read-if1 : tie.Need-shared-slice-read-if1 Inv-loop μ-loop
 shared-slice-read-if1 c = search needs

@@ -4,19 +4,22 @@ use mathlib.Core.Path.{refl, sym, _∙_}
 use Prim.Native.Nat.{_-_}
 use native.Mathlib.Omega.{arith}
 use Rattle.lists.proofs.Tests.{not-true}
-use Rattle.refining.proofs.GroupSteps.{Rounding, rounding-start, rounding-refined, rounding-room, rounding-on, rounding-rest, rounding-all}
+use Rattle.refining.proofs.GroupSteps.{Rounding, rounding-start, rounding-refined, rounding-room}
+use Rattle.refining.proofs.GroupSteps.{rounding-on, rounding-rest, rounding-all}
 use Rattle.grouping.proofs.Marked.{ones-long}
 use Rattle.refining.proofs.rounds.group_in.Statement.{statement}
 use Rattle.refining.proofs.rounds.group_in.Tie as tie
 
 abbrev Inv-loop : tie.InvT-loop
-Inv-loop table classes₀ next₀ marks₀ touched₀ kept₀ n k₀ classes next marks touched kept k = Rounding table classes next marks touched kept n k
+Inv-loop table classes₀ next₀ marks₀ touched₀ kept₀ n k₀ classes next marks touched kept k =
+    Rounding table classes next marks touched kept n k
 
 abbrev μ-loop : tie.MeasureT-loop
 μ-loop table classes₀ next₀ marks₀ touched₀ kept₀ n k₀ classes next marks touched kept k = n - k
 
 first-classes-requires : tie.Need-first-classes-requires Inv-loop μ-loop
-first-classes-requires c κs = let start = c .before .before .before .before .before .before .before in (start .pre .0 .whole, start .pre .1 .0 .0)
+first-classes-requires c κs = let start = c .before .before .before .before .before .before .before in
+    (start .pre .0 .whole, start .pre .1 .0 .0)
 
 last-label-requires : tie.Need-last-label-requires Inv-loop μ-loop
 last-label-requires c κs = c .before .before .before .before .before .before .before .before .before .before .pre .0 .whole
@@ -31,7 +34,8 @@ loop-holds : tie.Need-loop-holds Inv-loop μ-loop
 loop-holds c =
     let known = c .before .before .before .before .before .before .before .before .before .before in
     let given = known .before .pre .1 in
-    rounding-start _ (λ k. omega (arith, known .shared-slice-known .given k)) _ _ _ _ _ _ _ (c .last-label .ensures) refl (given .0 .1) (given .0 .2)
+    rounding-start _ (λ k. omega (arith, known .shared-slice-known .given k)) _ _ _ _ _ _ _
+    (c .last-label .ensures) refl (given .0 .1) (given .0 .2)
     (given .1 .0) (given .1 .1) (c .before .before .before .first-classes .ensures)
 
 refine-requires : tie.Need-refine-requires Inv-loop μ-loop
@@ -81,7 +85,8 @@ returns : tie.Need-returns Inv-loop μ-loop
 returns c =
     let refined = c .before .before .before .before .before .before in
     let turn = refined .before .before .before .before .before .before .loop .inv in
-    rounding-rest _ _ _ _ _ _ _ _ turn _ (refined .refine .ensures) (search needs) _ (c .before .differ .ensures) (not-true _ (c .if1 .taken))
+    rounding-rest _ _ _ _ _ _ _ _ turn _ (refined .refine .ensures) (search needs) _
+    (c .before .differ .ensures) (not-true _ (c .if1 .taken))
 
 mark-parted-requires : tie.Need-mark-parted-requires Inv-loop μ-loop
 mark-parted-requires c κs =
@@ -97,7 +102,8 @@ mark-parted-requires c κs =
 
 put-bytes-requires : tie.Need-put-bytes-requires Inv-loop μ-loop
 put-bytes-requires c κs =
-    let refined = c .before .before .before .before .before .before .before .before .before .before .before .before .before .before .before .before .before .before .before .before in
+    let refined = c .before .before .before .before .before .before .before .before .before .before .before
+    .before .before .before .before .before .before .before .before .before in
     let turn = refined .before .before .before .before .before .before .loop .inv in
     omega (arith, turn .now .long, rounding-room _ _ _ _ _ _ _ _ turn _ (refined .refine .ensures))
 
@@ -112,7 +118,8 @@ loop-again c =
     let marked = c .before .before .before .before .before .before .before .before .before .before .before in
     let refined = marked .before .before .before .before .before .before .before .before .before .before .before .before in
     let turn = refined .before .before .before .before .before .before .loop .inv in
-    rounding-on _ _ _ _ _ _ _ _ turn _ (refined .refine .ensures) (search needs) _ _ _ (marked .mark-parted .ensures .0) (marked .mark-parted .ensures .1) _
+    rounding-on _ _ _ _ _ _ _ _ turn _ (refined .refine .ensures) (search needs) _ _ _
+    (marked .mark-parted .ensures .0) (marked .mark-parted .ensures .1) _
     (c .before .before .put-bytes .ensures)
 
 same-length-6 : tie.Need-same-length-6 Inv-loop μ-loop

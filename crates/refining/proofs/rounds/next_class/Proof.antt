@@ -6,7 +6,7 @@ use native.Mathlib.Omega.{arith}
 use lib.ListN.{getD}
 use Rattle.lists.specs.Numbers.{lowest}
 use Rattle.lists.proofs.Searches.{lowest-here, lowest-on, lowest-over}
-use Rattle.grouping.specs.Parts.{leadsClass, nextClass}
+use Rattle.grouping.specs.inner.GroupingContracts.{leadsClass, nextClass}
 use Rattle.refining.proofs.rounds.next_class.Statement.{statement}
 use Rattle.refining.proofs.rounds.next_class.Tie as tie
 
@@ -18,7 +18,8 @@ abbrev μ-loop : tie.MeasureT-loop
 μ-loop table schemes classes next marks touched l m₀ m = l - m
 
 shared-slice-read-m : tie.Need-shared-slice-read-m Inv-loop μ-loop
-shared-slice-read-m c = let start = c .before .before .before .before .before .before in omega (arith, start .pre .0 .long, start .pre .1 .2)
+shared-slice-read-m c = let start = c .before .before .before .before .before .before in
+    omega (arith, start .pre .0 .long, start .pre .1 .2)
 
 cast-m : tie.Need-cast-m Inv-loop μ-loop
 cast-m c = search needs
@@ -32,7 +33,8 @@ leads-class-requires c κs =
     (start .pre .0, (start .pre .1 .0, omega (arith, start .pre .0 .low, c .before .loop .inv .0), c .loop-test .taken, start .pre .1 .2))
 
 returns : tie.Need-returns Inv-loop μ-loop
-returns c = sym (lowest-here _ _ _ (search needs) (sym (c .before .leads-class .ensures) ∙ c .if1 .taken)) ∙ c .before .before .before .loop .inv .2
+returns c = sym (lowest-here _ _ _ (search needs) (sym (c .before .leads-class .ensures) ∙ c .if1 .taken))
+    ∙ c .before .before .before .loop .inv .2
 
 add-m : tie.Need-add-m Inv-loop μ-loop
 add-m c = search needs

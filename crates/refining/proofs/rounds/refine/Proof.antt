@@ -4,7 +4,8 @@ use mathlib.Core.Path.{sym, _∙_}
 use Prim.Native.Nat.{_+_, _-_}
 use native.Mathlib.Omega.{arith}
 use lib.ListN.{length-set}
-use Rattle.refining.proofs.GroupSteps.{Refining, refining-start, refining-asks, refining-below, refining-small, refining-on, refining-all}
+use Rattle.refining.proofs.GroupSteps.{Refining, refining-start, refining-asks, refining-below}
+use Rattle.refining.proofs.GroupSteps.{refining-small, refining-on, refining-all}
 use Rattle.refining.proofs.rounds.refine.Statement.{statement}
 use Rattle.refining.proofs.rounds.refine.Tie as tie
 
@@ -56,7 +57,11 @@ cast-next c =
     omega (arith, refining-small _ (start .pre .0) _ _ _ _ (turn .loop .inv) (search needs) _ (c .next-class .ensures))
 
 slice-write-next-3 : tie.Need-slice-write-next-3 Inv-loop μ-loop
-slice-write-next-3 c = omega (arith, c .before .before .before .loop .inv .filled .long, c .before .before .before .loop .inv .filled .small)
+slice-write-next-3 c = omega (
+  arith,
+  c .before .before .before .loop .inv .filled .long,
+  c .before .before .before .loop .inv .filled .small,
+)
 
 add-l : tie.Need-add-l Inv-loop μ-loop
 add-l c = search needs
@@ -71,10 +76,12 @@ loop-again c =
     refining-on _ (start .pre .0) _ _ _ _ (turn .loop .inv) (search needs) _ (c .next-class .ensures)
 
 same-length : tie.Need-same-length Inv-loop μ-loop
-same-length c = c .before .loop .inv .filled .long ∙ sym (c .before .before .before .before .before .before .before .before .before .pre .1 .0 .1)
+same-length c = c .before .loop .inv .filled .long
+    ∙ sym (c .before .before .before .before .before .before .before .before .before .pre .1 .0 .1)
 
 returns : tie.Need-returns Inv-loop μ-loop
-returns c = refining-all _ (c .before .before .before .before .before .before .before .before .before .pre .0) _ _ _ _ (c .before .loop .inv) (search needs)
+returns c = refining-all _ (c .before .before .before .before .before .before .before .before .before .pre .0)
+    _ _ _ _ (c .before .loop .inv) (search needs)
 
 pub refine-spec : {M : Type 1} → statement M
 refine-spec =

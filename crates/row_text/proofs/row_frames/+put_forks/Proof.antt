@@ -7,12 +7,13 @@ use Rattle.frames.specs.Frame.{size}
 use Rattle.charts.proofs.Rank.{rank}
 use Rattle.walk.specs.Stops.{stops}
 use Rattle.chart_rows.specs.Rows.{paths}
-use Rattle.row_text.specs.Parts.{rowsBytes}
-use Rattle.chart_rows.specs.Parts.{number}
+use Rattle.row_text.specs.inner.RowBytes.{rowsBytes}
+use Rattle.chart_rows.specs.inner.NodeRows.{testedNumber}
 use Rattle.chart_rows.proofs.NumberLaws.{high-stops, low-goes, low-number}
 use Rattle.chart_rows.proofs.Settled.{Settled, is-settled}
 use Rattle.chart_rows.proofs.PathCases.{New, Fork, new-small, fork}
-use Rattle.row_text.proofs.RowPuts.{leaf-room, leaf-done, at-end, Walked, walked-start, walked-room, walked-long, walked-done, low-room, walked-on}
+use Rattle.row_text.proofs.RowPuts.{leaf-room, leaf-done, at-end, PutAlong, walked-start, walked-room}
+use Rattle.row_text.proofs.RowPuts.{walked-long, walked-done, low-room, walked-on}
 use borrow.Author.Needs.{needs}
 use native.Mathlib.Omega.{arith}
 use Prim.Native.Nat.{ℕ, _+_, _≤_, _<_}
@@ -33,7 +34,7 @@ measure κs a = rank (a .0 .now) (a .1 .1 .0)
 
 abbrev Inv-loop : lts.InvT-loop
 Inv-loop records notes node care values from bit out₀ at place₀ tested₀ valued₀ next₀ out place tested valued next =
-    Walked records notes (rowsBytes (paths (size records) records from bit care values node)) out₀ out at place from bit
+    PutAlong records notes (rowsBytes (paths (size records) records from bit care values node)) out₀ out at place from bit
     (rank records node) tested valued next
 
 abbrev μ-loop : lts.MeasureT-loop
@@ -76,7 +77,7 @@ module _ (t : ℕ) where
   arrived c = let path = c .before .loop .inv .path in is-settled _ (path .noted .chart .ready) _ _ _ _ (path .entered) (c .settle .ensures)
 
   noted : (c : At lts.After-settle) → let a = start (c .before) .args in
-      getD (a .notes .now) (256 + c .settle .result) 0 ≡ number (a .records .now) (c .settle .result)
+      getD (a .notes .now) (256 + c .settle .result) 0 ≡ testedNumber (a .records .now) (c .settle .result)
   noted c = c .before .loop .inv .path .noted .numbers _ (arrived c .entered .inside)
 
   stopped : (c : At lts.Then1) → let here = c .before .before in

@@ -5,8 +5,8 @@ use lib.ListN.{getD}
 use Rattle.frames.specs.Frame.{size}
 use Rattle.chart_labels.specs.Labels.{label}
 use Rattle.chart_rows.specs.Rows.{paths, rowsOf}
-use Rattle.row_text.specs.Parts.{rowsBytes, nodeRowsBytes}
-use Rattle.chart_rows.specs.Parts.{sides, nodeRows}
+use Rattle.row_text.specs.inner.RowBytes.{rowsBytes, nodeRowsBytes}
+use Rattle.chart_rows.specs.inner.NodeRows.{sides, nodeRows}
 use Rattle.chart_rows.proofs.NumberLaws.{small-number}
 use Rattle.chart_rows.proofs.RowSteps.{no-rows, own-rows, own-mask, other-entered, function-kind}
 use Rattle.label_text.proofs.Puts.{nothing-put, room-as, done-as}

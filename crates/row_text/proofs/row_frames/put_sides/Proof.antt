@@ -4,8 +4,8 @@ use lib.ListN.{getD}
 use Rattle.frames.specs.Frame.{size}
 use Rattle.chart_labels.specs.Labels.{label}
 use Rattle.chart_rows.specs.Rows.{paths}
-use Rattle.row_text.specs.Parts.{rowsBytes}
-use Rattle.chart_rows.specs.Parts.{sides}
+use Rattle.row_text.specs.inner.RowBytes.{rowsBytes}
+use Rattle.chart_rows.specs.inner.NodeRows.{sides}
 use Rattle.chart_rows.proofs.RowSteps.{side-entered0, side-entered1}
 use Rattle.label_text.proofs.Puts.{Parted, both-first, both-second, both-done}
 use Rattle.row_text.proofs.RowPuts.{sides-text}

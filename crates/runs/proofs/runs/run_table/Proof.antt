@@ -72,7 +72,8 @@ returns-3 c =
     let r = room done in
     let f = fit r in
     ran-answer _ _ _ _ _ _ (f .is-unfit .ensures) (r .before .before .before .if1 .left) _ (r .no-room .ensures)
-    (done .before .before .before .before .if2 .left) (done .tick-all .result) _ _ _ _ (done .tick-all .ensures) (tidy .tidy-results .ensures) _
+    (done .before .before .before .before .if2 .left) (done .tick-all .result) _ _ _ _
+    (done .tick-all .ensures) (tidy .tidy-results .ensures) _
     (done-replied _ _ (c .if3 .taken))
 
 same-length-5 : tie.Need-same-length-5
@@ -88,7 +89,8 @@ returns-4 c =
     let r = room done in
     let f = fit r in
     ran-answer _ _ _ _ _ _ (f .is-unfit .ensures) (r .before .before .before .if1 .left) _ (r .no-room .ensures)
-    (done .before .before .before .before .if2 .left) (done .tick-all .result) _ _ _ _ (done .tick-all .ensures) (tidy .tidy-results .ensures) _
+    (done .before .before .before .before .if2 .left) (done .tick-all .result) _ _ _ _
+    (done .tick-all .ensures) (tidy .tidy-results .ensures) _
     (stopped-replied _ _ (c .if3 .left))
 
 pub run-table-spec : {M : Type 1} → statement M

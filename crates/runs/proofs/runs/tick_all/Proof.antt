@@ -3,12 +3,12 @@ use borrow.Author.Needs.{needs}
 use Prim.Native.Nat.{_-_}
 use native.Mathlib.Omega.{arith}
 use lib.ListN.{length}
-use Rattle.runs.proofs.TurnCases.{Turn, turn-start, turn-on, turn-stood, turn-over}
+use Rattle.runs.proofs.TurnCases.{RunTurn, turn-start, turn-on, turn-stood, turn-over}
 use Rattle.runs.proofs.runs.tick_all.Statement.{statement}
 use Rattle.runs.proofs.runs.tick_all.Tie as tie
 
 abbrev Inv-loop : tie.InvT-loop
-Inv-loop table bytes₀ words masks₀ codes₀ schemes last i₀ bytes masks codes i = Turn table bytes₀ words masks₀ codes₀ bytes masks codes i
+Inv-loop table bytes₀ words masks₀ codes₀ schemes last i₀ bytes masks codes i = RunTurn table bytes₀ words masks₀ codes₀ bytes masks codes i
 
 abbrev μ-loop : tie.MeasureT-loop
 μ-loop table bytes₀ words masks₀ codes₀ schemes last i₀ bytes masks codes i = length words - i
@@ -57,7 +57,8 @@ same-length-2 c = turned (c .before) .loop .inv .sizeCodes
 returns : At tie.Need-returns
 returns c =
     let done = c .before in
-    turn-stood (turned done .loop .inv) (begun done .pre .room) (search needs) (done .tick-on .result) _ (done .tick-on .ensures) (c .if1 .taken)
+    turn-stood (turned done .loop .inv) (begun done .pre .room) (search needs)
+    (done .tick-on .result) _ (done .tick-on .ensures) (c .if1 .taken)
 
 mul-masks : At tie.Need-mul-masks
 mul-masks c = search needs
@@ -77,7 +78,8 @@ loop-less c = search needs
 loop-again : At tie.Need-loop-again
 loop-again c =
     let done = c .before in
-    turn-on (turned done .loop .inv) (begun done .pre .room) (search needs) (done .tick-on .result) _ (done .tick-on .ensures) (c .if1 .left)
+    turn-on (turned done .loop .inv) (begun done .pre .room) (search needs)
+    (done .tick-on .result) _ (done .tick-on .ensures) (c .if1 .left)
 
 same-length-3 : At tie.Need-same-length-3
 same-length-3 c = c .before .loop .inv .sizeMasks

@@ -25,7 +25,11 @@ own-binding-requires : tie.Need-own-binding-requires
 own-binding-requires c κs = search needs
 
 cast-t14 : tie.Need-cast-t14
-cast-t14 c = search (needs, size-most (c .before .before .before .args .size) (sym (c .before .before .bad-size .ensures) ∙ c .before .if1 .left))
+cast-t14 c = search (
+  needs,
+  size-most (c .before .before .before .args .size)
+      (sym (c .before .before .bad-size .ensures) ∙ c .before .if1 .left),
+)
 
 returns-2 : tie.Need-returns-2
 unfolding freshState

@@ -19,7 +19,8 @@ bad-handler-requires c κs = search needs
 
 returns-3 : tie.Need-returns-3
 returns-3 c =
-    header-handler (c .before .before .before .before .before .before .args .table .now) (sym (c .before .bad-handler .ensures) ∙ c .if3 .taken)
+    header-handler (c .before .before .before .before .before .before .args .table .now)
+    (sym (c .before .bad-handler .ensures) ∙ c .if3 .taken)
 
 table-end-requires : tie.Need-table-end-requires
 table-end-requires c κs = search needs

@@ -17,10 +17,12 @@ label-read-requires : tie.Need-label-read-requires
 label-read-requires c κs = search needs
 
 returns-2 : tie.Need-returns-2
-returns-2 c = let start = c .before .before .before .before in label-home (start .args .table .now) (start .args .l) (search needs) (search needs)
+returns-2 c = let start = c .before .before .before .before in
+    label-home (start .args .table .now) (start .args .l) (search needs) (search needs)
 
 returns-3 : tie.Need-returns-3
-returns-3 c = let start = c .before .before .before .before in label-return (start .args .table .now) (start .args .l) (search needs) (search needs)
+returns-3 c = let start = c .before .before .before .before in
+    label-return (start .args .table .now) (start .args .l) (search needs) (search needs)
 
 returns-4 : tie.Need-returns-4
 returns-4 c = search needs

@@ -22,7 +22,8 @@ mask-read-requires c κs = search needs
 returns : tie.Need-returns
 returns c =
     let called = c .before .before .before in
-    label-made _ _ (called .before .before .before .pre .label) _ _ _ _ _ (called .before .kind-read .ensures) (called .called-read .ensures)
+    label-made _ _ (called .before .before .before .pre .label) _ _ _ _ _
+    (called .before .kind-read .ensures) (called .called-read .ensures)
     (c .before .before .field-of .ensures) (c .before .field-of2 .ensures) (c .mask-read .ensures)
 
 pub label-read-spec : {M : Type 1} → statement M

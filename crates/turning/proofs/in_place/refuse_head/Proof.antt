@@ -23,7 +23,8 @@ turned-back-requires-2 c κs = search needs
 returns-2 : tie.Need-returns-2
 returns-2 c =
     let ticked = c .before in
-    tick-refused _ _ _ (ticked .before .before .if1 .left) _ (ticked .tick-bytes .ensures .answered ∙ no-size _ _ 0 refl) _ (c .turned-back2 .ensures)
+    tick-refused _ _ _ (ticked .before .before .if1 .left) _ (ticked .tick-bytes .ensures .answered ∙ no-size _ _ 0 refl)
+    _ (c .turned-back2 .ensures)
 
 pub refuse-head-spec : {M : Type 1} → statement M
 refuse-head-spec =

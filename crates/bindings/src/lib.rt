@@ -1,0 +1,1 @@
+// Which scheme serves each scheme number.

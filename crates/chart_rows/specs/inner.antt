@@ -1,0 +1,2 @@
+pub mod NodeRows
+pub mod PathContracts

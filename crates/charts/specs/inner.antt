@@ -1,0 +1,4 @@
+pub mod Counts
+pub mod Finished
+pub mod Found
+pub mod Marks

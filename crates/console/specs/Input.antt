@@ -1,8 +1,0 @@
--- What can be said of a read: its count lies within the buffer.
-use Prim.Native.Nat.{ℕ, _≤_}
-use Rattle.console.specs.declared.Input.{Input}
-use Rattle.console.specs.declared.Input.the-variants.{Text, Failed}
-
-abbrev pub Within : Input → ℕ → Type 0
-Within (Text n) m = n ≤ m
-Within Failed m = Unit {0}

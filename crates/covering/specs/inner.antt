@@ -1,0 +1,2 @@
+pub mod CoveringContracts
+pub mod Sizes

@@ -1,0 +1,2 @@
+pub mod TextContracts
+pub mod Pieces

@@ -1,0 +1,2 @@
+pub mod LabelBytes
+pub mod LabelContracts

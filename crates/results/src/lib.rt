@@ -1,0 +1,1 @@
+// The result bits, one for each scheme number.

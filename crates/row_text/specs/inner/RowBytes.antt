@@ -1,0 +1,17 @@
+-- Rows as bytes, as the functions that write them have them, node by node.
+use Prim.Native.Nat.{ℕ}
+use mathlib.Core.List.{List}
+use Rattle.lists.specs.Sequences.{concatMap}
+use Rattle.charts.specs.Chart.{Chart}
+use Rattle.image.specs.Image.{Row, rowFrame}
+use Rattle.chart_rows.specs.inner.NodeRows.{nodeRows}
+
+abbrev pub makeRow : ℕ → ℕ → ℕ → ℕ → ℕ → Row
+makeRow l care values f n = record { from = l; care = care; values = values; bit = f; next = n }
+
+abbrev pub rowsBytes : List Row → List ℕ
+rowsBytes = concatMap rowFrame
+
+-- the frames of the rows of node v
+abbrev pub nodeRowsBytes : Chart → ℕ → List ℕ
+nodeRowsBytes c v = rowsBytes (nodeRows c v)

@@ -1,0 +1,2 @@
+pub mod ImageBytes
+pub mod TranslatorContracts
