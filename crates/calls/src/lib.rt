@@ -13,6 +13,7 @@ use state_results::serving_of;
 use tables::entry_of;
 use tables::label_read;
 use ticks::TickEnd;
+use ticks::TickMove;
 ghost use mathlib.Core.Path.{_≡_};
 ghost use Rattle.image.specs.Decode.{schemeCount};
 ghost use Rattle.tables.specs.Table.{tableImage};
@@ -20,6 +21,8 @@ ghost use Rattle.tables.specs.inner.Asked.{Whole};
 ghost use Rattle.state.specs.State.{entryAt};
 ghost use Rattle.state.specs.Bytes.{stateOf};
 ghost use Rattle.ticks.specs.inner.TickContracts.{TopCalls, GivesTickEnd};
+ghost use Rattle.ticks.specs.Tick.{topOf};
+ghost use Rattle.ticks.specs.inner.TickContracts.{GivesTickMove};
 
 // The entry of the scheme that serves, 0 where the table has none of that number.
 fn server_entry(table: &[u8], schemes: u8, server: u8) -> u8
@@ -36,17 +39,29 @@ fn server_entry(table: &[u8], schemes: u8, server: u8) -> u8
 // A call: the entry of the scheme that serves the number called goes above the top,
 // and the number's bit is cleared after the caller's result is
 // written.
-pub fn tick_call(table: &[u8], schemes: u8, bytes: &mut [u8; STATE_BYTES], word: u16) -> TickEnd
+pub fn tick_call(
+    table: &[u8],
+    schemes: u8,
+    bytes: &mut [u8; STATE_BYTES],
+    l: u8,
+    word: u16,
+) -> TickMove
     requires { ⌜ TopCalls (now table) (stateOf (now bytes)) ⌝ }
     requires { ⌜ schemes ≡ schemeCount (now table) ⌝ }
-    ensures { λ r. ⌜ GivesTickEnd (now (table .entry)) (now (bytes .entry)) word r (now (bytes .exit)) ⌝ }
+    requires { ⌜ l ≡ topOf (stateOf (now bytes)) ⌝ }
+    ensures { λ r. ⌜ GivesTickMove (now (table .entry)) (now (bytes .entry)) word r (now (bytes .exit)) ⌝ }
 {
     let depth = depth_of(bytes);
     if size_of(bytes) <= depth {
-        return tick_full(table, schemes, bytes, word);
+        let step = tick_full(table, schemes, bytes, word);
+        let bottom = place_of(bytes, 0);
+        return TickMove {
+            step,
+            label: bottom,
+        };
     }
     let top = (depth as usize) - 1;
-    let label = label_read(table, schemes, place_of(bytes, top) as usize);
+    let label = label_read(table, schemes, l as usize);
     let called = label.called;
     let server = serving_of(bytes, called);
     let entry = server_entry(table, schemes, server);
@@ -55,9 +70,10 @@ pub fn tick_call(table: &[u8], schemes: u8, bytes: &mut [u8; STATE_BYTES], word:
     put_result(bytes, 1, called);
     open_place(bytes, depth as usize, entry, called, server);
     put_depth(bytes, depth + 1);
-    TickEnd {
+    let step = TickEnd {
         number: 0,
         mask: label.mask,
         code: code_of(label.kind, called),
-    }
+    };
+    TickMove { step, label: entry }
 }

@@ -1,5 +1,6 @@
 // The tick of a return, in place.
 use frames::codes::RETURN_CODE;
+use image::layout::NO_BIT;
 use rows::next_row;
 use state::layout::STATE_BYTES;
 use state_places::depth_of;
@@ -10,6 +11,7 @@ use state_places::put_depth;
 use state_places::put_place;
 use tables::label_read;
 use ticks::TickEnd;
+use ticks::TickMove;
 use ticks::bit_of;
 use ticks::no_row;
 ghost use mathlib.Core.Path.{_≡_};
@@ -17,8 +19,9 @@ ghost use Rattle.tables.specs.Table.{tableImage};
 ghost use Rattle.rows.specs.Rows.{nextOf};
 ghost use Rattle.state.specs.Bytes.{stateOf};
 ghost use Rattle.ticks.specs.inner.TickContracts.{Header, TopReturn, TopBack, beneath, GivesTickEnd};
+ghost use Rattle.ticks.specs.inner.TickContracts.{GivesTickMove};
 
-// Where the label beneath the top leads, or 256 where no row of it matches.
+// Where the label beneath the top leads, or 256 where no row of it matches. The search where no bit decides is compiled by itself.
 fn next_beneath(table: &[u8], schemes: u8, last: u8, bytes: &[u8; STATE_BYTES], word: u16) -> u16
     requires { ⌜ TopBack (now table) (stateOf (now bytes)) ⌝ }
     requires { ⌜ Header (now table) schemes last ⌝ }
@@ -33,6 +36,9 @@ fn next_beneath(table: &[u8], schemes: u8, last: u8, bytes: &[u8; STATE_BYTES], 
     }
     let label = label_read(table, schemes, l as usize);
     let bit = bit_of(bytes, label.kind, label.called);
+    if bit == NO_BIT {
+        return next_row(table, schemes, l as usize, word, NO_BIT);
+    }
     next_row(table, schemes, l as usize, word, bit)
 }
 
@@ -43,30 +49,34 @@ pub fn tick_back(
     last: u8,
     bytes: &mut [u8; STATE_BYTES],
     word: u16,
-) -> TickEnd
+) -> TickMove
     requires { ⌜ TopReturn (now table) (stateOf (now bytes)) ⌝ }
     requires { ⌜ Header (now table) schemes last ⌝ }
-    ensures { λ r. ⌜ GivesTickEnd (now (table .entry)) (now (bytes .entry)) word r (now (bytes .exit)) ⌝ }
+    ensures { λ r. ⌜ GivesTickMove (now (table .entry)) (now (bytes .entry)) word r (now (bytes .exit)) ⌝ }
 {
     let depth = depth_of(bytes);
     if depth < 2 {
         put_alone(bytes, 0, 1);
-        return TickEnd {
+        let step = TickEnd {
             number: 0,
             mask: 0,
             code: RETURN_CODE,
         };
+        return TickMove { step, label: 0 };
     }
     let next = next_beneath(table, schemes, last, bytes, word);
     if 256 <= next {
-        return no_row();
+        let step = no_row();
+        return TickMove { step, label: 1 };
     }
+    let after = next as u8;
     open_place(bytes, (depth as usize) - 1, 0, 0, 0);
-    put_place(bytes, (depth as usize) - 2, next as u8);
+    put_place(bytes, (depth as usize) - 2, after);
     put_depth(bytes, depth - 1);
-    TickEnd {
+    let step = TickEnd {
         number: 0,
         mask: 0,
         code: RETURN_CODE,
-    }
+    };
+    TickMove { step, label: after }
 }

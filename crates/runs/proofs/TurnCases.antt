@@ -19,6 +19,7 @@ use Rattle.ticks.specs.Tick.{MachineTick, finished, stopped, tick}
 use Rattle.runs.specs.Run.{MachineRun, then, ticks}
 use Rattle.ticks.specs.inner.TickContracts.{TickAsked, afterTick, endOfTick, GivesTickEnd}
 use Rattle.runs.specs.inner.RunContracts.{verdictOf, RunRoom, GivesRunEnd}
+use Rattle.ticks.specs.Tick.{topOf}
 use Rattle.ticks.proofs.Normal.{Normal, tick-normal}
 use Rattle.ticks.proofs.Depths.{deep-fine}
 use Rattle.ticks.proofs.TickCases.{KeptDepth, tick-deep}
@@ -77,9 +78,10 @@ abbrev joined : List ℕ → List ℕ → MachineRun → MachineRun
 joined ms ks r = record { masks = ms ++ r .masks; codes = ks ++ r .codes; state = r .state; verdict = r .verdict }
 
 -- after i words
-pub record RunTurn (b bytes₀ ws ms₀ ks₀ bytes ms ks : List ℕ) (i : ℕ) : Type 0 where
+pub record RunTurn (b bytes₀ ws ms₀ ks₀ bytes ms ks : List ℕ) (l i : ℕ) : Type 0 where
   pub low : i ≤ length ws
   pub stands : TickAsked b (stateOf bytes)
+  pub label : l ≡ topOf (stateOf bytes)
   pub pastMasks : List ℕ
   pub pastCodes : List ℕ
   pub longMasks : length pastMasks ≡ i
@@ -91,10 +93,12 @@ pub record RunTurn (b bytes₀ ws ms₀ ks₀ bytes ms ks : List ℕ) (i : ℕ) 
   pub whole : joined pastMasks pastCodes (ticks (tableImage b) (stateOf bytes) (drop i ws)) ≡ ticks (tableImage b) (stateOf bytes₀) ws
   pub same : i ≡ 0 → bytes ≡ bytes₀
 
-pub turn-start : (b bytes ws ms ks : List ℕ) → TickAsked b (stateOf bytes) → RunTurn b bytes ws ms ks bytes ms ks 0
-turn-start b bytes ws ms ks y = record {
+pub turn-start : (b bytes ws ms ks : List ℕ) (l : ℕ) → TickAsked b (stateOf bytes) → l ≡ topOf (stateOf bytes)
+    → RunTurn b bytes ws ms ks bytes ms ks l 0
+turn-start b bytes ws ms ks l y e = record {
   low = omega arith;
   stands = y;
+  label = e;
   pastMasks = [];
   pastCodes = [];
   longMasks = refl;
@@ -121,7 +125,7 @@ pub number-verdict : (n : ℕ) → (n ≡ 0 → ⊥) → verdictOf n ≡ refused
 number-verdict zero h = absurd (h refl)
 number-verdict (suc n) h = refl
 
-module _ {b bytes₀ ws ms₀ ks₀ bytes ms ks : List ℕ} {i : ℕ} (t : RunTurn b bytes₀ ws ms₀ ks₀ bytes ms ks i)
+module _ {b bytes₀ ws ms₀ ks₀ bytes ms ks : List ℕ} {l i : ℕ} (t : RunTurn b bytes₀ ws ms₀ ks₀ bytes ms ks l i)
     (room : RunRoom ws ms₀ ks₀) where
   abbrev s : State
   s = stateOf bytes
@@ -151,13 +155,15 @@ module _ {b bytes₀ ws ms₀ ks₀ bytes ms ks : List ℕ} {i : ℕ} (t : RunTu
   }
 
   module _ (h : i < length ws) (r : TickEnd) (next : List ℕ) (q : GivesTickEnd b bytes (getD ws i 0) r next) where
-    pub turn-on : r .number ≡ 0 → RunTurn b bytes₀ ws ms₀ ks₀ next (set ms i (r .mask)) (set ks i (r .code)) (i + 1)
-    turn-on z =
+    pub turn-on : r .number ≡ 0 → (m : ℕ) → m ≡ topOf (stateOf next)
+        → RunTurn b bytes₀ ws ms₀ ks₀ next (set ms i (r .mask)) (set ks i (r .code)) m (i + 1)
+    turn-on z m top =
         let e : tick image s (getD ws i 0) ≡ finished (r .mask) (r .code) (stateOf next) = went b bytes (getD ws i 0) r next q z in
         let on : MachineRun = ticks image (stateOf next) (drop (suc i) ws) in
         record {
           low = omega arith;
           stands = stands-on b bytes (getD ws i 0) r next q (t .stands) z;
+          label = top;
           pastMasks = t .pastMasks ++ (r .mask ∷ []);
           pastCodes = t .pastCodes ++ (r .code ∷ []);
           longMasks = longer (t .pastMasks) i (r .mask) (t .longMasks);

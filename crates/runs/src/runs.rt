@@ -7,6 +7,8 @@ use frames::refusals::NO_ROOM;
 use frames::refusals::UNFIT;
 use frames::refused;
 use state::layout::STATE_BYTES;
+use state_places::depth_of;
+use state_places::place_of;
 use state_results::tidy_results;
 use stepping::tick_on;
 use tables::last_label;
@@ -36,13 +38,16 @@ fn tick_all(
 {
     let schemes = scheme_count(table);
     let last = last_label(table);
+    let mut label = place_of(bytes, (depth_of(bytes) as usize) - 1);
     let mut i: usize = 0;
     while i < words.len() {
-        let done = tick_on(table, schemes, last, bytes, words[i]);
+        let moved = tick_on(table, schemes, last, bytes, label, words[i]);
+        let done = moved.step;
         let number = done.number;
         if number != 0 {
             return RunEnd { number, count: i };
         }
+        label = moved.label;
         masks[i] = done.mask;
         codes[i] = done.code;
         i += 1;
@@ -97,7 +102,7 @@ pub fn run_table(
 
 // One tick by the loop of a run: so the tick stands in that loop alone, and the compiler takes it in. A tick that is stopped writes no mask
 // and no code.
-pub fn tick_word(table: &[u8], bytes: &mut [u8; 130], word: u16) -> TickEnd
+pub fn tick_word(table: &[u8], bytes: &mut [u8; STATE_BYTES], word: u16) -> TickEnd
     requires { ⌜ TickAsked (now table) (stateOf (now bytes)) ⌝ }
     ensures { λ r. ⌜ GivesTickEnd (now (table .entry)) (now (bytes .entry)) word r (now (bytes .exit)) ⌝ }
 {

@@ -21,7 +21,8 @@ use Rattle.state.specs.Bytes.{stateOf}
 use Rattle.ticks.specs.declared.TickEnd.{TickEnd}
 use Rattle.ticks.specs.Tick.{rowLeads, stopped, moved, topOf}
 use Rattle.ticks.specs.inner.TickContracts.{TopHome, TopNumbered, TopPlain, endOfTick, GivesTickEnd}
-use Rattle.ticks.proofs.TickCases.{steps-stopped, steps-ticked, tick-plain, tick-high, tick-home}
+use Rattle.ticks.proofs.TickCases.{steps-stopped, steps-ticked, tick-plain, tick-high, tick-home, moves-none, top-put}
+use Rattle.ticks.specs.inner.TickContracts.{GivesTickMove}
 use Rattle.ticks.proofs.RowCases.{none-found, one-found}
 
 module _ (b before : List ℕ) (w : ℕ) where
@@ -29,15 +30,17 @@ module _ (b before : List ℕ) (w : ℕ) where
   s = stateOf before
 
   module _ (y : TopHome b s) where
-    pub home-steps : (k n : ℕ) (bytes : List ℕ) → k ≡ s .depth - 1 → n ≡ entryOf b 1 → stateOf bytes ≡ withPlace s k n
-        → GivesTickEnd b before w (record { number = 0; mask = 0; code = 4 }) bytes
-    home-steps k n bytes p q e =
-        steps-ticked b before w 0 4 _ bytes (tick-home b s (y .stands) w (y .label))
-        (e ∙ ap₂ (withPlace s) p (q ∙ sym (entry-at b (y .stands .whole .counts) 1 (counts-told b (y .stands .whole .counts) .first))))
+    pub home-steps : (k n : ℕ) (bytes : List ℕ) → k ≡ s .depth - 1 → k < 32 → n ≡ entryOf b 1 → stateOf bytes ≡ withPlace s k n
+        → GivesTickMove b before w (record { step = record { number = 0; mask = 0; code = 4 }; label = n }) bytes
+    home-steps k n bytes p low q e = record {
+      steps = steps-ticked b before w 0 4 _ bytes (tick-home b s (y .stands) w (y .label))
+          (e ∙ ap₂ (withPlace s) p (q ∙ sym (entry-at b (y .stands .whole .counts) 1 (counts-told b (y .stands .whole .counts) .first))));
+      label = λ _. top-put before bytes k n (ap (λ (u : State). u .places) e) (ap (λ (u : State). u .depth - 1) e ∙ sym p) low;
+    }
 
-  pub high-stop : (y : TopNumbered b s) (l : ℕ) → l ≡ topOf s → lastLabel b < l → (r : TickEnd)
-      → r ≡ endOfTick (stopped 18) → GivesTickEnd b before w r before
-  high-stop y l at h r e = rw e (steps-stopped b before w 18 (tick-high b s (y .stands) w (omega arith)))
+  pub high-stop : (y : TopNumbered b s) (l : ℕ) → l ≡ topOf s → lastLabel b < l → (r : TickEnd) → r ≡ endOfTick (stopped 18)
+      → GivesTickMove b before w (record { step = r; label = l }) before
+  high-stop y l at h r e = moves-none b before w r e (rw e (steps-stopped b before w 18 (tick-high b s (y .stands) w (omega arith)))) l
 
   -- l is the top, and n where the row that it takes leads, whatever the bit
   module _ (y : TopPlain b s) (l : ℕ) (at : l ≡ topOf s) (n : ℕ) (e : n ≡ nextOf (leads (bestRow l w 2 0 (tableImage b .rows)))) where
@@ -55,22 +58,30 @@ module _ (b before : List ℕ) (w : ℕ) where
         e ∙ ap (λ (k : ℕ). nextOf (leads (bestRow k w 2 0 (tableImage b .rows)))) at
         ∙ ap (λ (x : Choice). nextOf (leads x)) (any-row b (topOf s) w 2 _ (λ k. omega (arith, y .kind)) (y .label .low) (y .label .high))
 
-    pub plain-stop : ((k : ℕ) → getD b k 0 < 256) → 256 ≤ n → (r : TickEnd) → r ≡ endOfTick (stopped 18) → GivesTickEnd b before w r before
+    pub plain-stop : ((k : ℕ) → getD b k 0 < 256) → 256 ≤ n → (r : TickEnd) → r ≡ endOfTick (stopped 18)
+        → GivesTickMove b before w (record { step = r; label = l }) before
     plain-stop bytes h r q =
-        rw q
+        moves-none b before w r q
+        (rw q
         (steps-stopped b before w 18
-        (tick-plain b s (y .stands) w (y .kind) ∙ ap (moved _ 0 _ _) (none-found n row row-is (λ u p. next-small b bytes _ w _ u p) h)))
+        (tick-plain b s (y .stands) w (y .kind) ∙ ap (moved _ 0 _ _) (none-found n row row-is (λ u p. next-small b bytes _ w _ u p) h)))) l
 
     -- z is what was read of the top, h its number
-    pub plain-steps : n < 256 → (k : ℕ) → k ≡ s .depth - 1 → (z : declared.Label) → asLabel z ≡ tableLabel b l
+    pub plain-steps : n < 256 → (k : ℕ) → k ≡ s .depth - 1 → k < 32 → (z : declared.Label) → asLabel z ≡ tableLabel b l
         → (h : ℕ) → h ≡ numberAt s (s .depth - 1)
         → (first bytes : List ℕ) → stateOf first ≡ afterResult s (z .result) h → stateOf bytes ≡ withPlace (stateOf first) k n
-        → GivesTickEnd b before w (record { number = 0; mask = z .mask; code = 0 }) bytes
-    plain-steps low k r z read h called first bytes e₁ e₂ =
+        → GivesTickMove b before w (record { step = record { number = 0; mask = z .mask; code = 0 }; label = n }) bytes
+    plain-steps low k r deep z read h called first bytes e₁ e₂ =
         let is : asLabel z ≡ top = read ∙ ap (tableLabel b) at in
         let m : z .mask ≡ top .mask = ap (λ (u : Label). u .mask) is in
         let c : z .result ≡ top .result = ap (λ (u : Label). u .result) is in
+        let step : GivesTickEnd b before w (record { number = 0; mask = z .mask; code = 0 }) bytes =
         rw m
         (steps-ticked b before w (top .mask) 0 _ bytes
         (tick-plain b s (y .stands) w (y .kind) ∙ ap (moved (top .mask) 0 _ _) (one-found n row row-is low))
-        (e₂ ∙ ap₂ (λ (u : State) (j : ℕ). withPlace u j n) (e₁ ∙ ap₂ (afterResult s) c called) r))
+        (e₂ ∙ ap₂ (λ (u : State) (j : ℕ). withPlace u j n) (e₁ ∙ ap₂ (afterResult s) c called) r)) in
+        record {
+          steps = step;
+          label = λ _. top-put first bytes k n (ap (λ (u : State). u .places) e₂)
+              (ap (λ (u : State). u .depth - 1) e₂ ∙ ap (λ (u : State). u .depth - 1) e₁ ∙ sym r) deep;
+        }

@@ -5,6 +5,8 @@ use mathlib.Core.List.{List}
 use Prim.Native.Nat.{ℕ, zero, suc, _-_, _≤_, _<_}
 use native.Mathlib.Omega.{arith}
 use lib.Dec.{leb}
+use lib.ListN.{getD, set}
+use lib.Seq.{getD-set-same}
 use borrow.Author.Tests.{le-leb, lt-leb, leb-false}
 use Rattle.lists.specs.Pick.{pick}
 use Rattle.results.specs.Results.{Results, withResult, cleared}
@@ -23,10 +25,13 @@ use Rattle.state.specs.declared.State.{State}
 use Rattle.state.specs.State.{entryAt, placeAt, numberAt}
 use Rattle.state.specs.Changes.{withPlace, withBits}
 use Rattle.state.specs.Bytes.{stateOf}
+use Rattle.state.proofs.ResultBytes.{held-places}
+use Rattle.ticks.specs.declared.TickEnd.{TickEnd}
 use Rattle.ticks.specs.Tick.{rowLeads, MachineTick, finished, stopped, moved, dropping, alone}
 use Rattle.ticks.specs.Tick.{keepsFull, full, pushed, popped, tickBy, tick}
 use Rattle.ticks.specs.inner.TickContracts.{TickAsked, beneath, afterTick, endOfTick, GivesTickEnd}
 use Rattle.ticks.specs.Tick.{topOf}
+use Rattle.ticks.specs.inner.TickContracts.{GivesTickMove}
 use Rattle.ticks.proofs.Depths.{DeepState, deep-told}
 
 -- ---- what is answered and left, by what the tick is
@@ -41,6 +46,18 @@ module _ (b before : List ℕ) (w : ℕ) where
       → GivesTickEnd b before w (record { number = 0; mask = m; code = k }) bytes
   steps-ticked m k t bytes e q =
       record { step = sym (ap endOfTick e); state = q ∙ sym (ap (afterTick (stateOf before)) e); kept = λ z. absurd (z refl) }
+
+  -- a tick that finds no row, whatever label is named
+  pub moves-none : (r : TickEnd) → r ≡ endOfTick (stopped 18) → GivesTickEnd b before w r before → (l : ℕ)
+      → GivesTickMove b before w (record { step = r; label = l }) before
+  moves-none r e q l = record { steps = q; label = λ z. absurd (omega (arith, sym z ∙ ap (λ (y : TickEnd). y .number) e)) }
+
+-- a label that was put in the place of the top is at the top
+pub top-put : (mid bytes : List ℕ) (k n : ℕ) → stateOf bytes .places ≡ set (stateOf mid .places) k n → stateOf bytes .depth - 1 ≡ k → k < 32
+    → n ≡ topOf (stateOf bytes)
+top-put mid bytes k n e d h =
+    sym (ap (placeAt (stateOf bytes)) d ∙ ap (λ (xs : List ℕ). getD xs k 0) e
+    ∙ getD-set-same (stateOf mid .places) k n 0 (omega (arith, held-places mid)))
 
 -- ---- the numbers of a table and a state that a tick may be made on
 module _ {b : List ℕ} {s : State} (y : TickAsked b s) where

@@ -17,6 +17,12 @@ pub struct TickEnd {
     pub code: u8,
 }
 
+// The same, and the label at the top after a tick that was not stopped: the next tick of a run need not read it again.
+pub struct TickMove {
+    pub step: TickEnd,
+    pub label: u8,
+}
+
 // The bit that decides among the rows of a label: the result of the number that it calls, where it is a function's, else 2.
 pub fn bit_of(bytes: &[u8; STATE_BYTES], kind: u8, called: u8) -> u8
     ensures { λ r. ⌜ r ≡ bitOf kind called (stateOf (now (bytes .entry)) .bits) ⌝ }

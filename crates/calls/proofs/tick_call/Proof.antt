@@ -5,11 +5,11 @@ use Prim.Native.Nat.{ℕ, _-_, _≤_}
 use native.Mathlib.Omega.{arith}
 use Rattle.image.specs.Image.{Label}
 use Rattle.state.specs.declared.State.{State}
-use Rattle.state.specs.State.{placeAt, numberAt}
+use Rattle.state.specs.State.{numberAt}
 use Rattle.state.specs.Bytes.{stateOf}
 use Rattle.ticks.specs.Tick.{topOf}
 use Rattle.ticks.proofs.TickCases.{depth-some, depth-most, size-most, called-few, numbered-as}
-use Rattle.calls.proofs.CallCases.{call-steps}
+use Rattle.calls.proofs.CallCases.{call-steps, full-moves}
 use Rattle.calls.proofs.tick_call.Statement.{statement}
 use Rattle.calls.proofs.tick_call.Tie as tie
 
@@ -17,8 +17,8 @@ use Rattle.calls.proofs.tick_call.Tie as tie
 abbrev start : tie.After-size-of → tie.Start
 start c = c .before .before .before .before .before
 
-abbrev sized : tie.After-place-of → tie.After-size-of
-sized c = c .before .before .before
+abbrev sized : tie.Else1 → tie.After-size-of
+sized c = c .before
 
 abbrev label : tie.After-number-of → tie.After-label-read
 label c = c .before .before .before .before .before
@@ -35,10 +35,6 @@ some c = omega (arith, depth-some (start c .pre .0 .stands), depth-read c)
 most : (c : tie.After-size-of) → c .before .before .depth-of .result ≤ 32
 most c = let asked = start c .pre .0 .stands in omega (arith, depth-most asked, size-most asked, depth-read c)
 
--- the label at the top is what was read
-top-read : (c : tie.After-place-of) → c .place-of .result ≡ topOf (state (sized c))
-top-read c = c .place-of .ensures ∙ ap (λ (d : ℕ). placeAt (state (sized c)) (d - 1)) (depth-read (sized c))
-
 -- ---- the needs
 depth-of-requires : tie.Need-depth-of-requires
 depth-of-requires c κs = search needs
@@ -50,10 +46,18 @@ tick-full-requires : tie.Need-tick-full-requires
 tick-full-requires c κs =
     let size = c .before .before in
     let asked = start size .pre in
-    (record { calls = asked .0; full = omega (arith, size .size-of .ensures, depth-read size, c .before .if1 .taken) }, asked .1)
+    (record { calls = asked .0; full = omega (arith, size .size-of .ensures, depth-read size, c .before .if1 .taken) }, asked .1 .0)
+
+place-of-requires : tie.Need-place-of-requires
+place-of-requires c κs = omega arith
 
 returns : tie.Need-returns
-returns c = c .tick-full .ensures
+returns c =
+    let full = c .before .before in
+    let size = full .before .before .before in
+    full-moves _ _ _
+    (record { calls = start size .pre .0; full = omega (arith, size .size-of .ensures, depth-read size, full .before .before .if1 .taken) })
+    (full .tick-full .result) _ (full .tick-full .ensures) _ (c .place-of .ensures)
 
 cast-top : tie.Need-cast-top
 cast-top c = search needs
@@ -61,22 +65,16 @@ cast-top c = search needs
 sub-top : tie.Need-sub-top
 sub-top c = omega (arith, some (c .before))
 
-place-of-requires : tie.Need-place-of-requires
-place-of-requires c κs = let size = c .before .before in omega (arith, some size, most size)
-
-cast-label-read : tie.Need-cast-label-read
-cast-label-read c = search needs
-
 label-read-requires : tie.Need-label-read-requires
 label-read-requires c κs =
     let asked = start (sized c) .pre in
-    record { label = numbered-as (top-read c) (asked .0 .label); schemes = asked .1 }
+    record { label = numbered-as (asked .1 .1) (asked .0 .label); schemes = asked .1 .0 }
 
 serving-of-requires : tie.Need-serving-of-requires
 serving-of-requires c κs = search needs
 
 server-entry-requires : tie.Need-server-entry-requires
-server-entry-requires c κs = let asked = start (sized (c .before .before .before)) .pre in (asked .0 .stands .whole, asked .1)
+server-entry-requires c κs = let asked = start (sized (c .before .before .before)) .pre in (asked .0 .stands .whole, asked .1 .0)
 
 number-of-requires : tie.Need-number-of-requires
 number-of-requires c κs = let size = sized (c .before .before .before .before .before) in omega (arith, some size, most size)
@@ -94,7 +92,7 @@ open-place-requires : tie.Need-open-place-requires
 open-place-requires c κs =
     let l = label (c .before .before .before .before .before) in
     let size = sized (l .before) in
-    omega (arith, size-most (start size .pre .0 .stands), size .size-of .ensures, l .before .before .before .if1 .left)
+    omega (arith, size-most (start size .pre .0 .stands), size .size-of .ensures, l .before .if1 .left)
 
 add-put-depth : tie.Need-add-put-depth
 add-put-depth c = search needs
@@ -105,7 +103,8 @@ put-depth-requires c κs = search needs
 code-of-requires : tie.Need-code-of-requires
 code-of-requires c κs =
     let l = label (c .before .before .before .before .before .before .before .before) in
-    let few = called-few (start (sized (l .before)) .pre .0 .stands) (l .before .place-of .result) in
+    let begun = start (sized (l .before)) in
+    let few = called-few (begun .pre .0 .stands) (begun .args .l) in
     omega (arith, few, ap (λ (x : Label). x .called) (l .label-read .ensures))
 
 returns-2 : tie.Need-returns-2
@@ -119,9 +118,8 @@ returns-2 c =
     let serves = entry .before in
     let l = label number in
     let size = sized (l .before) in
-    call-steps _ _ _ (start size .pre .0) _ (depth-read size)
-    (omega (arith, size .size-of .ensures, l .before .before .before .if1 .left)) _
-    (top-read (l .before)) _ (l .label-read .ensures)
+    call-steps _ _ _ (start size .pre .0) _ (depth-read size) (omega (arith, size .size-of .ensures, l .before .if1 .left)) _
+    (start size .pre .1 .1) _ (l .label-read .ensures)
     _ (number .number-of .ensures ∙ ap (λ (d : ℕ). numberAt (state size) (d - 1)) (depth-read size))
     _ (serves .serving-of .ensures) _ (entry .server-entry .ensures) _ (c .code-of .ensures) _ _ _ _
     (first .put-result .ensures) (second .put-result2 .ensures) (third .open-place .ensures) (fourth .put-depth .ensures)
@@ -133,11 +131,10 @@ tick-call-spec =
     depth-of-requires
     size-of-requires
     tick-full-requires
+    place-of-requires
     returns
     cast-top
     sub-top
-    place-of-requires
-    cast-label-read
     label-read-requires
     serving-of-requires
     server-entry-requires

@@ -48,6 +48,9 @@ returns-2 c =
     (λ k. omega (arith, other .before .before .before .shared-slice-known .given k))
     (c .before .if2 .taken) _ (c .no-row .ensures)
 
+cast-after : tie.Need-cast-after
+cast-after c = search needs
+
 most : (c : tie.After-next-beneath) → depth c .depth-of .result ≤ 32
 most c =
     let asked = start (depth c) .pre .0 .stands in
@@ -68,9 +71,6 @@ cast-put-place c = search needs
 sub-put-place : tie.Need-sub-put-place
 sub-put-place c = search needs
 
-cast-put-place-2 : tie.Need-cast-put-place-2
-cast-put-place-2 c = search needs
-
 put-place-requires : tie.Need-put-place-requires
 put-place-requires c κs = let n = c .before .before .before .before in omega (arith, most n, n .before .before .if1 .left)
 
@@ -88,7 +88,8 @@ returns-3 c =
     let n = some .before in
     let is = depth n .depth-of .ensures in
     back-steps _ _ _ (back (n .before .before)) _ (n .next-beneath .ensures) (some .if2 .left) _ _ (ap (λ (k : ℕ). k - 1) is)
-    (ap (λ (k : ℕ). k - 2) is) _ _ _ (first .open-place .ensures) (second .put-place .ensures) (c .put-depth .ensures)
+    (ap (λ (k : ℕ). k - 2) is) (omega (arith, most n, n .before .before .if1 .left)) _ _ _ (first .open-place .ensures)
+    (second .put-place .ensures) (c .put-depth .ensures)
 
 pub tick-back-spec : {M : Type 1} → statement M
 tick-back-spec =
@@ -100,12 +101,12 @@ tick-back-spec =
     next-beneath-requires
     no-row-requires
     returns-2
+    cast-after
     cast-open-place
     sub-open-place
     open-place-requires
     cast-put-place
     sub-put-place
-    cast-put-place-2
     put-place-requires
     sub-put-depth
     put-depth-requires

@@ -19,6 +19,7 @@ use Rattle.state.specs.Bytes.{stateOf}
 use Rattle.fitness.specs.Fitness.{badDepth}
 use Rattle.ticks.specs.declared.TickEnd.{TickEnd}
 use Rattle.ticks.specs.Tick.{topOf, rowLeads, MachineTick, finished, stopped, tick}
+use Rattle.ticks.specs.declared.TickMove.{TickMove}
 
 -- a table that stands alone, and a depth of 1 to Σ: all that a tick asks
 pub record TickAsked (b : List ℕ) (s : State) : Type 0 where
@@ -91,3 +92,8 @@ pub record GivesTickEnd (b before : List ℕ) (w : ℕ) (r : TickEnd) (bytes : L
   pub step : r ≡ endOfTick (tick (tableImage b) (stateOf before) w)
   pub state : stateOf bytes ≡ afterTick (stateOf before) (tick (tableImage b) (stateOf before) w)
   pub kept : (r .number ≡ 0 → ⊥) → bytes ≡ before
+
+-- the same, and the label at the top after a tick that was not stopped
+pub record GivesTickMove (b before : List ℕ) (w : ℕ) (r : TickMove) (bytes : List ℕ) : Type 0 where
+  pub steps : GivesTickEnd b before w (r .step) bytes
+  pub label : r .step .number ≡ 0 → r .label ≡ topOf (stateOf bytes)
