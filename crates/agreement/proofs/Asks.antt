@@ -1,6 +1,6 @@
 -- No entry point asks anything of its caller:
--- what the checker has a caller show before a call is nothing, whatever the arguments. (The tick
--- behind a reference and the two calls over a list of states have no such module; their source has no `requires`.)
+-- what the checker has a caller show before a call is nothing, whatever the arguments. (The tick behind a reference and the two calls
+-- over a list of states have no such module; their source has no `requires`.)
 use contract.Lifetimes.{Lfts}
 use borrow.Fn.World.{ArgsD}
 use Rattle.chart_text.proofs.read_chart as read-chart

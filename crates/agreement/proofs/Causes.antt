@@ -1,6 +1,5 @@
 -- What a caller learns by the contract of cause_of, and of fairleadow_cause from C:
--- with success the row, the mask and the bit that are reported explain
--- the tick, so that the laws of a cause hold of them.
+-- with success the row, the mask and the bit that are reported explain the tick, so that the laws of a cause hold of them.
 -- `a` has the arguments, `r` the result, and `s` the arguments at exit, as in Contracts.
 use contract.Lifetimes.{Lfts}
 use denote.Triple.Clauses.{AtExit}

@@ -1,6 +1,5 @@
 -- A call that is refused with 17, said of the walk:
--- it finds as many schemes open as places, and there is no handler or the handler is the first
--- of them.
+-- it finds as many schemes open as places, and there is no handler or the handler is the first of them.
 use Prim.Native.Nat.{ℕ, suc, _+_, _<_}
 use mathlib.Core.Bool.{Bool, true, false, _&&_, _||_, not}
 use mathlib.Core.Path.{_≡_, refl, ap, ap₂}

@@ -1,6 +1,5 @@
 -- One call of any kind that meets its contract hands back what a run or a rebinding on the image's text does:
--- a tick is a run of one word, and
--- live calls are those on the text.
+-- a tick is a run of one word, and live calls are those on the text.
 use Prim.Native.Nat.{ℕ, _≤_}
 use mathlib.Core.Path.{_≡_, refl, sym, _∙_, ap, subst}
 use mathlib.Core.List.{List, [], _∷_}

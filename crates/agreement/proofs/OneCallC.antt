@@ -1,6 +1,5 @@
--- One call from C of any kind that meets its contract hands back what a run or a rebinding on the image's text does,
--- and leaves bytes that hold
--- its state.
+-- One call from C of any kind that meets its contract hands back what a run or a rebinding on the image's text does, and leaves bytes
+-- that hold its state.
 use Prim.Native.Nat.{ℕ}
 use mathlib.Core.Path.{_≡_, refl, sym, _∙_, ap, ap₂, subst}
 use mathlib.Core.List.{List, [], _∷_}

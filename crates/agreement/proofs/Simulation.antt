@@ -122,8 +122,8 @@ module _ (c : Chart) (n : ℕ) (n≤ : n ≤ 32) (serving : Binding) where
           ap (λ (l : ℕ). eqb (table c .handler) 0 || ofHandler (table c) l) (get-bottom (labelled c) x ks (zerosOver ks))
           ∙ keeps f (suc (length ks)) (label c u) (holds .0) (ap (λ (y : Label). y .owner) (holds .2) ∙ under .2) (g .handled) e
 
-      -- a call of number h: the entry of the scheme that serves it is put above the top;
-      -- at a full stack the places are dropped, or it is refused
+      -- a call of number h: the entry of the scheme that serves it is put above the top; at a full stack the places are dropped, or it is
+      -- refused
       module _ (m j h : ℕ) (d : Results) (low : 16 ≤ j + h) (other : j + h ≡ 96 → ⊥) (some : 2 ≤ h) (most : h ≤ schemes c) where
         abbrev made : ℕ → Tick
         made code = tickOf (x .node) (x .number) m code (suc (length ks))

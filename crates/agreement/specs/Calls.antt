@@ -1,6 +1,6 @@
--- Demand 3 over the functions: calls of translate and State::fresh, then any mixture of calls that run,
--- tick and rebind, on the image's text or
--- on a table that prepare made of it. Each call is known by its contract alone, which is the record that the function's `ensures` cites.
+-- Demand 3 over the functions: calls of translate and State::fresh, then any mixture of calls that run, tick and rebind, on the image's
+-- text or on a table that prepare made of it. Each call is known by its contract alone, which is the record that the function's `ensures`
+-- cites.
 use Prim.Native.Nat.{ℕ, _≤_}
 use mathlib.Core.Path.{_≡_}
 use mathlib.Core.List.{List, [], _∷_}
@@ -34,9 +34,8 @@ outputOfRun r masks codes = byRun (record { reply = reply (r .answer); masks = m
 abbrev pub outputOfRebinding : StateReport → CallOutput
 outputOfRebinding r = byRebinding (reply (r .answer))
 
--- a tick counts as a run of one word, with one place for its mask and one for its code, which hold m and k before it;
--- the report of a refused
--- one says 0 and 0, as if the places had held these
+-- a tick counts as a run of one word, with one place for its mask and one for its code, which hold m and k before it; the report of a
+-- refused one says 0 and 0, as if the places had held these
 abbrev pub oneWord : ℕ → ℕ → ℕ → CallInput
 oneWord w m k = toRun (record { words = w ∷ []; masks = m ∷ []; codes = k ∷ [] })
 

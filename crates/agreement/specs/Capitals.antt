@@ -1,5 +1,5 @@
--- Small letters: what each entry point that takes a text answers, and leaves in buffers and state,
--- is what it does for the text in capitals.
+-- Small letters: what each entry point that takes a text answers, and leaves in buffers and state, is what it does for the text in
+-- capitals.
 -- No text is left out, be it refused or longer than any that is accepted.
 use Prim.Native.Nat.{ℕ}
 use mathlib.Core.Path.{_≡_}

@@ -1,8 +1,7 @@
--- Demand 3 for a caller from C: calls of fairleadow_translate and fairleadow_fresh,
--- then any mixture of calls that run, tick and rebind, on the
--- image's text or on a table that fairleadow_prepare made of it.
--- Each call is known by its contract alone, which is the record that the function's
--- `ensures` cites, and is given the bytes that the call before it left.
+-- Demand 3 for a caller from C: calls of fairleadow_translate and fairleadow_fresh, then any mixture of calls that run, tick and rebind,
+-- on the image's text or on a table that fairleadow_prepare made of it.
+-- Each call is known by its contract alone, which is the record that the function's `ensures` cites, and is given the bytes that the call
+-- before it left.
 use Prim.Native.Nat.{ℕ, _≤_}
 use mathlib.Core.Path.{_≡_}
 use mathlib.Core.List.{List, [], _∷_, map}

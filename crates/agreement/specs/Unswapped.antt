@@ -1,6 +1,5 @@
 -- Demand 3 with no rebinding in the list, over the walk of words alone:
--- what it said before there were rebindings. Only the laws of runs alone
--- speak of it.
+-- what it said before there were rebindings. Only the laws of runs alone speak of it.
 use Prim.Native.Nat.{ℕ, _+_, _≤_}
 use mathlib.Core.Bool.{true, false}
 use mathlib.Core.Path.{_≡_}

@@ -1,8 +1,6 @@
 -- Slips of a drop, each a tick in the place of the machine's. Most are shown not to meet demand 3.
--- The result bits that a drop leaves never show
--- in a tick, because a function's own call clears the bit that its return reads;
--- a slip in them is shown to hand back another state than the
--- definition, which demand 1 asks for.
+-- The result bits that a drop leaves never show in a tick, because a function's own call clears the bit that its return reads; a slip in
+-- them is shown to hand back another state than the definition, which demand 1 asks for.
 use mathlib.Core.Path.{_≡_, _∙_, ap, sym}
 use mathlib.Core.Bool.{_&&_, not}
 use mathlib.Core.List.{List, [], _∷_}

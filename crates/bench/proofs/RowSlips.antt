@@ -1,6 +1,6 @@
 -- Slips of the rule by which a row is taken, each shown to run a patched image otherwise than the definition, which demand 1 asks for.
--- On the
--- image of a chart they are no slips: just one row matches there. So it is with the first row that matches, the rule before request f.
+-- On the image of a chart they are no slips: just one row matches there. So it is with the first row that matches, the rule before
+-- request f.
 use mathlib.Core.Path.{_≡_, refl, sym, _∙_, ap}
 use mathlib.Core.Bool.{Bool, true, false}
 use mathlib.Core.List.{List, [], _∷_}

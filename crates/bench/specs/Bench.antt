@@ -1,6 +1,5 @@
 -- The bench sheet: its charts, words and answers, B1 to B8 and B10, said about the definitions, and calls that clear a result bit.
--- (B9 is run
--- by a program.)
+-- (B9 is run by a program.)
 use Prim.Native.Nat.{ℕ, _-_, _%_, _≤_}
 use Prim.Native.Char.{code}
 use Prim.Native.String.{String, [] as none, _∷_ as more}

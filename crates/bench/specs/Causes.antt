@@ -1,6 +1,5 @@
--- Cases of what made a tick go on: on the image of chart P, on the same with scheme 2 as the handler, and on one whose last row is missing;
--- on a
--- patched image; and on one with five rows after a function.
+-- Cases of what made a tick go on: on the image of chart P, on the same with scheme 2 as the handler, and on one whose last row is
+-- missing; on a patched image; and on one with five rows after a function.
 use Prim.Native.Nat.{ℕ}
 use mathlib.Core.Bool.{Bool, true, false}
 use mathlib.Core.Path.{_≡_}
@@ -26,8 +25,8 @@ abbrev pub tellsNone : ℕ → CauseOutcome
 tellsNone number = record { reply = refusal number 0 0; cause = noCause }
 
 -- the image of a function call, label 2, with five rows:
--- for condition 3 set and bit 0, for condition 2 set and bit 1, for condition 0 clear and either
--- bit, for conditions 0 and 1 set and bit 1, for condition 0 set, 1 clear and either bit
+-- for condition 3 set and bit 0, for condition 2 set and bit 1, for condition 0 clear and either bit, for conditions 0 and 1 set and bit
+-- 1, for condition 0 set, 1 clear and either bit
 unfoldable pub imageAnswers : List ℕ
 imageAnswers = lines (
     "0F020400070000000000E4" ∷ "10010200000000000000ED" ∷ "10020400000000000000EA" ∷ "11000400010000000000EA"

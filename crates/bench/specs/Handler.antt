@@ -15,11 +15,9 @@ use Rattle.state.specs.declared.State.{State}
 use Rattle.runs.specs.Run.{run}
 use Rattle.bench.specs.Bench.{lines, tickOf, freshRun}
 
--- scheme 1: function 2 and then, where condition 1 is set, an operation that calls scheme 3;
--- scheme 2: where condition 0 is set, an operation
--- that writes 1 and calls scheme 2; scheme 3, the handler:
--- an operation that writes 1 and then, where condition 0 is set, one that writes 1 and
--- calls scheme 2
+-- scheme 1: function 2 and then, where condition 1 is set, an operation that calls scheme 3; scheme 2: where condition 0 is set, an
+-- operation that writes 1 and calls scheme 2; scheme 3, the handler:
+-- an operation that writes 1 and then, where condition 0 is set, one that writes 1 and calls scheme 2
 unfoldable pub chartHandler : List ℕ
 chartHandler = lines (
     "00010001000000000000FE" ∷ "04010202020000000000F5" ∷ "03010104030000000000F4" ∷ "02010304000000000001F5"

@@ -38,8 +38,8 @@ imageSpecial = lines (
     ∷ "11050000020200000000E6" ∷ "12020001000002030000E6" ∷ "12020006000002000000E4" ∷ "12020001000102040000E4"
     ∷ "12030000000002000000E9" ∷ "12040000000000000000EA" ∷ "12040000000001030000E6" ∷ "12050000000002010000E6" ∷ [])
 
--- and behind them one for condition 0 set and condition 1 clear, to label 3;
--- of label 4, which calls the function, a third row for either bit, to label 2
+-- and behind them one for condition 0 set and condition 1 clear, to label 3; of label 4, which calls the function, a third row for either
+-- bit, to label 2
 unfoldable pub imageEqual : List ℕ
 imageEqual = lines (
     "0F020500090000000000E1" ∷ "10010200000000000000ED" ∷ "10020500000000000000E9" ∷ "11000400010000000000EA"

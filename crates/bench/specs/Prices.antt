@@ -1,6 +1,5 @@
--- Prices by hand: halves go upward once for all ticks, the first price is that of bit 0,
--- and priced runs on the images of chart P and of the chart
--- with a handler, whole, ended by 17, with a drop, and refused.
+-- Prices by hand: halves go upward once for all ticks, the first price is that of bit 0, and priced runs on the images of chart P and of
+-- the chart with a handler, whole, ended by 17, with a drop, and refused.
 use Prim.Native.Nat.{ℕ}
 use mathlib.Core.Path.{_≡_}
 use mathlib.Core.List.{List, [], _∷_, _++_}

@@ -142,8 +142,8 @@ pub record RefusalCases : Type 0 where
   pub r12-entry : imageVerdict (changedImage 1 1 2) ≡ refused 12 1
   pub r12-label : imageVerdict (changedImage 7 1 5) ≡ refused 12 7
   pub r12-row : imageVerdict (changedImage 11 1 2) ≡ refused 12 11
-  -- an entry of another scheme, a label 0 that is no home, a call of scheme 1, values outside the care mask,
-  -- a function bit, a next label of another scheme
+  -- an entry of another scheme, a label 0 that is no home, a call of scheme 1, values outside the care mask, a function bit, a next label
+  -- of another scheme
   pub r13-entry : imageVerdict (changedImage 1 2 3) ≡ refused 13 1
   pub r13-home : imageVerdict (changedImage 3 2 0) ≡ refused 13 3
   pub r13-call : imageVerdict (changedImage 5 3 1) ≡ refused 13 5
@@ -152,8 +152,8 @@ pub record RefusalCases : Type 0 where
   pub r13-next : imageVerdict (changedImage 11 7 2) ≡ refused 13 11
   pub r14-none : freshState 0 ≡ record { reply = refusal 14 0 0; state = noState }
   pub r14-high : freshState 33 ≡ record { reply = refusal 14 0 0; state = noState }
-  -- depth 0, a label above M, a bottom of scheme 2, a kept label that is no call,
-  -- a label of another scheme above a call, a place above the depth
+  -- depth 0, a label above M, a bottom of scheme 2, a kept label that is no call, a label of another scheme above a call, a place above
+  -- the depth
   pub r15-depth : runFrom (stateWithLabels 0 (0 ∷ 0 ∷ 0 ∷ [])) ≡ unfitRun (stateWithLabels 0 (0 ∷ 0 ∷ 0 ∷ []))
   pub r15-label : runFrom (stateWithLabels 1 (5 ∷ 0 ∷ 0 ∷ [])) ≡ unfitRun (stateWithLabels 1 (5 ∷ 0 ∷ 0 ∷ []))
   pub r15-bottom : runFrom (handlingState 1 (3 ∷ 0 ∷ 0 ∷ [])) ≡ unfitRun (handlingState 1 (3 ∷ 0 ∷ 0 ∷ []))

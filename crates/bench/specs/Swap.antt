@@ -1,6 +1,6 @@
 -- A chart on which schemes are swapped:
--- rebindings between runs, what an open scheme and the next call make of them, results and codes by the
--- number called, and a drop; refusal 22, and the grounds of 15 that speak of numbers and of what serves them.
+-- rebindings between runs, what an open scheme and the next call make of them, results and codes by the number called, and a drop;
+-- refusal 22, and the grounds of 15 that speak of numbers and of what serves them.
 use Prim.Native.Nat.{ℕ, _-_}
 use mathlib.Core.Bool.{Bool, true, false}
 use mathlib.Core.Path.{_≡_}
@@ -22,9 +22,9 @@ use Rattle.rebinding.specs.Rebind.{rebind}
 use Rattle.agreement.specs.Agreement.{CallInput, toRun, toRebind, CallOutput, byRun, byRebinding, callOutputs, joinedWords, walkOutputs}
 use Rattle.bench.specs.Bench.{lines, tickOf}
 
--- scheme 1: an operation with mask 1 that calls number 2, then function 2, on 0 End, on 1 an operation with mask 2;
--- scheme 2: an operation with
--- mask 4 that writes 0; scheme 3: one with mask 8 that writes 1; scheme 4, the handler: one with mask 16 that calls number 3
+-- scheme 1: an operation with mask 1 that calls number 2, then function 2, on 0 End, on 1 an operation with mask 2; scheme 2: an
+-- operation with mask 4 that writes 0; scheme 3: one with mask 8 that writes 1; scheme 4, the handler: one with mask 16 that calls number
+-- 3
 unfoldable pub chartSwap : List ℕ
 chartSwap = lines (
     "00010001000000000000FE" ∷ "02010202000000000001F8" ∷ "04010204030000000000F2" ∷ "02010004000000000002F7"

@@ -36,9 +36,8 @@ fn server_entry(table: &[u8], schemes: u8, server: u8) -> u8
     entry_of(table, server)
 }
 
-// A call: the entry of the scheme that serves the number called goes above the top,
-// and the number's bit is cleared after the caller's result is
-// written.
+// A call: the entry of the scheme that serves the number called goes above the top, and the number's bit is cleared after the caller's
+// result is written.
 pub fn tick_call(
     table: &[u8],
     schemes: u8,

@@ -1,5 +1,5 @@
--- What success of the entry point says: the image is accepted, the state fits it,
--- and what is reported is the cause, so that the laws speak of it.
+-- What success of the entry point says: the image is accepted, the state fits it, and what is reported is the cause, so that the laws
+-- speak of it.
 use Prim.Native.Nat.{ℕ}
 use mathlib.Core.Bool.{Bool, true, false}
 use mathlib.Core.Path.{_≡_, refl}

@@ -1,6 +1,5 @@
--- A cause and the tick that it explains: the mask decides the row and with it the tick,
--- the row is the one that the tick takes, and a refusal
--- says that it takes none.
+-- A cause and the tick that it explains: the mask decides the row and with it the tick, the row is the one that the tick takes, and a
+-- refusal says that it takes none.
 use Prim.Native.Nat.{ℕ}
 use mathlib.Core.Path.{_≡_, refl, sym, _∙_, ap, subst}
 use mathlib.Core.Logic.{inl, inr}

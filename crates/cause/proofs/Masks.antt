@@ -1,6 +1,6 @@
 -- The rows of one label, for one word and one bit:
--- every word that agrees on the mask of the row chosen and of the conditions against the others
--- chooses the same row, and no condition of the row's own care mask can be left out.
+-- every word that agrees on the mask of the row chosen and of the conditions against the others chooses the same row, and no condition of
+-- the row's own care mask can be left out.
 use mathlib.Core.Path.{_≡_, sym, _∙_, ap, subst}
 use mathlib.Core.Logic.{_⊎_, inl, inr}
 use mathlib.Core.Bool.{Bool, true, false, _&&_, _||_, not}

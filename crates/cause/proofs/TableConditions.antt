@@ -1,6 +1,5 @@
 -- The conditions against the rows of a label, among all rows of a table:
--- only its own rows have any, they stand in its frames, and each has its
--- values within its care mask.
+-- only its own rows have any, they stand in its frames, and each has its values within its care mask.
 use Prim.Native.Nat.{ℕ, zero, suc, _+_, _-_, _^_, _≤_, _<_}
 use mathlib.Core.Bool.{Bool, _&&_, _||_, not}
 use mathlib.Core.Path.{_≡_, refl, sym, _∙_, ap, ap₂, subst}

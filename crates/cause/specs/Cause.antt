@@ -42,8 +42,8 @@ unfoldable pub againstAll : ℕ → ℕ → ℕ → List Row → ℕ
 againstAll l w b [] = 0
 againstAll l w b (r ∷ rs) = bitOr (against l w b r) (againstAll l w b rs)
 
--- the label whose row a tick takes: the top of a plain tick, the one beneath on a return;
--- none at home, at a call, and on a return at depth 1
+-- the label whose row a tick takes: the top of a plain tick, the one beneath on a return; none at home, at a call, and on a return at
+-- depth 1
 pub data Leaving : Type 0 where
   leavesLabel : ℕ → Leaving
   nothing : Leaving

@@ -74,8 +74,8 @@ pub data Rowless (i : Image) (s : State) : Type 0 where
   atCallLabel : isCall (labelAt i (topOf s)) ≡ true → Rowless i s
   atLastReturn : topOf s ≡ 1 → s .depth ≡ 1 → Rowless i s
 
--- no cause is told with 21 exactly of a tick that takes no row, which is then the same by every word,
--- and with 18 exactly where the tick gets 18
+-- no cause is told with 21 exactly of a tick that takes no row, which is then the same by every word, and with 18 exactly where the tick
+-- gets 18
 pub record RefusedCause (i : Image) (s : State) (w : ℕ) : Type 0 where
   pub rowless : (causeOf i s w ≡ unexplained ROWLESS) ↔ Rowless i s
   pub unread : causeOf i s w ≡ unexplained ROWLESS → (v : ℕ) → tick i s v ≡ tick i s w

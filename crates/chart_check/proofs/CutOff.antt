@@ -1,5 +1,5 @@
--- Where refusals 4 to 6 find nothing, the nodes joined from all Begins together are,
--- scheme by scheme, those joined from the Begin of the scheme.
+-- Where refusals 4 to 6 find nothing, the nodes joined from all Begins together are, scheme by scheme, those joined from the Begin of the
+-- scheme.
 use mathlib.Core.Path.{_≡_, refl, sym, _∙_, ap, subst}
 use mathlib.Core.Logic.{⊎-elim}
 use mathlib.Core.Bool.{Bool, true, false, _&&_, not}

@@ -21,8 +21,8 @@ ghost use Rattle.charts.specs.Check.{arcs, cutOff};
 ghost use Rattle.charts.specs.inner.Marks.{kindMarks};
 ghost use Rattle.chart_check.specs.inner.CheckContracts.{NodeRoom, Passed4To6, joinedVerdict};
 
-// The nodes that arcs join from some Begin are marked; the lowest other one, or the number of nodes. It is looked for only
-// where not all are marked.
+// The nodes that arcs join from some Begin are marked; the lowest other one, or the number of nodes. It is looked for only where not all
+// are marked.
 fn lowest_apart(records: &[u8], marks: &mut [bool], list: &mut [u8]) -> usize
     requires { ⌜ length (now marks) ≡ size (now records) ⌝ }
     requires { ⌜ NodeRoom (now records) (now list) ⌝ }

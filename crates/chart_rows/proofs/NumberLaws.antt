@@ -1,5 +1,5 @@
--- The numbers of the conditions that paths test, at plain values: which nodes have one, what a word's bit at it tells, and how
--- a loop writes them behind the labels.
+-- The numbers of the conditions that paths test, at plain values: which nodes have one, what a word's bit at it tells, and how a loop
+-- writes them behind the labels.
 use mathlib.Core.Path.{_≡_, refl, sym, _∙_, ap}
 use mathlib.Core.Logic.{⊎-elim}
 use mathlib.Core.Bool.{Bool, true, false, _&&_, not}

@@ -1,5 +1,5 @@
--- The steps of the functions that follow paths, at plain values: how the paths from a stop and from a new condition are
--- made up, and how many they are.
+-- The steps of the functions that follow paths, at plain values: how the paths from a stop and from a new condition are made up, and how
+-- many they are.
 use mathlib.Core.Path.{_≡_, sym, _∙_, ap, ap₂, subst}
 use mathlib.Core.Bool.{true, false, not}
 use mathlib.Core.List.{List, [], _∷_, _++_}

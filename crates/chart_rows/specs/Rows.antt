@@ -13,8 +13,8 @@ use Rattle.image.specs.Layout.{NO-BIT}
 use Rattle.image.specs.Image.{Row}
 use Rattle.chart_labels.specs.Labels.{label, numberedNodes}
 
--- the paths on from node v, at most n nodes long, with the care mask and the values so far, the 0 side first; a condition
--- number met again follows the value taken
+-- the paths on from node v, at most n nodes long, with the care mask and the values so far, the 0 side first; a condition number met
+-- again follows the value taken
 unfoldable pub paths : ℕ → Chart → ℕ → ℕ → ℕ → ℕ → ℕ → List Row
 paths zero c l f care values v = []
 paths (suc n) c l f care values v = elim (stops c v) [

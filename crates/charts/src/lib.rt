@@ -19,8 +19,8 @@ struct Counted {
     highest: u8,
 }
 
-// What 4 and 5 find: the lowest node that 4 refuses, or the number of nodes;
-// where there is none, whether 5 refuses, and the largest scheme.
+// What 4 and 5 find: the lowest node that 4 refuses, or the number of nodes; where there is none, whether 5 refuses, and the largest
+// scheme.
 pub struct Tried {
     pub field: usize,
     pub scheme: bool,

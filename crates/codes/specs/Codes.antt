@@ -1,5 +1,5 @@
--- Tick codes: which code a tick has, and what a code stands for. Tick kinds are numbered as an image has them;
--- a drop is none of them and has 5.
+-- Tick codes: which code a tick has, and what a code stands for. Tick kinds are numbered as an image has them; a drop is none of them and
+-- has 5.
 use Prim.Native.Nat.{ℕ, _+_, _-_}
 use mathlib.Core.Bool.{Bool, _&&_}
 use lib.Dec.{leb, eqb}

@@ -1,6 +1,5 @@
--- With as many places as the longest chain has schemes, and every number served by its own scheme,
--- no call of the walk finds as many schemes
--- open: none gets 17, and none is a drop.
+-- With as many places as the longest chain has schemes, and every number served by its own scheme, no call of the walk finds as many
+-- schemes open: none gets 17, and none is a drop.
 use Prim.Native.Nat.{ℕ, suc, _≤_}
 use mathlib.Core.Bool.{Bool, true, false, _&&_, _||_, not}
 use mathlib.Core.Path.{_≡_, refl, sym, _∙_, ap, subst}

@@ -1,5 +1,4 @@
--- The chart whose call no words lead to: it goes from home to its first condition and back, whatever the words and
--- the bindings.
+-- The chart whose call no words lead to: it goes from home to its first condition and back, whatever the words and the bindings.
 use Prim.Native.Nat.{ℕ, suc}
 use mathlib.Core.Bool.{Bool, true, false}
 use mathlib.Core.Path.{_≡_, refl, sym, _∙_, ap, subst}

@@ -1,6 +1,6 @@
 -- What the number of places promises:
--- with that many or more, no call of any list from a fresh state gets 17 or makes a drop, as long as every
--- number is served by its own scheme. Said over the functions, and for a caller from C; each call is known by its contract alone.
+-- with that many or more, no call of any list from a fresh state gets 17 or makes a drop, as long as every number is served by its own
+-- scheme. Said over the functions, and for a caller from C; each call is known by its contract alone.
 use Prim.Native.Nat.{ℕ, _≤_}
 use mathlib.Core.Path.{_≡_}
 use mathlib.Core.List.{List, map}

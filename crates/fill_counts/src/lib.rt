@@ -74,8 +74,8 @@ pub fn tally_one(table: &[u8], bytes: [u8; STATE_BYTES], n: usize) -> Tally
     all_meet(0, 1)
 }
 
-// Each first word has its tick once, and then the rest of the words are tallied from there;
-// a word that is stopped stops all lists that begin so.
+// Each first word has its tick once, and then the rest of the words are tallied from there; a word that is stopped stops all lists that
+// begin so.
 pub fn tally_all(table: &[u8], bytes: &[u8; STATE_BYTES], n: usize, k: usize) -> Tally
     requires { ⌜ TickAsked (now table) (stateOf (now bytes)) ⌝ }
     requires { ⌜ n * k ≤ 16 ⌝ }

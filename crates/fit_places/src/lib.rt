@@ -46,8 +46,7 @@ fn is_astray_at_bottom(table: &[u8], bytes: &[u8; STATE_BYTES], owner: u8, l: u8
 }
 
 // Whether some place up to the depth does not fit, or the bottom does not.
-// Each label is read once, from the bottom up, with the number that the
-// one below calls.
+// Each label is read once, from the bottom up, with the number that the one below calls.
 pub fn any_unfit(table: &[u8], bytes: &[u8; STATE_BYTES]) -> bool
     requires { ⌜ DeepTable (now table) (stateOf (now bytes)) ⌝ }
     ensures { λ r. ⌜ r ≡ (any (unfitPlace (tableImage (now (table .entry))) (stateOf (now (bytes .entry)))) 0

@@ -1,5 +1,5 @@
--- Texts there and back: the contents of the text of records are those records,
--- and the text of an accepted text's contents is that text in capitals.
+-- Texts there and back: the contents of the text of records are those records, and the text of an accepted text's contents is that text
+-- in capitals.
 use Prim.Native.Nat.{ℕ, zero, suc, _+_, _*_, _/_, _%_, _≤_, _<_}
 use mathlib.Core.Bool.{Bool, false, _||_, not}
 use mathlib.Core.Path.{_≡_, refl, sym, _∙_, ap, ap₂, subst}

@@ -68,7 +68,7 @@ BAD-MARKS = 19
 abbrev pub CALLS-ITSELF : ℕ
 CALLS-ITSELF = 20
 
--- of a cause, of a rebinding, of rows that are joined, and of a little chart
+-- of a cause, of a rebinding, of labels that are joined, and of a little chart
 abbrev pub ROWLESS : ℕ
 ROWLESS = 21
 

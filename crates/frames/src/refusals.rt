@@ -47,7 +47,7 @@ pub const BAD_MARKS: u8 = 19;
 
 pub const CALLS_ITSELF: u8 = 20;
 
-// Of a cause, of a rebinding, of rows that are joined, and of a little chart.
+// Of a cause, of a rebinding, of labels that are joined, and of a little chart.
 pub const ROWLESS: u8 = 21;
 
 pub const BAD_REBINDING: u8 = 22;

@@ -30,8 +30,8 @@ fn put_byte(out: &mut [u8], at: usize, b: u8)
     out[at + 1] = character(b % 16);
 }
 
-// Ten bytes as a frame, from an offset on. The loop goes by the slice's length, so that it is compiled into each caller, and
-// the bytes of a frame just made need not go through memory.
+// Ten bytes as a frame, from an offset on. The loop goes by the slice's length, so that it is compiled into each caller, and the bytes of
+// a frame just made need not go through memory.
 pub fn put_frame(out: &mut [u8], at: usize, bytes: &[u8])
     requires { ⌜ at + LINE ≤ length (now out) ⌝ }
     requires { ⌜ length (now bytes) ≡ FRAME ⌝ }
@@ -74,8 +74,8 @@ fn put_nth(out: &mut [u8], at: usize, bytes: &[u8], f: usize)
     put_frame(out, at, &ten);
 }
 
-// The text of contents, from an offset on. One frame is put apart: a function that is called at two places is not compiled
-// into the loop, and so the loop is not turned into one over many frames at once, which would take five times as long.
+// The text of contents, from an offset on. One frame is put apart: a function that is called at two places is not compiled into the loop,
+// and so the loop is not turned into one over many frames at once, which would take five times as long.
 pub fn put_text(out: &mut [u8], at: usize, bytes: &[u8])
     requires { ⌜ at + LINE * size (now bytes) ≤ length (now out) ⌝ }
     ensures { λ _. ⌜ now (out .exit) ≡ written (now (out .entry)) at (textOf (now (bytes .entry))) ⌝ }

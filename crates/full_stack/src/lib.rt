@@ -37,9 +37,8 @@ fn keeps_full(table: &[u8], bytes: &[u8; STATE_BYTES]) -> bool
     bottom.owner == handler
 }
 
-// A call at depth Σ: the caller's result is written, then the handler's bit cleared, and its entry is all that the stack holds;
-// a stack that is
-// kept refuses the call.
+// A call at depth Σ: the caller's result is written, then the handler's bit cleared, and its entry is all that the stack holds; a
+// stack that is kept refuses the call.
 pub fn tick_full(table: &[u8], schemes: u8, bytes: &mut [u8; STATE_BYTES], word: u16) -> TickEnd
     requires { ⌜ TopFull (now table) (stateOf (now bytes)) ⌝ }
     requires { ⌜ schemes ≡ schemeCount (now table) ⌝ }

@@ -33,8 +33,7 @@ unfoldable pub LowZero : Type 0
 LowZero = (t : List ℕ) → imageVerdict t ≡ fine → (l : ℕ) → l < 2 → let i = decoded (contents t) in (firstOf i l ≡ 0) × (howMany i l ≡ 0)
 
 -- the buffers after success with count n:
--- it is the number of labels, and of each label they hold its first row and how many rows it has, which are
--- its rows and no others
+-- it is the number of labels, and of each label they hold its first row and how many rows it has, which are its rows and no others
 pub record Held (t firsts counts : List ℕ) (n : ℕ) : Type 0 where
   pub accepted : imageVerdict t ≡ fine
   pub labels : n ≡ length (decoded (contents t) .labels)
@@ -43,9 +42,8 @@ pub record Held (t firsts counts : List ℕ) (n : ℕ) : Type 0 where
   pub exactly : (l k : ℕ) → l < n
       → Own (decoded (contents t)) l k ↔ ((getD firsts l 0 ≤ k) × (k < getD firsts l 0 + getD counts l 0))
 
--- on a table that holds image i a tick looks at the frames from the one of label l's first row on,
--- as many as the listing counts, and at the
--- rows that it names
+-- on a table that holds image i a tick looks at the frames from the one of label l's first row on, as many as the listing counts, and at
+-- the rows that it names
 pub record LooksAt (b : List ℕ) (i : Image) (l : ℕ) : Type 0 where
   pub low : rowsFrom b ≤ firstOn b l
   pub first : (howMany i l ≡ 0 → ⊥) → firstOn b l ≡ rowsFrom b + firstOf i l

@@ -1,6 +1,5 @@
 -- Every image that is accepted and to which 23 does not apply:
--- for every state that fits, ticks, runs and rebindings on the smaller image are those
--- on the given one, its labels renumbered.
+-- for every state that fits, ticks, runs and rebindings on the smaller image are those on the given one, its labels renumbered.
 use Prim.Native.Nat.{ℕ}
 use mathlib.Core.Bool.{false}
 use mathlib.Core.Path.{_≡_, refl}

@@ -1,6 +1,5 @@
 -- What holds of every text that is made smaller:
--- its groups meet the rule and are the fewest, what is written is accepted, and given back it is
--- written again.
+-- its groups meet the rule and are the fewest, what is written is accepted, and given back it is written again.
 use Prim.Native.Nat.{ℕ, _/_, _≤_}
 use mathlib.Core.Bool.{Bool, false}
 use mathlib.Core.Path.{_≡_, sym, _∙_, ap, ap₂}

@@ -21,7 +21,7 @@ use Rattle.chains.specs.Chains.{Circle, Longest}
 use Rattle.chains.proofs.Longest.{chain-some, chain-few, no-longer, as-long}
 use Rattle.chains.proofs.Circles.{circle-told, circle-refused}
 use Rattle.places.specs.Entry.{placesVerdict, placesNeeded}
-use Rattle.places.specs.inner.Reported.{Reported}
+use Rattle.places.specs.Reported.{Reported}
 
 judged-done : (v : Verdict) (m n : ℕ) → judged v m ≡ success n → (v ≡ fine) × (n ≡ m)
 judged-done fine m n e = (refl, sym (ap replyCount e))

@@ -1,6 +1,6 @@
 -- Demand 3 with prices over the functions:
--- calls of translate and State::fresh, then priced runs among calls that run, tick and rebind in any
--- mixture. Each call is known by its contract alone.
+-- calls of translate and State::fresh, then priced runs among calls that run, tick and rebind in any mixture. Each call is known by its
+-- contract alone.
 use Prim.Native.Nat.{ℕ, _≤_}
 use mathlib.Core.Path.{_≡_}
 use mathlib.Core.List.{List, [], _∷_}

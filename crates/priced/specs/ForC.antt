@@ -1,6 +1,6 @@
 -- Demand 3 with prices for a caller from C:
--- priced runs among calls that run, tick and rebind in any mixture, each given the bytes that the call
--- before it left, and known by its contract alone.
+-- priced runs among calls that run, tick and rebind in any mixture, each given the bytes that the call before it left, and known by its
+-- contract alone.
 use Prim.Native.Nat.{ℕ, _≤_}
 use mathlib.Core.Path.{_≡_}
 use mathlib.Core.List.{List, [], _∷_, map}

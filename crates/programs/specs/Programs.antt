@@ -43,6 +43,6 @@ unfoldable pub runOutput : List ℕ → List ℕ
 runOutput t = runLines (programRun t .reply) (programRun t .codes)
 
 -- ---- what a function that prints into a lent buffer leaves there: all of x at its front, and how much that is
-pub record Prints (x : List ℕ) (replyCount : ℕ) (before after : List ℕ) : Type 0 where
-  pub counted : replyCount ≡ length x
+pub record Prints (x : List ℕ) (count : ℕ) (before after : List ℕ) : Type 0 where
+  pub counted : count ≡ length x
   pub written : after ≡ over x before

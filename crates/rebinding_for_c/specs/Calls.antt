@@ -12,10 +12,10 @@ use Rattle.telling.specs.AnswersForC.{GivesReplyC}
 
 -- a rebinding in the state that the bytes hold, and the same on a prepared table
 abbrev pub rebindFor : List ℕ → List ℕ → ℕ → ℕ → StateOutcome
-rebindFor image state replyNumber scheme = rebind image (stateOf state) replyNumber scheme
+rebindFor image state number scheme = rebind image (stateOf state) number scheme
 
 abbrev pub liveRebindFor : List ℕ → List ℕ → ℕ → ℕ → StateOutcome
-liveRebindFor table state replyNumber scheme = liveRebind table (stateOf state) replyNumber scheme
+liveRebindFor table state number scheme = liveRebind table (stateOf state) number scheme
 
 -- a call that rebinds, with the bytes before it and after it
 pub record GivesRebindingC (x : StateOutcome) (before : List ℕ) (returned at made : ℕ) (after : List ℕ) : Type 0 where

@@ -1,5 +1,5 @@
--- How many paths go on from a node at most: each test of a new number takes one from the numbers that are untested, and at
--- most doubles the paths.
+-- How many paths go on from a node at most: each test of a new number takes one from the numbers that are untested, and at most doubles
+-- the paths.
 use mathlib.Core.Path.{_≡_, refl, sym, _∙_, ap, subst}
 use mathlib.Core.Logic.{_⊎_, inl, inr, ⊎-elim}
 use mathlib.Core.Bool.{Bool, true, false, _&&_}

@@ -54,8 +54,8 @@ fn mask_downward(records: &[u8], notes: &[u8], masks: &mut [u16])
     }
 }
 
-// How many values the numbers of a mask have together: no fewer than those of them that a path has not tested. Most masks
-// have none, and to count bits takes long where the processor has no instruction for it.
+// How many values the numbers of a mask have together: no fewer than those of them that a path has not tested. Most masks have none, and
+// to count bits takes long where the processor has no instruction for it.
 fn value_count(mask: u16) -> usize
     ensures { λ r. ⌜ ((care : ℕ) → 2 ^ untested mask care ≤ r) × (r ≤ 65536) ⌝ }
 {

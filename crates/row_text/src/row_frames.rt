@@ -35,8 +35,8 @@ fn put_row(out: &mut [u8], at: usize, from: u8, care: u16, values: u16, bit: u8,
     at + FRAME
 }
 
-// The paths on from a node, the 0 side of each new condition first: those of a 0 side by recursion, unless it ends at once;
-// then the path goes on along the 1 side.
+// The paths on from a node, the 0 side of each new condition first: those of a 0 side by recursion, unless it ends at once; then the path
+// goes on along the 1 side.
 fn put_forks(
     records: &[u8],
     notes: &[u8],

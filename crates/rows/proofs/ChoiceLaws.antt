@@ -1,6 +1,5 @@
--- Laws of the choice among rows: one row more in front, the better of three, lists joined,
--- numbers counted from another start, and rows that no
--- bit decides.
+-- Laws of the choice among rows: one row more in front, the better of three, lists joined, numbers counted from another start, and rows
+-- that no bit decides.
 use Prim.Native.Nat.{ℕ, suc, _+_, _≤_, _<_}
 use mathlib.Core.Bool.{Bool, true, false, _&&_, _||_}
 use mathlib.Core.Path.{_≡_, refl, sym, _∙_, ap, ap₂}

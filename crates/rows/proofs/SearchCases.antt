@@ -1,5 +1,5 @@
--- One frame of a table as the code compares it, the better of two, the search from one frame up to another,
--- and where the rows of a label stand.
+-- One frame of a table as the code compares it, the better of two, the search from one frame up to another, and where the rows of a label
+-- stand.
 use Prim.Native.Nat.{ℕ, suc, _+_, _*_, _-_, _≤_, _<_}
 use mathlib.Core.Bool.{Bool, true, false, _&&_, _||_}
 use mathlib.Core.Path.{_≡_, refl, sym, _∙_, ap, ap₂}

@@ -120,9 +120,9 @@ fn one_row(table: &[u8], f: usize, word: u16, bit: u8) -> usize
     NO_FRAME
 }
 
-// The frame of the row that label l takes, which has a frame with rows of its own, or none where none matches. The bit is 2
-// for a label that calls no function. Of a single row it is foreseen that it matches; of more, rows are compared only where more than one
-// matches, on the image of a chart never.
+// The frame of the row that label l takes, which has a frame with rows of its own, or none where none matches. The bit is 2 for a label
+// that calls no function. Of a single row it is foreseen that it matches; of more, rows are compared only where more than one matches, on
+// the image of a chart never.
 pub fn find_row(table: &[u8], schemes: u8, l: usize, word: u16, bit: u8) -> usize
     requires { ⌜ Deciding (now table) l bit ⌝ }
     requires { ⌜ schemes ≡ schemeCount (now table) ⌝ }

@@ -135,7 +135,7 @@ places-counted-c a b c d bytes fours said last final cs =
 
 pub own-walks-c : OwnWalkC
 unfolding OwnWalkC OwnWalk
-own-walks-c text before after at n c size low high k named bytes long placesReturned at′ made m taken said last final cs hands =
+own-walks-c text before after at n c size low high k named bytes long returned at′ made m taken said last final cs hands =
     let r : RowC bytes taken said last final = calls-row bytes long taken said last final cs in
     let four-states : length (statesOf bytes) ≡ 4 = count-is bytes ∙ ap (λ (l : ℕ). pick (eqb l 520) 4 0) long in
     subst (FollowsWalk size (contents text)) (r .row .made (contents text) k ownBinding)

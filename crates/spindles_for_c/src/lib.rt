@@ -5,8 +5,8 @@ use spindle_bytes::spin_bytes;
 use telling::tell_tick;
 ghost use Rattle.spindles_for_c.specs.Calls.{spinFor, liveSpinFor, GivesSpinC};
 
-// One tick of one of four spindles, whose states are 520 bytes;
-// a refused one writes no mask, no code and no state, and leaves `taken` as it was.
+// One tick of one of four spindles, whose states are 520 bytes; a refused one writes no mask, no code and no state, and leaves `taken` as
+// it was.
 pub fn spin(
     states: &mut [u8],
     taken: &mut usize,

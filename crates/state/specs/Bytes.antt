@@ -1,6 +1,6 @@
 -- The 130 bytes by which C keeps a state:
--- size, depth, 32 places, 16 results, the 16 schemes that serve, and for each place the number that its
--- scheme was called by, then the scheme that served it.
+-- size, depth, 32 places, 16 results, the 16 schemes that serve, and for each place the number that its scheme was called by, then the
+-- scheme that served it.
 use Prim.Native.Nat.{ℕ, _+_}
 use mathlib.Core.Bool.{Bool, false, not}
 use mathlib.Core.List.{List, _∷_, _++_, map}

@@ -12,9 +12,9 @@ pub mod layout;
 
 pub use fresh::bad_size;
 
-// Places (the paper's word for the entries of the stack) hold labels, the bottom first, up to the depth, and 0 above it;
-// beside each stand the
-// number that its scheme was called by and the scheme that served it. Number h's result bit and the scheme that serves h stand at h - 1.
+// Places (the paper's word for the entries of the stack) hold labels, the bottom first, up to the depth, and 0 above it; beside each
+// stand the number that its scheme was called by and the scheme that served it. Number h's result bit and the scheme that serves h stand
+// at h - 1.
 pub struct State {
     pub size: u8,
     pub depth: u8,

@@ -21,7 +21,7 @@ use ticks::no_row;
 ghost use mathlib.Core.Path.{_≡_};
 ghost use Rattle.image.specs.Decode.{schemeCount};
 ghost use Rattle.state.specs.Bytes.{stateOf};
-ghost use Rattle.ticks.specs.inner.TickContracts.{TickAsked, Header, TopNumbered, TopPlain, TopHome, GivesTickEnd};
+ghost use Rattle.ticks.specs.inner.TickContracts.{TickAsked, Header, TopNumbered, TopPlain, TopHome};
 ghost use Rattle.ticks.specs.Tick.{topOf};
 ghost use Rattle.ticks.specs.inner.TickContracts.{GivesTickMove};
 

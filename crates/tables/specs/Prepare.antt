@@ -19,8 +19,8 @@ rowReached b l f = leb l (field b f FROM)
 abbrev pub firstFrame : List ℕ → ℕ → ℕ
 firstFrame b l = lowest (rowReached b l) (rowsFrom b) (size b - rowsFrom b)
 
--- bytes 0 and 1 of a label's frame say only where it stands;
--- in the first n labels they hold the frame at which its rows end instead, low byte first
+-- bytes 0 and 1 of a label's frame say only where it stands; in the first n labels they hold the frame at which its rows end instead, low
+-- byte first
 unfoldable pub notedTo : List ℕ → ℕ → List ℕ
 notedTo b zero = b
 notedTo b (suc l) =

@@ -1,6 +1,5 @@
 -- A function's label takes its row for bit 0 if nothing writes 1 to the bit of the number called meanwhile:
--- from the call on the bit is 0, and the
--- label stays in its place under the top, until the call's own return.
+-- from the call on the bit is 0, and the label stays in its place under the top, until the call's own return.
 use Prim.Native.Nat.{ℕ, zero, suc, _+_, _-_, _≤_, _<_}
 use mathlib.Core.Bool.{Bool, true, false, _&&_}
 use mathlib.Core.Path.{_≡_, refl, ap, _∙_, sym, subst}

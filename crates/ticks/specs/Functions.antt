@@ -1,6 +1,5 @@
--- A call leaves the bit of the number called 0,
--- and a function's label takes its row for bit 0 if nothing writes 1 to that bit between its call
--- and its return: said of the machine's ticks, on any accepted image.
+-- A call leaves the bit of the number called 0, and a function's label takes its row for bit 0 if nothing writes 1 to that bit between
+-- its call and its return: said of the machine's ticks, on any accepted image.
 use Prim.Native.Nat.{ℕ, suc, _-_, _≤_}
 use mathlib.Core.Bool.{Bool, true, false, _&&_}
 use mathlib.Core.Path.{_≡_}
@@ -33,9 +32,8 @@ CallClears =
     (i : Image) (s : State) → let x = labelAt i (topOf s) in isCall x ≡ true → (w m code : ℕ) (t : State) → tick i s w ≡ finished m code t
     → resultOf (pick (findsFull i s) (i .handler) (x .called)) (t .bits) ≡ false
 
--- a drop emits the caller's mask with code 60 hexadecimal and leaves the handler's entry alone in the places, by its own number;
--- the handler's
--- bit is then 0, and every other bit, that of the number called too, is as the caller's result left it; who serves stays
+-- a drop emits the caller's mask with code 60 hexadecimal and leaves the handler's entry alone in the places, by its own number; the
+-- handler's bit is then 0, and every other bit, that of the number called too, is as the caller's result left it; who serves stays
 pub record Drop (i : Image) (x : Label) (s : State) (m code : ℕ) (t : State) : Type 0 where
   pub mask : m ≡ x .mask
   pub coded : code ≡ DROP-CODE
@@ -61,9 +59,8 @@ machineWritesOne i h s = eqb (numberAt s (s .depth - 1)) h && eqb (labelAt i (to
 abbrev pub returnsAt : Image → ℕ → State → Bool
 returnsAt i d s = eqb (labelAt i (topOf s) .kind) RETURN && eqb (s .depth) d
 
--- finished ticks, and rebindings between them, lead from one state to another;
--- none is a drop or a return at depth d, and none writes 1 to the
--- bit of number h
+-- finished ticks, and rebindings between them, lead from one state to another; none is a drop or a return at depth d, and none writes 1
+-- to the bit of number h
 pub data MachineUnwritten (i : Image) (h d : ℕ) : State → State → Type 0 where
   none : {s : State} → MachineUnwritten i h d s s
   more : (w : ℕ) {s t u : State} {m code : ℕ} → tick i s w ≡ finished m code t → findsFull i s ≡ false → returnsAt i d s ≡ false
@@ -74,9 +71,8 @@ pub data MachineUnwritten (i : Image) (h d : ℕ) : State → State → Type 0 w
 abbrev pub returnTick : State → Found → MachineTick
 returnTick s row = moved 0 RETURN-CODE (dropping s (s .bits)) (s .depth - 2) row
 
--- For every accepted image and every state that fits it with a function call's label at the top: after the call that is made, and
--- ticks that drop nothing and write no 1 to the bit of the number called,
--- with any rebindings between them, the call's own return goes by the
+-- For every accepted image and every state that fits it with a function call's label at the top: after the call that is made, and ticks
+-- that drop nothing and write no 1 to the bit of the number called, with any rebindings between them, the call's own return goes by the
 -- row that the label takes for bit 0.
 unfoldable pub ZeroRow : Type 0
 ZeroRow =

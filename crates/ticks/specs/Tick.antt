@@ -40,9 +40,8 @@ abbrev pub moved : ℕ → ℕ → State → ℕ → Found → MachineTick
 moved m code t k (found l) = finished m code (withPlace t k l)
 moved m code t k missing = stopped NO-ROW
 
--- s with these bits and the top taken off; with one scheme open, h by its own number at label l;
--- with label l of scheme k above the top, which
--- number h called
+-- s with these bits and the top taken off; with one scheme open, h by its own number at label l; with label l of scheme k above the
+-- top, which number h called
 abbrev pub dropping : State → Results → State
 dropping s b = withDepth (withOpened (withBits s b) (s .depth - 1) 0 0 0) (s .depth - 1)
 
@@ -56,9 +55,8 @@ opening s l h k b = withDepth (withOpened (withBits s b) (s .depth) l h k) (suc 
 abbrev pub keepsFull : Image → State → Bool
 keepsFull i s = eqb (i .handler) 0 || ofHandler i (placeAt s 0)
 
--- a call at depth Σ is refused where the stack is kept, and nothing is done;
--- else all places are dropped, and the handler starts at the bottom
--- with its bit cleared
+-- a call at depth Σ is refused where the stack is kept, and nothing is done; else all places are dropped, and the handler starts at the
+-- bottom with its bit cleared
 abbrev pub full : Image → State → ℕ → Results → MachineTick
 full i s m b = pick (keepsFull i s) (stopped FULL)
     (finished m DROP-CODE (alone s (entryAt i (i .handler)) (i .handler) (cleared (i .handler) b)))

@@ -1,5 +1,5 @@
--- For each numbered stop of a sound chart, every word and every bit just one row matches,
--- and it leads to the label of the stop where the walk goes.
+-- For each numbered stop of a sound chart, every word and every bit just one row matches, and it leads to the label of the stop where the
+-- walk goes.
 use mathlib.Core.Path.{_≡_, refl, sym, _∙_, ap, subst}
 use mathlib.Core.Logic.{_⊎_, inl, inr}
 use mathlib.Core.Bool.{Bool, true, false, _&&_, _||_, not}

@@ -28,8 +28,8 @@ ghost use Rattle.chart_labels.specs.inner.ChartContracts.{Ready};
 ghost use Rattle.translator.specs.inner.TranslatorContracts.{ImageRoom};
 ghost use Rattle.translator.specs.inner.ImageBytes.{tableBytes, sizeRefusal, imageOutcome};
 
-// 10, or 16 where there is no room for so many frames before the rows and for the rows, or 0. Where a bound on the rows
-// excludes both, the paths are not walked to count them.
+// 10, or 16 where there is no room for so many frames before the rows and for the rows, or 0. Where a bound on the rows excludes both,
+// the paths are not walked to count them.
 fn size_refusal(records: &[u8], notes: &[u8], before: usize, room: usize) -> u8
     requires { ⌜ Noted (now records) (now notes) ⌝ }
     requires { ⌜ before ≤ 1024 ⌝ }

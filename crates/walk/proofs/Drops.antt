@@ -1,5 +1,5 @@
--- A code 60 hexadecimal is made exactly at a call that finds as many schemes open as places,
--- where there is a handler and it is not the first of them.
+-- A code 60 hexadecimal is made exactly at a call that finds as many schemes open as places, where there is a handler and it is not the
+-- first of them.
 use Prim.Native.Nat.{ℕ, _+_, _<_}
 use mathlib.Core.Bool.{Bool, true, false, _&&_}
 use mathlib.Core.Path.{_≡_, refl}

@@ -1,6 +1,5 @@
--- With no handler the number of places does not matter,
--- and where every number is served by its own scheme the walk of an accepted chart is the
--- unbounded walk.
+-- With no handler the number of places does not matter, and where every number is served by its own scheme the walk of an accepted chart
+-- is the unbounded walk.
 use Prim.Native.Nat.{ℕ, zero, suc, _+_}
 use mathlib.Core.Bool.{Bool, true, false}
 use mathlib.Core.Path.{_≡_, refl, ap, _∙_, sym, subst}

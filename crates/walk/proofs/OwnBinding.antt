@@ -1,6 +1,5 @@
 -- Where every number is served by its own scheme, the walk of an accepted chart is the walk with no rebinding:
--- an open scheme goes by its own
--- number.
+-- an open scheme goes by its own number.
 use Prim.Native.Nat.{ℕ, zero, suc, _+_, _-_, _≤_}
 use mathlib.Core.Bool.{Bool, true, false}
 use mathlib.Core.Path.{_≡_, refl, ap, _∙_, sym, subst}

@@ -35,8 +35,7 @@ pub record WalkUnwritten (c : Chart) (call : Tick) (between : List Tick) (back :
   pub unwritten : some (walkWritesOne c (argument c (call .node))) between ≡ false
 
 -- for every accepted chart, every number of places and all words, whatever bindings are told:
--- the tick after the return is made where the 0 arc
--- leads by the return's word
+-- the tick after the return is made where the 0 arc leads by the return's word
 unfoldable pub ZeroArc : Type 0
 ZeroArc =
     (text : List ℕ) → readVerdict text ≡ fine → (places : ℕ) (words : List Signal) (before between rest : List Tick) (call back next : Tick)

@@ -1,8 +1,6 @@
--- The walk with no rebinding: words with no binding beside them;
--- each call performs the scheme that it names, and each result goes to the bit of
--- the stop's own scheme. Under ownBinding the walk of an accepted chart is this one, by the law own-binding;
--- only laws of charts with no rebinding
--- speak of it.
+-- The walk with no rebinding: words with no binding beside them; each call performs the scheme that it names, and each result goes to the
+-- bit of the stop's own scheme. Under ownBinding the walk of an accepted chart is this one, by the law own-binding; only laws of charts
+-- with no rebinding speak of it.
 use Prim.Native.Nat.{ℕ, zero, suc, _+_}
 use mathlib.Core.Bool.{Bool, true, false}
 use mathlib.Core.List.{List, [], _∷_, _++_}
@@ -15,8 +13,8 @@ use Rattle.walk.specs.Stops.{start, byArc, byWord, Stop, plain, call, fu
 use Rattle.walk.specs.Walk.{Tick, oneTick, drops}
 
 -- performing a scheme: the words ran out after these ticks; or its End was reached:
--- the ticks, the End's word, the words left, the result bits;
--- or all open schemes were dropped: the ticks, the words left, the result bits
+-- the ticks, the End's word, the words left, the result bits; or all open schemes were dropped: the ticks, the words left, the result
+-- bits
 pub data Course : Type 0 where
   spent : List Tick → Course
   ended : List Tick → ℕ → List ℕ → Results → Course
@@ -38,8 +36,7 @@ resume go o ts f (ended us w ws b) = after (ts ++ us) (go o (f w b) ws b)
 resume go o ts f (dropped us ws b) = dropped (ts ++ us) ws b
 
 -- a call of scheme h by stop v with o open, after which the caller goes on by f:
--- it clears the bit of h and h is performed; or all open schemes
--- are dropped, and the bit of the handler is cleared
+-- it clears the bit of h and h is performed; or all open schemes are dropped, and the bit of the handler is cleared
 abbrev pub performCall : Performer → Chart → ℕ → ℕ → ℕ → ℕ → ℕ → (ℕ → Results → ℕ) → List ℕ → Results → Bool → Course
 performCall go c o v m k h f ws b false = resume go o (oneTick v (scheme c v) m (k + h) o) f (go (suc o) (start c h) ws (cleared h b))
 performCall go c o v m k h f ws b true = dropped (oneTick v (scheme c v) m DROP-CODE o) ws (cleared (handler c) b)

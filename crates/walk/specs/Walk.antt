@@ -22,8 +22,7 @@ abbrev pub signals : Binding → List ℕ → List Signal
 signals s ws = map (λ w. record { word = w; binding = s }) ws
 
 -- a tick (the paper's word for one step):
--- the stop that makes it, the number that its scheme was called by, its mask, its code, and how many
--- schemes were open
+-- the stop that makes it, the number that its scheme was called by, its mask, its code, and how many schemes were open
 pub record Tick : Type 0 where
   pub node : ℕ
   pub number : ℕ
@@ -39,8 +38,8 @@ abbrev pub isDrop : Tick → Bool
 isDrop t = eqb (t .code) DROP-CODE
 
 -- performing a scheme: the words ran out after these ticks; or its End was reached:
--- the ticks, the End's word, the words left, the result bits;
--- or all open schemes were dropped: the ticks, the words left, the result bits
+-- the ticks, the End's word, the words left, the result bits; or all open schemes were dropped: the ticks, the words left, the result
+-- bits
 pub data Course : Type 0 where
   spent : List Tick → Course
   ended : List Tick → ℕ → List Signal → Results → Course
@@ -56,8 +55,7 @@ abbrev pub Performer : Type 0
 Performer = ℕ → ℕ → ℕ → List Signal → Results → Course
 
 -- after a call's course the caller, itself called by number g, goes on from the stop that f gives for the End's word and the result bits;
--- a drop
--- ends the caller too
+-- a drop ends the caller too
 abbrev pub resume : Performer → ℕ → ℕ → List Tick → (ℕ → Results → ℕ) → Course → Course
 resume go o g ts f (spent us) = spent (ts ++ us)
 resume go o g ts f (ended us w ws b) = after (ts ++ us) (go o g (f w b) ws b)
@@ -69,9 +67,8 @@ abbrev pub performCall : Performer → Chart → ℕ → ℕ → ℕ → ℕ →
 performCall go c o g v m j h k f ws b false = resume go o g (oneTick v g m (j + h) o) f (go (suc o) h (start c k) ws (cleared h b))
 performCall go c o g v m j h k f ws b true = dropped (oneTick v g m DROP-CODE o) ws (cleared (handler c) b)
 
--- one stop v of a scheme that was called by number g, with o open, by its word, and what follows it;
--- v's own result is written, to the bit of g,
--- before its call; d tells of a number of open schemes whether a call drops them
+-- one stop v of a scheme that was called by number g, with o open, by its word, and what follows it; v's own result is written, to the
+-- bit of g, before its call; d tells of a number of open schemes whether a call drops them
 abbrev pub act : Performer → Chart → (ℕ → Bool) → ℕ → ℕ → ℕ → Signal → List Signal → Results → Stop → Course
 act go c d o g v w ws b (plain m r u) = after (oneTick v g m PLAIN-CODE o) (go o g (byArc c (w .word) u) ws (withResult r g b))
 act go c d o g v w ws b (call m r h u) =

@@ -21,8 +21,7 @@ abbrev At : (tie.InvT-loop → tie.MeasureT-loop → Type 0) → Type 0
 At stage = stage Inv-loop μ-loop
 
 -- ---- the stages: H, M, the depth and the bottom are read, then its label, and that is tested;
--- a turn begins, its place, server and number are
--- read and tested, then its label
+-- a turn begins, its place, server and number are read and tested, then its label
 abbrev deep : At tie.After-place-of → At tie.After-depth-of
 deep c = c .before
 

@@ -1,7 +1,6 @@
--- `spindle_list::spin` meets its contract: a walk of its MIR, by hand. A bad call is refused by `refuse_head`;
--- else the list is opened, the four depths are read,
--- the spindle's state is copied out, `turn_state` is called with the copy,
--- and the state that it returns is put into the list, which is then closed.
+-- `spindle_list::spin` meets its contract: a walk of its MIR, by hand. A bad call is refused by `refuse_head`; else the list is opened,
+-- the four depths are read, the spindle's state is copied out, `turn_state` is called with the copy, and the state that it returns is put
+-- into the list, which is then closed.
 use mathlib.Core.Path.{_≡_, refl, sym, ap, subst, _∙_}
 use mathlib.Core.Bool.{Bool, true, false, not}
 use Prim.Native.Nat.{ℕ, _*_, _≤_, _<_, _^_}

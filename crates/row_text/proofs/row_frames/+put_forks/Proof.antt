@@ -1,5 +1,5 @@
--- `row_text::put_forks`: in the loop the rows before the path stand in the buffer. The measure is the node's rank, which
--- falls to a 0 side and along a 1 side.
+-- `row_text::put_forks`: in the loop the rows before the path stand in the buffer. The measure is the node's rank, which falls to a 0
+-- side and along a 1 side.
 use mathlib.Core.Bool.{true}
 use mathlib.Core.Path.{_≡_, refl, _∙_}
 use lib.ListN.{length, getD}
