@@ -15,8 +15,8 @@ use Rattle.state.proofs.ResultBytes.{held-sized}
 use Rattle.cause.specs.Cause.{Cause, explain, GivesCause}
 use Rattle.cause.specs.Laws.{Explains}
 use Rattle.cause.proofs.Answers.{answered}
-use Rattle.cause.proofs.cause_of as cause-of
-use Rattle.cause.proofs.cause_of.Reads as cause-of-reads
+use Rattle.explaining.proofs.cause_of as cause-of
+use Rattle.explaining.proofs.cause_of.Reads as cause-of-reads
 use Rattle.fairleadow.specs.Calls.{GivesCauseC, causeFor}
 use Rattle.fairleadow.proofs.fairleadow_cause as c-cause
 use Rattle.fairleadow.proofs.fairleadow_cause.Reads as c-cause-reads

@@ -8,8 +8,8 @@ use mathlib.Core.Path.{_≡_}
 use Rattle.frames.specs.Answer.{reply, GivesBuffer}
 use Rattle.translator.specs.Entry.{translate}
 use Rattle.places.specs.Entry.{placesNeeded}
-use Rattle.translator.proofs.translate as translator-translate
-use Rattle.translator.proofs.translate.Reads as translator-translate-reads
+use Rattle.translating.proofs.translate as translating-translate
+use Rattle.translating.proofs.translate.Reads as translating-translate-reads
 use Rattle.tables.specs.Prepare.{prepare}
 use Rattle.preparing.proofs.prepare as tables-prepare
 use Rattle.preparing.proofs.prepare.Reads as tables-prepare-reads
@@ -34,8 +34,8 @@ use Rattle.machine.proofs.live_run.Reads as machine-live-run-reads
 use Rattle.machine.proofs.live_tick as machine-live-tick
 use Rattle.machine.proofs.live_tick.Reads as machine-live-tick-reads
 use Rattle.priced_runs.specs.PricedRun.{pricedRun, GivesPricedRun}
-use Rattle.priced_runs.proofs.priced_run as priced-run
-use Rattle.priced_runs.proofs.priced_run.Reads as priced-run-reads
+use Rattle.priced_states.proofs.priced_run as priced-run
+use Rattle.priced_states.proofs.priced_run.Reads as priced-run-reads
 use Rattle.rebinding.specs.Rebind.{rebind, liveRebind}
 use Rattle.rebinding.proofs.rebind as rebinding-rebind
 use Rattle.rebinding.proofs.rebind.Reads as rebinding-rebind-reads
@@ -85,11 +85,11 @@ use Rattle.fairleadow.proofs.fairleadow_live_spin.Reads as c-live-spin-reads
 use Rattle.fairleadow.proofs.fairleadow_count_fillings as c-count-fillings
 use Rattle.fairleadow.proofs.fairleadow_count_fillings.Reads as c-count-fillings-reads
 
--- ---- translator::translate, preparing::prepare, minimising::minimise, fetching::little_chart, state::State::fresh, of machine run,
--- tick_image, live_run and live_tick, priced_runs::priced_run, of rebinding rebind and live_rebind, and counting::count_fillings
-pub translate-lends : (κs : Lfts 2) (a : ArgsD translator-translate.signature κs) (r : ResD translator-translate.signature κs)
-    (s : AtExit translator-translate.ended κs)
-    → translator-translate-reads.Learnt κs a r s → GivesBuffer (translate (a .0 .now) (a .1 .0 .now)) r (s .1 .0 .now)
+-- ---- translating::translate, preparing::prepare, minimising::minimise, fetching::little_chart, state::State::fresh, of machine run,
+-- tick_image, live_run and live_tick, priced_states::priced_run, of rebinding rebind and live_rebind, and counting::count_fillings
+pub translate-lends : (κs : Lfts 2) (a : ArgsD translating-translate.signature κs) (r : ResD translating-translate.signature κs)
+    (s : AtExit translating-translate.ended κs)
+    → translating-translate-reads.Learnt κs a r s → GivesBuffer (translate (a .0 .now) (a .1 .0 .now)) r (s .1 .0 .now)
 translate-lends κs a r s e = e
 
 pub places-answered : (κs : Lfts 1) (a : ArgsD places-needed.signature κs)

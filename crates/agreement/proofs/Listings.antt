@@ -11,8 +11,8 @@ use Rattle.frames.specs.Answer.{success, reply}
 use Rattle.listing.specs.Listing.{list, GivesListing}
 use Rattle.listing.specs.Exact.{Held}
 use Rattle.listing.proofs.Answers.{held}
-use Rattle.listing.proofs.list_rows as list-rows
-use Rattle.listing.proofs.list_rows.Reads as list-rows-reads
+use Rattle.image_rows.proofs.list_rows as list-rows
+use Rattle.image_rows.proofs.list_rows.Reads as list-rows-reads
 use Rattle.fairleadow.specs.Calls.{GivesListingC}
 use Rattle.fairleadow.proofs.fairleadow_list_rows as c-list-rows
 use Rattle.fairleadow.proofs.fairleadow_list_rows.Reads as c-list-rows-reads

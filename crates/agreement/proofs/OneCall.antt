@@ -67,6 +67,11 @@ pub record Like (image : List ℕ) (s : State) (g : CallInput) (d : CallOutput) 
   pub handed-is : d ≡ handedFor image s g
   pub state-is : after ≡ stateAfter image s g
 
+-- a call of prepare that succeeded
+pub table-prepared : (image : List ℕ) {table : List ℕ} → TableOf image table → PreparedTable image table
+table-prepared image (prepared before after answer c n e k h) =
+    subst (λ (b : List ℕ). PreparedTable image (take k b)) (sym (c .written)) (prepared-holds image before n (sym (c .answered) ∙ e) k h)
+
 module _ (image : List ℕ) (s : State) where
   run-like : (a : RunInput) {x : RunOutcome} {r : StateReport} {masks codes : List ℕ} → x ≡ runAsked image s a → GivesRun x r masks codes
       → Like image s (toRun a) (outputOfRun r masks codes) (r .state)
@@ -91,14 +96,10 @@ module _ (image : List ℕ) (s : State) where
     state-is = c .state ∙ ap (λ (y : StateOutcome). y .state) e;
   }
 
-  table-prepared : {table : List ℕ} → TableOf image table → PreparedTable image table
-  table-prepared (prepared before after answer c n e k h) =
-      subst (λ (b : List ℕ). PreparedTable image (take k b)) (sym (c .written)) (prepared-holds image before n (sym (c .answered) ∙ e) k h)
-
   pub call-like : {g : CallInput} {d : CallOutput} {after : State} → Call image s g d after → Like image s g d after
   call-like (runCall {a = a} c) = run-like a refl c
-  call-like (runCallLive {a = a} t c) = run-like a (live-run-is (table-prepared t) s (a .words) (a .masks) (a .codes)) c
+  call-like (runCallLive {a = a} t c) = run-like a (live-run-is (table-prepared image t) s (a .words) (a .masks) (a .codes)) c
   call-like (tickCall {w = w} c) = tick-like w refl c
-  call-like (tickCallLive {w = w} t c) = tick-like w (live-tick-is (table-prepared t) s w) c
+  call-like (tickCallLive {w = w} t c) = tick-like w (live-tick-is (table-prepared image t) s w) c
   call-like (rebindCall {h = h} {k = k} c) = rebinding-like h k refl c
-  call-like (rebindCallLive {h = h} {k = k} t c) = rebinding-like h k (prepared-rebind-is (table-prepared t) s h k) c
+  call-like (rebindCallLive {h = h} {k = k} t c) = rebinding-like h k (prepared-rebind-is (table-prepared image t) s h k) c

@@ -69,6 +69,12 @@ pub record LikeC (image bytes : List ℕ) (g : CallInput) (d : CallOutputC) (aft
   pub handed-is : d ≡ callOutputC (handedFor image (stateOf bytes) g)
   pub state-is : stateOf after ≡ stateAfter image (stateOf bytes) g
 
+-- a call of fairleadow_prepare that returned 0 succeeded with the count that it wrote
+pub table-prepared : (image : List ℕ) {table : List ℕ} → TableOfC image table → PreparedTable image table
+table-prepared image (prepared before after at n c k h) =
+    subst (λ (b : List ℕ). PreparedTable image (take k b)) (sym (c .written))
+    (prepared-holds image before n (prepare-success image before (sym (c .told .number-is)) ∙ ap success (sym (c .told .count-is))) k h)
+
 module _ (image bytes : List ℕ) where
   -- after a run, a tick and a rebinding the bytes hold the state that it hands back
   ran-holds : (a : RunInput) → stateOf (bytesAfter bytes (runAsked image (stateOf bytes) a)) ≡ runAsked image (stateOf bytes) a .state
@@ -132,16 +138,10 @@ module _ (image bytes : List ℕ) where
         state-is = ap stateOf (c .bytes) ∙ rebound-holds h k;
       }
 
-  -- a call of fairleadow_prepare that returned 0 succeeded with the count that it wrote
-  table-prepared : {table : List ℕ} → TableOfC image table → PreparedTable image table
-  table-prepared (prepared before after at n c k h) =
-      subst (λ (b : List ℕ). PreparedTable image (take k b)) (sym (c .written))
-      (prepared-holds image before n (prepare-success image before (sym (c .told .number-is)) ∙ ap success (sym (c .told .count-is))) k h)
-
   pub call-like : {g : CallInput} {d : CallOutputC} {after : List ℕ} → CallC image bytes g d after → LikeC image bytes g d after
   call-like (runCall {a = a} c) = run-like a refl c
-  call-like (runCallLive {a = a} t c) = run-like a (live-run-is (table-prepared t) (stateOf bytes) (a .words) (a .masks) (a .codes)) c
+  call-like (runCallLive {a = a} t c) = run-like a (live-run-is (table-prepared image t) (stateOf bytes) (a .words) (a .masks) (a .codes)) c
   call-like (tickCall {w = w} c) = tick-like w refl c
-  call-like (tickCallLive {w = w} t c) = tick-like w (live-tick-is (table-prepared t) (stateOf bytes) w) c
+  call-like (tickCallLive {w = w} t c) = tick-like w (live-tick-is (table-prepared image t) (stateOf bytes) w) c
   call-like (rebindCall {h = h} {k = k} c) = rebinding-like h k refl c
-  call-like (rebindCallLive {h = h} {k = k} t c) = rebinding-like h k (prepared-rebind-is (table-prepared t) (stateOf bytes) h k) c
+  call-like (rebindCallLive {h = h} {k = k} t c) = rebinding-like h k (prepared-rebind-is (table-prepared image t) (stateOf bytes) h k) c

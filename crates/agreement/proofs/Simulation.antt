@@ -24,6 +24,7 @@ use Rattle.walk.proofs.Trace.{Serves, Caller, Under, Good, drop-handler, view-o
 use Rattle.image.specs.Layout.{tickKind}
 use Rattle.image.specs.Image.{Image, Label}
 use Rattle.chart_labels.specs.Labels.{numbered, label}
+use Rattle.chart_labels.proofs.LabelKinds.{label-owner}
 use Rattle.chart_rows.specs.Rows.{rows}
 use Rattle.translator.specs.Table.{table}
 use Rattle.state.specs.declared.State.{State}
@@ -119,8 +120,10 @@ module _ (c : Chart) (n : ℕ) (n≤ : n ≤ 32) (serving : Binding) where
           let u : ℕ = bottomOf x ks .node in
           let under = bottom-scheme (bottom c f) x ks (g .top) call (g .under) in
           let holds = tableFacts .numbers u (under .0) (under .1) in
+          let owned : labelAt (table c) (label c u) .owner ≡ bottom c f =
+          ap (λ (y : Label). y .owner) (holds .2) ∙ label-owner c u ∙ under .2 in
           ap (λ (l : ℕ). eqb (table c .handler) 0 || ofHandler (table c) l) (get-bottom (labelled c) x ks (zerosOver ks))
-          ∙ keeps f (suc (length ks)) (label c u) (holds .0) (ap (λ (y : Label). y .owner) (holds .2) ∙ under .2) (g .handled) e
+          ∙ keeps f (suc (length ks)) (label c u) (holds .0) owned (g .handled) e
 
       -- a call of number h: the entry of the scheme that serves it is put above the top; at a full stack the places are dropped, or it is
       -- refused

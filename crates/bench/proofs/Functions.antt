@@ -1,10 +1,10 @@
 -- The second block of the bore test meets what the laws of functions ask, of the walk and of the machine: between call and return nothing
 -- writes 1, and the 0 arc, or the row for bit 0, is taken.
 use mathlib.Core.Path.{_≡_, refl}
-use mathlib.Core.Bool.{Bool, true, false}
+use mathlib.Core.Bool.{true, false}
 use mathlib.Core.List.{List, [], _∷_, _++_}
 use Prim.Native.Nat.{ℕ}
-use lib.ListN.{take, replicate}
+use lib.ListN.{take}
 use Rattle.frames.specs.Frame.{contents}
 use Rattle.frames.specs.Verdict.{fine}
 use Rattle.charts.specs.Chart.{next0}
@@ -16,16 +16,16 @@ use Rattle.walk.specs.Functions.{walkWritesOne, WalkUnwritten, ZeroArc}
 use Rattle.walk.proofs.Functions.{zero-arc}
 use Rattle.lists.specs.Sequences.{some}
 use Rattle.image.specs.Decode.{decoded}
-use Rattle.state.specs.declared.State.{State}
 use Rattle.state.specs.State.{fresh, Sized}
 use Rattle.fitness.specs.Fitness.{unfit}
 use Rattle.ticks.specs.Tick.{finished, tick}
 use Rattle.ticks.specs.Functions.{MachineUnwritten, none, more, ZeroRow}
 use Rattle.ticks.proofs.Functions.{zero-row}
 use Rattle.runs.specs.Run.{ticks}
-use Rattle.bench.specs.Bench.{chartBore, boreWords, tickOf, beside}
+use Rattle.bench.specs.Bench.{chartBore, boreWords, tickOf}
 use Rattle.bench.proofs.Computing.{walking, running}
 use Rattle.bench.proofs.Tables.{imageBore, of-bore}
+use Rattle.bench.proofs.Rounds.{twoPlaces}
 
 -- ---- the walk
 abbrev firstBlock : List Tick
@@ -57,37 +57,26 @@ pub bore-writes : some (walkWritesOne (contents chartBore) 2) firstBlock ≡ tru
 unfolding walking some chartBore
 bore-writes = refl
 
--- ---- the machine with two places, by depth, the two labels and the bit of number 2
-abbrev stateAt : ℕ → ℕ → ℕ → Bool → State
-stateAt d l above b = record {
-  size = 2;
-  depth = d;
-  places = l ∷ above ∷ replicate 30 0;
-  bits = false ∷ b ∷ replicate 14 false;
-  serving = ownBinding;
-  numbers = beside d (1 ∷ 2 ∷ []);
-  servers = beside d (1 ∷ 2 ∷ []);
-}
-
+-- ---- the machine with two places
 -- before the second call the first block's 1 still stands
-bore-before : ticks (decoded (contents imageBore)) (fresh 2) (take 7 boreWords) .state ≡ stateAt 1 2 0 true
+bore-before : ticks (decoded (contents imageBore)) (fresh 2) (take 7 boreWords) .state ≡ twoPlaces 2 1 2 0 true
 unfolding running imageBore boreWords
 bore-before = refl
 
-bore-fits : unfit (decoded (contents imageBore)) (stateAt 1 2 0 true) ≡ false
+bore-fits : unfit (decoded (contents imageBore)) (twoPlaces 2 1 2 0 true) ≡ false
 unfolding running imageBore
 bore-fits = refl
 
-bore-sized : Sized (stateAt 1 2 0 true)
+bore-sized : Sized (twoPlaces 2 1 2 0 true)
 bore-sized = record { places = refl; serving = refl; numbers = refl; servers = refl }
 
-bore-unwritten-ticks : MachineUnwritten (decoded (contents imageBore)) 2 2 (stateAt 2 2 5 false) (stateAt 2 2 1 false)
+bore-unwritten-ticks : MachineUnwritten (decoded (contents imageBore)) 2 2 (twoPlaces 2 2 2 5 false) (twoPlaces 2 2 2 1 false)
 unfolding running imageBore
 bore-unwritten-ticks = more 0 refl refl refl refl none
 
-pub bore-takes-zero : tick (decoded (contents imageBore)) (stateAt 2 2 1 false) 0 ≡ finished 0 3 (stateAt 1 3 0 false)
+pub bore-takes-zero : tick (decoded (contents imageBore)) (twoPlaces 2 2 2 1 false) 0 ≡ finished 0 3 (twoPlaces 2 1 3 0 false)
 unfolding ZeroRow running imageBore
 bore-takes-zero =
-    zero-row imageBore (of-bore .passes) (stateAt 1 2 0 true) bore-sized bore-fits refl 0 0
-    66 (stateAt 2 2 5 false) (stateAt 2 2 1 false) refl refl
+    zero-row imageBore (of-bore .passes) (twoPlaces 2 1 2 0 true) bore-sized bore-fits refl 0 0
+    66 (twoPlaces 2 2 2 5 false) (twoPlaces 2 2 2 1 false) refl refl
     bore-unwritten-ticks refl 0

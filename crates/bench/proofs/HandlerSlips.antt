@@ -14,7 +14,7 @@ use Rattle.frames.specs.Answer.{replyNumber}
 use Rattle.image.specs.Image.{Image, Label}
 use Rattle.translator.specs.Entry.{translate}
 use Rattle.state.specs.declared.State.{State}
-use Rattle.state.specs.State.{labelAt, entryAt, placeAt, numberAt, fresh, freshState}
+use Rattle.state.specs.State.{labelAt, entryAt, placeAt, fresh, freshState}
 use Rattle.state.specs.Changes.{withPlaces, withPlace, withOpened, withBits}
 use Rattle.fitness.specs.Fitness.{isCall, ofHandler}
 use Rattle.ticks.specs.Tick.{rowLeads, MachineTick, finished, stopped, moved, alone, full, tick, topOf}
@@ -27,12 +27,9 @@ use Rattle.bench.specs.Handler.{imageHandler, dropWords, bottomWords, or
 use Rattle.bench.proofs.Computing.{running}
 use Rattle.bench.proofs.Tables.{tableHandler, of-handler}
 use Rattle.bench.proofs.Instances.{aloneInput, runAlone, secondOutput, at-drop, at-bottom, at-ordinary, at-parted}
-use Rattle.bench.proofs.Variants.{StepRule, ticksByRule, runBy, decodedRunBy, by-table, made, chain-made, codeAt}
+use Rattle.bench.proofs.Variants.{StepRule, ticksByRule, runBy, decodedRunBy, by-table, made, chain-made, topNumber, codeAt}
 
 -- ---- the label at the top, the number that its scheme was called by, and the bits with its result
-abbrev topNumber : State → ℕ
-topNumber s = numberAt s (s .depth - 1)
-
 abbrev topLabel : Image → State → Label
 topLabel i s = labelAt i (topOf s)
 

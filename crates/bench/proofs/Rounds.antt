@@ -15,7 +15,7 @@ use Rattle.bindings.specs.Binding.{ownBinding}
 use Rattle.frames.specs.Frame.{contents}
 use Rattle.frames.specs.Verdict.{fine, next, when}
 use Rattle.frames.specs.Answer.{success}
-use Rattle.walk.specs.Walk.{Signal, spent, after, oneTick, perform, drops, carriedOn, walkFrom, walk}
+use Rattle.walk.specs.Walk.{Signal, OpenScheme, oneTick, spent, after, perform, drops, carriedOn, walkFrom, walk}
 use Rattle.image.specs.Image.{Image}
 use Rattle.image.specs.inner.Sound.{SoundImage}
 use Rattle.image.proofs.Accepted.{image-sound}
@@ -63,11 +63,15 @@ finishedRun : (r : MachineRun) (s : State) (ws : List ℕ) → r .verdict ≡ fi
 finishedRun r s ws v m k = rw (full (r .masks) ws m, full (r .codes) ws k, v, k)
 
 -- ---- B6
+-- scheme 1 at home
+abbrev first : OpenScheme
+first = record { node = 1; number = 1; opened = 1 }
+
 home-course : (d : ℕ → Bool) (ws : List Signal)
-    → perform (length ws) (contents chartHome) d 1 1 1 ws noResults ≡ spent (map (λ w. tickOf 1 1 0 4 1) ws)
+    → perform (length ws) (contents chartHome) d first ws noResults ≡ spent (map (λ w. tickOf 1 1 0 4 1) ws)
 unfolding walking chartHome
 home-course d [] = refl
-home-course d (w ∷ ws) = ap (after (oneTick 1 1 0 4 1)) (home-course d ws)
+home-course d (w ∷ ws) = ap (after (oneTick first 0 4)) (home-course d ws)
 
 pub home-walk : (n : ℕ) (ws : List Signal) → walk n (contents chartHome) ws ≡ map (λ w. tickOf 1 1 0 4 1) ws
 unfolding walking chartHome
@@ -114,36 +118,37 @@ codes5 = 4 ∷ 66 ∷ 0 ∷ 3 ∷ 0 ∷ []
 abbrev masks5 : List ℕ
 masks5 = 0 ∷ 0 ∷ 0 ∷ 0 ∷ 1 ∷ []
 
--- the five states that come again, by depth, the two labels and the result of number 2
-module _ (size : ℕ) (two : 2 ≤ size) where
-  abbrev stateAt : ℕ → ℕ → ℕ → Bool → State
-  stateAt d l above x = record {
-    size = size;
-    depth = d;
-    places = l ∷ above ∷ replicate 30 0;
-    bits = false ∷ x ∷ replicate 14 false;
-    serving = ownBinding;
-    numbers = beside d (1 ∷ 2 ∷ []);
-    servers = beside d (1 ∷ 2 ∷ []);
-  }
+-- a state with at most two places in use, by its size, its depth, the two labels and the result of number 2
+abbrev pub twoPlaces : ℕ → ℕ → ℕ → ℕ → Bool → State
+twoPlaces size d l above x = record {
+  size = size;
+  depth = d;
+  places = l ∷ above ∷ replicate 30 0;
+  bits = false ∷ x ∷ replicate 14 false;
+  serving = ownBinding;
+  numbers = beside d (1 ∷ 2 ∷ []);
+  servers = beside d (1 ∷ 2 ∷ []);
+}
 
-  home-tick : (x : Bool) (w : ℕ) → tick tableFunction (stateAt 1 0 0 x) w ≡ finished 0 4 (stateAt 1 2 0 x)
+-- the five states that come again
+module _ (size : ℕ) (two : 2 ≤ size) where
+  home-tick : (x : Bool) (w : ℕ) → tick tableFunction (twoPlaces size 1 0 0 x) w ≡ finished 0 4 (twoPlaces size 1 2 0 x)
   unfolding tick tableFunction
   home-tick x w = refl
 
-  call-tick : (x : Bool) (w : ℕ) → tick tableFunction (stateAt 1 2 0 x) w ≡ finished 0 66 (stateAt 2 2 4 false)
+  call-tick : (x : Bool) (w : ℕ) → tick tableFunction (twoPlaces size 1 2 0 x) w ≡ finished 0 66 (twoPlaces size 2 2 4 false)
   unfolding tick tableFunction
-  call-tick x w = ap (pushed tableFunction (stateAt 1 2 0 x) 0 66 2 2 (stateAt 1 2 0 x .bits)) (lt-leb size 1 (omega arith))
+  call-tick x w = ap (pushed tableFunction (twoPlaces size 1 2 0 x) 0 66 2 2 (twoPlaces size 1 2 0 x .bits)) (lt-leb size 1 (omega arith))
 
-  operation-tick : (w : ℕ) → tick tableFunction (stateAt 2 2 4 false) w ≡ finished 0 0 (stateAt 2 2 1 true)
+  operation-tick : (w : ℕ) → tick tableFunction (twoPlaces size 2 2 4 false) w ≡ finished 0 0 (twoPlaces size 2 2 1 true)
   unfolding tick bestRow tableFunction
   operation-tick w = rw (and-zero-r)
 
-  return-tick : (w : ℕ) → tick tableFunction (stateAt 2 2 1 true) w ≡ finished 0 3 (stateAt 1 3 0 true)
+  return-tick : (w : ℕ) → tick tableFunction (twoPlaces size 2 2 1 true) w ≡ finished 0 3 (twoPlaces size 1 3 0 true)
   unfolding tick bestRow tableFunction
   return-tick w = rw (and-zero-r)
 
-  mask-tick : (w : ℕ) → tick tableFunction (stateAt 1 3 0 true) w ≡ finished 1 0 (stateAt 1 0 0 true)
+  mask-tick : (w : ℕ) → tick tableFunction (twoPlaces size 1 3 0 true) w ≡ finished 1 0 (twoPlaces size 1 0 0 true)
   unfolding tick bestRow tableFunction
   mask-tick w = rw (and-zero-r)
 
@@ -166,7 +171,7 @@ module _ (size : ℕ) (two : 2 ≤ size) where
     verdict = ap (λ (x : MachineTick). then s (λ u. ticks tableFunction u ws) x .verdict) e ∙ r .verdict;
   }
 
-  rounds : (x : Bool) (ws : List ℕ) → Makes (stateAt 1 0 0 x) ws (repeated masks5 (length ws)) (repeated codes5 (length ws))
+  rounds : (x : Bool) (ws : List ℕ) → Makes (twoPlaces size 1 0 0 x) ws (repeated masks5 (length ws)) (repeated codes5 (length ws))
   rounds x [] = none _
   rounds x (a ∷ []) = more (home-tick x a) (none _)
   rounds x (a ∷ b ∷ []) = more (home-tick x a) (more (call-tick x b) (none _))

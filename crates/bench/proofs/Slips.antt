@@ -16,7 +16,7 @@ use Rattle.image.specs.Image.{Image, Label, Row, imageText}
 use Rattle.translator.specs.Table.{table}
 use Rattle.translator.specs.Entry.{translateVerdict, translate}
 use Rattle.state.specs.declared.State.{State}
-use Rattle.state.specs.State.{labelAt, placeAt, numberAt, freshState}
+use Rattle.state.specs.State.{labelAt, placeAt, freshState}
 use Rattle.state.specs.Changes.{withBits}
 use Rattle.ticks.specs.Tick.{MachineTick, finished, stopped, rowLeads, dropping, tick, topOf}
 use Rattle.ticks.specs.Functions.{returnTick}
@@ -27,7 +27,7 @@ use Rattle.bench.proofs.Computing.{translating, running}
 use Rattle.bench.proofs.Tables.{tableP, of-P, tableHome, of-home, tableFunction, of-function}
 use Rattle.bench.proofs.Tables.{tableChoice, of-choice, tableBore, of-bore}
 use Rattle.bench.proofs.Instances.{at-home, at-deep, at-shallow, at-function, at-choice, at-bore}
-use Rattle.bench.proofs.Variants.{StepRule, ticksByRule, runBy, made, codeAt, maskAt}
+use Rattle.bench.proofs.Variants.{StepRule, ticksByRule, runBy, made, topNumber, codeAt, maskAt}
 
 -- the tick kind of the label at the top, and the label beneath it
 abbrev kindOf : Image → State → ℕ
@@ -35,10 +35,6 @@ kindOf i s = labelAt i (topOf s) .kind
 
 abbrev beneath : State → ℕ
 beneath s = placeAt s (s .depth - 2)
-
--- the number that the scheme at the top was called by
-abbrev topNumber : State → ℕ
-topNumber s = numberAt s (s .depth - 1)
 
 abbrev withoutTop : State → State
 withoutTop s = dropping s (s .bits)

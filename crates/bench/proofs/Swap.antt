@@ -4,15 +4,17 @@ use mathlib.Core.List.{List, [], _∷_}
 use Prim.Native.Nat.{ℕ}
 use lib.ListN.{replicate}
 use Rattle.frames.specs.Frame.{contents}
+use Rattle.frames.specs.Answer.{success, refusal}
 use Rattle.walk.specs.Walk.{Tick}
 use Rattle.state.specs.declared.State.{State}
 use Rattle.state.specs.State.{fresh, freshState}
 use Rattle.state.specs.Bytes.{bytesOf}
 use Rattle.runs.specs.Run.{RunOutcome}
 use Rattle.rebinding.specs.Rebind.{rebind}
-use Rattle.agreement.specs.Agreement.{CallInput, toRebind, callOutputs, joinedWords, bound, expectedOutputs, walkOutputs}
+use Rattle.agreement.specs.Agreement.{CallInput, toRebind, CallOutput, byRebinding, callOutputs}
+use Rattle.agreement.specs.Agreement.{joinedWords, bound, expectedOutputs, walkOutputs}
 use Rattle.agreement.proofs.Images.{rebindImage, runImage, run-image}
-use Rattle.bench.specs.Swap.{chartSwap, imageSwap, inputWord, runOf, swapOutputs, walkOf}
+use Rattle.bench.specs.Swap.{chartSwap, imageSwap, inputWord, runOf, hands, rebindingDone, swapOutputs, walkOf}
 use Rattle.bench.specs.Swap.{acrossBlocks, acrossDrop, acrossFull, blocksTicks, dropTicks, fullTicks}
 use Rattle.bench.specs.Swap.{ByteCases, SwapCases, RebindingCases, FitnessCases, WalkedCases}
 use Rattle.bench.proofs.Computing.{walking, ticking}
@@ -111,11 +113,33 @@ fitness-cases = record {
 }
 
 -- ---- the walk, and lists of calls by its ticks
-by-walk : (n : ℕ) (given : List CallInput) (ts : List Tick) → walkOf n given ≡ ts
-    → callOutputs (λ t. runImage tableSwap) (λ t. rebindImage tableSwap) imageSwap (fresh n) given
-    ≡ expectedOutputs (contents chartSwap) (bound n ts) ts 0 given
+-- Both sides are computed to the outputs that stand here: to compare two computations with each other takes far longer.
+by-walk : (n : ℕ) (given : List CallInput) (ts : List Tick) (outputs : List CallOutput) → walkOf n given ≡ ts
+    → callOutputs (λ t. runImage tableSwap) (λ t. rebindImage tableSwap) imageSwap (fresh n) given ≡ outputs
+    → expectedOutputs (contents chartSwap) (bound n ts) ts 0 given ≡ outputs
     → swapOutputs n given ≡ walkOutputs n (contents chartSwap) given
-by-walk n given ts e d = listed n given ∙ d ∙ sym (ap (λ (us : List Tick). expectedOutputs (contents chartSwap) (bound n us) us 0 given) e)
+by-walk n given ts outputs e made wanted =
+    listed n given ∙ made ∙ sym (ap (λ (us : List Tick). expectedOutputs (contents chartSwap) (bound n us) us 0 given) e ∙ wanted)
+
+abbrev rebindingRefused : CallOutput
+rebindingRefused = byRebinding (refusal 22 0 0)
+
+abbrev blocksOutputs : List CallOutput
+blocksOutputs =
+    hands (success 7) (0 ∷ 1 ∷ 4 ∷ 0 ∷ 0 ∷ 4 ∷ 0 ∷ []) (4 ∷ 18 ∷ 0 ∷ 3 ∷ 66 ∷ 0 ∷ 3 ∷ []) ∷ rebindingRefused ∷ rebindingDone
+    ∷ hands (success 2) (0 ∷ 1 ∷ []) (4 ∷ 18 ∷ []) ∷ hands (refusal 16 0 0) [] (7 ∷ []) ∷ rebindingRefused ∷ rebindingDone
+    ∷ hands (success 8) (8 ∷ 0 ∷ 0 ∷ 4 ∷ 0 ∷ 0 ∷ 1 ∷ 4 ∷ []) (0 ∷ 3 ∷ 66 ∷ 0 ∷ 3 ∷ 4 ∷ 18 ∷ 0 ∷ []) ∷ []
+
+abbrev dropOutputs : List CallOutput
+dropOutputs =
+    rebindingDone ∷ hands (success 3) (0 ∷ 1 ∷ 16 ∷ []) (4 ∷ 18 ∷ 96 ∷ []) ∷ rebindingRefused ∷ rebindingDone
+    ∷ hands (success 5) (16 ∷ 4 ∷ 0 ∷ 0 ∷ 0 ∷ []) (19 ∷ 0 ∷ 3 ∷ 3 ∷ 4 ∷ []) ∷ rebindingDone
+    ∷ hands (success 4) (1 ∷ 8 ∷ 0 ∷ 0 ∷ []) (18 ∷ 0 ∷ 3 ∷ 66 ∷ []) ∷ []
+
+abbrev fullOutputs : List CallOutput
+fullOutputs =
+    hands (refusal 17 0 2) (0 ∷ 1 ∷ 7 ∷ []) (4 ∷ 96 ∷ 7 ∷ []) ∷ rebindingRefused ∷ rebindingDone
+    ∷ hands (refusal 17 0 0) (7 ∷ []) (7 ∷ []) ∷ []
 
 pub walked-cases : WalkedCases
 unfolding walking callOutputs joinedWords bound expectedOutputs ticking tableSwap chartSwap
@@ -123,7 +147,7 @@ walked-cases = record {
   blocks-walk = refl;
   drop-walk = refl;
   full-walk = refl;
-  blocks = by-walk 2 acrossBlocks blocksTicks refl refl;
-  dropped = by-walk 2 acrossDrop dropTicks refl refl;
-  full = by-walk 1 acrossFull fullTicks refl refl;
+  blocks = by-walk 2 acrossBlocks blocksTicks blocksOutputs refl refl refl;
+  dropped = by-walk 2 acrossDrop dropTicks dropOutputs refl refl refl;
+  full = by-walk 1 acrossFull fullTicks fullOutputs refl refl refl;
 }

@@ -5,7 +5,7 @@ use Prim.Native.Nat.{ℕ}
 use Rattle.frames.specs.Frame.{contents}
 use Rattle.frames.specs.Verdict.{fine}
 use Rattle.frames.specs.Answer.{bufferOn}
-use Rattle.image.specs.Image.{Image, Label, Row}
+use Rattle.image.specs.Image.{Image, Label, labelWith, row}
 use Rattle.image.specs.Decode.{decoded}
 use Rattle.image.specs.Check.{imageVerdict}
 use Rattle.chart_labels.specs.Labels.{homeLabel, returnLabel}
@@ -29,13 +29,6 @@ pub record TranslatesTo (chart image : List ℕ) (table : Image) : Type 0 where
 
 pub held : {chart image : List ℕ} {table : Image} → TranslatesTo chart image table → Holds image table
 held known = record { passes = known .passes; decodes = known .decodes }
-
--- ---- by their fields
-abbrev labelWith : ℕ → ℕ → ℕ → ℕ → ℕ → Label
-labelWith k h o r m = record { kind = k; called = h; owner = o; result = r; mask = m }
-
-abbrev row : ℕ → ℕ → ℕ → ℕ → ℕ → Row
-row l c v b n = record { from = l; care = c; values = v; bit = b; next = n }
 
 -- ---- chart P
 unfoldable pub tableP : Image

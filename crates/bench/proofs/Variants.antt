@@ -1,14 +1,14 @@
 -- Runs with another tick in the place of the machine's, and what they hand back.
 use mathlib.Core.Path.{_≡_, refl, _∙_, ap, ap₂, sym}
 use mathlib.Core.List.{List, [], _∷_}
-use Prim.Native.Nat.{ℕ}
+use Prim.Native.Nat.{ℕ, _-_}
 use lib.ListN.{getD}
 use Rattle.frames.specs.Verdict.{Verdict, fine, next}
 use Rattle.frames.specs.Frame.{contents}
 use Rattle.image.specs.Image.{Image}
 use Rattle.image.specs.Decode.{decoded}
 use Rattle.state.specs.declared.State.{State}
-use Rattle.state.specs.State.{fresh}
+use Rattle.state.specs.State.{numberAt, fresh}
 use Rattle.ticks.specs.Tick.{MachineTick}
 use Rattle.runs.specs.Run.{MachineRun, then, runVerdict, runOn}
 use Rattle.agreement.specs.Agreement.{Runner, Rebinder, RunOutput, outputOf, CallInput, callOutputs}
@@ -53,6 +53,10 @@ module _ {chart image : List ℕ} {i : Image} (known : TranslatesTo chart image 
   pub chain-made : (rebind : Rebinder) (s : State) (given : List CallInput)
       → callOutputs (runBy step) rebind image s given ≡ callOutputs (decodedRunBy i step) rebind image s given
   chain-made rebind = chain-alike image (runBy step) (decodedRunBy i step) rebind rebind by-table (λ s h k. refl)
+
+-- the number that the scheme at the top was called by
+abbrev pub topNumber : State → ℕ
+topNumber s = numberAt s (s .depth - 1)
 
 abbrev pub codeAt : ℕ → RunOutput → ℕ
 codeAt k t = getD (t .codes) k 0

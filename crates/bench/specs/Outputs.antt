@@ -6,7 +6,8 @@ use lib.ListN.{replicate}
 use Rattle.lists.specs.Sequences.{concatMap}
 use Rattle.frames.specs.Frame.{textOf}
 use Rattle.printing.specs.Lines.{refusalLine}
-use Rattle.programs.specs.Programs.{translateOutput, runOutput}
+use Rattle.translate_output.specs.TranslateProgram.{translateOutput}
+use Rattle.run_output.specs.RunProgram.{runOutput}
 use Rattle.bench.specs.Bench.{lines, chartP, imageP, chartCircle}
 use Rattle.bench.specs.RefusalCases.{markedFirst}
 

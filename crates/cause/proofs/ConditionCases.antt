@@ -11,7 +11,7 @@ use lib.ListN.{getD}
 use borrow.Author.Tests.{eq-eqb, ne-eqb}
 use Rattle.lists.specs.Pick.{pick}
 use Rattle.lists.specs.Numbers.{lowest}
-use Rattle.lists.proofs.Searches.{lowest-here, lowest-on}
+use Rattle.lists.proofs.Searches.{lowest-below}
 use Rattle.lists.proofs.Tests.{split}
 use Rattle.bits.specs.Word.{bit, agrees}
 use Rattle.frames.specs.Frame.{field, pairAt}
@@ -39,18 +39,10 @@ module _ (w care values : ℕ) where
     pub lowest : low ≡ lowest p i (16 - i)
 
   module _ (low i : ℕ) (x : PassedCondition low i) (some : 0 < i) (t : Bool) (e : t ≡ p (i - 1)) where
-    pub passed-here : t ≡ true → PassedCondition (i - 1) (i - 1)
-    passed-here h = record {
+    pub passed-turn : (found : ℕ) → found ≡ pick t (i - 1) low → PassedCondition found (i - 1)
+    passed-turn found h = record {
       inside = omega (arith, x .inside);
-      lowest =
-          sym (lowest-here p 16 (i - 1) (omega (arith, x .inside)) (sym e ∙ h));
-    }
-
-    pub passed-on : t ≡ false → PassedCondition low (i - 1)
-    passed-on h = record {
-      inside = omega (arith, x .inside);
-      lowest = x .lowest ∙ ap (λ (k : ℕ). lowest p k (16 - k)) (let z : i ≡ i - 1 + 1 = omega arith in z)
-          ∙ sym (lowest-on p 16 (i - 1) (omega (arith, x .inside)) (sym e ∙ h));
+      lowest = h ∙ ap (λ (u : Bool). pick u (i - 1) low) e ∙ lowest-below p 16 i low some (x .inside) (x .lowest);
     }
 
   pub passed-all : (low i : ℕ) → PassedCondition low i → i ≤ 0 → low ≡ lowest p 0 16

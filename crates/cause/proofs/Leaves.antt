@@ -24,7 +24,7 @@ use Rattle.state.specs.Changes.{withBits}
 use Rattle.fitness.specs.Fitness.{isCall, ofHandler}
 use Rattle.fitness.proofs.Fitness.{Fits}
 use Rattle.ticks.specs.Tick.{calledBit, choice, MachineTick, finished, stopped, moved, dropping, alone, pushed, popped, tickBy, tick, topOf}
-use Rattle.ticks.proofs.Leads.{Sort, homeSort, returnSort, numberedSort, sort, call-kind, carry-told}
+use Rattle.ticks.proofs.Leads.{Sort, homeSort, returnSort, numberedSort, sort, call-kind, kind-high, carry-told}
 use Rattle.cause.specs.Cause.{leavesLabel, nothing, leavingBy, leaving}
 use Rattle.cause.specs.Laws.{Arrives, Rowless, atHomeLabel, atCallLabel, atLastReturn}
 
@@ -77,15 +77,6 @@ module _ (i : Image) (sound : SoundImage i) (s : State) (f : Fits i s) where
   top-sort : Sort i sound (topOf s)
   top-sort = sort i sound (topOf s) top-low
 
-  -- a label of a tick kind up to 2 is neither home nor a return
-  two-up : (l : ℕ) → l < length (i .labels) → labelAt i l .kind ≤ 2 → 2 ≤ l
-  two-up l h k = go (sort i sound l h)
-    where
-      go : Sort i sound l → 2 ≤ l
-      go (homeSort z q o) = absurd (omega arith)
-      go (returnSort z q o) = absurd (omega arith)
-      go (numberedSort z q) = z
-
   under-low : 1 < s .depth → placeAt s (s .depth - 2) < length (i .labels)
   under-low h = f .labels (s .depth - 2) (omega arith)
 
@@ -104,7 +95,7 @@ module _ (i : Image) (sound : SoundImage i) (s : State) (f : Fits i s) where
 
   plain : x .kind ≡ 0 → Goes i s (topOf s)
   plain e = record {
-    low = two-up (topOf s) top-low (omega arith);
+    low = kind-high i sound (topOf s) top-low (omega arith);
     high = top-low;
     go = moved (x .mask) 0 (withBits s bits) (s .depth - 1);
     ticks = λ w. tick-by w 0 e
@@ -130,7 +121,7 @@ module _ (i : Image) (sound : SoundImage i) (s : State) (f : Fits i s) where
 
   back : x .kind ≡ 3 → leb (s .depth) 1 ≡ false → Goes i s (placeAt s (s .depth - 2))
   back e t = let two : 1 < s .depth = leb-false (s .depth) 1 t in record {
-    low = two-up (placeAt s (s .depth - 2)) (under-low two) (call-kind i sound (placeAt s (s .depth - 2))
+    low = kind-high i sound (placeAt s (s .depth - 2)) (under-low two) (call-kind i sound (placeAt s (s .depth - 2))
         (carry-told i sound _ (numberAt s (s .depth - 2 + 1)) (serverAt s (s .depth - 2 + 1)) (placeAt s (s .depth - 2 + 1))
         (f .carries (s .depth - 2) (omega arith)) .0) .1);
     high = under-low two;

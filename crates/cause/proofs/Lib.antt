@@ -3,7 +3,4 @@ pub mod Leaves
 pub mod Explained
 pub mod Answers
 pub mod ConditionCases
-pub mod TableConditions
-pub mod CauseCases
-pub mod EntryCases
 pub mod Alike

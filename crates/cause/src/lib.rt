@@ -1,11 +1,9 @@
-// What sends a tick on: the row that it takes, the conditions that decide it, and the result bit.
+// What sends a tick on: the report of it, and the conditions that keep the other rows of a label from matching.
 use frames::Answer;
 
-mod causes;
 mod conditions;
 
-pub use causes::cause_bytes;
-pub use causes::cause_of;
+pub use conditions::against_rows;
 
 // The row's number among the image's rows, a mask of conditions, and the result bit of the number called, 2 for none; with a refusal all
 // are 0.

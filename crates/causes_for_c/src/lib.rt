@@ -1,9 +1,9 @@
 // The calls from C that tell what made a tick go on, and what a tick code stands for.
-use cause::cause_bytes;
 use codes::DROP;
 use codes::Meaning;
 use codes::UNKNOWN;
 use codes::meaning_of;
+use explaining::cause_bytes;
 use frames::Answer;
 use image::layout::*;
 use state::layout::STATE_BYTES;

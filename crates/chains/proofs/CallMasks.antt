@@ -180,7 +180,7 @@ module _ (masks : List ℕ) where
   -- the chains of fewer than s calls end somewhere, those of s - 1 in these schemes
   pub record MaskRound (ends s : ℕ) : Type 0 where
     pub some : 1 ≤ s
-    pub search : Searching emptyBy 17 s
+    pub search : Searching emptyBy 17 s (lowest emptyBy 0 17)
     pub held : ends ≡ endsBy masks (s - 1)
 
   pub round-first : MaskRound 2 1
@@ -188,7 +188,7 @@ module _ (masks : List ℕ) where
   round-first = record {
     some = omega arith;
     search =
-        searching-next emptyBy 17 0 (searching-first emptyBy 17) (omega arith) refl;
+        searching-next emptyBy 17 0 (lowest emptyBy 0 17) (searching-first emptyBy 17) (omega arith) refl;
     held = refl;
   }
 
@@ -201,20 +201,20 @@ module _ (masks : List ℕ) where
     pub round-found : s < 17 → r ≡ 0 → s ≡ longestBy masks
     unfolding longestBy
     round-found l z =
-        let q : s ≡ lowest emptyBy 0 17 = searching-found emptyBy 17 s (h .search) l (eq-eqb (endsBy masks s) 0 (sym round-ends ∙ z)) in
+        let q : s ≡ lowest emptyBy 0 17 = searching-found emptyBy 17 s _ (h .search) l (eq-eqb (endsBy masks s) 0 (sym round-ends ∙ z)) in
         q ∙ sym (yes-pick (ltb (lowest emptyBy 0 17) 17) (lowest emptyBy 0 17) 0 (lt-ltb (lowest emptyBy 0 17) 17 (omega arith)))
 
     pub round-next : s < 17 → (r ≡ 0 → ⊥) → MaskRound r (s + 1)
     round-next l n = record {
       some = omega arith;
-      search = searching-next emptyBy 17 s (h .search) l (ne-eqb (endsBy masks s) 0 (λ z. n (round-ends ∙ z)));
+      search = searching-next emptyBy 17 s _ (h .search) l (ne-eqb (endsBy masks s) 0 (λ z. n (round-ends ∙ z)));
       held = round-ends ∙ ap (endsBy masks) (omega arith);
     }
 
   pub round-over : (ends s : ℕ) → MaskRound ends s → 17 ≤ s → 0 ≡ longestBy masks
   unfolding longestBy
   round-over ends s h l =
-      let q : s ≡ lowest emptyBy 0 17 = searching-over emptyBy 17 s (h .search) l in
+      let q : s ≡ lowest emptyBy 0 17 = searching-over emptyBy 17 s _ (h .search) l in
       sym (no-pick (ltb (lowest emptyBy 0 17) 17) (lowest emptyBy 0 17) 0 (le-ltb (lowest emptyBy 0 17) 17 (omega arith)))
 
 -- ---- the rounds

@@ -3,7 +3,7 @@
 // Each call prints a frame: 00 for the reader and 01 for the writer, the number or 00, the index, the count, and how many bytes of
 // the lent buffer changed, which the first two calls leave out.
 use edits::patch;
-use frames::Answer;
+use edits::report;
 
 // How many bytes of a buffer are not 170, which no record and no character here is.
 fn changed(out: &[u8]) -> usize {
@@ -16,35 +16,6 @@ fn changed(out: &[u8]) -> usize {
         i += 1;
     }
     n
-}
-
-fn print(entry: u8, number: u8, index: usize, count: usize, bytes: usize) {
-    let ten = [
-        entry,
-        number,
-        (index / 256 % 256) as u8,
-        (index % 256) as u8,
-        (count / 256 % 256) as u8,
-        (count % 256) as u8,
-        (bytes / 256 % 256) as u8,
-        (bytes % 256) as u8,
-        0,
-        0,
-    ];
-    let mut line = [0u8; 23];
-    frames::put_frame(&mut line, 0, &ten);
-    io::write_all(1, &line);
-}
-
-fn report(entry: u8, answer: Answer, bytes: usize) {
-    match answer {
-        Answer::Done(count) => print(entry, 0, 0, count, bytes),
-        Answer::Refused {
-            number,
-            index,
-            count,
-        } => print(entry, number, index, count, bytes),
-    }
 }
 
 fn read_into(text: &[u8], out: &mut [u8]) {

@@ -19,9 +19,9 @@ use Rattle.graph.specs.Reach.{member, marked, reach, joinedFrom}
 use Rattle.graph.proofs.Closure.{Closed, marked-below, reach-grow, reach-least, reach-closed, joined-first, joined-closed, joined-least}
 use Rattle.frames.specs.Frame.{size}
 use Rattle.charts.specs.Chart.{Chart, scheme, is, isOf, schemes, nodeOf, begin}
-use Rattle.charts.specs.Check.{badField, badScheme, arcs, badEnd, badArc, cutOff}
+use Rattle.charts.specs.Check.{badField, badScheme, arcs, badTarget, badArc, cutOff}
 use Rattle.charts.specs.inner.Marks.{kindMarks}
-use Rattle.charts.proofs.Nodes.{field-scheme, good-end, member-first}
+use Rattle.charts.proofs.Nodes.{field-scheme, good-target, member-first}
 use Rattle.charts.proofs.Meaning.{member-only}
 use Rattle.chart_check.specs.inner.CheckContracts.{Passed4To6}
 
@@ -51,8 +51,9 @@ module _ (c : Chart) (passed : Passed4To6 c) where
 
   same-scheme : (v u : ℕ) → v < size c → member u (arcs c v) ≡ true → scheme c u ≡ scheme c v
   same-scheme v u l s =
-      let r = some-both (badEnd c v) (eqb u) (arcs c v) (lowest-past (badArc c) 0 (size c) (omega arith) v (omega arith) (omega arith)) s in
-      ap (scheme c) (eqb-true u (r .0) (r .2)) ∙ good-end c v (r .0) (r .1) .same
+      let g : badArc c v ≡ false = lowest-past (badArc c) 0 (size c) (omega arith) v (omega arith) (omega arith) in
+      let r = some-both (badTarget c v) (eqb u) (arcs c v) g s in
+      ap (scheme c) (eqb-true u (r .0) (r .2)) ∙ good-target c v (r .0) (r .1) .same
 
   -- ---- joined from all Begins, and from one
   abbrev joined : List Bool

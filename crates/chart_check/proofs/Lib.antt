@@ -1,4 +1,2 @@
-pub mod MarkCases
-pub mod FinishedCases
 pub mod CutOff
 pub mod Chain

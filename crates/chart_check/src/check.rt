@@ -1,8 +1,8 @@
 // Refusals 4 to 9 of node records, each before the next, with 19 after 5.
 use crate::joined::check_joined;
-use charts::bad_marks;
-use charts::check_fields;
-use charts::lowest_arc_and_call;
+use chart_arcs::lowest_arc_and_call;
+use chart_counts::check_fields;
+use chart_handler::bad_marks;
 use frames::Answer;
 use frames::refusals::*;
 use frames::refused;

@@ -1,14 +1,14 @@
 // Refusal 9, nodes that no arcs join from the Begin of their scheme; 8 and 9 in turn.
-use crate::circles::lowest_circle;
-use crate::marks::join;
-use crate::marks::mark_kind;
 use charts::layout::BEGIN;
+use circles::lowest_circle;
 use frames::Answer;
 use frames::refusals::CIRCLE;
 use frames::refusals::CUT_OFF;
 use frames::refused;
 use frames::sizes::NODES;
 use frames::sizes::RECORD;
+use node_marks::join;
+use node_marks::mark_kind;
 ghost use mathlib.Core.Path.{_≡_};
 ghost use mathlib.Core.Bool.{not};
 ghost use lib.ListN.{length};
@@ -19,7 +19,8 @@ ghost use Rattle.frames.specs.Answer.{reply, judged};
 ghost use Rattle.charts.specs.Layout.{BEGIN};
 ghost use Rattle.charts.specs.Check.{arcs, cutOff};
 ghost use Rattle.charts.specs.inner.Marks.{kindMarks};
-ghost use Rattle.chart_check.specs.inner.CheckContracts.{NodeRoom, Passed4To6, joinedVerdict};
+ghost use Rattle.node_marks.specs.inner.MarkContracts.{NodeRoom};
+ghost use Rattle.chart_check.specs.inner.CheckContracts.{Passed4To6, joinedVerdict};
 
 // The nodes that arcs join from some Begin are marked; the lowest other one, or the number of nodes. It is looked for only where not all
 // are marked.

@@ -1,8 +1,5 @@
-// Refusals 8 and 9 of a chart, and all of 4 to 9 and 19 in turn.
+// Refusal 9 of a chart, and all of 4 to 9 and 19 in turn.
 mod check;
-mod circles;
-mod finished;
 mod joined;
-mod marks;
 
 pub use check::check_chart;

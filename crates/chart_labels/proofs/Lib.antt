@@ -1,3 +1,4 @@
 pub mod ReadyLaws
 pub mod NodeSteps
 pub mod LabelSteps
+pub mod LabelKinds

@@ -10,7 +10,7 @@ use lib.ListN.{length, getD, set, length-set}
 use lib.Seq.{getD-set-same, getD-set-other}
 use borrow.Author.Tests.{eq-eqb, ne-eqb}
 use Rattle.lists.specs.Numbers.{lowest}
-use Rattle.lists.proofs.Searches.{lowest-here, lowest-on, lowest-over, lowest-start}
+use Rattle.lists.proofs.Searches.{lowest-here, lowest-on, lowest-over, lowest-start, Searching, searching-first}
 use Rattle.lists.proofs.Tests.{and-true, and-no, and-second, and-first}
 use Rattle.frames.specs.Frame.{size}
 use Rattle.charts.specs.Chart.{Chart, kind, scheme, next0, is, isOf, begin, nodeOf}
@@ -20,24 +20,9 @@ use Rattle.chart_labels.proofs.ReadyLaws.{ready-facts}
 use Rattle.walk.proofs.Follow.{stops-condition}
 
 -- ---- the search for the Begin of scheme h
-pub record BeginSearch (c : Chart) (h n v : ℕ) : Type 0 where
-  pub within : v ≤ n
-  pub all : n ≡ size c
-  pub left : lowest (isOf c 0 h) v (n - v) ≡ begin c h
-
-module _ (c : Chart) (h n v : ℕ) (s : BeginSearch c h n v) where
-  pub search-hit : v < n → isOf c 0 h v ≡ true → v ≡ begin c h
-  search-hit l t = sym (lowest-here (isOf c 0 h) n v l t) ∙ s .left
-
-  pub search-on : v < n → isOf c 0 h v ≡ false → BeginSearch c h n (v + 1)
-  search-on l t = record { within = omega arith; all = s .all; left = sym (lowest-on (isOf c 0 h) n v l t) ∙ s .left }
-
-  pub search-over : n ≤ v → v ≡ begin c h
-  search-over l = sym (lowest-over (isOf c 0 h) n v l) ∙ s .left
-
-pub search-start : (c : Chart) (h : ℕ) → BeginSearch c h (size c) 0
+pub search-start : (c : Chart) (h : ℕ) → Searching (isOf c 0 h) (size c) 0 (begin c h)
 unfolding nodeOf
-search-start c h = record { within = omega arith; all = refl; left = lowest-start (isOf c 0 h) (size c) }
+search-start c h = searching-first (isOf c 0 h) (size c)
 
 -- ---- the Begins of all schemes: of each that has one from node v on, the lowest is noted
 pub record Noting (c : Chart) (begins : List ℕ) (n v : ℕ) : Type 0 where

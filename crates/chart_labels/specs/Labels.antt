@@ -1,14 +1,14 @@
 -- The labels of a chart's stops.
 use Prim.Native.Nat.{ℕ, _+_}
-use mathlib.Core.Bool.{Bool, _&&_, _||_, not}
+use mathlib.Core.Bool.{Bool, _&&_, not}
 use mathlib.Core.List.{List}
 use lib.Dec.{eqb}
 use Rattle.lists.specs.Pick.{pick}
 use Rattle.lists.specs.Numbers.{range, count}
 use Rattle.lists.specs.Sequences.{filter}
 use Rattle.frames.specs.Frame.{size}
-use Rattle.charts.specs.Layout.{END, OPERATION, FUNCTION}
-use Rattle.charts.specs.Chart.{Chart, scheme, argument, result, mask, is}
+use Rattle.charts.specs.Layout.{END, Kind, Begin, End, Operation, Condition, Function, Unknown, kindOf}
+use Rattle.charts.specs.Chart.{Chart, kind, scheme, argument, result, mask, is}
 use Rattle.walk.specs.Stops.{stops, start}
 use Rattle.image.specs.Layout.{PLAIN, OPERATION-CALL, FUNCTION-CALL}
 use Rattle.image.specs.Image.{Label}
@@ -29,12 +29,24 @@ label c v = pick (numbered c v) (2 + count (numbered c) 0 v) (pick (eqb (scheme 
 abbrev pub entry : Chart → ℕ → ℕ
 entry c h = label c (start c h)
 
--- what the label of a numbered stop holds
-abbrev pub stopLabel : Chart → ℕ → Label
-stopLabel c v = record {
-  kind = pick (is c FUNCTION v) FUNCTION-CALL (pick (is c OPERATION v && not (eqb (argument c v) 0)) OPERATION-CALL PLAIN);
-  called = pick (is c OPERATION v || is c FUNCTION v) (argument c v) 0;
+-- a label that calls nothing and puts nothing out, of scheme h
+abbrev pub bareLabel : ℕ → Label
+bareLabel h = record { kind = PLAIN; called = 0; owner = h; result = 0; mask = 0 }
+
+-- what the label of a numbered stop holds, by the kind of its node
+abbrev pub labelAs : Chart → ℕ → Kind → Label
+labelAs c v Begin = bareLabel (scheme c v)
+labelAs c v End = bareLabel (scheme c v)
+labelAs c v Operation = record {
+  kind = pick (eqb (argument c v) 0) PLAIN OPERATION-CALL;
+  called = argument c v;
   owner = scheme c v;
-  result = pick (is c OPERATION v) (result c v) 0;
-  mask = pick (is c OPERATION v) (mask c v) 0;
+  result = result c v;
+  mask = mask c v;
 }
+labelAs c v Condition = bareLabel (scheme c v)
+labelAs c v Function = record { kind = FUNCTION-CALL; called = argument c v; owner = scheme c v; result = 0; mask = 0 }
+labelAs c v Unknown = bareLabel (scheme c v)
+
+abbrev pub stopLabel : Chart → ℕ → Label
+stopLabel c v = labelAs c v (kindOf (kind c v))

@@ -2,7 +2,7 @@
 -- writes them behind the labels.
 use mathlib.Core.Path.{_≡_, refl, sym, _∙_, ap}
 use mathlib.Core.Logic.{⊎-elim}
-use mathlib.Core.Bool.{Bool, true, false, _&&_, not}
+use mathlib.Core.Bool.{true, false, _&&_, not}
 use mathlib.Core.List.{List}
 use Prim.Native.Nat.{ℕ, _+_, _≤_, _<_}
 use native.Mathlib.Decide.{ℕ-discrete}
@@ -11,7 +11,7 @@ use lib.Dec.{eqb}
 use lib.ListN.{length, getD, set, length-set}
 use lib.Seq.{getD-set-same, getD-set-other}
 use borrow.Author.Tests.{eqb-true, eq-eqb, ne-eqb}
-use Rattle.lists.proofs.Tests.{no-both, and-l, and-true, yes-pick, no-pick, cases}
+use Rattle.lists.proofs.Tests.{no-both, and-l, and-true, yes-pick, no-pick, cases, and-no}
 use Rattle.bits.specs.Word.{bit}
 use Rattle.frames.specs.Frame.{size, field}
 use Rattle.charts.specs.Chart.{Chart, kind, argument, is, taken}
@@ -33,11 +33,7 @@ module _ (c : Chart) (v : ℕ) where
   number-other n = number-none (ap (λ x. x && not (stops c v)) (ne-eqb (kind c v) 3 n))
 
   pub number-stop : stops c v ≡ true → 16 ≡ testedNumber c v
-  number-stop s = number-none (ap (λ x. is c 3 v && not x) s ∙ nothing (is c 3 v))
-    where
-      nothing : (b : Bool) → (b && false) ≡ false
-      nothing true = refl
-      nothing false = refl
+  number-stop s = number-none (and-no (is c 3 v) (not (stops c v)) (ap not s))
 
   pub number-goes : kind c v ≡ 3 → stops c v ≡ false → testedNumber c v ≡ argument c v
   number-goes k s = yes-pick (is c 3 v && not (stops c v)) (argument c v) 16

@@ -19,9 +19,9 @@ use Rattle.charts.proofs.Rank.{rank, rank-falls0, rank-falls1}
 use Rattle.walk.specs.Stops.{stops}
 use Rattle.image.specs.Image.{Row}
 use Rattle.walk.proofs.Follow.{goes-on}
-use Rattle.chart_rows.specs.Rows.{paths}
 use Rattle.chart_labels.specs.inner.ChartContracts.{Ready}
 use Rattle.chart_rows.specs.inner.PathContracts.{Entered}
+use Rattle.chart_rows.specs.inner.NodeRows.{pathsFrom}
 use Rattle.chart_labels.proofs.ReadyLaws.{ready-sound}
 use Rattle.chart_rows.proofs.NumberLaws.{small-number}
 use Rattle.chart_rows.proofs.PathSteps.{pathRow, entered0, entered1, at-stop, at-new}
@@ -35,11 +35,12 @@ pub record Fork (c : Chart) (care values v tested valued w0 w1 : ℕ) : Type 0 w
   pub falls1 : rank c w1 < rank c v
   pub within0 : bitAnd values tested ≡ values
   pub within1 : bitAnd valued tested ≡ valued
-  pub all : (l f : ℕ) → paths (size c) c l f care values v ≡ paths (size c) c l f tested values w0 ++ paths (size c) c l f tested valued w1
+  pub all : (l f : ℕ)
+      → pathsFrom (size c) c l f care values v ≡ pathsFrom (size c) c l f tested values w0 ++ pathsFrom (size c) c l f tested valued w1
 
 -- ---- the paths from a node that is a stop
 pub stop-paths : (c : Chart) → Ready c → (care values v u : ℕ) → Settled c care values v u → stops c u ≡ true → (l f : ℕ)
-    → paths (size c) c l f care values v ≡ pathRow c l f care values u ∷ []
+    → pathsFrom (size c) c l f care values v ≡ pathRow c l f care values u ∷ []
 stop-paths c ready care values v u st s l f = st .same l f ∙ at-stop c ready l f care values u (st .entered) s
 
 -- ---- the paths from a condition that is new
@@ -85,7 +86,7 @@ module _ (c : Chart) (care values v u i : ℕ) (new : New c care values v u i) w
 
     module _ (w0 w1 : ℕ) (e0 : w0 ≡ next0 c u) (e1 : w1 ≡ next1 c u) where
       fork-paths : (l f : ℕ)
-          → paths (size c) c l f care values v ≡ paths (size c) c l f tested values w0 ++ paths (size c) c l f tested valued w1
+          → pathsFrom (size c) c l f care values v ≡ pathsFrom (size c) c l f tested values w0 ++ pathsFrom (size c) c l f tested valued w1
       fork-paths l f =
           let t : care + 2 ^ argument c u ≡ tested = ap (λ (j : ℕ). care + 2 ^ j) (sym (new .number)) ∙ sym tested-is in
           let x : values + 2 ^ argument c u ≡ valued = ap (λ (j : ℕ). values + 2 ^ j) (sym (new .number)) ∙ sym valued-is in
@@ -108,7 +109,7 @@ module _ (c : Chart) (care values v u i : ℕ) (new : New c care values v u i) w
 -- ---- how many paths there are, counted up to a limit
 module _ (c : Chart) (care values v most : ℕ) where
   abbrev P : ℕ → ℕ → ℕ → ℕ → ℕ → List Row
-  P a b u l f = paths (size c) c l f a b u
+  P a b u l f = pathsFrom (size c) c l f a b u
 
   pub count-none : most ≡ 0 → (l f : ℕ) → 0 ≡ min most (length (P care values v l f))
   count-none z l f = omega arith

@@ -8,7 +8,7 @@ use native.Mathlib.Numerals.{add-one}
 use native.Mathlib.Omega.{arith}
 use lib.Bits.{bitOr}
 use lib.ListN.{length, getD, length-append}
-use borrow.Author.Tests.{eqb-false, eq-eqb, ne-eqb}
+use borrow.Author.Tests.{eqb-false}
 use Rattle.lists.specs.Pick.{pick}
 use Rattle.lists.specs.Numbers.{range}
 use Rattle.lists.specs.Sequences.{concatMap, filter}
@@ -21,11 +21,12 @@ use Rattle.charts.specs.Chart.{Chart, kind, argument, next0, next1, is}
 use Rattle.walk.specs.Stops.{stops}
 use Rattle.image.specs.Image.{Row}
 use Rattle.chart_labels.specs.Labels.{numbered, label}
-use Rattle.chart_rows.specs.Rows.{paths, rowsOf, rows}
+use Rattle.chart_rows.specs.Rows.{rowsOf, rows}
 use Rattle.chart_rows.specs.inner.PathContracts.{NotedAt, Entered, SidesAt}
-use Rattle.chart_rows.specs.inner.NodeRows.{sides, nodeRows}
+use Rattle.chart_rows.specs.inner.NodeRows.{pathsFrom, sides, nodeRows}
 use Rattle.chart_labels.proofs.ReadyLaws.{ready-facts}
 use Rattle.chart_labels.proofs.LabelSteps.{own-label, no-own-label}
+use Rattle.chart_rows.proofs.RowKinds.{function-rows, condition-rows, plain-rows}
 use Rattle.chart_rows.proofs.PathSteps.{entered0, entered1}
 
 -- ---- both arcs of a node
@@ -37,34 +38,32 @@ module _ {c : Chart} {notes : List ℕ} {care values v : ℕ} (s : SidesAt c not
   side-entered1 e = subst (Entered c) (sym e) (entered1 c (s .noted .chart .ready) v (s .inside) (s .two))
 
 pub count-sides : (c : Chart) (v care values most w0 w1 low high : ℕ) → w0 ≡ next0 c v → w1 ≡ next1 c v
-    → ((l f : ℕ) → low ≡ min most (length (paths (size c) c l f care 0 w0)))
-    → ((l f : ℕ) → high ≡ min (most - low) (length (paths (size c) c l f care values w1)))
+    → ((l f : ℕ) → low ≡ min most (length (pathsFrom (size c) c l f care 0 w0)))
+    → ((l f : ℕ) → high ≡ min (most - low) (length (pathsFrom (size c) c l f care values w1)))
     → (l f g : ℕ) → low + high ≡ min most (length (sides c l f g care values v))
 count-sides c v care values most w0 w1 low high e0 e1 a b l f g =
-    let p : paths (size c) c l f care 0 w0 ≡ paths (size c) c l f care 0 (next0 c v) = ap (paths (size c) c l f care 0) e0 in
-    let q : paths (size c) c l g care values w1 ≡ paths (size c) c l g care values (next1 c v) = ap (paths (size c) c l g care values) e1 in
+    let p : pathsFrom (size c) c l f care 0 w0 ≡ pathsFrom (size c) c l f care 0 (next0 c v) = ap (pathsFrom (size c) c l f care 0) e0 in
+    let q : pathsFrom (size c) c l g care values w1 ≡ pathsFrom (size c) c l g care values (next1 c v) =
+    ap (pathsFrom (size c) c l g care values) e1 in
     omega (
       arith,
       a l f,
       b l g,
       ap (λ (rs : List Row). length rs) p,
       ap (λ (rs : List Row). length rs) q,
-      length-append (paths (size c) c l f care 0 (next0 c v)) (paths (size c) c l g care values (next1 c v)),
+      length-append (pathsFrom (size c) c l f care 0 (next0 c v)) (pathsFrom (size c) c l g care values (next1 c v)),
     )
 
 -- ---- the rows of one node, by its kind
 module _ (c : Chart) (v k : ℕ) (ek : k ≡ kind c v) where
   pub rows-function : k ≡ 4 → rowsOf c v ≡ sides c (label c v) 0 1 0 0 v
-  unfolding rowsOf
-  rows-function e = rw (rowsOf, eq-eqb (kind c v) 4 (sym ek ∙ e))
+  rows-function e = function-rows c v (sym ek ∙ e)
 
   pub rows-condition : k ≡ 3 → rowsOf c v ≡ sides c (label c v) 2 2 (2 ^ argument c v) (2 ^ argument c v) v
-  unfolding rowsOf
-  rows-condition e = rw (rowsOf, ne-eqb (kind c v) 4 (λ q. omega arith), eq-eqb (kind c v) 3 (sym ek ∙ e))
+  rows-condition e = condition-rows c v (sym ek ∙ e)
 
-  pub rows-other : k < 3 → rowsOf c v ≡ paths (size c) c (label c v) 2 0 0 (next0 c v)
-  unfolding rowsOf
-  rows-other h = rw (rowsOf, ne-eqb (kind c v) 4 (λ q. omega arith), ne-eqb (kind c v) 3 (λ q. omega arith))
+  pub rows-other : k < 3 → rowsOf c v ≡ pathsFrom (size c) c (label c v) 2 0 0 (next0 c v)
+  rows-other h = plain-rows c v (λ q. omega arith) (λ q. omega arith)
 
 -- the mask of a stopping condition's own test
 pub own-mask : (c : Chart) (v i own : ℕ) → i ≡ argument c v → own ≡ bitOr 0 (2 ^ i) → own ≡ 2 ^ argument c v
@@ -84,10 +83,10 @@ module _ (c : Chart) (v k most r : ℕ) (ek : k ≡ kind c v) (own : nodeRows c 
       (rows-condition c v k ek e ∙ ap (λ (o : ℕ). sides c (label c v) 2 2 o o v) (sym m)) (q (label c v) 2 2)
 
   pub count-other : k < 3 → (w : ℕ) → w ≡ next0 c v
-      → ((l f : ℕ) → r ≡ min most (length (paths (size c) c l f 0 0 w))) → r ≡ min most (length (nodeRows c v))
+      → ((l f : ℕ) → r ≡ min most (length (pathsFrom (size c) c l f 0 0 w))) → r ≡ min most (length (nodeRows c v))
   count-other h w e q =
-      counted (paths (size c) c (label c v) 2 0 0 w)
-      (rows-other c v k ek h ∙ ap (paths (size c) c (label c v) 2 0 0) (sym e)) (q (label c v) 2)
+      counted (pathsFrom (size c) c (label c v) 2 0 0 w)
+      (rows-other c v k ek h ∙ ap (pathsFrom (size c) c (label c v) 2 0 0) (sym e)) (q (label c v) 2)
 
 -- ---- a node without a label of its own, and one with it
 module _ {c : Chart} {notes : List ℕ} {v : ℕ} (node : NotedAt c notes v) where

@@ -12,12 +12,12 @@ use Rattle.frames.specs.Frame.{size}
 use Rattle.charts.specs.Chart.{Chart, kind, argument, taken}
 use Rattle.charts.proofs.Rank.{rank, rank-le, rank-some}
 use Rattle.walk.specs.Stops.{stops}
-use Rattle.walk.proofs.Follow.{goes-on}
-use Rattle.chart_rows.specs.Rows.{paths}
+use Rattle.walk.proofs.Follow.{goes-on, taken-falls}
+use Rattle.chart_labels.proofs.ReadyLaws.{ready-sound}
 use Rattle.chart_labels.specs.inner.ChartContracts.{Ready}
 use Rattle.chart_rows.specs.inner.PathContracts.{Entered}
-use Rattle.chart_rows.specs.inner.NodeRows.{known, settledNode}
-use Rattle.chart_rows.proofs.PathSteps.{entered-taken, falls-taken, at-known}
+use Rattle.chart_rows.specs.inner.NodeRows.{pathsFrom, known, settledNode}
+use Rattle.chart_rows.proofs.PathSteps.{entered-taken, at-known}
 
 module _ (c : Chart) (care values v : ℕ) where
   settled-known : (n : ℕ) → known c care v ≡ true → settledNode (suc n) c care values v ≡ settledNode n c care values (taken c values v)
@@ -39,12 +39,12 @@ module _ (c : Chart) (care v : ℕ) (t : Entered c v) (k : known c care v ≡ tr
 
   module _ (ready : Ready c) (values : ℕ) where
     pub known-falls : (w : ℕ) → w ≡ taken c values v → rank c w < rank c v
-    known-falls w e = omega (arith, ap (rank c) e, falls-taken c ready values v (t .inside) known-condition)
+    known-falls w e = omega (arith, ap (rank c) e, taken-falls c (ready-sound ready) values v (t .inside) known-condition)
 
     known-entered : (w : ℕ) → w ≡ taken c values v → Entered c w
     known-entered w e = subst (Entered c) (sym e) (entered-taken c ready values v (t .inside) known-condition)
 
-    known-paths : (l f : ℕ) → paths (size c) c l f care values v ≡ paths (size c) c l f care values (taken c values v)
+    known-paths : (l f : ℕ) → pathsFrom (size c) c l f care values v ≡ pathsFrom (size c) c l f care values (taken c values v)
     known-paths l f =
         at-known c ready l f care values v t known-goes
         (eqb-true (bit care (argument c v)) 1 (and-r (not (stops c v)) (eqb (bit care (argument c v)) 1) k))
@@ -53,7 +53,7 @@ module _ (c : Chart) (care v : ℕ) (t : Entered c v) (k : known c care v ≡ tr
 pub record Settled (c : Chart) (care values v u : ℕ) : Type 0 where
   pub entered : Entered c u
   pub lower : rank c u ≤ rank c v
-  pub same : (l f : ℕ) → paths (size c) c l f care values v ≡ paths (size c) c l f care values u
+  pub same : (l f : ℕ) → pathsFrom (size c) c l f care values v ≡ pathsFrom (size c) c l f care values u
   pub fresh : known c care u ≡ false
 
 module _ (c : Chart) (ready : Ready c) (care values : ℕ) where

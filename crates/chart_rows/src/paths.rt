@@ -10,9 +10,8 @@ ghost use lib.ListN.{length, getD};
 ghost use Rattle.bits.specs.Word.{bit};
 ghost use Rattle.frames.specs.Sizes.{NODES};
 ghost use Rattle.frames.specs.Frame.{size};
-ghost use Rattle.chart_rows.specs.Rows.{paths};
 ghost use Rattle.chart_rows.specs.inner.PathContracts.{OnPath, PathAt};
-ghost use Rattle.chart_rows.specs.inner.NodeRows.{settledNode};
+ghost use Rattle.chart_rows.specs.inner.NodeRows.{pathsFrom, settledNode};
 
 // The bit of a word at the number that the notes have of a node: 0 where a path ends there, as a word has no bit 16.
 fn bit_at(notes: &[u8], node: u8, word: u16) -> u32
@@ -48,7 +47,7 @@ pub fn count_paths(
 ) -> usize
     requires { ⌜ PathAt (now records) (now notes) care values node ⌝ }
     ensures { λ r. ⌜ ((l f : ℕ) → r ≡ min most
-        (length (paths (size (now (records .entry))) (now (records .entry)) l f care values node))) ⌝ }
+        (length (pathsFrom (size (now (records .entry))) (now (records .entry)) l f care values node))) ⌝ }
 {
     if most == 0 {
         return 0;

@@ -1,36 +1,20 @@
 -- Frames that stand as bytes at the front of a buffer, and then as text: the loop from the last frame down, and all frames.
 use mathlib.Core.Path.{_≡_, refl, sym, _∙_, ap}
-use mathlib.Core.List.{List, _++_, append-assoc}
+use mathlib.Core.List.{List, _++_}
 use Prim.Native.Nat.{ℕ, suc, _+_, _*_, _-_, _≤_, _<_}
 use native.Mathlib.Omega.{arith}
-use lib.ListN.{length, getD, take, drop, length-append, length-take, List·getD-append}
-use lib.Seq.{drop-at, drop-drop, getD-take, take-take, take-append-le}
+use lib.ListN.{length, getD, take, drop, length-take, List·getD-append}
+use lib.Seq.{drop-drop, getD-take}
 use Rattle.lists.specs.Numbers.{range}
 use Rattle.lists.specs.Sequences.{concatMap, written}
 use Rattle.lists.proofs.Ranges.{length-range, map-count, getD-range, getD-map-range}
 use Rattle.lists.proofs.Joins.{concat-cons, concat-map, concat-places, length-concat-range}
-use Rattle.lists.proofs.Written.{written-none, written-drop, written-front}
+use Rattle.lists.proofs.Written.{written-none, written-drop, written-front, written-before}
 use Rattle.frames.specs.Frame.{size, field, tenAt, frameText, textOf}
 use Rattle.frames.proofs.FrameLoops.{length-frame}
 use Rattle.frames.proofs.TextLoops.{frameOf, length-text}
 
 -- ---- the loop
--- bytes written before others that stand behind them
-pub written-before : (out a b : List ℕ) (at : ℕ) → at + length a + length b ≤ length out
-    → written (written out (at + length a) b) at a ≡ written out at (a ++ b)
-unfolding written
-written-before out a b at room =
-    let behind : List ℕ = b ++ drop (at + length a + length b) out in
-    let l : length (take (at + length a) out) ≡ at + length a = simp length-take (omega arith) in
-    let t : take at (written out (at + length a) b) ≡ take at out =
-    take-append-le at (take (at + length a) out) behind (omega (arith, l)) ∙ take-take at (at + length a) out (omega arith) in
-    let d : drop (at + length a) (written out (at + length a) b) ≡ behind = drop-at (take (at + length a) out) behind (at + length a) l in
-    let n : at + length a + length b ≡ at + length (a ++ b) = simp length-append (omega arith) in
-    ap (λ (x : List ℕ). x ++ (a ++ drop (at + length a) (written out (at + length a) b))) t
-    ∙ ap (λ (x : List ℕ). take at out ++ (a ++ x)) d
-    ∙ ap (λ (x : List ℕ). take at out ++ x) (sym (append-assoc a b (drop (at + length a + length b) out)))
-    ∙ ap (λ (k : ℕ). take at out ++ ((a ++ b) ++ drop k out)) n
-
 written-kept : (out vs : List ℕ) (at k : ℕ) → k < at → at ≤ length out → getD (written out at vs) k 0 ≡ getD out k 0
 unfolding written
 written-kept out vs at k h room =
@@ -78,8 +62,7 @@ module _ (out₀ out : List ℕ) (n f : ℕ) (s : Spread out₀ out n f) (room :
         buffer =
             w ∙ ap (λ (x : List ℕ). written out (23 * g) (frameText x)) (kept-ten g (omega arith))
             ∙ ap (λ (x : List ℕ). written x (23 * g) (frameOf out₀ g)) (s .buffer)
-            ∙ ap (λ (j : ℕ). written (written out₀ j later) (23 * g) (frameOf out₀ g)) p
-            ∙ written-before out₀ (frameOf out₀ g) later (23 * g) (omega (arith, s .low))
+            ∙ written-before out₀ (23 * g) (frameOf out₀ g) later (23 * f) p (omega (arith, s .low))
             ∙ ap (written out₀ (23 * g)) (sym a);
       }
     where

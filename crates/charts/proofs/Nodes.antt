@@ -1,15 +1,16 @@
 -- What the tests give of the nodes of a sound chart: ranges of fields, Begins and Ends, arcs, calls.
 use mathlib.Core.Path.{_≡_, refl, sym, _∙_, ap, subst}
+use mathlib.Core.Logic.{_⊎_, ⊎-elim}
 use mathlib.Core.Bool.{Bool, true, false, _&&_, _||_, not}
 use mathlib.Core.List.{List, [], _∷_}
 use Prim.Native.Nat.{ℕ, zero, suc, _≤_, _<_}
 use native.Mathlib.Decide.{decLe, ℕ-discrete}
 use native.Mathlib.Omega.{arith}
 use lib.Dec.{leb, ltb, eqb}
-use borrow.Author.Tests.{ltb-false, leb-false, eqb-true, eqb-false, eq-eqb, ne-eqb}
+use borrow.Author.Tests.{ltb-false, leb-false, eqb-true, eqb-false, eq-eqb}
 use Rattle.lists.specs.Pick.{pick}
 use Rattle.lists.specs.Numbers.{lowest, any, count}
-use Rattle.lists.proofs.Tests.{no-both, or-l, or-r, or-true-l, or-true-r, and-l, and-r, and-true, and-false, not-false, yes-pick}
+use Rattle.lists.proofs.Tests.{no-both, or-l, or-r, or-true-l, or-true-r, and-l, and-r, and-true, not-false, yes-pick}
 use Rattle.lists.proofs.Searches.{lowest-hit, highest-ge, highest-le, highest-of, any-false, some-cons, some-both}
 use Rattle.lists.proofs.Counts.{count-lowest, count-one}
 use Rattle.graph.specs.Reach.{member}
@@ -17,10 +18,10 @@ use Rattle.frames.specs.Frame.{size}
 use Rattle.charts.specs.Chart.{Chart, kind, scheme, argument, next0, next1, result, is, isOf}
 use Rattle.charts.specs.Chart.{marksHandler, handlerAt, handler, schemes, nodeOf, begin, end}
 use Rattle.charts.specs.Layout.{kindOf}
-use Rattle.charts.specs.Check.{filledFrom, badUse, badField, arcs, badEnd}
+use Rattle.charts.specs.Check.{filledFrom, badUse, badField, arcsAs, arcs, badTarget, badCallAs}
 use Rattle.charts.proofs.Accepted.{SoundChart}
 
--- node u may be an arc's end in scheme h
+-- an arc may lead to node u in scheme h
 pub record Target (c : Chart) (h u : ℕ) : Type 0 where
   pub inside : u < size c
   pub same : scheme c u ≡ h
@@ -67,8 +68,16 @@ module _ (c : Chart) (v : ℕ) (e : badField c v ≡ false) where
   field-result k = ltb-false 2 (result c v) (or-r (not (eqb (next1 c v) 0)) (ltb 2 (result c v)) (use-of 2 k))
 
 -- ---- arcs: 6
-pub good-end : (c : Chart) (v u : ℕ) → badEnd c v u ≡ false → Target c (scheme c v) u
-good-end c v u e =
+-- a kind outside 3 to 4
+pub outside : (k : ℕ) → (k < 3) ⊎ (5 ≤ k) → (k ≡ 3 → ⊥) × (k ≡ 4 → ⊥)
+outside k o = (
+  λ q. ⊎-elim (λ (h : k < 3). omega arith) (λ (h : 5 ≤ k). omega arith) o,
+  λ q. ⊎-elim
+      (λ (h : k < 3). omega arith) (λ (h : 5 ≤ k). omega arith) o,
+)
+
+pub good-target : (c : Chart) (v u : ℕ) → badTarget c v u ≡ false → Target c (scheme c v) u
+good-target c v u e =
     let x : Bool = leb (size c) u in
     let y : Bool = eqb (scheme c u) (scheme c v) in
     let z : Bool = is c 0 u in
@@ -85,17 +94,28 @@ pub member-second : (x y : ℕ) (xs : List ℕ) → member y (x ∷ y ∷ xs) �
 member-second x y xs = some-cons (eqb y) x (y ∷ xs) ∙ or-true-r (eqb y x) (member y (y ∷ xs)) (member-first y xs)
 
 -- the arcs of a node by its kind
+arcs-by : (c : Chart) (v k : ℕ) → kind c v ≡ k → arcs c v ≡ arcsAs c v (kindOf k)
+arcs-by c v k e = ap (λ (k : ℕ). arcsAs c v (kindOf k)) e
+
 pub arcs-end : (c : Chart) (v : ℕ) → kind c v ≡ 1 → arcs c v ≡ []
-arcs-end c v k = rw (eq-eqb (kind c v) 1 k)
+arcs-end c v e = arcs-by c v 1 e
 
 pub arcs-one : (c : Chart) (v : ℕ) → (kind c v ≡ 1 → ⊥) → (kind c v ≡ 3 → ⊥) → (kind c v ≡ 4 → ⊥) → arcs c v ≡ next0 c v ∷ []
-arcs-one c v n m k = rw (ne-eqb (kind c v) 1 n, ne-eqb (kind c v) 3 m, ne-eqb (kind c v) 4 k)
+arcs-one c v = go (kind c v)
+  where
+    go : (k : ℕ) → (k ≡ 1 → ⊥) → (k ≡ 3 → ⊥) → (k ≡ 4 → ⊥) → arcsAs c v (kindOf k) ≡ next0 c v ∷ []
+    go zero n m k = refl
+    go (suc zero) n m k = absurd (n refl)
+    go (suc (suc zero)) n m k = refl
+    go (suc (suc (suc zero))) n m k = absurd (m refl)
+    go (suc (suc (suc (suc zero)))) n m k = absurd (k refl)
+    go (suc (suc (suc (suc (suc j))))) n m k = refl
 
 pub arcs-condition : (c : Chart) (v : ℕ) → kind c v ≡ 3 → arcs c v ≡ next0 c v ∷ next1 c v ∷ []
-arcs-condition c v k = rw (ne-eqb (kind c v) 1 (λ q. omega arith), eq-eqb (kind c v) 3 k)
+arcs-condition c v e = arcs-by c v 3 e
 
 pub arcs-function : (c : Chart) (v : ℕ) → kind c v ≡ 4 → arcs c v ≡ next0 c v ∷ next1 c v ∷ []
-arcs-function c v k = rw (ne-eqb (kind c v) 1 (λ q. omega arith), ne-eqb (kind c v) 3 (λ q. omega arith), eq-eqb (kind c v) 4 k)
+arcs-function c v e = arcs-by c v 4 e
 
 module _ (c : Chart) (v : ℕ) where
   pub two-arcs : 3 ≤ kind c v → kind c v ≤ 4 → arcs c v ≡ next0 c v ∷ next1 c v ∷ []
@@ -186,8 +206,8 @@ module _ (c : Chart) (a : SoundChart c) where
   -- ---- arcs: 6
   pub arc-end : (v u : ℕ) → v < size c → member u (arcs c v) ≡ true → Target c (scheme c v) u
   arc-end v u l s =
-      let r = some-both (badEnd c v) (eqb u) (arcs c v) (a .goodArc v l) s in
-      subst (λ (x : ℕ). Target c (scheme c v) x) (sym (eqb-true u (r .0) (r .2))) (good-end c v (r .0) (r .1))
+      let r = some-both (badTarget c v) (eqb u) (arcs c v) (a .goodArc v l) s in
+      subst (λ (x : ℕ). Target c (scheme c v) x) (sym (eqb-true u (r .0) (r .2))) (good-target c v (r .0) (r .1))
 
   pub arc0 : (v : ℕ) → v < size c → (kind c v ≡ 1 → ⊥) → Target c (scheme c v) (next0 c v)
   arc0 v l n = arc-end v (next0 c v) l (in-arcs0 c v n (kinds v l))
@@ -196,12 +216,14 @@ module _ (c : Chart) (a : SoundChart c) where
   arc1 v l n = arc-end v (next1 c v) l (in-arcs1 c v n (kinds v l))
 
   -- ---- calls: 7
+  call-of : (v k : ℕ) → v < size c → kind c v ≡ k → badCallAs c v (kindOf k) ≡ false
+  call-of v k l e = subst (λ (k : ℕ). badCallAs c v (kindOf k) ≡ false) e (a .goodCall v l)
+
   pub calls : (v : ℕ) → v < size c → kind c v ≡ 2 → (argument c v ≡ 0 → ⊥) → (2 ≤ argument c v) × (argument c v ≤ schemes c)
   calls v l k n =
       let x : Bool = eqb (argument c v) 1 in
       let y : Bool = ltb (schemes c) (argument c v) in
-      let g : (is c 2 v && (x || y)) ≡ false = or-l (is c 2 v && (x || y)) (is c 4 v && (leb (argument c v) 1 || y)) (a .goodCall v l) in
-      let f : (x || y) ≡ false = and-false (is c 2 v) (x || y) g (eq-eqb (kind c v) 2 k) in
+      let f : (x || y) ≡ false = call-of v 2 l k in
       let z : argument c v ≡ 1 → ⊥ = eqb-false (argument c v) 1 (or-l x y f) in
       (omega arith, ltb-false (schemes c) (argument c v) (or-r x y f))
 
@@ -209,6 +231,5 @@ module _ (c : Chart) (a : SoundChart c) where
   functions v l k =
       let x : Bool = leb (argument c v) 1 in
       let y : Bool = ltb (schemes c) (argument c v) in
-      let g : (is c 4 v && (x || y)) ≡ false = or-r (is c 2 v && (eqb (argument c v) 1 || y)) (is c 4 v && (x || y)) (a .goodCall v l) in
-      let f : (x || y) ≡ false = and-false (is c 4 v) (x || y) g (eq-eqb (kind c v) 4 k) in
+      let f : (x || y) ≡ false = call-of v 4 l k in
       (leb-false (argument c v) 1 (or-l x y f), ltb-false (schemes c) (argument c v) (or-r x y f))

@@ -1,6 +1,6 @@
 -- Why a chart is refused: refusals 4 to 9 and 19.
 use Prim.Native.Nat.{ℕ, _-_}
-use mathlib.Core.Bool.{Bool, true, _&&_, _||_, not}
+use mathlib.Core.Bool.{Bool, true, false, _&&_, _||_, not}
 use mathlib.Core.List.{List, [], _∷_}
 use lib.Dec.{leb, ltb, eqb}
 use Rattle.lists.specs.Pick.{pick}
@@ -11,7 +11,7 @@ use Rattle.frames.specs.Sizes.{RECORD, SCHEMES}
 use Rattle.frames.specs.Refusals.{BAD-FIELD, BAD-SCHEME, BAD-ARC, BAD-CALL, CIRCLE, CUT-OFF, BAD-MARKS}
 use Rattle.frames.specs.Frame.{size, field}
 use Rattle.frames.specs.Verdict.{Verdict, next, when, atLowest}
-use Rattle.charts.specs.Layout.{BEGIN, END, OPERATION, CONDITION, FUNCTION, ARGUMENT, NEXT1, RESULT}
+use Rattle.charts.specs.Layout.{BEGIN, END, CONDITION, ARGUMENT, NEXT1, RESULT}
 use Rattle.charts.specs.Layout.{Kind, Begin, End, Operation, Condition, Function, Unknown, kindOf}
 use Rattle.charts.specs.Chart.{Chart, kind, scheme, argument, next0, next1, result, is, isOf, marksHandler, handlerAt, schemes, begin}
 
@@ -39,20 +39,35 @@ badScheme c h = not (eqb (count (isOf c BEGIN h) 0 (size c)) 1 && eqb (count (is
 abbrev pub badMarks : Chart → Bool
 badMarks c = any (λ v. eqb (handlerAt c v) 1) 0 (size c) || ltb 1 (count (marksHandler c) 0 (size c))
 
--- 6. The nodes that the arcs of a node lead to; one that is no node, of another scheme or a Begin.
-abbrev pub arcs : Chart → ℕ → List ℕ
-arcs c v = pick (is c END v) [] (pick (is c CONDITION v || is c FUNCTION v) (next0 c v ∷ next1 c v ∷ []) (next0 c v ∷ []))
+-- 6. The nodes that the arcs of a node lead to, by its kind; one that is no node, of another scheme or a Begin.
+abbrev pub arcsAs : Chart → ℕ → Kind → List ℕ
+arcsAs c v Begin = next0 c v ∷ []
+arcsAs c v End = []
+arcsAs c v Operation = next0 c v ∷ []
+arcsAs c v Condition = next0 c v ∷ next1 c v ∷ []
+arcsAs c v Function = next0 c v ∷ next1 c v ∷ []
+arcsAs c v Unknown = next0 c v ∷ []
 
-abbrev pub badEnd : Chart → ℕ → ℕ → Bool
-badEnd c v u = leb (size c) u || not (eqb (scheme c u) (scheme c v)) || is c BEGIN u
+abbrev pub arcs : Chart → ℕ → List ℕ
+arcs c v = arcsAs c v (kindOf (kind c v))
+
+abbrev pub badTarget : Chart → ℕ → ℕ → Bool
+badTarget c v u = leb (size c) u || not (eqb (scheme c u) (scheme c v)) || is c BEGIN u
 
 abbrev pub badArc : Chart → ℕ → Bool
-badArc c v = some (badEnd c v) (arcs c v)
+badArc c v = some (badTarget c v) (arcs c v)
 
--- 7. A call of scheme 1 or of one above H, or of 0 by a function.
+-- 7. By the kind: a call of scheme 1 or of one above H, or of 0 by a function.
+abbrev pub badCallAs : Chart → ℕ → Kind → Bool
+badCallAs c v Begin = false
+badCallAs c v End = false
+badCallAs c v Operation = eqb (argument c v) 1 || ltb (schemes c) (argument c v)
+badCallAs c v Condition = false
+badCallAs c v Function = leb (argument c v) 1 || ltb (schemes c) (argument c v)
+badCallAs c v Unknown = false
+
 abbrev pub badCall : Chart → ℕ → Bool
-badCall c v = (is c OPERATION v && (eqb (argument c v) 1 || ltb (schemes c) (argument c v)))
-    || (is c FUNCTION v && (leb (argument c v) 1 || ltb (schemes c) (argument c v)))
+badCall c v = badCallAs c v (kindOf (kind c v))
 
 -- 8. A condition that arcs of conditions lead back to.
 abbrev pub conditionArcs : Chart → ℕ → List ℕ

@@ -16,7 +16,7 @@ unfoldable pub readVerdict : List ℕ → Verdict
 readVerdict t = next (textVerdict CHART-TEXT t) λ _. chartVerdict (contents t)
 
 unfoldable pub readChart : List ℕ → List ℕ → BufferOutcome
-readChart t old = bufferOn (readVerdict t) 10 (λ _. contents t) old
+readChart t old = bufferOn (readVerdict t) RECORD (λ _. contents t) old
 
 -- 1, and 4 to 9 with 19 after 5; 16 comes with the buffer
 unfoldable pub writeVerdict : Chart → Verdict

@@ -1,4 +1,2 @@
-pub mod Counts
 pub mod Finished
-pub mod Found
 pub mod Marks

@@ -26,7 +26,7 @@ use Rattle.state.specs.Bytes.{stateOf, bytesOf}
 use Rattle.state.proofs.Sizes.{size-most}
 use Rattle.state.proofs.ResultBytes.{state-back, fresh-sized}
 use Rattle.ticks.specs.inner.TickContracts.{TickAsked}
-use Rattle.ticks.proofs.Depths.{deep-fine}
+use Rattle.fitness.proofs.Depths.{deep-fine}
 use Rattle.fillings.specs.Counts.{tooManyLists, countVerdict, countFillings}
 use Rattle.fill_counts.specs.declared.Tally.{Tally}
 use Rattle.fill_counts.specs.inner.TallyContracts.{tallyOf}

@@ -1,7 +1,7 @@
 // The entry point to how often the stack fills: all lists of words, counted by how they run from a fresh state.
 use fill_counts::Tally;
-use fill_counts::tally_all;
 use fill_counts::tally_one;
+use fill_lists::tally_all;
 use frames::Answer;
 use frames::refusals::BAD_SIZE;
 use frames::refusals::MANY_LISTS;

@@ -1,5 +1,5 @@
 -- Cases of the functions that try rows by their frames.
-use Prim.Native.Nat.{ℕ, suc, _+_, _-_, _*_, _^_, _%_, _≤_, _<_}
+use Prim.Native.Nat.{ℕ, _-_, _*_, _^_, _%_, _≤_, _<_}
 use mathlib.Core.Path.{_≡_, refl, sym, _∙_, ap, ap₂}
 use mathlib.Core.Bool.{Bool, true, false, _&&_, _||_, not}
 use mathlib.Core.List.{List}
@@ -10,12 +10,11 @@ use lib.Dec.{eqb}
 use lib.Pow.{pow-mono}
 use borrow.Author.Tests.{eq-eqb, ne-eqb}
 use Rattle.lists.specs.Pick.{pick}
-use Rattle.lists.specs.Numbers.{sum}
-use Rattle.lists.proofs.Searches.{sum-snoc}
 use Rattle.frames.specs.Frame.{field, pairAt}
+use Rattle.image.specs.Decode.{rowInFrame}
 use Rattle.image.specs.Image.{Row}
 use Rattle.covering.specs.Matched.{together}
-use Rattle.covering.specs.inner.CoveringContracts.{rowInFrame, rowWith, togetherAny, wordsWith, wordsIn, unevenRows, isOther}
+use Rattle.covering.specs.inner.CoveringContracts.{rowWith, togetherAny, wordsWith, wordsIn, unevenRows, isOther}
 
 -- ---- meets
 module _ (b : List ℕ) (g care values x p q : ℕ) (e₁ : p ≡ pairAt b g 2) (e₂ : q ≡ pairAt b g 4) where
@@ -78,37 +77,6 @@ module _ (b : List ℕ) (f bit : ℕ) where
 
 pub few-ones : (x : ℕ) → x < 65536 → ones x ≤ 16
 few-ones x h = ones-le 16 x h
-
--- ---- words_in
-pub record SummedWords (b : List ℕ) (first end bit total f : ℕ) : Type 0 where
-  pub low : first ≤ f
-  pub high : f ≤ end
-  pub is : total ≡ wordsIn b bit first (f - first)
-  pub small : total ≤ 65536 * (f - first)
-
-module _ (b : List ℕ) (first end bit : ℕ) where
-  pub sum-start : first ≤ end → SummedWords b first end bit 0 first
-  unfolding sum
-  sum-start h =
-      let e : first - first ≡ 0 = omega arith in
-      record { low = omega arith; high = h; is = sym (ap (λ (n : ℕ). wordsIn b bit first n) e); small = omega arith }
-
-  pub sum-on : (total f x : ℕ) → SummedWords b first end bit total f → f < end → (x ≡ wordsWith bit (rowInFrame b f)) × (x ≤ 65536)
-      → SummedWords b first end bit (total + x) (f + 1)
-  sum-on total f x t h w =
-      let low : first ≤ f = t .low in
-      let e : f + 1 - first ≡ suc (f - first) = omega arith in
-      let g : first + (f - first) ≡ f = omega arith in
-      record {
-        low = omega arith;
-        high = omega arith;
-        is = ap₂ _+_ (t .is) (w .0 ∙ ap (λ (k : ℕ). wordsWith bit (rowInFrame b k)) (sym g))
-            ∙ sym (ap (λ (n : ℕ). wordsIn b bit first n) e ∙ sum-snoc (λ k. wordsWith bit (rowInFrame b k)) first (f - first));
-        small = omega (arith, t .small, w .1);
-      }
-
-  pub sum-all : (total f : ℕ) → SummedWords b first end bit total f → end ≤ f → total ≡ wordsIn b bit first (end - first)
-  sum-all total f t h = t .is ∙ ap (λ (n : ℕ). wordsIn b bit first (n - first)) (omega (arith, t .high))
 
 -- ---- uneven_rows
 module _ (b : List ℕ) (first n x : ℕ) (e : x ≡ wordsIn b 0 first n) where

@@ -11,22 +11,22 @@ use borrow.Author.Tests.{eqb-true, eq-eqb}
 use Rattle.lists.specs.Pick.{pick}
 use Rattle.lists.specs.Numbers.{any, count, sum}
 use Rattle.lists.specs.Sequences.{filter, All}
-use Rattle.lists.proofs.Tests.{no-both, and-l, and-r, and-true, or-l, or-r, or-none, not-false}
+use Rattle.lists.proofs.Tests.{no-both, and-l, and-r, and-true, or-l, or-r, or-none, not-false, bit-low}
 use Rattle.lists.proofs.Searches.{sum-shift, any-false, any-none}
 use Rattle.lists.proofs.Counts.{count-alike, count-none}
 use Rattle.lists.proofs.Ranges.{filter-yes, filter-no}
-use Rattle.lists.proofs.Filters.{filter-none, one-passes}
+use Rattle.lists.proofs.Filters.{filter-none, one-passes, few-pass}
+use Rattle.lists.proofs.Sums.{sum-suc, sum-none, sum-zero, sum-ones, sum-full, sum-add}
 use Rattle.lists.proofs.Joins.{all-places}
 use Rattle.bits.specs.Word.{agrees}
-use Rattle.image.specs.Image.{Image, Row}
+use Rattle.image.specs.Image.{Image, Row, noRow, nthRow}
 use Rattle.image.specs.inner.Sound.{SoundRow, SoundImage}
 use Rattle.rows.specs.Rows.{matches, isCandidate}
-use Rattle.covering.specs.Matched.{hits, uneven, noRow, rowAt, together}
+use Rattle.covering.specs.Matched.{hits, uneven, together}
 use Rattle.covering.specs.inner.Sizes.{overlap, overlaps, wordsMatched, covered, gaps, unevenBySizes}
 use Rattle.covering.proofs.Together.{Common, common-together, together-common, together-turned}
 use Rattle.covering.proofs.Hits.{even-low, even-of}
 use Rattle.covering.proofs.WordCount.{words-count}
-use Rattle.covering.proofs.Sums.{sum-suc, sum-none, sum-zero, sum-ones, sum-full, sum-add, few-pass}
 
 -- ---- words and rows
 module _ (l b : ℕ) where
@@ -83,7 +83,7 @@ module _ (l b : ℕ) where
       ∙ ap (λ (x : ℕ). wordsMatched l b r + x) (sum-shift (λ k. wordsMatched l b (getD (r ∷ rs) k noRow)) 0 (length rs)))
 
 module _ (i : Image) (S : SoundImage i) where
-  sound-rows : All (SoundRow i) (i .rows)
+  pub sound-rows : All (SoundRow i) (i .rows)
   sound-rows = all-places (SoundRow i) noRow (i .rows) (S .each)
 
   words-are : (l b : ℕ) → sum (λ w. hits i l w b) 0 65536 ≡ covered i l b
@@ -94,21 +94,17 @@ module _ (i : Image) (S : SoundImage i) where
     -- ---- where every word and bit match one row of label l
     module _ (one : (w b : ℕ) → w < 65536 → b < 2 → hits i l w b ≡ 1) where
       -- no two of its rows can match together
-      pub no-pair : (j k : ℕ) → j < length (i .rows) → k < length (i .rows) → (j ≡ k → ⊥) → rowAt i j .from ≡ l → rowAt i k .from ≡ l
-          → together (rowAt i j) (rowAt i k) ≡ false
-      no-pair j k hj hk n p q = go (together (rowAt i j) (rowAt i k)) refl
+      pub no-pair : (j k : ℕ) → j < length (i .rows) → k < length (i .rows) → (j ≡ k → ⊥) → nthRow i j .from ≡ l → nthRow i k .from ≡ l
+          → together (nthRow i j) (nthRow i k) ≡ false
+      no-pair j k hj hk n p q = go (together (nthRow i j) (nthRow i k)) refl
         where
           r : Row
-          r = rowAt i j
+          r = nthRow i j
 
           s : Row
-          s = rowAt i k
+          s = nthRow i k
 
-          bit-low : (b : Bool) → pick b 1 0 < 2
-          bit-low true = omega arith
-          bit-low false = omega arith
-
-          go : (t : Bool) → together (rowAt i j) (rowAt i k) ≡ t → together (rowAt i j) (rowAt i k) ≡ false
+          go : (t : Bool) → together (nthRow i j) (nthRow i k) ≡ t → together (nthRow i j) (nthRow i k) ≡ false
           go false e = e
           go true e =
               let C : Common r s = together-common r s (S .each j hj) (S .each k hk) e in
@@ -122,12 +118,12 @@ module _ (i : Image) (S : SoundImage i) where
       full b h = sym (words-are l b) ∙ sum-ones (λ w. hits i l w b) 0 65536 (λ w a k. one w b (omega arith) h)
 
     -- ---- where no two rows of label l can match together
-    module _ (apart : (j k : ℕ) → j < length (i .rows) → k < j → rowAt i j .from ≡ l → rowAt i k .from ≡ l
-        → together (rowAt i j) (rowAt i k) ≡ false) where
+    module _ (apart : (j k : ℕ) → j < length (i .rows) → k < j → nthRow i j .from ≡ l → nthRow i k .from ≡ l
+        → together (nthRow i j) (nthRow i k) ≡ false) where
       few-hits : (w b : ℕ) → hits i l w b ≤ 1
       few-hits w b = few-pass (isCandidate l w b) noRow (i .rows) (λ j k hj hk p q.
-          let r : Row = rowAt i j in
-          let s : Row = rowAt i k in
+          let r : Row = nthRow i j in
+          let s : Row = nthRow i k in
           no-both (together r s)
           (common-together r s w b (S .each j hj .small) (S .each k (omega arith) .small)
           (and-r (eqb (r .from) l) (matches w b r) p) (and-r (eqb (s .from) l) (matches w b s) q))
@@ -144,16 +140,16 @@ module _ (i : Image) (S : SoundImage i) where
       one-hits g₀ g₁ w (suc (suc b)) hw hb = absurd (omega arith)
 
   -- ---- all labels
-  no-overlap : uneven i ≡ false → (j k : ℕ) → j < length (i .rows) → k < j → overlap (rowAt i k) (rowAt i j) ≡ false
-  no-overlap e j k hj hk = go (eqb (rowAt i k .from) (rowAt i j .from)) refl
+  no-overlap : uneven i ≡ false → (j k : ℕ) → j < length (i .rows) → k < j → overlap (nthRow i k) (nthRow i j) ≡ false
+  no-overlap e j k hj hk = go (eqb (nthRow i k .from) (nthRow i j .from)) refl
     where
       l : ℕ
-      l = rowAt i j .from
+      l = nthRow i j .from
 
-      go : (t : Bool) → eqb (rowAt i k .from) (rowAt i j .from) ≡ t → (t && together (rowAt i k) (rowAt i j)) ≡ false
+      go : (t : Bool) → eqb (nthRow i k .from) (nthRow i j .from) ≡ t → (t && together (nthRow i k) (nthRow i j)) ≡ false
       go false q = refl
       go true q = no-pair l (λ w b. even-low i e l w b (S .each j hj .low) (S .each j hj .high)) k j (omega arith) hj (λ z. omega arith)
-          (eqb-true (rowAt i k .from) (rowAt i j .from) q) refl
+          (eqb-true (nthRow i k .from) (nthRow i j .from) q) refl
 
   no-gaps : uneven i ≡ false → (l : ℕ) → 2 ≤ l → l < length (i .labels) → gaps i l ≡ false
   no-gaps e l low high =
@@ -164,8 +160,8 @@ module _ (i : Image) (S : SoundImage i) where
   sizes-even : uneven i ≡ false → unevenBySizes i ≡ false
   unfolding unevenBySizes overlaps
   sizes-even e = or-none (overlaps i) (any (gaps i) 2 (length (i .labels) - 2))
-      (any-none (λ j. any (λ k. overlap (rowAt i k) (rowAt i j)) 0 j) 0 (length (i .rows)) (λ j hj.
-      any-none (λ k. overlap (rowAt i k) (rowAt i (0 + j))) 0 (0 + j) (λ k hk. no-overlap e (0 + j) (0 + k) (omega arith) (omega arith))))
+      (any-none (λ j. any (λ k. overlap (nthRow i k) (nthRow i j)) 0 j) 0 (length (i .rows)) (λ j hj.
+      any-none (λ k. overlap (nthRow i k) (nthRow i (0 + j))) 0 (0 + j) (λ k hk. no-overlap e (0 + j) (0 + k) (omega arith) (omega arith))))
       (any-none (gaps i) 2 (length (i .labels) - 2) (λ l h. no-gaps e (2 + l) (omega arith) (omega arith)))
 
   even-sizes : unevenBySizes i ≡ false → uneven i ≡ false
@@ -177,12 +173,12 @@ module _ (i : Image) (S : SoundImage i) where
       let g₀ : Bool = eqb (covered i l 0) 65536 in
       let g₁ : Bool = eqb (covered i l 1) 65536 in
       one-hits l (λ j k hj hk p q.
-      let u : any (λ k. overlap (rowAt i k) (rowAt i j)) 0 j ≡ false =
-      any-false (λ j. any (λ k. overlap (rowAt i k) (rowAt i j)) 0 j) 0 (length (i .rows)) (or-l x y e) j (omega arith) (omega arith) in
-      let v : overlap (rowAt i k) (rowAt i j) ≡ false =
-      any-false (λ k. overlap (rowAt i k) (rowAt i j)) 0 j u k (omega arith) (omega arith) in
-      together-turned (rowAt i k) (rowAt i j) (sym (ap (λ (t : Bool). t && together (rowAt i k) (rowAt i j))
-      (eq-eqb (rowAt i k .from) (rowAt i j .from) (q ∙ sym p))) ∙ v))
+      let u : any (λ k. overlap (nthRow i k) (nthRow i j)) 0 j ≡ false =
+      any-false (λ j. any (λ k. overlap (nthRow i k) (nthRow i j)) 0 j) 0 (length (i .rows)) (or-l x y e) j (omega arith) (omega arith) in
+      let v : overlap (nthRow i k) (nthRow i j) ≡ false =
+      any-false (λ k. overlap (nthRow i k) (nthRow i j)) 0 j u k (omega arith) (omega arith) in
+      together-turned (nthRow i k) (nthRow i j) (sym (ap (λ (t : Bool). t && together (nthRow i k) (nthRow i j))
+      (eq-eqb (nthRow i k .from) (nthRow i j .from) (q ∙ sym p))) ∙ v))
       (eqb-true (covered i l 0) 65536 (not-false g₀ (or-l (not g₀) (not g₁) g)))
       (eqb-true (covered i l 1) 65536 (not-false g₁ (or-r (not g₀) (not g₁) g)))
       w b hw hb)

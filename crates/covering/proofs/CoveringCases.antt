@@ -5,11 +5,8 @@ use mathlib.Core.Path.{_≡_, refl}
 use mathlib.Core.List.{List, [], _∷_}
 use lib.Count.{ones, onesIn}
 use Rattle.lists.specs.Numbers.{any, sum}
-use Rattle.image.specs.Image.{Image, Label, Row}
+use Rattle.image.specs.Image.{Image, Label, Row, row}
 use Rattle.covering.specs.inner.Sizes.{overlaps, covered, unevenBySizes}
-
-abbrev row : ℕ → ℕ → ℕ → ℕ → ℕ → Row
-row l c v b n = record { from = l; care = c; values = v; bit = b; next = n }
 
 abbrev operation : ℕ → Label
 operation m = record { kind = 0; called = 0; owner = 1; result = 0; mask = m }

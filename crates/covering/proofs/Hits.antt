@@ -9,16 +9,16 @@ use lib.ListN.{length, getD}
 use borrow.Author.Tests.{eqb-true, eq-eqb}
 use Rattle.lists.specs.Pick.{pick}
 use Rattle.lists.specs.Sequences.{filter, All}
-use Rattle.lists.proofs.Tests.{not-false}
+use Rattle.lists.proofs.Tests.{not-false, bit-low}
 use Rattle.lists.proofs.Searches.{any-false, any-none}
 use Rattle.lists.proofs.Ranges.{filter-yes, filter-no}
 use Rattle.lists.proofs.Filters.{filter-none, one-passes}
 use Rattle.lists.proofs.Joins.{all-places}
-use Rattle.image.specs.Image.{Image, Row}
+use Rattle.image.specs.Image.{Image, Row, noRow}
 use Rattle.image.specs.inner.Sound.{SoundImage}
 use Rattle.rows.specs.Rows.{isCandidate, row, noChoice, better, bestRow, found, leads}
 use Rattle.rows.proofs.ChoiceLaws.{best-nothing, best-own, best-other}
-use Rattle.covering.specs.Matched.{noRow, hits, unevenWord, unevenLabel, uneven}
+use Rattle.covering.specs.Matched.{hits, unevenWord, unevenLabel, uneven}
 use Rattle.covering.proofs.Together.{matches-low}
 
 -- ---- the only row that matches
@@ -93,10 +93,6 @@ module _ (l w b : ℕ) where
           ∙ sym (filter-yes (isCandidate l (w % 65536) b) r rs (sym (low-alike r (a .0)) ∙ q))
       go false q ih = filter-no (isCandidate l w b) r rs q ∙ ih
           ∙ sym (filter-no (isCandidate l (w % 65536) b) r rs (sym (low-alike r (a .0)) ∙ q))
-
-bit-low : (b : Bool) → pick b 1 0 < 2
-bit-low true = omega arith
-bit-low false = omega arith
 
 pub all-cares : (i : Image) → SoundImage i → All (λ r. r .care < 65536) (i .rows)
 all-cares i S = all-places (λ r. r .care < 65536) noRow (i .rows) (λ k h. S .each k h .cares)

@@ -1,9 +1,8 @@
 -- The rows of one label by their frames in a table: what the functions try of them is what 23 says of the label.
-use Prim.Native.Nat.{ℕ, zero, suc, _+_, _-_, _^_, _≤_, _<_}
+use Prim.Native.Nat.{ℕ, _+_, _-_, _^_, _≤_, _<_}
 use mathlib.Core.Bool.{Bool, true, false, _&&_, _||_, not}
 use mathlib.Core.Path.{_≡_, refl, sym, _∙_, ap, ap₂}
 use mathlib.Core.List.{List}
-use native.Mathlib.Nat.{add-zero}
 use native.Mathlib.Omega.{arith}
 use lib.Count.{ones}
 use lib.Dec.{eqb}
@@ -13,14 +12,15 @@ use Rattle.lists.specs.Pick.{pick}
 use Rattle.lists.specs.Numbers.{sum}
 use Rattle.lists.proofs.Tests.{no-both, or-l, or-r, or-none, not-false}
 use Rattle.lists.proofs.Searches.{any-false, any-none}
+use Rattle.lists.proofs.Sums.{sum-same, sum-zero, sum-split, sum-move}
 use Rattle.frames.specs.Frame.{size, field}
-use Rattle.image.specs.Image.{Image, Row}
-use Rattle.image.specs.Decode.{rowsFrom, decoded}
+use Rattle.image.specs.Image.{Image, Row, nthRow}
+use Rattle.image.specs.Decode.{rowsFrom, decoded, rowInFrame}
 use Rattle.image.proofs.Accepted.{row-read, rows-count}
-use Rattle.covering.specs.Matched.{hits, unevenLabel, rowAt, together}
+use Rattle.image.proofs.Rising.{row-at, from-read}
+use Rattle.covering.specs.Matched.{hits, unevenLabel, together}
 use Rattle.covering.specs.inner.Sizes.{wordsMatched, covered}
-use Rattle.covering.specs.inner.CoveringContracts.{SoundTable, rowInFrame, togetherSome, togetherAny, wordsWith, wordsIn, unevenRows}
-use Rattle.covering.proofs.Sums.{sum-same, sum-zero, sum-split, sum-move}
+use Rattle.covering.specs.inner.CoveringContracts.{SoundTable, togetherSome, togetherAny, wordsWith, wordsIn, unevenRows}
 use Rattle.covering.proofs.Hits.{label-low, label-of}
 use Rattle.covering.proofs.Covered.{no-pair, full, one-hits}
 
@@ -38,7 +38,7 @@ module _ (b : List ℕ) (T : SoundTable b) where
   a = rowsFrom b
 
   -- ---- rows by their frames
-  row-is : (k : ℕ) → k < length (i .rows) → rowInFrame b (a + k) ≡ rowAt i k
+  row-is : (k : ℕ) → k < length (i .rows) → rowInFrame b (a + k) ≡ nthRow i k
   row-is k h = sym (row-read b k (omega (arith, rows-count b)))
 
   inside : (k : ℕ) → k < length (i .rows) → a + k < size b
@@ -47,32 +47,8 @@ module _ (b : List ℕ) (T : SoundTable b) where
   number : (f : ℕ) → a ≤ f → f < size b → f - a < length (i .rows)
   number f h g = omega (arith, rows-count b, T .all)
 
-  pub row-at : (f : ℕ) → a ≤ f → f < size b → rowAt i (f - a) ≡ rowInFrame b f
-  row-at f h g = sym (row-is (f - a) (number f h g)) ∙ ap (rowInFrame b) (let e : a + (f - a) ≡ f = omega arith in e)
-
-  from-at : (f : ℕ) → a ≤ f → f < size b → rowAt i (f - a) .from ≡ field b f 1
-  from-at f h g = ap (λ (r : Row). r .from) (row-at f h g)
-
   pub from-low : (f : ℕ) → a ≤ f → f < size b → 2 ≤ field b f 1
-  from-low f h g = omega (arith, from-at f h g, T .image .each (f - a) (number f h g) .low)
-
-  -- labels rise
-  rises : (f : ℕ) → a ≤ f → suc f < size b → field b f 1 ≤ field b (suc f) 1
-  rises f h g =
-      let e : rowAt i (suc f - a) .from ≡ rowAt i (suc (f - a)) .from = ap (λ (k : ℕ). rowAt i k .from) (omega arith) in
-      omega (
-        arith,
-        e,
-        from-at f h (omega arith),
-        from-at (suc f) (omega arith) g,
-        T .image .rising (f - a) (omega (arith, number (suc f) (omega arith) g)),
-      )
-
-  pub rises-on : (f n : ℕ) → a ≤ f → f + n < size b → field b f 1 ≤ field b (f + n) 1
-  rises-on f zero h g = let e : field b f 1 ≡ field b (f + 0) 1 = ap (λ (k : ℕ). field b k 1) (sym (add-zero f)) in omega arith
-  rises-on f (suc n) h g =
-      let e : field b (suc (f + n)) 1 ≡ field b (f + suc n) 1 = ap (λ (k : ℕ). field b k 1) (omega arith) in
-      omega (arith, e, rises-on f n h (omega arith), rises (f + n) (omega arith) (omega arith))
+  from-low f h g = omega (arith, from-read b (T .all) f h g, T .image .each (f - a) (number f h g) .low)
 
   -- ---- n frames from first on, which hold all rows of label l and no other
   module _ (l first n : ℕ) (low : a ≤ first) (high : first + n ≤ size b) (own : (f : ℕ) → first ≤ f → f < first + n → field b f 1 ≡ l)
@@ -86,7 +62,7 @@ module _ (b : List ℕ) (T : SoundTable b) where
         let other : (f : ℕ) → a ≤ f → f < size b → (first ≤ f → f < first + n → ⊥) → g f ≡ 0 =
         λ f x y z. words-other l bit (rowInFrame b f) (λ e. let w = only f x y e in z (w .0) (w .1)) in
         let moved : sum g (a + 0) (length (i .rows)) ≡ covered i l bit =
-        sum-move g (λ k. wordsMatched l bit (rowAt i k)) a 0 (length (i .rows))
+        sum-move g (λ k. wordsMatched l bit (nthRow i k)) a 0 (length (i .rows))
         (λ k x y. ap (wordsMatched l bit) (row-is k (omega arith))) in
         let parts : sum g (a + 0) (length (i .rows)) ≡ sum g a (m + (n + rest)) =
         ap₂ (λ (x y : ℕ). sum g x y) (omega arith) (omega (arith, rows-count b, T .all)) in
@@ -109,11 +85,11 @@ module _ (b : List ℕ) (T : SoundTable b) where
         any-none (λ g. together (rowInFrame b (first + j)) (rowInFrame b g)) first (first + j - first) (λ k hk.
         let f : ℕ = first + j in
         let g : ℕ = first + k in
-        ap₂ together (sym (row-at f (omega arith) (omega arith))) (sym (row-at g (omega arith) (omega arith)))
+        ap₂ together (sym (row-at b (T .all) f (omega arith) (omega arith))) (sym (row-at b (T .all) g (omega arith) (omega arith)))
         ∙ no-pair i (T .image) l one (f - a) (g - a) (number f (omega arith) (omega arith))
         (number g (omega arith) (omega arith)) (λ z. omega arith)
-        (from-at f (omega arith) (omega arith) ∙ own f (omega arith) (omega arith))
-        (from-at g (omega arith) (omega arith) ∙ own g (omega arith) (omega arith)))))
+        (from-read b (T .all) f (omega arith) (omega arith) ∙ own f (omega arith) (omega arith))
+        (from-read b (T .all) g (omega arith) (omega arith) ∙ own g (omega arith) (omega arith)))))
 
     one-of : unevenRows b first n ≡ false → (w bit : ℕ) → w < 65536 → bit < 2 → hits i l w bit ≡ 1
     one-of e =

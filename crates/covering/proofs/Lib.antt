@@ -2,7 +2,6 @@ pub mod CoveringCases
 pub mod Together
 pub mod Hits
 pub mod WordCount
-pub mod Sums
 pub mod Covered
 pub mod LabelRows
 pub mod CoverCases

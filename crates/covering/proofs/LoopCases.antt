@@ -15,9 +15,10 @@ use Rattle.lists.proofs.Searches.{any-here, any-on, any-over, lowest-hit, lowes
 use Rattle.frames.specs.Frame.{size, field}
 use Rattle.image.specs.Decode.{lastLabel, rowCount, rowsFrom, decoded}
 use Rattle.image.proofs.Accepted.{labels-count, rows-count}
+use Rattle.image.proofs.Rising.{rises-on}
 use Rattle.covering.specs.Matched.{unevenLabel, uneven}
 use Rattle.covering.specs.inner.CoveringContracts.{SoundTable, unevenRows, isOther}
-use Rattle.covering.proofs.LabelRows.{from-low, rises-on, rows-decide}
+use Rattle.covering.proofs.LabelRows.{from-low, rows-decide}
 
 -- labels below l are tried, and the rows of the others begin at frame first
 pub record Trying (b : List ℕ) (last first l : ℕ) : Type 0 where
@@ -91,7 +92,12 @@ module _ (b : List ℕ) (last first l : ℕ) (t : Trying b last first l) (h : l 
   beyond : (f : ℕ) → end ≤ f → f < size b → l < field b f 1
   beyond f p q =
       let same : field b (end + (f - end)) 1 ≡ field b f 1 = ap (λ (k : ℕ). field b k 1) (omega arith) in
-      omega (arith, same, behind (omega arith), rises-on b (t .table) end (f - end) (omega (arith, end-after, first-from)) (omega arith))
+      omega (
+        arith,
+        same,
+        behind (omega arith),
+        rises-on b (t .table .all) (t .table .image) end (f - end) (omega (arith, end-after, first-from)) (omega arith),
+      )
 
   label-is : unevenRows b first n ≡ unevenLabel (decoded b) l
   label-is = rows-decide b (t .table) l first n first-from (omega (arith, end-after, end-inside))

@@ -3,9 +3,10 @@ use Prim.Native.Nat.{ℕ, _-_}
 use mathlib.Core.Bool.{Bool, _&&_, _||_, not}
 use lib.Bits.{bitAnd}
 use lib.Dec.{eqb}
-use lib.ListN.{length, getD}
+use lib.ListN.{length}
 use Rattle.lists.specs.Numbers.{any}
 use Rattle.lists.specs.Sequences.{filter}
+use Rattle.frames.specs.Sizes.{WORDS}
 use Rattle.image.specs.Layout.{NO-BIT}
 use Rattle.image.specs.Image.{Image, Row}
 use Rattle.rows.specs.Rows.{isCandidate}
@@ -19,16 +20,10 @@ abbrev pub unevenWord : Image → ℕ → ℕ → Bool
 unevenWord i l w = any (λ b. not (eqb (hits i l w b) 1)) 0 2
 
 abbrev pub unevenLabel : Image → ℕ → Bool
-unevenLabel i l = any (unevenWord i l) 0 65536
+unevenLabel i l = any (unevenWord i l) 0 WORDS
 
 unfoldable pub uneven : Image → Bool
 uneven i = any (unevenLabel i) 2 (length (i .labels) - 2)
-
-abbrev pub noRow : Row
-noRow = record { from = 0; care = 0; values = 0; bit = 0; next = 0 }
-
-abbrev pub rowAt : Image → ℕ → Row
-rowAt i k = getD (i .rows) k noRow
 
 -- some word and bit match both rows: where both care they have the same value
 abbrev pub together : Row → Row → Bool

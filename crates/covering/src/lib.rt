@@ -13,9 +13,9 @@ ghost use Rattle.lists.specs.Numbers.{lowest};
 ghost use Rattle.frames.specs.Sizes.{ROWS};
 ghost use Rattle.frames.specs.Frame.{size};
 ghost use Rattle.image.specs.Layout.{NO-BIT};
-ghost use Rattle.image.specs.Decode.{decoded};
+ghost use Rattle.image.specs.Decode.{decoded, rowInFrame};
 ghost use Rattle.covering.specs.Matched.{together, uneven};
-ghost use Rattle.covering.specs.inner.CoveringContracts.{SoundTable, rowInFrame, rowWith, togetherSome, togetherAny};
+ghost use Rattle.covering.specs.inner.CoveringContracts.{SoundTable, rowWith, togetherSome, togetherAny};
 ghost use Rattle.covering.specs.inner.CoveringContracts.{wordsWith, wordsIn, unevenRows, isOther};
 
 // Whether some word and bit match the row in frame g and one with this care mask, these values and this function bit.

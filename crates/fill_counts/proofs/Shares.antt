@@ -10,7 +10,7 @@ use lib.Pow.{pow-add, high, low}
 use Rattle.lists.specs.Pick.{pick}
 use Rattle.lists.specs.Numbers.{count, sum}
 use Rattle.lists.proofs.Counts.{count-snoc, count-all, count-none, count-alike}
-use Rattle.covering.proofs.Sums.{sum-add, sum-zero, sum-same}
+use Rattle.lists.proofs.Sums.{sum-add, sum-zero, sum-same}
 use Rattle.image.specs.Image.{Image}
 use Rattle.state.specs.declared.State.{State}
 use Rattle.ticks.specs.Tick.{MachineTick, finished, stopped, tick}

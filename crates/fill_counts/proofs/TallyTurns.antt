@@ -8,14 +8,14 @@ use lib.Dec.{eqb}
 use Rattle.lists.specs.Numbers.{sum}
 use Rattle.lists.proofs.Counts.{count-le}
 use Rattle.lists.proofs.Searches.{sum-turn}
-use Rattle.covering.proofs.Sums.{sum-none, sum-suc, sum-split}
+use Rattle.lists.proofs.Sums.{sum-none, sum-suc, sum-split}
 use Rattle.image.specs.Image.{Image}
 use Rattle.tables.specs.Table.{tableImage}
 use Rattle.state.specs.declared.State.{State}
 use Rattle.state.specs.Bytes.{stateOf}
 use Rattle.ticks.specs.declared.TickEnd.{TickEnd}
 use Rattle.ticks.specs.Tick.{MachineTick, tick}
-use Rattle.ticks.specs.inner.TickContracts.{TickAsked, Header, GivesTickEnd}
+use Rattle.ticks.specs.inner.TickContracts.{TickAsked, GivesTickEnd}
 use Rattle.runs.proofs.TurnCases.{went, stood, stands-on}
 use Rattle.fillings.specs.Counts.{wordsOf, lists, met, meeting}
 use Rattle.fill_counts.specs.declared.Tally.{Tally}

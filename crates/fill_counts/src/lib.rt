@@ -1,10 +1,10 @@
-// How the runs of all lists of words end, counted on a prepared table: lists that share a beginning share its ticks.
+// How runs end, in tallies: of lists that all end alike, of two tallies together, and of one list of words on a prepared table.
 use frames::refusals::FULL;
 use frames::refusals::NO_ROW;
 use runs::tick_word;
 use state::layout::STATE_BYTES;
 ghost use mathlib.Core.Path.{_≡_};
-ghost use Prim.Native.Nat.{_*_, _^_, _≤_};
+ghost use Prim.Native.Nat.{_^_, _≤_};
 ghost use Rattle.lists.specs.Pick.{pick};
 ghost use Rattle.tables.specs.Table.{tableImage};
 ghost use Rattle.state.specs.Bytes.{stateOf};
@@ -18,7 +18,7 @@ pub struct Tally {
     pub unmatched: u32,
 }
 
-fn power(k: usize) -> u32
+pub fn power(k: usize) -> u32
     requires { ⌜ k ≤ 16 ⌝ }
     ensures { λ r. ⌜ r ≡ 2 ^ k ⌝ }
 {
@@ -35,7 +35,7 @@ fn only_if(here: bool, lists: u32) -> u32
 }
 
 // That many lists, all of which meet one number; 0 stands for their end.
-fn all_meet(number: u8, lists: u32) -> Tally
+pub fn all_meet(number: u8, lists: u32) -> Tally
     ensures { λ r. ⌜ r ≡ allMeet number lists ⌝ }
 {
     Tally {
@@ -45,7 +45,7 @@ fn all_meet(number: u8, lists: u32) -> Tally
     }
 }
 
-fn add(a: Tally, b: Tally) -> Tally
+pub fn add(a: Tally, b: Tally) -> Tally
     requires { ⌜ FewLists (added a b) ⌝ }
     ensures { λ r. ⌜ r ≡ added a b ⌝ }
 {
@@ -72,35 +72,4 @@ pub fn tally_one(table: &[u8], bytes: [u8; STATE_BYTES], n: usize) -> Tally
         left -= 1;
     }
     all_meet(0, 1)
-}
-
-// Each first word has its tick once, and then the rest of the words are tallied from there; a word that is stopped stops all lists that
-// begin so.
-pub fn tally_all(table: &[u8], bytes: &[u8; STATE_BYTES], n: usize, k: usize) -> Tally
-    requires { ⌜ TickAsked (now table) (stateOf (now bytes)) ⌝ }
-    requires { ⌜ n * k ≤ 16 ⌝ }
-    ensures { λ r. ⌜ r ≡ tallyOf (tableImage (now (table .entry))) (stateOf (now (bytes .entry))) n k ⌝ }
-{
-    if n == 0 {
-        return all_meet(0, 1);
-    }
-    let left = n - 1;
-    let lists = power(left * k);
-    let words = power(k);
-    let mut tally = all_meet(0, 0);
-    let mut word: u32 = 0;
-    while word < words {
-        let mut next = *bytes;
-        let done = tick_word(table, &mut next, word as u16);
-        let number = done.number;
-        word += 1;
-        if number == 0 {
-            let more = tally_all(table, &next, left, k);
-            tally = add(tally, more);
-        } else {
-            let stopped = all_meet(number, lists);
-            tally = add(tally, stopped);
-        }
-    }
-    tally
 }

@@ -4,6 +4,7 @@ use mathlib.Core.Bool.{Bool, _||_}
 use mathlib.Core.List.{List, [], _∷_}
 use lib.Dec.{ltb, eqb}
 use Rattle.lists.specs.Numbers.{count}
+use Rattle.frames.specs.Sizes.{CONDITIONS, WORDS}
 use Rattle.frames.specs.Refusals.{BAD-SIZE, FULL, NO-ROW, MANY-LISTS}
 use Rattle.frames.specs.Frame.{contents}
 use Rattle.frames.specs.Verdict.{Verdict, fine, refused, next, when}
@@ -38,7 +39,7 @@ meeting i s n k number = count (λ x. eqb (met i s (wordsOf n k x)) number) 0 (l
 
 -- 28
 abbrev pub tooManyLists : ℕ → ℕ → Bool
-tooManyLists n k = ltb 16 (n * k) || ltb 16 k || ltb 65536 n
+tooManyLists n k = ltb CONDITIONS (n * k) || ltb CONDITIONS k || ltb WORDS n
 
 -- what the image check tries, 14 and 28
 unfoldable pub countVerdict : List ℕ → ℕ → ℕ → ℕ → Verdict

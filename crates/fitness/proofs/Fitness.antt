@@ -5,7 +5,7 @@ use mathlib.Core.Path.{_≡_, refl, sym, _∙_, ap, subst}
 use lib.Dec.{leb, ltb, eqb}
 use lib.ListN.{length}
 use native.Mathlib.Omega.{arith}
-use borrow.Author.Tests.{eqb-true, eqb-false, ne-eqb, lt-ltb, le-ltb, ltb-true, ltb-false, le-leb, lt-leb, leb-true, leb-false}
+use borrow.Author.Tests.{eqb-true, lt-ltb, ltb-true, le-leb, lt-leb, leb-true, leb-false}
 use Rattle.lists.specs.Pick.{pick}
 use Rattle.lists.specs.Numbers.{any}
 use Rattle.lists.proofs.Tests.{or-r, or-l, or-none, and-l, and-r, and-true, and-false, not-false}
@@ -14,6 +14,7 @@ use Rattle.bindings.specs.Binding.{served}
 use Rattle.image.specs.Image.{Image}
 use Rattle.state.specs.declared.State.{State}
 use Rattle.state.specs.State.{placeAt, numberAt, serverAt, Sized}
+use Rattle.fitness.proofs.Depths.{deep-told, deep-fine}
 use Rattle.fitness.specs.Fitness.{callable, mayCarry, unfitPlace, filledPlace, badBottom, badServed, badDepth, unfit}
 
 -- place k may be kept under the one above it
@@ -53,19 +54,10 @@ module _ (i : Image) (s : State) where
       go true e = ap not (f .carries k (ltb-true (k + 1) (s .depth) e))
       go false e = refl
 
-  fits-depth : Fits i s → badDepth s ≡ false
-  fits-depth f =
-      rw (
-        ne-eqb (s .size) 0 (λ p. omega (arith, f .some, f .most)),
-        le-ltb 32 (s .size) (f .small),
-        ne-eqb (s .depth) 0 (λ p. omega (arith, f .some)),
-        le-ltb (s .size) (s .depth) (f .most),
-      )
-
   pub fits : Fits i s → unfit i s ≡ false
   unfolding unfit
   fits f = rw (
-    fits-depth f,
+    deep-fine s (record { some = f .some; most = f .most; small = f .small }),
     any-none (unfitPlace i s) 0 (s .depth) (λ k l. fits-place f (0 + k) (omega arith)),
     f .bottom,
     any-none (filledPlace s) (s .depth) (32 - s .depth) (λ k l. f .above (s .depth + k) (omega arith) (omega arith)),
@@ -78,13 +70,12 @@ module _ (i : Image) (s : State) where
       let none =
       none-of (badDepth s) (any (unfitPlace i s) 0 (s .depth)) (badBottom i s)
       (any (filledPlace s) (s .depth) (32 - s .depth)) (any (badServed i s) 2 15) e in
-      let sizes = none-of false (eqb (s .size) 0) (ltb 32 (s .size)) (eqb (s .depth) 0) (ltb (s .size) (s .depth)) (none .0) in
-      let some : s .depth ≡ 0 → ⊥ = eqb-false (s .depth) 0 (sizes .3) in
+      let deep = deep-told s (none .0) in
       record {
         whole = w;
-        small = ltb-false 32 (s .size) (sizes .2);
-        some = omega arith;
-        most = ltb-false (s .size) (s .depth) (sizes .4);
+        small = deep .small;
+        some = deep .some;
+        most = deep .most;
         labels = λ k l. leb-false (length (i .labels)) (placeAt s k) (place (none .1) k l .0);
         carries = λ k l. not-false _ (and-false (ltb (k + 1) (s .depth)) _
             (place (none .1) k (omega arith) .1) (lt-ltb (k + 1) (s .depth) l));

@@ -6,6 +6,7 @@ use lib.ListN.{length}
 use Rattle.lists.specs.Pick.{pick}
 use Rattle.lists.specs.Numbers.{any}
 use Rattle.bindings.specs.Binding.{served}
+use Rattle.frames.specs.Sizes.{SCHEMES}
 use Rattle.image.specs.Layout.{OPERATION-CALL, FUNCTION-CALL}
 use Rattle.image.specs.Image.{Image, Label}
 use Rattle.state.specs.Layout.{PLACES}
@@ -58,4 +59,4 @@ badDepth s = badSize (s .size) || eqb (s .depth) 0 || ltb (s .size) (s .depth)
 unfoldable pub unfit : Image → State → Bool
 unfit i s =
     badDepth s || any (unfitPlace i s) 0 (s .depth) || badBottom i s || any (filledPlace s) (s .depth) (PLACES - s .depth)
-    || any (badServed i s) 2 15
+    || any (badServed i s) 2 (SCHEMES - 1)

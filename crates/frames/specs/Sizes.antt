@@ -37,6 +37,13 @@ ROWS = 1024
 abbrev pub FRAMES : ℕ
 FRAMES = 1 + SCHEMES + LABELS + ROWS
 
+-- the conditions of a word, and how many words there are; no run with a price and no list that is counted has more words than that
+abbrev pub CONDITIONS : ℕ
+CONDITIONS = 16
+
+abbrev pub WORDS : ℕ
+WORDS = 65536
+
 -- the longest texts of a chart and of an image, in characters; the records of the one and the table of the other, in bytes
 abbrev pub CHART-TEXT : ℕ
 CHART-TEXT = NODES * LINE

@@ -6,8 +6,7 @@ use native.Mathlib.Omega.{arith}
 use lib.ListN.{getD}
 use Rattle.frames.specs.Frame.{field, pair, quad, pairAt, quadAt}
 use Rattle.image.specs.Image.{labelFrame, rowFrame}
-use Rattle.image.specs.Decode.{labelsFrom, labelIn}
-use Rattle.covering.specs.inner.CoveringContracts.{rowInFrame}
+use Rattle.image.specs.Decode.{labelsFrom, labelIn, rowInFrame}
 use Rattle.group_frames.specs.inner.GroupFrames.{ledBy}
 
 pairs-back : (x y : ℕ) → y < 256 → ((x * 256 + y) / 256 ≡ x) × ((x * 256 + y) % 256 ≡ y)

@@ -9,8 +9,7 @@ ghost use Rattle.lists.specs.Sequences.{written};
 ghost use Rattle.frames.specs.Sizes.{LINE, LABELS, ROWS};
 ghost use Rattle.frames.specs.Frame.{size, frameText};
 ghost use Rattle.image.specs.Image.{entryFrame, labelFrame, rowFrame};
-ghost use Rattle.image.specs.Decode.{labelsFrom, labelIn};
-ghost use Rattle.covering.specs.inner.CoveringContracts.{rowInFrame};
+ghost use Rattle.image.specs.Decode.{labelsFrom, labelIn, rowInFrame};
 ghost use Rattle.group_frames.specs.inner.GroupFrames.{headerPiece, ledBy};
 
 pub fn put_header(out: &mut [u8], schemes: u8, groups: usize, rows: usize, handler: u8)

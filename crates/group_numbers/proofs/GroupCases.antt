@@ -4,7 +4,7 @@ use mathlib.Core.Path.{_≡_, refl}
 use mathlib.Core.List.{List, [], _∷_}
 use Rattle.lists.specs.Numbers.{tabulate, lowest, count}
 use Rattle.lists.specs.Sequences.{some, filter}
-use Rattle.image.specs.Image.{Image, Label, Row, homeLabel, returnLabel}
+use Rattle.image.specs.Image.{Image, Label, Row, homeLabel, returnLabel, row}
 use Rattle.grouping.specs.Classes.{parted, classes, grouping}
 use Rattle.group_numbers.specs.Smaller.{joinedLabels, smaller}
 
@@ -13,9 +13,6 @@ image h es ls rs = record { handler = h; entries = es; labels = homeLabel ∷ re
 
 abbrev plain : ℕ → Label
 plain m = record { kind = 0; called = 0; owner = 1; result = 0; mask = m }
-
-abbrev row : ℕ → ℕ → ℕ → ℕ → ℕ → Row
-row l c v b n = record { from = l; care = c; values = v; bit = b; next = n }
 
 -- two operations that act alike
 two-alike : smaller

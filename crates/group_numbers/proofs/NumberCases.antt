@@ -1,5 +1,5 @@
 -- Cases of the functions that number the groups and count what is kept.
-use Prim.Native.Nat.{ℕ, suc, _+_, _-_, _≤_, _<_}
+use Prim.Native.Nat.{ℕ, _+_, _≤_, _<_}
 use mathlib.Core.Path.{_≡_, refl, sym, _∙_, ap, ap₂}
 use mathlib.Core.Bool.{Bool, true, false}
 use mathlib.Core.List.{List}
@@ -32,38 +32,6 @@ module _ (c : List ℕ) (l : ℕ) where
 
   pub number-old : (x y : ℕ) → (getD c l 0 ≡ l → ⊥) → y ≡ pick (isFirst c l) x y
   number-old x y e = sym (no-pick (isFirst c l) x y (ne-eqb (getD c l 0) l e))
-
--- ---- count_kept
-pub record CountingKept (p : ℕ → Bool) (first end total f : ℕ) : Type 0 where
-  pub low : first ≤ f
-  pub high : f ≤ end
-  pub is : total ≡ count p first (f - first)
-  pub small : total ≤ f - first
-
-module _ (p : ℕ → Bool) (first end : ℕ) where
-  pub counting-start : first ≤ end → CountingKept p first end 0 first
-  counting-start h =
-      let e : first - first ≡ 0 = omega arith in
-      record { low = omega arith; high = h; is = sym (ap (count p first) e ∙ omega (arith, count-le p first 0)); small = omega arith }
-
-  pub counting-on : (total f x : ℕ) → CountingKept p first end total f → f < end → (x ≡ pick (p f) 1 0) × (x ≤ 1)
-      → CountingKept p first end (total + x) (f + 1)
-  counting-on total f x t h w =
-      let low : first ≤ f = t .low in
-      let e : f + 1 - first ≡ suc (f - first) = omega arith in
-      let g : first + (f - first) ≡ f = omega arith in
-      record {
-        low = omega arith;
-        high = omega arith;
-        is = ap₂ _+_ (t .is) (w .0 ∙ ap (λ (k : ℕ). pick (p k) 1 0) (sym g)) ∙ sym (ap (count p first) e ∙ count-snoc p first (f - first));
-        small = omega (arith, t .small, w .1);
-      }
-
-  pub counting-all : (total f : ℕ) → CountingKept p first end total f → end ≤ f
-      → (total ≡ count p first (end - first)) × (total ≤ end - first)
-  counting-all total f t h =
-      let e : f ≡ end = omega (arith, t .high) in
-      (t .is ∙ ap (λ (k : ℕ). count p first (k - first)) e, omega (arith, t .small))
 
 less-of : (a b : ℕ) → a ≤ b → (a ≡ b → ⊥) → a < b
 less-of a b k ne = go (split a b)

@@ -19,6 +19,7 @@ use Rattle.lists.proofs.Filters.{filter-none}
 use Rattle.lists.proofs.Joins.{all-at, all-places, all-map, all-of, all-filter}
 use Rattle.image.specs.Image.{Image, Label, Row, noRow, nthRow}
 use Rattle.image.specs.inner.Sound.{noLabel, nthLabel, endOf, Reaches, SoundLabel, SoundRow, SoundImage}
+use Rattle.image.proofs.Rising.{Rising, rising-at}
 use Rattle.state.specs.State.{labelAt}
 use Rattle.grouping.specs.Classes.{classOf, isFirst}
 use Rattle.group_numbers.specs.Smaller.{renumbered, renumberedRow, joinedLabels}
@@ -48,23 +49,10 @@ nth p (suc n) k h = go (p n) refl (split k (count p 0 n)) (nth p n k)
     go false e (inr x) ih = absurd (omega (arith, tail false e))
 
 -- ---- rows in rising order
-abbrev pub Rising : ℕ → List Row → Type 0
-Rising m [] = Unit {0}
-Rising m (r ∷ rs) = (m ≤ r .from) × Rising (r .from) rs
-
 rising-of : (m : ℕ) (rs : List Row) → (0 < length rs → m ≤ getD rs 0 noRow .from)
     → ((k : ℕ) → suc k < length rs → getD rs k noRow .from ≤ getD rs (suc k) noRow .from) → Rising m rs
 rising-of m [] h each = tt
 rising-of m (r ∷ rs) h each = (h (omega arith), rising-of (r .from) rs (λ l. each 0 (omega arith)) (λ k l. each (suc k) (omega arith)))
-
-rising-at : (m : ℕ) (rs : List Row) → Rising m rs → (k : ℕ) → suc k < length rs → getD rs k noRow .from ≤ getD rs (suc k) noRow .from
-rising-at m [] a k h = absurd (omega arith)
-rising-at m (r ∷ rs) a zero h = second rs (a .1) (omega arith)
-  where
-    second : (rs : List Row) → Rising (r .from) rs → 0 < length rs → r .from ≤ getD rs 0 noRow .from
-    second [] b l = absurd (omega arith)
-    second (s ∷ rs) b l = b .0
-rising-at m (r ∷ rs) a (suc k) h = rising-at (r .from) rs (a .1) k (omega arith)
 
 pub length-filtered : {A : Type 0} (p : A → Bool) (xs : List A) → length (filter p xs) ≤ length xs
 length-filtered p [] = omega (arith, ap (λ ys. length ys) (filter-none p))
@@ -223,13 +211,12 @@ module _ (i : Image) (S : SoundImage i) (c : List ℕ) (R : ClassRound i c) wher
   rows-rising = rising-at 0 (map (renumberedRow c) (filter (λ r. isFirst c (r .from)) (i .rows)))
       (rising-led 0 0 (i .rows) (rising-of 0 (i .rows) (λ l. omega arith) (S .rising)) (λ x l t. omega arith))
 
-  rows-few : length (joinedLabels i c .rows) ≤ 1024
+  pub rows-fewer : length (joinedLabels i c .rows) ≤ length (i .rows)
   unfolding joinedLabels
-  rows-few = omega (
+  rows-fewer = omega (
     arith,
     length-map (filter (λ r. isFirst c (r .from)) (i .rows)) (renumberedRow c),
     length-filtered (λ (r : Row). isFirst c (r .from)) (i .rows),
-    S .few,
   )
 
   each-sound : (k : ℕ) → k < length (joinedLabels i c .rows) → SoundRow (joinedLabels i c) (nthRow (joinedLabels i c) k)
@@ -262,7 +249,7 @@ module _ (i : Image) (S : SoundImage i) (c : List ℕ) (R : ClassRound i c) wher
     most = omega (arith, entries-count, S .most);
     two = omega (arith, labels-count, count-two, count-rises 2 n (S .two));
     last = omega (arith, labels-count, count-le (isFirst c) 0 n, S .last);
-    few = rows-few;
+    few = omega (arith, rows-fewer, S .few);
     handled = handler-new;
     starts = λ h l. let m : h < length (i .entries) = omega (arith, entries-count) in
         subst (λ (x : ℕ). Reaches (joinedLabels i c) (suc h) x) (sym (entry-new h m))

@@ -1,8 +1,8 @@
 -- The pieces of all frames, joined, are the text of the smaller image.
-use Prim.Native.Nat.{ℕ, zero, suc, _+_, _-_, _≤_, _<_}
+use Prim.Native.Nat.{ℕ, zero, suc, _+_, _≤_, _<_}
 use mathlib.Core.Path.{_≡_, refl, sym, _∙_, ap, ap₂}
 use mathlib.Core.Bool.{Bool, true, false}
-use mathlib.Core.List.{List, [], _∷_, _++_, map, append-nil, append-assoc}
+use mathlib.Core.List.{List, [], _++_, map, append-nil}
 use native.Mathlib.Nat.{zero-add}
 use native.Mathlib.Omega.{arith}
 use lib.ListN.{length, length-map}
@@ -12,9 +12,9 @@ use Rattle.lists.specs.Numbers.{range, count}
 use Rattle.lists.specs.Sequences.{filter, concatMap, mapFrom}
 use Rattle.lists.proofs.Tests.{yes-pick, no-pick}
 use Rattle.lists.proofs.Counts.{count-snoc, count-le}
-use Rattle.lists.proofs.Ranges.{mapFrom-cons, filter-yes, filter-no, length-filter}
+use Rattle.lists.proofs.Ranges.{filter-yes, filter-no, length-filter}
 use Rattle.lists.proofs.Filters.{filter-none}
-use Rattle.lists.proofs.Joins.{concat-cons, concat-append}
+use Rattle.lists.proofs.Joins.{concat-cons, concat-append, concat-split}
 use Rattle.frames.specs.Frame.{size, field, frameText, framesText}
 use Rattle.image.specs.Image.{Image, Label, Row, headerFrame, entryFrame, labelFrame, rowFrame, imageFrames, imageText}
 use Rattle.image.specs.Decode.{schemeCount, lastLabel, rowCount, handlerIn, labelsFrom, rowsFrom, entryIn, labelIn, rowIn, decoded}
@@ -24,20 +24,9 @@ use Rattle.state.specs.State as machine
 use Rattle.grouping.specs.Classes.{classOf, isFirst}
 use Rattle.group_numbers.specs.Smaller.{renumbered, renumberedRow, joinedLabels}
 use Rattle.group_frames.specs.inner.GroupFrames.{headerPiece}
-use Rattle.group_text.specs.inner.Pieces.{groupsIn, rowsKept, pieceAt, piece}
+use Rattle.group_pieces.specs.inner.Pieces.{groupsIn, rowsKept, pieceAt, piece}
 
 -- ---- joined lists over ranges
-concat-split : {B : Type 0} (f : ℕ → List B) (a m n : ℕ)
-    → concatMap f (range a (m + n)) ≡ concatMap f (range a m) ++ concatMap f (range (a + m) n)
-unfolding concatMap
-concat-split f a zero n = ap₂ (λ (x y : ℕ). concatMap f (range x y)) (let e : a ≡ a + 0 = omega arith in e)
-    (let e : 0 + n ≡ n = omega arith in e)
-concat-split f a (suc m) n =
-    ap (λ (x : ℕ). concatMap f (range a x)) (let e : suc m + n ≡ suc (m + n) = omega arith in e)
-    ∙ ap (λ ys. f a ++ ys) (concat-split f (suc a) m n
-    ∙ ap (λ (x : ℕ). concatMap f (range (suc a) m) ++ concatMap f (range x n)) (let e : suc a + m ≡ a + suc m = omega arith in e))
-    ∙ sym (append-assoc (f a) (concatMap f (range (suc a) m)) (concatMap f (range (a + suc m) n)))
-
 concat-one : (f : ℕ → List ℕ) (a : ℕ) → concatMap f (range a 1) ≡ f a
 unfolding concatMap
 concat-one f a = append-nil (f a)

@@ -9,14 +9,14 @@ use lib.ListN.{length}
 use borrow.Author.Tests.{eqb-true, eqb-false, eq-eqb, ne-eqb}
 use Rattle.lists.specs.Pick.{pick}
 use Rattle.lists.specs.Numbers.{any, count}
-use Rattle.lists.proofs.Tests.{and-l, split, not-true}
+use Rattle.lists.proofs.Tests.{and-l, split, not-true, bit-low}
 use Rattle.lists.proofs.Searches.{any-false, any-none}
 use Rattle.lists.proofs.Counts.{count-within}
-use Rattle.image.specs.Image.{Image}
+use Rattle.image.specs.Image.{Image, nthRow}
 use Rattle.image.specs.inner.Sound.{SoundImage}
 use Rattle.state.specs.State.{labelAt}
 use Rattle.rows.specs.Rows.{matches, isCandidate}
-use Rattle.covering.specs.Matched.{uneven, rowAt}
+use Rattle.covering.specs.Matched.{uneven}
 use Rattle.covering.proofs.Hits.{OneRow, one-row}
 use Rattle.grouping.specs.Rule.{Grouping, Meets, isLowest, groups}
 use Rattle.grouping.specs.Classes.{classOf, isFirst, staysWith, classes, grouping}
@@ -33,12 +33,12 @@ module _ (i : Image) (S : SoundImage i) (one : OneRow i) where
   n = length (i .labels)
 
   -- a row that matches leads where its label leads
-  row-leads : (l w b j : ℕ) → j < length (i .rows) → isCandidate l w b (rowAt i j) ≡ true → (t : Bool)
-      → pick t 1 0 ≡ b → rowAt i j .next ≡ onwardLabel i l w t
+  row-leads : (l w b j : ℕ) → j < length (i .rows) → isCandidate l w b (nthRow i j) ≡ true → (t : Bool)
+      → pick t 1 0 ≡ b → nthRow i j .next ≡ onwardLabel i l w t
   row-leads l w b j h e t q =
-      let f : rowAt i j .from ≡ l = eqb-true (rowAt i j .from) l (and-l (eqb (rowAt i j .from) l) (matches w b (rowAt i j)) e) in
+      let f : nthRow i j .from ≡ l = eqb-true (nthRow i j .from) l (and-l (eqb (nthRow i j .from) l) (matches w b (nthRow i j)) e) in
       sym (onward-is i S one l w t (omega (arith, S .each j h .low)) (omega (arith, S .each j h .high)) j h
-      (subst (λ (x : ℕ). isCandidate l w x (rowAt i j) ≡ true) (sym q) e))
+      (subst (λ (x : ℕ). isCandidate l w x (nthRow i j) ≡ true) (sym q) e))
 
   -- (i)
   pub grouping-meets : Meets i (classOf (grouping i))
@@ -53,10 +53,6 @@ module _ (i : Image) (S : SoundImage i) (one : OneRow i) where
 
   -- ---- any grouping that meets the rule
   module _ (g : Grouping) (M : Meets i g) where
-    pick-low : (b : Bool) → pick b 1 0 < 2
-    pick-low true = omega arith
-    pick-low false = omega arith
-
     meets-onward : (l m : ℕ) → l < n → m < n → g l ≡ g m → (w : ℕ) (b : Bool) → w < 65536
         → g (onwardLabel i l w b) ≡ g (onwardLabel i m w b)
     meets-onward l m hl hm e w b hw = go (split l 2) (split m 2)
@@ -71,7 +67,7 @@ module _ (i : Image) (S : SoundImage i) (one : OneRow i) where
             let p = the-hit i S one l w b x hl in
             let q = the-hit i S one m w b y hm in
             ap g (onward-is i S one l w b x hl (p .place) (p .inside) (p .holding))
-            ∙ M .leads l m hl hm e w (pick b 1 0) hw (pick-low b) (p .place) (q .place) (p .inside) (q .inside) (p .holding) (q .holding)
+            ∙ M .leads l m hl hm e w (pick b 1 0) hw (bit-low b) (p .place) (q .place) (p .inside) (q .inside) (p .holding) (q .holding)
             ∙ sym (ap g (onward-is i S one m w b y hm (q .place) (q .inside) (q .holding)))
 
     within-classes : (k l m : ℕ) → l < n → m < n → g l ≡ g m → classOf (classes i k) l ≡ classOf (classes i k) m

@@ -16,12 +16,11 @@ use Rattle.lists.specs.Sequences.{some}
 use Rattle.lists.proofs.Tests.{no-both, and-l, and-r, and-true, and-false, and-no, not-true, not-false, or-cases, or-true-l, or-true-r}
 use Rattle.lists.proofs.Searches.{any-false, any-true, any-some, any-none}
 use Rattle.frames.specs.Frame.{field}
-use Rattle.image.specs.Image.{Image, Row}
-use Rattle.image.specs.Decode.{lastLabel}
+use Rattle.image.specs.Image.{Image, Row, noRow}
+use Rattle.image.specs.Decode.{lastLabel, rowInFrame}
 use Rattle.tables.specs.Table.{firstOn, endOn, rowOn, tableImage}
 use Rattle.tables.proofs.TableReads.{labels-count}
-use Rattle.covering.specs.Matched.{noRow, together}
-use Rattle.covering.specs.inner.CoveringContracts.{rowInFrame}
+use Rattle.covering.specs.Matched.{together}
 use Rattle.covering.proofs.Together.{together-turned}
 use Rattle.grouping.specs.Classes.{classes}
 use Rattle.grouping.specs.inner.GroupingContracts.{Even, Classed, partsIn, partsAny, partedOn, isMarked}

@@ -11,11 +11,11 @@ use Rattle.lists.specs.Pick.{pick}
 use Rattle.lists.specs.Sequences.{some, filter, All}
 use Rattle.lists.proofs.Tests.{no-both, and-l, and-r, and-true, and-false, or-l, or-r, not-false}
 use Rattle.lists.proofs.Joins.{all-places, all-filter}
-use Rattle.image.specs.Image.{Image, Label, Row}
+use Rattle.image.specs.Image.{Image, Label, Row, noRow, nthRow}
 use Rattle.image.specs.inner.Sound.{SoundRow, SoundImage}
 use Rattle.state.specs.State.{labelAt}
 use Rattle.rows.specs.Rows.{matches, isCandidate, bestRow, found, leads}
-use Rattle.covering.specs.Matched.{noRow, rowAt, together}
+use Rattle.covering.specs.Matched.{together}
 use Rattle.grouping.specs.Classes.{sameFields, classOf, parts, parted}
 use Rattle.covering.proofs.Together.{Common, common-together, together-common}
 use Rattle.covering.proofs.Hits.{Hit, OneRow, only-row, the-place, hit-is, the-row}
@@ -33,23 +33,6 @@ some-none p d [] h = refl
 some-none p d (x ∷ xs) h = ap₂ _||_ (h 0 (omega arith)) (some-none p d xs (λ j l. h (suc j) (omega arith)))
 
 -- ---- labels that hold the same
-pub fields-same : (x y : Label) → sameFields x y ≡ true → x ≡ y
-fields-same x y e =
-    let k : Bool = eqb (x .kind) (y .kind) in
-    let c : Bool = eqb (x .called) (y .called) in
-    let o : Bool = eqb (x .owner) (y .owner) in
-    let r : Bool = eqb (x .result) (y .result) in
-    let m : Bool = eqb (x .mask) (y .mask) in
-    let e₁ : (k && c && o && r) ≡ true = and-l (k && c && o && r) m e in
-    let e₂ : (k && c && o) ≡ true = and-l (k && c && o) r e₁ in
-    let e₃ : (k && c) ≡ true = and-l (k && c) o e₂ in
-    let p₁ : x .kind ≡ y .kind = eqb-true (x .kind) (y .kind) (and-l k c e₃) in
-    let p₂ : x .called ≡ y .called = eqb-true (x .called) (y .called) (and-r k c e₃) in
-    let p₃ : x .owner ≡ y .owner = eqb-true (x .owner) (y .owner) (and-r (k && c) o e₂) in
-    let p₄ : x .result ≡ y .result = eqb-true (x .result) (y .result) (and-r (k && c && o) r e₁) in
-    let p₅ : x .mask ≡ y .mask = eqb-true (x .mask) (y .mask) (and-r (k && c && o && r) m e) in
-    λ j. record { kind = p₁ j; called = p₂ j; owner = p₃ j; result = p₄ j; mask = p₅ j }
-
 pub same-fields : (x y : Label) → x ≡ y → sameFields x y ≡ true
 same-fields x y e = subst (λ (z : Label). sameFields x z ≡ true) e
     (ap₂ _&&_ (ap₂ _&&_ (ap₂ _&&_ (ap₂ _&&_ (eq-eqb (x .kind) (x .kind) refl) (eq-eqb (x .called) (x .called) refl))
@@ -97,8 +80,8 @@ module _ (i : Image) (S : SoundImage i) where
 
   module _ (one : OneRow i) where
     -- a row of a label that matches is the one that leads on
-    pub onward-is : (l w : ℕ) (b : Bool) → 2 ≤ l → l < n → (j : ℕ) → j < length (i .rows) → isCandidate l w (pick b 1 0) (rowAt i j) ≡ true
-        → onwardLabel i l w b ≡ rowAt i j .next
+    pub onward-is : (l w : ℕ) (b : Bool) → 2 ≤ l → l < n → (j : ℕ) → j < length (i .rows) → isCandidate l w (pick b 1 0) (nthRow i j) ≡ true
+        → onwardLabel i l w b ≡ nthRow i j .next
     onward-is l w b low high j h e = let x = the-row i one l w b low high in
         ap (leadsTo l) (x .1) ∙ ap (λ (r : Row). r .next) (sym (hit-is l w (pick b 1 0) (x .0) (i .rows) (x .1) j h e))
 
@@ -118,8 +101,8 @@ module _ (i : Image) (S : SoundImage i) where
       unparted l m al hl am hm e w b =
           let x = the-hit l w b al hl in
           let y = the-hit m w b am hm in
-          let r : Row = rowAt i (x .place) in
-          let s : Row = rowAt i (y .place) in
+          let r : Row = nthRow i (x .place) in
+          let s : Row = nthRow i (y .place) in
           let p : some (parts c l m r) (i .rows) ≡ false =
           some-at (λ r. some (parts c l m r) (i .rows)) noRow (i .rows) e (x .place) (x .inside) in
           let q : parts c l m r s ≡ false = some-at (parts c l m r) noRow (i .rows) p (y .place) (y .inside) in
@@ -138,16 +121,16 @@ module _ (i : Image) (S : SoundImage i) where
 
       parts-not : (l m j k : ℕ) → j < length (i .rows) → k < length (i .rows)
           → ((w : ℕ) (b : Bool) → w < 65536 → classOf c (onwardLabel i l w b) ≡ classOf c (onwardLabel i m w b))
-          → parts c l m (rowAt i j) (rowAt i k) ≡ false
-      parts-not l m j k hj hk h = go (parts c l m (rowAt i j) (rowAt i k)) refl
+          → parts c l m (nthRow i j) (nthRow i k) ≡ false
+      parts-not l m j k hj hk h = go (parts c l m (nthRow i j) (nthRow i k)) refl
         where
           r : Row
-          r = rowAt i j
+          r = nthRow i j
 
           s : Row
-          s = rowAt i k
+          s = nthRow i k
 
-          go : (t : Bool) → parts c l m (rowAt i j) (rowAt i k) ≡ t → parts c l m (rowAt i j) (rowAt i k) ≡ false
+          go : (t : Bool) → parts c l m (nthRow i j) (nthRow i k) ≡ t → parts c l m (nthRow i j) (nthRow i k) ≡ false
           go false e = e
           go true e =
               let x : Bool = eqb (r .from) l in
@@ -172,4 +155,4 @@ module _ (i : Image) (S : SoundImage i) where
           → parted i c l m ≡ false
       unfolding parted
       not-parted l m h = some-none (λ r. some (parts c l m r) (i .rows)) noRow (i .rows) (λ j hj.
-          some-none (parts c l m (rowAt i j)) noRow (i .rows) (λ k hk. parts-not l m j k hj hk h))
+          some-none (parts c l m (nthRow i j)) noRow (i .rows) (λ k hk. parts-not l m j k hj hk h))

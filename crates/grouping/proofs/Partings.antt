@@ -1,24 +1,23 @@
 -- Whether rows part two labels, by the frames of a table: each label's rows stand in frames of its own.
-use Prim.Native.Nat.{ℕ, zero, suc, _+_, _-_, _≤_, _<_}
+use Prim.Native.Nat.{ℕ, zero, suc, _-_, _≤_, _<_}
 use mathlib.Core.Bool.{Bool, true, false, _&&_, _||_, not}
 use mathlib.Core.Path.{_≡_, refl, sym, _∙_, ap, ap₂}
 use mathlib.Core.List.{List, [], _∷_, _++_, map}
-use native.Mathlib.Decide.{ℕ-discrete}
 use native.Mathlib.Omega.{arith}
 use lib.Bits.{bitAnd}
 use lib.Dec.{eqb}
 use lib.ListN.{getD}
 use borrow.Author.Tests.{eq-eqb, ne-eqb}
 use Rattle.lists.specs.Numbers.{range, any}
-use Rattle.lists.specs.Sequences.{some, concatMap}
+use Rattle.lists.specs.Sequences.{some}
 use Rattle.lists.proofs.Tests.{or-none}
-use Rattle.lists.proofs.Joins.{concat-cons}
+use Rattle.lists.proofs.Searches.{any-alike}
 use Rattle.frames.specs.Frame.{field, pairAt}
 use Rattle.image.specs.Image.{Row}
-use Rattle.image.specs.Decode.{lastLabel}
+use Rattle.image.specs.Decode.{lastLabel, rowInFrame}
 use Rattle.tables.specs.Table.{firstOn, endOn, rowOn, rowsOn, tableImage}
+use Rattle.tables.proofs.OwnRows.{own-alone}
 use Rattle.covering.specs.Matched.{together}
-use Rattle.covering.specs.inner.CoveringContracts.{rowInFrame}
 use Rattle.grouping.specs.Classes.{classOf, parts, parted}
 use Rattle.grouping.specs.inner.GroupingContracts.{Even, partsIn, partsAny, partedOn}
 
@@ -60,11 +59,6 @@ unfolding some
 some-never p [] h = refl
 some-never p (x ∷ xs) h = or-none (p x) (some p xs) (h x) (some-never p xs h)
 
-any-same : (p q : ℕ → Bool) (i n : ℕ) → ((k : ℕ) → i ≤ k → k < i + n → p k ≡ q k) → any p i n ≡ any q i n
-unfolding any
-any-same p q i zero h = refl
-any-same p q i (suc n) h = ap₂ _||_ (h i (omega arith) (omega arith)) (any-same p q (suc i) n (λ k u v. h k (omega arith) (omega arith)))
-
 -- ---- a test that passes only rows of label l, over all rows of the table
 module _ (b : List ℕ) (p : Row → Bool) (l : ℕ) (never : (m f : ℕ) → (m ≡ l → ⊥) → p (rowOn b m f) ≡ false) where
   none-of : (m : ℕ) → (m ≡ l → ⊥) → (f n : ℕ) → some p (map (rowOn b m) (range f n)) ≡ false
@@ -72,34 +66,12 @@ module _ (b : List ℕ) (p : Row → Bool) (l : ℕ) (never : (m f : ℕ) → (m
   none-of m h f zero = refl
   none-of m h f (suc n) = or-none (p (rowOn b m f)) (some p (map (rowOn b m) (range (suc f) n))) (never m f h) (none-of m h (suc f) n)
 
-  abbrev over : ℕ → ℕ → List Row
-  over i n = concatMap (rowsOn b) (range i n)
-
-  over-other : (i n : ℕ) → (i ≡ l → ⊥) → some p (over i (suc n)) ≡ some p (over (suc i) n)
-  over-other i n h =
-      ap (some p) (concat-cons (rowsOn b) i (range (suc i) n))
-      ∙ some-first p (rowsOn b i) (over (suc i) n) (none-of i h (firstOn b i) (endOn b i - firstOn b i))
-
-  over-none : (i n : ℕ) → ((m : ℕ) → i ≤ m → m < i + n → m ≡ l → ⊥) → some p (over i n) ≡ false
-  unfolding concatMap some
-  over-none i zero h = refl
-  over-none i (suc n) h =
-      over-other i n (h i (omega arith) (omega arith)) ∙ over-none (suc i) n (λ m u v. h m (omega arith) (omega arith))
-
-  over-own : (i n : ℕ) → i ≤ l → l < i + n → some p (over i n) ≡ some p (rowsOn b l)
-  over-own i zero u v = absurd (omega arith)
-  over-own i (suc n) u v = go (ℕ-discrete i l) (over-own (suc i) n)
-    where
-      go : Dec (i ≡ l) → (suc i ≤ l → l < suc i + n → some p (over (suc i) n) ≡ some p (rowsOn b l))
-          → some p (over i (suc n)) ≡ some p (rowsOn b l)
-      go (yes e) ih =
-          ap (some p) (concat-cons (rowsOn b) i (range (suc i) n))
-          ∙ some-last p (rowsOn b i) (over (suc i) n) (over-none (suc i) n (λ m x y z. omega arith)) ∙ ap (λ (m : ℕ). some p (rowsOn b m)) e
-      go (no e) ih = over-other i n e ∙ ih (omega arith) (omega arith)
-
   pub some-own : 2 ≤ l → l ≤ lastLabel b → some p (tableImage b .rows) ≡ any (λ f. p (rowOn b l f)) (firstOn b l) (endOn b l - firstOn b l)
-  unfolding tableImage
-  some-own u v = over-own 2 (lastLabel b - 1) u (omega arith) ∙ some-range p (rowOn b l) (firstOn b l) (endOn b l - firstOn b l)
+  unfolding some
+  some-own u v =
+      own-alone b l (some p) (λ m h rs. some-first p (rowsOn b m) rs (none-of m h (firstOn b m) (endOn b m - firstOn b m)))
+      (some-last p) u v
+      ∙ some-range p (rowOn b l) (firstOn b l) (endOn b l - firstOn b l)
 
 -- ---- are_parted
 module _ (b c : List ℕ) (x : Even b) (l m : ℕ) (al : 2 ≤ l) (hl : l ≤ lastLabel b) (am : 2 ≤ m) (hm : m ≤ lastLabel b) where
@@ -141,8 +113,8 @@ module _ (b c : List ℕ) (x : Even b) (l m : ℕ) (al : 2 ≤ l) (hl : l ≤ la
   unfolding parted
   parted-is =
       some-own b (λ r. some (parts c l m r) (tableImage b .rows)) l second-only al hl
-      ∙ any-same (λ f. some (parts c l m (rowOn b l f)) (tableImage b .rows)) (λ f. partsAny b c f (firstOn b m) (endOn b m))
+      ∙ any-alike (λ f. some (parts c l m (rowOn b l f)) (tableImage b .rows)) (λ f. partsAny b c f (firstOn b m) (endOn b m))
       (firstOn b l) (endOn b l - firstOn b l) (λ f u v.
       some-own b (parts c l m (rowOn b l f)) m (first-only (rowOn b l f)) am hm
-      ∙ any-same (λ g. parts c l m (rowOn b l f) (rowOn b m g)) (partsIn b c f) (firstOn b m) (endOn b m - firstOn b m) (λ g w z.
+      ∙ any-alike (λ g. parts c l m (rowOn b l f) (rowOn b m g)) (partsIn b c f) (firstOn b m) (endOn b m - firstOn b m) (λ g w z.
       rows-part f g u (omega arith) w (omega arith)))

@@ -11,14 +11,14 @@ use Rattle.frames.specs.Frame.{field, contents}
 use Rattle.frames.specs.Verdict.{fine}
 use Rattle.frames.proofs.Contents.{any-contents-length}
 use Rattle.image.specs.Image.{Row, noRow}
-use Rattle.image.specs.Decode.{lastLabel, decoded}
+use Rattle.image.specs.Decode.{lastLabel, decoded, rowInFrame}
 use Rattle.image.specs.Check.{tableVerdict}
 use Rattle.image.specs.inner.Sound.{SoundImage}
 use Rattle.image.proofs.Accepted.{accepted-sound, image-table, image-bytes}
 use Rattle.tables.specs.Prepare.{firstFrame, noted}
 use Rattle.tables.specs.Table.{firstOn, endOn, rowOn, rowsOn}
 use Rattle.tables.proofs.Noted.{noted-last, noted-late}
-use Rattle.tables.proofs.PreparedImage.{rowInTable, noted-whole, first-noted, end-noted, rows-own, prepared-image}
+use Rattle.tables.proofs.PreparedImage.{noted-whole, first-noted, end-noted, rows-own, prepared-image}
 use Rattle.tables.proofs.Made.{MadeTable}
 use Rattle.covering.specs.Matched.{uneven}
 use Rattle.grouping.specs.inner.GroupingContracts.{Even}
@@ -33,14 +33,14 @@ module _ (b : List ℕ) (ok : tableVerdict b ≡ fine) (bytes : (k : ℕ) → ge
       let k : ℕ = f - firstOn (noted b) l in
       let mine : getD (rowsOn (noted b) l) k noRow ≡ rowOn (noted b) l (firstOn (noted b) l + k) =
       getD-map-range (rowOn (noted b) l) noRow (firstOn (noted b) l) (endOn (noted b) l - firstOn (noted b) l) k (omega arith) in
-      let its : getD (map (rowInTable b) (range (firstFrame b l) (firstFrame b (l + 1) - firstFrame b l)))
-      k noRow ≡ rowInTable b (firstFrame b l + k) =
-      getD-map-range (rowInTable b) noRow (firstFrame b l) (firstFrame b (l + 1) - firstFrame b l) k (omega arith) in
+      let its : getD (map (rowInFrame b) (range (firstFrame b l) (firstFrame b (l + 1) - firstFrame b l)))
+      k noRow ≡ rowInFrame b (firstFrame b l + k) =
+      getD-map-range (rowInFrame b) noRow (firstFrame b l) (firstFrame b (l + 1) - firstFrame b l) k (omega arith) in
       let at : firstOn (noted b) l + k ≡ f = omega arith in
       let at′ : firstFrame b l + k ≡ f = omega arith in
       ap (λ (r : Row). r .bit)
       (ap (rowOn (noted b) l) (sym at) ∙ sym mine ∙ ap (λ (rs : List Row). getD rs k noRow) (rows-own b ok bytes l (omega arith) hl) ∙ its
-      ∙ ap (rowInTable b) at′)
+      ∙ ap (rowInFrame b) at′)
       ∙ sym (noted-late b f 6 (omega arith) (omega arith))
 
   pub noted-even : length b % 10 ≡ 0 → uneven (decoded b) ≡ false → Even (noted b)

@@ -14,11 +14,12 @@ use Rattle.lists.proofs.Counts.{count-within, count-same, count-le, count-some}
 use Rattle.lists.proofs.Ranges.{map-count, length-map-range}
 use Rattle.image.specs.Image.{Image}
 use Rattle.image.specs.inner.Sound.{SoundImage}
+use Rattle.image.proofs.Accepted.{fields-same}
 use Rattle.state.specs.State.{labelAt}
 use Rattle.grouping.specs.Classes.{sameFields, classOf, isFirst, parted, staysWith, classesBy, classes, grouping}
 use Rattle.grouping.proofs.Representatives.{lowestAlike, alike-le, tabulated, AlikeBelow, same-lowest, lowest-same, lowest-own}
 use Rattle.covering.proofs.Hits.{OneRow}
-use Rattle.grouping.proofs.Onward.{fields-same, same-fields, onwardLabel, low-same, unparted, not-parted}
+use Rattle.grouping.proofs.Onward.{same-fields, onwardLabel, low-same, unparted, not-parted}
 
 -- ---- what holds of every list of classes
 pub record ClassRound (i : Image) (c : List ℕ) : Type 0 where

@@ -15,11 +15,11 @@ use Rattle.lists.specs.Sequences.{some}
 use Rattle.lists.proofs.Tests.{no-both, and-l, and-r, and-true, not-true, split}
 use Rattle.lists.proofs.Searches.{lowest-hit, lowest-above, lowest-most, lowest-before, lowest-alike}
 use Rattle.lists.proofs.Tabulated.{length-tabulate}
-use Rattle.image.specs.Image.{Image, Row}
+use Rattle.image.specs.Image.{Image, Row, noRow}
 use Rattle.image.specs.Decode.{lastLabel}
 use Rattle.tables.specs.Table.{tableImage}
 use Rattle.tables.proofs.TableReads.{labels-count, label-at}
-use Rattle.covering.specs.Matched.{noRow, together}
+use Rattle.covering.specs.Matched.{together}
 use Rattle.covering.proofs.Hits.{OneRow, one-row}
 use Rattle.grouping.specs.Classes.{sameFields, classOf, parts, parted, staysWith, classesBy, classes}
 use Rattle.grouping.specs.inner.GroupingContracts.{Even, Classed, holdsSameOn, partedOn, leadsClass, nextClass}

@@ -5,10 +5,10 @@ use mathlib.Core.Path.{_≡_}
 use lib.Dec.{eqb}
 use lib.ListN.{length}
 use Rattle.lists.specs.Numbers.{any, count}
-use Rattle.image.specs.Image.{Image}
+use Rattle.frames.specs.Sizes.{WORDS}
+use Rattle.image.specs.Image.{Image, nthRow}
 use Rattle.rows.specs.Rows.{isCandidate}
 use Rattle.state.specs.State.{labelAt}
-use Rattle.covering.specs.Matched.{rowAt}
 
 -- each label with the number of its group
 abbrev pub Grouping : Type 0
@@ -18,8 +18,8 @@ Grouping = ℕ → ℕ
 pub record Meets (i : Image) (g : Grouping) : Type 0 where
   pub same : (l m : ℕ) → l < length (i .labels) → m < length (i .labels) → g l ≡ g m → labelAt i l ≡ labelAt i m
   pub leads : (l m : ℕ) → l < length (i .labels) → m < length (i .labels) → g l ≡ g m
-      → (w b : ℕ) → w < 65536 → b < 2 → (j k : ℕ) → j < length (i .rows) → k < length (i .rows)
-      → isCandidate l w b (rowAt i j) ≡ true → isCandidate m w b (rowAt i k) ≡ true → g (rowAt i j .next) ≡ g (rowAt i k .next)
+      → (w b : ℕ) → w < WORDS → b < 2 → (j k : ℕ) → j < length (i .rows) → k < length (i .rows)
+      → isCandidate l w b (nthRow i j) ≡ true → isCandidate m w b (nthRow i k) ≡ true → g (nthRow i j .next) ≡ g (nthRow i k .next)
 
 -- a group is counted at its lowest member
 abbrev pub isLowest : Grouping → ℕ → Bool

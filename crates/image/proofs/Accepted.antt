@@ -16,7 +16,7 @@ use Rattle.frames.specs.Verdict.{fine, next, when, atLowest}
 use Rattle.frames.specs.Check.{textVerdict}
 use Rattle.frames.proofs.Verdicts.{next-first, next-rest, when-fine, at-lowest-fine}
 use Rattle.frames.proofs.Contents.{text-told, contents-bytes}
-use Rattle.image.specs.Image.{Label, Row, noRow, nthRow}
+use Rattle.image.specs.Image.{Label, Row, noRow, nthRow, homeLabel, returnLabel}
 use Rattle.image.specs.Decode.{schemeCount, lastLabel, rowCount, handlerIn, labelsFrom, rowsFrom, entryIn, labelIn, rowIn, decoded}
 use Rattle.image.specs.Check.{filled, badHandler, badCounts, badHeader, entryPosition, labelPosition}
 use Rattle.image.specs.Check.{rowPosition, positionOf, falls, strayFrame, stray, within}
@@ -92,22 +92,24 @@ module _ (b : List ℕ) where
       go low (inl p) = inl (ap (λ (x : Label). x .owner) (label-read l low) ∙ eqb-true (labelIn b l .owner) h p)
       go low (inr p) = inr (eqb-true l (endOf h) p)
 
--- ---- a label whose fields are given, one from 2 up
-label-as : (k h : ℕ) (x : Label) → isLabel k h x ≡ true → x ≡ record { kind = k; called = 0; owner = h; result = 0; mask = 0 }
-label-as k h x e =
-    let a : Bool = eqb (x .kind) k in
-    let c : Bool = eqb (x .called) 0 in
-    let o : Bool = eqb (x .owner) h in
-    let r : Bool = eqb (x .result) 0 in
-    let m : Bool = eqb (x .mask) 0 in
-    let e₁ : (a && c && o && r) ≡ true = and-l (a && c && o && r) m e in
-    let e₂ : (a && c && o) ≡ true = and-l (a && c && o) r e₁ in
-    let e₃ : (a && c) ≡ true = and-l (a && c) o e₂ in
-    let p₁ : x .kind ≡ k = eqb-true (x .kind) k (and-l a c e₃) in
-    let p₂ : x .called ≡ 0 = eqb-true (x .called) 0 (and-r a c e₃) in
-    let p₃ : x .owner ≡ h = eqb-true (x .owner) h (and-r (a && c) o e₂) in
-    let p₄ : x .result ≡ 0 = eqb-true (x .result) 0 (and-r (a && c && o) r e₁) in
-    let p₅ : x .mask ≡ 0 = eqb-true (x .mask) 0 (and-r (a && c && o && r) m e) in
+-- ---- labels that hold the same
+pub fields-same : (x y : Label)
+    → (eqb (x .kind) (y .kind) && eqb (x .called) (y .called) && eqb (x .owner) (y .owner) && eqb (x .result) (y .result)
+    && eqb (x .mask) (y .mask)) ≡ true → x ≡ y
+fields-same x y e =
+    let k : Bool = eqb (x .kind) (y .kind) in
+    let c : Bool = eqb (x .called) (y .called) in
+    let o : Bool = eqb (x .owner) (y .owner) in
+    let r : Bool = eqb (x .result) (y .result) in
+    let m : Bool = eqb (x .mask) (y .mask) in
+    let e₁ : (k && c && o && r) ≡ true = and-l (k && c && o && r) m e in
+    let e₂ : (k && c && o) ≡ true = and-l (k && c && o) r e₁ in
+    let e₃ : (k && c) ≡ true = and-l (k && c) o e₂ in
+    let p₁ : x .kind ≡ y .kind = eqb-true (x .kind) (y .kind) (and-l k c e₃) in
+    let p₂ : x .called ≡ y .called = eqb-true (x .called) (y .called) (and-r k c e₃) in
+    let p₃ : x .owner ≡ y .owner = eqb-true (x .owner) (y .owner) (and-r (k && c) o e₂) in
+    let p₄ : x .result ≡ y .result = eqb-true (x .result) (y .result) (and-r (k && c && o) r e₁) in
+    let p₅ : x .mask ≡ y .mask = eqb-true (x .mask) (y .mask) (and-r (k && c && o && r) m e) in
     λ j. record { kind = p₁ j; called = p₂ j; owner = p₃ j; result = p₄ j; mask = p₅ j }
 
 called-told : (b : List ℕ) (x : Label) → badCalled b x ≡ false → (x .kind ≡ 0 → ⊥) → (2 ≤ x .called) × (x .called ≤ schemeCount b)
@@ -297,9 +299,9 @@ module _ (b : List ℕ) (ok : tableVerdict b ≡ fine) where
           starts = λ h l. subst (λ (e : ℕ). Reaches (decoded b) (suc h) e) (sym (entry-read b h (omega arith)))
               (entry-good (suc h) (omega arith) (omega arith));
           home = label-read b 0 (omega arith)
-              ∙ label-as 4 1 (labelIn b 0) (not-false (isLabel 4 1 (labelIn b 0)) (label-good 0 (omega arith)));
+              ∙ fields-same (labelIn b 0) homeLabel (not-false (isLabel 4 1 (labelIn b 0)) (label-good 0 (omega arith)));
           back = label-read b 1 (counted .two)
-              ∙ label-as 3 0 (labelIn b 1) (not-false (isLabel 3 0 (labelIn b 1)) (label-good 1 (counted .two)));
+              ∙ fields-same (labelIn b 1) returnLabel (not-false (isLabel 3 0 (labelIn b 1)) (label-good 1 (counted .two)));
           others = λ l h k. subst (λ (x : Label). SoundLabel (length (decoded b .entries)) x) (sym (label-read b l (omega arith)))
               (subst (λ (c : ℕ). SoundLabel c (labelIn b l)) (sym n) (other-good l h (omega arith)));
           each = λ k h. subst (λ (x : Row). SoundRow (decoded b) x) (sym (row-read b k (omega arith)))

@@ -47,12 +47,6 @@ frame-cases P e l r p₀ p₁ p₂ p₃ (suc f) h =
     (split f e)
 
 module _ (i : Image) (b : List ℕ) (S : SoundImage i) (R : Reads i b) where
-  h-is : schemeCount b ≡ length (i .entries)
-  h-is = schemes-is i b S R
-
-  m-is : lastLabel b ≡ length (i .labels) - 1
-  m-is = last-is i b S R
-
   abbrev labelFrom : ℕ → ℕ
   labelFrom l = suc (length (i .entries) + l)
 
@@ -63,9 +57,9 @@ module _ (i : Image) (b : List ℕ) (S : SoundImage i) (R : Reads i b) where
   counts-fine : badCounts b ≡ false
   counts-fine =
       ap₂ _||_ (ap₂ _||_ (ap₂ _||_
-      (ne-eqb (schemeCount b) 0 (λ z. omega (arith, h-is, S .first)))
-      (le-ltb 16 (schemeCount b) (omega (arith, h-is, S .most))))
-      (ne-eqb (lastLabel b) 0 (λ z. omega (arith, m-is, S .two))))
+      (ne-eqb (schemeCount b) 0 (λ z. omega (arith, schemes-is i b S R, S .first)))
+      (le-ltb 16 (schemeCount b) (omega (arith, schemes-is i b S R, S .most))))
+      (ne-eqb (lastLabel b) 0 (λ z. omega (arith, last-is i b S R, S .two))))
       (le-ltb 1024 (rowCount b) (omega (arith, rows-is i b S R, S .few)))
 
   handler-fine : badHandler b ≡ false
@@ -76,7 +70,7 @@ module _ (i : Image) (b : List ℕ) (S : SoundImage i) (R : Reads i b) where
       go (suc h) e f = let r : (2 ≤ suc h) × (suc h ≤ length (i .entries)) = f (λ z. omega arith) in
           ap₂ _&&_ (ap not (ne-eqb (handlerIn b) 0 (λ z. omega arith)))
           (or-none (ltb (handlerIn b) 2) (ltb (schemeCount b) (handlerIn b))
-          (le-ltb (handlerIn b) 2 (omega arith)) (le-ltb (schemeCount b) (handlerIn b) (omega (arith, h-is))))
+          (le-ltb (handlerIn b) 2 (omega arith)) (le-ltb (schemeCount b) (handlerIn b) (omega (arith, schemes-is i b S R))))
 
   header-fine : badHeader b ≡ false
   unfolding badHeader
@@ -87,17 +81,17 @@ module _ (i : Image) (b : List ℕ) (S : SoundImage i) (R : Reads i b) where
       ∙ zeros (15 ∷ length (i .entries) ∷ (length (i .labels) - 1) ∷ pair (length (i .rows)) ++ (i .handler ∷ [])) 4 k h)))
       handler-fine)
       counts-fine)
-      (equal (size b) (rowsFrom b + rowCount b) (omega (arith, R .count, h-is, m-is, rows-is i b S R, S .two)))
+      (equal (size b) (rowsFrom b + rowCount b) (omega (arith, R .count, schemes-is i b S R, last-is i b S R, rows-is i b S R, S .two)))
 
   -- the place of each frame
   position-entry : (h : ℕ) → h < length (i .entries) → positionOf b (suc h) ≡ entryPosition (suc h)
-  position-entry h l = position-of-entry b (suc h) (omega arith) (omega (arith, h-is))
+  position-entry h l = position-of-entry b (suc h) (omega arith) (omega (arith, schemes-is i b S R))
 
   position-label : (l : ℕ) → l < length (i .labels) → positionOf b (labelFrom l) ≡ labelPosition l
-  position-label l h = ap (positionOf b) (omega (arith, h-is)) ∙ position-of-label b l (omega (arith, m-is))
+  position-label l h = ap (positionOf b) (omega (arith, schemes-is i b S R)) ∙ position-of-label b l (omega (arith, last-is i b S R))
 
   position-row : (k : ℕ) → k < length (i .rows) → positionOf b (rowFrom k) ≡ rowPosition k
-  position-row k h = ap (positionOf b) (omega (arith, h-is, m-is, S .two)) ∙ position-of-row b k
+  position-row k h = ap (positionOf b) (omega (arith, schemes-is i b S R, last-is i b S R, S .two)) ∙ position-of-row b k
 
   -- 12
   rows-rise : (k : ℕ) → k < length (i .rows) → falls b k ≡ false
@@ -125,7 +119,7 @@ module _ (i : Image) (b : List ℕ) (S : SoundImage i) (R : Reads i b) where
 
   -- 13
   within-true : (h l : ℕ) → Reaches i h l → within b h l ≡ true
-  within-true h l r = ap₂ _&&_ (le-leb l (lastLabel b) (omega (arith, r .inside, m-is))) (go (r .belongs))
+  within-true h l r = ap₂ _&&_ (le-leb l (lastLabel b) (omega (arith, r .inside, last-is i b S R))) (go (r .belongs))
     where
       go : (nthLabel i l .owner ≡ h) ⊎ (l ≡ endOf h) → (eqb (labelIn b l .owner) h || eqb l (endOf h)) ≡ true
       go (inl e) =
@@ -148,7 +142,7 @@ module _ (i : Image) (b : List ℕ) (S : SoundImage i) (R : Reads i b) where
           let c : (2 ≤ x .called) × (x .called ≤ length (i .entries)) = L .calls (λ z. omega arith) in
           rw (ne-eqb (suc k) 0 (λ z. omega arith))
           (or-none (ltb (x .called) 2) (ltb (schemeCount b) (x .called)) (le-ltb (x .called) 2 (c .0))
-          (le-ltb (schemeCount b) (x .called) (omega (arith, h-is))))
+          (le-ltb (schemeCount b) (x .called) (omega (arith, schemes-is i b S R))))
 
   label-fine : (l : ℕ) → l < length (i .labels) → badLabel b l (nthLabel i l) ≡ false
   label-fine zero h = ap (badLabel b 0) (S .home)
@@ -159,7 +153,7 @@ module _ (i : Image) (b : List ℕ) (S : SoundImage i) (R : Reads i b) where
       ap₂ _||_ (ap₂ _||_ (ap₂ _||_ (ap₂ _||_
       (le-ltb 2 (x .kind) (L .kinds))
       (ne-eqb (x .owner) 0 (λ z. omega (arith, L .some))))
-      (le-ltb (schemeCount b) (x .owner) (omega (arith, h-is, L .most))))
+      (le-ltb (schemeCount b) (x .owner) (omega (arith, schemes-is i b S R, L .most))))
       (le-ltb 2 (x .result) (L .results)))
       (called-fine x L)
 
@@ -180,7 +174,7 @@ module _ (i : Image) (b : List ℕ) (S : SoundImage i) (R : Reads i b) where
     row-fine f z =
         ap₂ _||_ (ap₂ _||_ (ap₂ _||_ (ap₂ _||_ (ap₂ _||_
         (le-ltb (r .from) 2 (s .low))
-        (le-ltb (lastLabel b) (r .from) (omega (arith, s .high, m-is))))
+        (le-ltb (lastLabel b) (r .from) (omega (arith, s .high, last-is i b S R))))
         (equal (bitAnd (r .values) (r .care)) (r .values) (s .within)))
         bit-fine)
         (ap not (ap (λ (x : Label). within b (x .owner) (r .next)) from-is

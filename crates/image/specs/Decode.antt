@@ -39,14 +39,18 @@ labelIn b l = let f = labelsFrom b + l in record {
   mask = quadAt b f LABEL-MASK;
 }
 
-abbrev pub rowIn : List ℕ → ℕ → Row
-rowIn b k = let f = rowsFrom b + k in record {
+-- the row in frame f
+abbrev pub rowInFrame : List ℕ → ℕ → Row
+rowInFrame b f = record {
   from = field b f FROM;
   care = pairAt b f CARE;
   values = pairAt b f VALUES;
   bit = field b f FUNCTION-BIT;
   next = field b f NEXT;
 }
+
+abbrev pub rowIn : List ℕ → ℕ → Row
+rowIn b k = rowInFrame b (rowsFrom b + k)
 
 unfoldable pub decoded : List ℕ → Image
 decoded b = record {

@@ -14,6 +14,10 @@ pub record Label : Type 0 where
   pub result : ℕ
   pub mask : ℕ
 
+-- by its fields
+abbrev pub labelWith : ℕ → ℕ → ℕ → ℕ → ℕ → Label
+labelWith k g o r m = record { kind = k; called = g; owner = o; result = r; mask = m }
+
 -- what an image has where it has no label
 abbrev pub noLabel : Label
 noLabel = record { kind = PLAIN; called = 0; owner = 0; result = 0; mask = 0 }
@@ -32,6 +36,10 @@ pub record Row : Type 0 where
   pub values : ℕ
   pub bit : ℕ
   pub next : ℕ
+
+-- by its fields
+abbrev pub row : ℕ → ℕ → ℕ → ℕ → ℕ → Row
+row l c v b n = record { from = l; care = c; values = v; bit = b; next = n }
 
 -- what an image has where it has no row
 abbrev pub noRow : Row

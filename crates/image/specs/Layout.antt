@@ -104,3 +104,7 @@ tickKind (suc (suc (suc (suc k)))) = home
 -- the function bit of a row that no function decides
 abbrev pub NO-BIT : ℕ
 NO-BIT = 2
+
+-- above all labels: no row leads on
+abbrev pub NO-LABEL : ℕ
+NO-LABEL = 256

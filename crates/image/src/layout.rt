@@ -71,3 +71,6 @@ pub const HOME: u8 = 4;
 
 // The function bit of a row that no function decides.
 pub const NO_BIT: u8 = 2;
+
+// Above all labels: no row leads on.
+pub const NO_LABEL: u16 = 256;

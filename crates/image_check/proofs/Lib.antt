@@ -1,4 +1,3 @@
 pub mod PositionCases
 pub mod TableCases
 pub mod ReadCases
-pub mod FaultSearch

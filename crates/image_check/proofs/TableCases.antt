@@ -13,7 +13,7 @@ use Rattle.frames.specs.Frame.{size, field}
 use Rattle.frames.specs.Answer.{success, refusal, judged}
 use Rattle.image.specs.Decode.{rowCount, rowsFrom}
 use Rattle.image.specs.Check.{filled, badHandler, badCounts, badHeader, stray, badContent, tableVerdict}
-use Rattle.image_check.specs.inner.CheckedFrames.{faulty}
+use Rattle.image_faults.specs.inner.FaultyFrames.{faulty}
 
 -- a good header tells how many frames there are
 pub header-size : (b : List ℕ) → badHeader b ≡ false → size b ≡ rowsFrom b + rowCount b

@@ -1,5 +1,4 @@
 // Refusals 11 to 13 of a decoded table.
-use crate::faults::lowest_fault;
 use crate::positions::bad_header;
 use crate::positions::lowest_stray;
 use frames::Answer;
@@ -8,6 +7,7 @@ use frames::refusals::BAD_HEADER;
 use frames::refusals::STRAY_FRAME;
 use frames::refused;
 use frames::sizes::FRAME;
+use image_faults::lowest_fault;
 ghost use mathlib.Core.Path.{_≡_};
 ghost use Prim.Native.Nat.{_<_};
 ghost use Rattle.frames.specs.Frame.{size};

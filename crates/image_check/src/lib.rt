@@ -1,6 +1,5 @@
 // The image check: refusals 1 to 3 and 11 to 13 of an image's text.
 mod check;
-mod faults;
 mod positions;
 mod read;
 

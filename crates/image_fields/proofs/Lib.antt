@@ -1,2 +1,1 @@
-pub mod StrayCases
 pub mod FieldCases

@@ -13,7 +13,7 @@ pub fn translate(chart: &[u8], image: &mut [u8], at: &mut usize, made: &mut usiz
     ensures { λ r. ⌜ GivesBufferC (translate (now (chart .entry)) (now (image .entry))) r
         (now (at .exit)) (now (made .exit)) (now (image .exit)) ⌝ }
 {
-    let answer = translator::translate(chart, image);
+    let answer = translating::translate(chart, image);
     tell(answer, at, made)
 }
 
@@ -42,7 +42,7 @@ pub fn list_rows(
     ensures { λ r. ⌜ GivesListingC (list (now (image .entry)) (now (firsts .entry)) (now (counts .entry))) r
         (now (at .exit)) (now (made .exit)) (now (firsts .exit)) (now (counts .exit)) ⌝ }
 {
-    let answer = listing::list_rows(image, firsts, counts);
+    let answer = image_rows::list_rows(image, firsts, counts);
     tell(answer, at, made)
 }
 

@@ -6,7 +6,7 @@ use Prim.Native.Nat.{ℕ, _+_, _*_, _≤_, _<_}
 use native.Mathlib.Omega.{arith}
 use lib.Dec.{eqb}
 use lib.ListN.{length, getD}
-use borrow.Author.Tests.{eq-eqb, ne-eqb}
+use borrow.Author.Tests.{ne-eqb}
 use Rattle.lists.specs.Pick.{pick}
 use Rattle.lists.specs.Sequences.{written}
 use Rattle.lists.proofs.Tests.{yes-pick, no-pick}
@@ -16,16 +16,17 @@ use Rattle.frames.specs.Frame.{size, quad}
 use Rattle.charts.specs.Chart.{Chart, kind, scheme, argument, next0, result, mask, begin}
 use Rattle.walk.specs.Stops.{stops, start}
 use Rattle.walk.proofs.Facts.{Facts}
-use Rattle.image.specs.Image.{Label, entryFrame, labelFrame}
+use Rattle.image.specs.Image.{entryFrame, labelFrame, labelWith}
 use Rattle.chart_labels.specs.Labels.{numbered, label, entry, stopLabel}
 use Rattle.chart_labels.specs.inner.ChartContracts.{Labelled, OfKind, AtNode}
 use Rattle.label_text.specs.inner.LabelContracts.{OfScheme}
 use Rattle.label_text.specs.inner.LabelBytes.{entryBytes, nodeLabelBytes, Put}
 use Rattle.chart_labels.proofs.ReadyLaws.{ready-facts}
 use Rattle.chart_labels.proofs.LabelSteps.{own-label, no-own-label}
+use Rattle.chart_labels.proofs.LabelKinds.{label-operation, label-function, label-bare}
 
 -- ---- entries
-numbered-stop : (c : Chart) (v : ℕ) → (kind c v ≡ 1 → ⊥) → numbered c v ≡ stops c v
+pub numbered-stop : (c : Chart) (v : ℕ) → (kind c v ≡ 1 → ⊥) → numbered c v ≡ stops c v
 numbered-stop c v n = ap (λ x. stops c v && not x) (ne-eqb (kind c v) 1 n) ∙ unit (stops c v)
   where
     unit : (b : Bool) → (b && true) ≡ b
@@ -93,21 +94,8 @@ quad-bytes a b d e ha hb hd he =
     ap₂ (λ (x : ℕ) (xs : List ℕ). x ∷ xs) (omega arith) (ap₂ (λ (x : ℕ) (xs : List ℕ). x ∷ xs) (omega arith)
     (ap₂ (λ (x : ℕ) (xs : List ℕ). x ∷ xs) (omega arith) (ap₂ (λ (x : ℕ) (xs : List ℕ). x ∷ xs) (omega arith) refl)))
 
-abbrev labelWith : ℕ → ℕ → ℕ → ℕ → ℕ → Label
-labelWith k g o r m = record { kind = k; called = g; owner = o; result = r; mask = m }
-
 module _ (c : Chart) (v l : ℕ) where
-  operation-label : kind c v ≡ 2
-      → stopLabel c v ≡ labelWith (pick (not (eqb (argument c v) 0)) 1 0) (argument c v) (scheme c v) (result c v) (mask c v)
-  operation-label k = rw (ne-eqb (kind c v) 4 (λ q. omega arith), eq-eqb (kind c v) 2 k)
-
-  function-label : kind c v ≡ 4 → stopLabel c v ≡ labelWith 2 (argument c v) (scheme c v) 0 0
-  function-label k = rw (eq-eqb (kind c v) 4 k, ne-eqb (kind c v) 2 (λ q. omega arith))
-
-  other-label : (kind c v ≡ 2 → ⊥) → (kind c v ≡ 4 → ⊥) → stopLabel c v ≡ labelWith 0 0 (scheme c v) 0 0
-  other-label n m = rw (ne-eqb (kind c v) 4 m, ne-eqb (kind c v) 2 n)
-
-  pub operation-bytes : OfKind c 2 v → (t g o r m0 m1 m2 m3 : ℕ) → t ≡ pick (not (eqb g 0)) 1 0 → g ≡ argument c v
+  pub operation-bytes : OfKind c 2 v → (t g o r m0 m1 m2 m3 : ℕ) → t ≡ pick (eqb g 0) 0 1 → g ≡ argument c v
       → o ≡ scheme c v → r ≡ result c v
       → m0 ≡ getD c (10 * v + 6) 0 → m1 ≡ getD c (10 * v + 7) 0 → m2 ≡ getD c (10 * v + 8) 0 → m3 ≡ getD c (10 * v + 9) 0
       → (17 ∷ l ∷ t ∷ g ∷ o ∷ r ∷ m0 ∷ m1 ∷ m2 ∷ m3 ∷ []) ≡ labelFrame l (stopLabel c v)
@@ -117,20 +105,20 @@ module _ (c : Chart) (v l : ℕ) where
       quad-bytes (getD c (10 * v + 6) 0) (getD c (10 * v + 7) 0) (getD c (10 * v + 8) 0) (getD c (10 * v + 9) 0) (B _) (B _) (B _) (B _)
       ∙ ap₂ (λ (x : ℕ) (xs : List ℕ). x ∷ xs) (sym e0)
       (ap₂ (λ (x : ℕ) (xs : List ℕ). x ∷ xs) (sym e1) (ap₂ (λ (x y : ℕ). x ∷ y ∷ []) (sym e2) (sym e3))) in
-      let p : t ≡ pick (not (eqb (argument c v) 0)) 1 0 = et ∙ ap (λ (x : ℕ). pick {A = ℕ} (not (eqb x 0)) 1 0) eg in
+      let p : t ≡ pick (eqb (argument c v) 0) 0 1 = et ∙ ap (λ (x : ℕ). pick {A = ℕ} (eqb x 0) 0 1) eg in
       ap (λ (xs : List ℕ). 17 ∷ l ∷ t ∷ g ∷ o ∷ r ∷ xs) (sym q)
       ∙ ap₂ (λ (x y : ℕ). 17 ∷ l ∷ x ∷ y ∷ o ∷ r ∷ quad (mask c v)) p eg
-      ∙ ap₂ (λ (x y : ℕ). 17 ∷ l ∷ pick (not (eqb (argument c v) 0)) 1 0 ∷ argument c v ∷ x ∷ y ∷ quad (mask c v)) eo er
-      ∙ ap (labelFrame l) (sym (operation-label (node .kind)))
+      ∙ ap₂ (λ (x y : ℕ). 17 ∷ l ∷ pick (eqb (argument c v) 0) 0 1 ∷ argument c v ∷ x ∷ y ∷ quad (mask c v)) eo er
+      ∙ ap (labelFrame l) (sym (label-operation c v (node .kind)))
 
   pub function-bytes : kind c v ≡ 4 → (g o : ℕ) → g ≡ argument c v → o ≡ scheme c v
       → (17 ∷ l ∷ 2 ∷ g ∷ o ∷ 0 ∷ 0 ∷ 0 ∷ 0 ∷ 0 ∷ []) ≡ labelFrame l (stopLabel c v)
   function-bytes k g o eg eo =
-      ap₂ (λ (x y : ℕ). 17 ∷ l ∷ 2 ∷ x ∷ y ∷ 0 ∷ 0 ∷ 0 ∷ 0 ∷ 0 ∷ []) eg eo ∙ ap (labelFrame l) (sym (function-label k))
+      ap₂ (λ (x y : ℕ). 17 ∷ l ∷ 2 ∷ x ∷ y ∷ 0 ∷ 0 ∷ 0 ∷ 0 ∷ 0 ∷ []) eg eo ∙ ap (labelFrame l) (sym (label-function c v k))
 
   pub other-bytes : (kind c v ≡ 2 → ⊥) → (kind c v ≡ 4 → ⊥) → (o : ℕ) → o ≡ scheme c v
       → (17 ∷ l ∷ 0 ∷ 0 ∷ o ∷ 0 ∷ 0 ∷ 0 ∷ 0 ∷ 0 ∷ []) ≡ labelFrame l (stopLabel c v)
-  other-bytes n m o eo = ap (λ (x : ℕ). 17 ∷ l ∷ 0 ∷ 0 ∷ x ∷ 0 ∷ 0 ∷ 0 ∷ 0 ∷ 0 ∷ []) eo ∙ ap (labelFrame l) (sym (other-label n m))
+  other-bytes n m o eo = ap (λ (x : ℕ). 17 ∷ l ∷ 0 ∷ 0 ∷ x ∷ 0 ∷ 0 ∷ 0 ∷ 0 ∷ 0 ∷ []) eo ∙ ap (labelFrame l) (sym (label-bare c v n m))
 
 module _ {c : Chart} {labels : List ℕ} {v : ℕ} (node : AtNode c labels v) where
   read : getD labels v 0 ≡ label c v

@@ -6,7 +6,6 @@ use frames::sizes::FRAME;
 use frames::sizes::RECORD;
 use image::layout::*;
 ghost use mathlib.Core.Path.{_≡_};
-ghost use mathlib.Core.Bool.{not};
 ghost use Prim.Native.Nat.{_+_, _≤_};
 ghost use lib.Dec.{eqb};
 ghost use lib.ListN.{length};
@@ -70,7 +69,7 @@ fn put_operation(records: &[u8], v: usize, label: u8, out: &mut [u8], at: usize)
 
 // The kind of an operation's tick: 1 with a call, else 0.
 fn call_kind(called: u8) -> u8
-    ensures { λ r. ⌜ r ≡ pick (not (eqb called 0)) OPERATION-CALL PLAIN ⌝ }
+    ensures { λ r. ⌜ r ≡ pick (eqb called 0) PLAIN OPERATION-CALL ⌝ }
 {
     if called == 0 { PLAIN } else { OPERATION_CALL }
 }

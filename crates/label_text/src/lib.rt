@@ -1,8 +1,5 @@
-// The bytes of an image before its rows: header, entries and labels, written as frames of ten bytes.
-mod entries;
+// The labels of an image, written as frames of ten bytes.
 mod label_frames;
 
-pub use entries::put_entries;
-pub use entries::put_header;
 pub use label_frames::put_fixed;
 pub use label_frames::put_labels;

@@ -15,14 +15,15 @@ use Rattle.lists.proofs.Ranges.{length-map-range, getD-map-range}
 use Rattle.frames.specs.Frame.{size, field, contents}
 use Rattle.frames.specs.Verdict.{fine}
 use Rattle.image.specs.Image.{Image, Row, nthRow, noRow}
-use Rattle.image.specs.Decode.{lastLabel, rowsFrom, decoded}
+use Rattle.image.specs.Decode.{lastLabel, rowsFrom, decoded, rowInFrame}
 use Rattle.image.specs.Check.{tableVerdict}
 use Rattle.image.proofs.Accepted.{rows-count, row-read, counted, accepted-sound, image-table, image-bytes}
+use Rattle.image.proofs.Rising.{from-read}
 use Rattle.tables.specs.Prepare.{firstFrame, noted}
 use Rattle.tables.specs.Table.{firstOn, endOn, rowsOn}
 use Rattle.tables.proofs.Noted.{noted-rows-from}
-use Rattle.tables.proofs.FirstFrames.{first-low, first-inside, first-rises, from-read, at-least, below}
-use Rattle.tables.proofs.PreparedImage.{first-noted, end-noted, rows-own, rowInTable}
+use Rattle.tables.proofs.FirstFrames.{first-low, first-inside, first-rises, at-least, below}
+use Rattle.tables.proofs.PreparedImage.{first-noted, end-noted, rows-own}
 use Rattle.listing.specs.Listing.{rowLeaves, howMany, firstOf}
 use Rattle.listing.specs.Exact.{Own, Exactly, EmptyZero, LowZero, LooksAt, ListedFrames}
 use Rattle.listing.proofs.Between.{Between, count-between, lowest-between}
@@ -53,7 +54,7 @@ module _ (b : List ℕ) (ok : tableVerdict b ≡ fine) (bytes : (k : ℕ) → ge
   from-is : (k : ℕ) → k < length (i .rows) → nthRow i k .from ≡ field b (rowsFrom b + k) 1
   from-is k h =
       ap (λ (n : ℕ). nthRow i n .from) (let e : k ≡ rowsFrom b + k - rowsFrom b = omega arith in e)
-      ∙ from-read b ok bytes (rowsFrom b + k) (omega arith) (omega (arith, rows-all))
+      ∙ from-read b (counted b ok .all) (rowsFrom b + k) (omega arith) (omega (arith, rows-all))
 
   between : Between (rowLeaves i l) (length (i .rows)) first end
   between = record {
@@ -138,7 +139,7 @@ module _ (b : List ℕ) (ok : tableVerdict b ≡ fine) (bytes : (k : ℕ) → ge
         n = firstFrame b (l + 1) - firstFrame b l
 
         own : List Row
-        own = map (rowInTable b) (range (firstFrame b l) n)
+        own = map (rowInFrame b) (range (firstFrame b l) n)
 
         listed : List Row
         listed = take (howMany i l) (drop (firstOf i l) (i .rows))
@@ -150,7 +151,7 @@ module _ (b : List ℕ) (ok : tableVerdict b ≡ fine) (bytes : (k : ℕ) → ge
         most = between .most
 
         own-length : length own ≡ n
-        own-length = length-map-range (rowInTable b) (firstFrame b l) n
+        own-length = length-map-range (rowInFrame b) (firstFrame b l) n
 
         listed-length : length listed ≡ n
         listed-length = go (split 0 n)
@@ -170,8 +171,8 @@ module _ (b : List ℕ) (ok : tableVerdict b ≡ fine) (bytes : (k : ℕ) → ge
         same : (j : ℕ) → j < n → getD own j noRow ≡ getD listed j noRow
         same j h =
             let e : firstOf i l ≡ first = first-is (λ z. omega (arith, count-is)) in
-            getD-map-range (rowInTable b) noRow (firstFrame b l) n j h
-            ∙ ap (rowInTable b) (let z : firstFrame b l + j ≡ rowsFrom b + (firstOf i l + j) = omega (arith, first-low b ok l) in z)
+            getD-map-range (rowInFrame b) noRow (firstFrame b l) n j h
+            ∙ ap (rowInFrame b) (let z : firstFrame b l + j ≡ rowsFrom b + (firstOf i l + j) = omega (arith, first-low b ok l) in z)
             ∙ sym (row-read b (firstOf i l + j) (omega (arith, most, count-is, number-is, rows-count b)))
             ∙ sym (getD-take (howMany i l) (drop (firstOf i l) (i .rows)) j noRow (omega (arith, count-is))
             ∙ getD-drop (firstOf i l) (i .rows) j noRow)

@@ -3,5 +3,4 @@ pub mod Laws
 pub mod Answers
 pub mod RowCases
 pub mod FillCases
-pub mod EntryCases
 pub mod Alike

@@ -1,12 +1,8 @@
-// The rows of each label of an image: the number of the first and how many there are, read off the frames at which a tick looks.
+// The rows of each label of a prepared table: the number of the first and how many there are, read off the frames at which a tick looks.
 use frames::Answer;
 use frames::refusals::NO_ROOM;
 use frames::refused;
-use frames::sizes::FRAME;
-use frames::sizes::LINE;
-use frames::sizes::TABLE;
 use image::rows_from;
-use preparing::prepare_table;
 use rows::end_of;
 use rows::first_of;
 use tables::last_label;
@@ -17,7 +13,7 @@ ghost use lib.ListN.{length};
 ghost use Rattle.lists.specs.Sequences.{over};
 ghost use Rattle.image.specs.Decode.{lastLabel};
 ghost use Rattle.tables.specs.Table.{tableImage};
-ghost use Rattle.listing.specs.Listing.{firstRows, rowCounts, list, GivesListing};
+ghost use Rattle.listing.specs.Listing.{firstRows, rowCounts, GivesListing};
 ghost use Rattle.listing.specs.inner.ListingContracts.{Listable, ListingAsked, RowsOf, listTable};
 
 // The number of a label's first row and how many it has.
@@ -64,7 +60,7 @@ fn fill_listing(table: &[u8], firsts: &mut [u16], counts: &mut [u16])
 }
 
 // 16, then the listing; counts the labels.
-fn list_table(table: &[u8], firsts: &mut [u16], counts: &mut [u16]) -> Answer
+pub fn list_table(table: &[u8], firsts: &mut [u16], counts: &mut [u16]) -> Answer
     requires { ⌜ Listable (now table) ⌝ }
     ensures { λ r. ⌜ GivesListing (listTable (now (table .entry)) (now (firsts .entry)) (now (counts .entry)))
         r (now (firsts .exit)) (now (counts .exit)) ⌝ }
@@ -78,18 +74,4 @@ fn list_table(table: &[u8], firsts: &mut [u16], counts: &mut [u16]) -> Answer
     }
     fill_listing(table, firsts, counts);
     Answer::Done(labels)
-}
-
-// What the image check tries, then 16. A refusal leaves both buffers as they were.
-pub fn list_rows(image: &[u8], firsts: &mut [u16], counts: &mut [u16]) -> Answer
-    ensures { λ r. ⌜ GivesListing (list (now (image .entry)) (now (firsts .entry)) (now (counts .entry)))
-        r (now (firsts .exit)) (now (counts .exit)) ⌝ }
-{
-    let mut table = [0u8; TABLE];
-    let answer = prepare_table(image, &mut table);
-    let Answer::Done(_) = answer else {
-        return answer;
-    };
-    let n = FRAME * (image.len() / LINE);
-    list_table(&table[..n], firsts, counts)
 }

@@ -93,3 +93,27 @@ module _ {B : Type 0} (f : ℕ → List B) (p : ℕ → Bool) where
           ∙ ih q
       go (inr e) (inl q) ih = no-both (p v) t (subst (λ (u : ℕ). p u ≡ false) q e)
       go (inr e) (inr q) ih = left i n e ∙ ih q
+
+-- ---- at most one passes
+module _ {A : Type 0} (p : A → Bool) (d : A) where
+  none-pass : (xs : List A) → ((j : ℕ) → j < length xs → p (getD xs j d) ≡ true → ⊥) → length (filter p xs) ≡ 0
+  none-pass [] h = ap (λ ys. length ys) (filter-none p)
+  none-pass (x ∷ xs) h = go (p x) refl (none-pass xs (λ j a. h (suc j) (omega arith)))
+    where
+      go : (t : Bool) → p x ≡ t → length (filter p xs) ≡ 0 → length (filter p (x ∷ xs)) ≡ 0
+      go true e ih = absurd (h 0 (omega arith) e)
+      go false e ih = ap (λ ys. length ys) (filter-no p x xs e) ∙ ih
+
+  pub few-pass : (xs : List A) → ((j k : ℕ) → j < length xs → k < j → p (getD xs j d) ≡ true → p (getD xs k d) ≡ true → ⊥)
+      → length (filter p xs) ≤ 1
+  few-pass [] h = omega (arith, ap (λ ys. length ys) (filter-none p))
+  few-pass (x ∷ xs) h = go (p x) refl (few-pass xs (λ j k a b. h (suc j) (suc k) (omega arith) (omega arith)))
+    where
+      go : (t : Bool) → p x ≡ t → length (filter p xs) ≤ 1 → length (filter p (x ∷ xs)) ≤ 1
+      go true e ih = omega (
+        arith,
+        ap (λ ys. length ys) (filter-yes p x xs e),
+        none-pass xs
+            (λ j a q. h (suc j) 0 (omega arith) (omega arith) q e),
+      )
+      go false e ih = omega (arith, ap (λ ys. length ys) (filter-no p x xs e))

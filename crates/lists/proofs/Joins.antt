@@ -2,14 +2,14 @@
 use mathlib.Core.Path.{_≡_, refl, sym, _∙_, ap, ap₂, subst}
 use mathlib.Core.Bool.{Bool, true, false}
 use mathlib.Core.List.{List, [], _∷_, _++_, map, append-assoc, append-nil}
-use Prim.Native.Nat.{ℕ, zero, suc, _+_, _*_, _<_}
+use Prim.Native.Nat.{ℕ, zero, suc, _+_, _*_, _≤_, _<_}
 use native.Mathlib.Nat.{mul-suc, mul-zero}
 use native.Mathlib.Omega.{arith}
 use lib.ListN.{length, getD, length-append, List·getD-append}
 use lib.Seq.{getD-append-add}
 use Rattle.lists.specs.Numbers.{range}
 use Rattle.lists.specs.Sequences.{filter, concatMap, All}
-use Rattle.lists.proofs.Ranges.{length-range, getD-range, range-snoc}
+use Rattle.lists.proofs.Ranges.{length-range, getD-range, range-snoc, range-append}
 
 pub all-at : {A : Type 0} (P : A → Type 0) (d : A) (xs : List A) → All P xs → (i : ℕ) → i < length xs → P (getD xs i d)
 all-at P d [] a i h = absurd (omega arith)
@@ -66,6 +66,18 @@ concat-places g h d [] a e = refl
 concat-places g h d (x ∷ xs) a e =
     ap₂ (λ y ys. y ++ ys) (ap g (omega arith) ∙ e 0 (omega arith))
     (concat-places g h d xs (suc a) (λ i l. ap g (omega arith) ∙ e (suc i) (omega arith)))
+
+-- over a range and the one behind it, and over one range where two functions agree
+pub concat-split : {B : Type 0} (f : ℕ → List B) (a m n : ℕ)
+    → concatMap f (range a (m + n)) ≡ concatMap f (range a m) ++ concatMap f (range (a + m) n)
+concat-split f a m n = ap (concatMap f) (range-append a m n) ∙ concat-append f (range a m) (range (a + m) n)
+
+pub concat-alike : {B : Type 0} (f g : ℕ → List B) (a n : ℕ) → ((k : ℕ) → a ≤ k → k < a + n → f k ≡ g k)
+    → concatMap f (range a n) ≡ concatMap g (range a n)
+unfolding concatMap
+concat-alike f g a zero h = refl
+concat-alike f g a (suc n) h =
+    ap₂ (λ xs ys. xs ++ ys) (h a (omega arith) (omega arith)) (concat-alike f g (suc a) n (λ k p q. h k (omega arith) (omega arith)))
 
 -- lists of m elements each
 module _ {A B : Type 0} (f : A → List B) (m : ℕ) where

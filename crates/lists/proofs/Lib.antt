@@ -6,5 +6,7 @@ pub mod Joins
 pub mod Written
 pub mod Fills
 pub mod Filters
+pub mod Elements
 pub mod Arrays
 pub mod Tabulated
+pub mod Sums

@@ -1,8 +1,9 @@
 -- Laws of ranges of numbers, what a map puts at each place, and filters.
-use mathlib.Core.Path.{_≡_, refl, _∙_, ap, ap₂}
+use mathlib.Core.Path.{_≡_, refl, sym, _∙_, ap, ap₂}
 use mathlib.Core.Bool.{Bool, true, false}
 use mathlib.Core.List.{List, [], _∷_, _++_, map}
 use Prim.Native.Nat.{ℕ, zero, suc, _+_, _<_}
+use native.Mathlib.Nat.{add-zero, zero-add}
 use native.Mathlib.Omega.{arith}
 use lib.ListN.{length, getD, length-map}
 use Rattle.lists.specs.Numbers.{range, count}
@@ -87,6 +88,13 @@ getD-filter f d p i (suc n) (suc k) h e =
 pub range-snoc : (i n : ℕ) → range i (suc n) ≡ range i n ++ ((i + n) ∷ [])
 range-snoc i zero = ap (λ (k : ℕ). k ∷ []) (omega arith)
 range-snoc i (suc n) = ap (λ (ks : List ℕ). i ∷ ks) (range-snoc (suc i) n ∙ ap (λ (k : ℕ). range (suc i) n ++ (k ∷ [])) (omega arith))
+
+-- a range and the one behind it
+pub range-append : (a m n : ℕ) → range a (m + n) ≡ range a m ++ range (a + m) n
+range-append a zero n = ap₂ (λ (i k : ℕ). range i k) (sym (add-zero a)) (zero-add n)
+range-append a (suc m) n =
+    ap (range a) (let e : suc m + n ≡ suc (m + n) = omega arith in e)
+    ∙ ap (λ (xs : List ℕ). a ∷ xs) (range-append (suc a) m n ∙ ap (λ (i : ℕ). range (suc a) m ++ range i n) (omega arith))
 
 pub map-append : {A B : Type 0} (f : A → B) (xs ys : List A) → map f (xs ++ ys) ≡ map f xs ++ map f ys
 map-append f [] ys = refl

@@ -1,15 +1,16 @@
 -- Laws of the lowest number that passes a test, of whether any does, and of the highest value; of an element that passes.
 use mathlib.Core.Path.{_≡_, refl, sym, _∙_, ap, ap₂, subst}
-use mathlib.Core.Logic.{_⊎_, ⊎-elim}
+use mathlib.Core.Logic.{_⊎_, inl, inr, ⊎-elim}
 use mathlib.Core.Bool.{Bool, true, false, _||_}
 use mathlib.Core.List.{List, [], _∷_}
 use Prim.Native.Nat.{ℕ, zero, suc, _+_, _-_, _≤_, _<_, max}
 use native.Mathlib.Nat.{eq-or-lt-of-le, sub-zero, zero-add}
 use native.Mathlib.Numerals.{add-one}
 use native.Mathlib.Omega.{arith}
+use Rattle.lists.specs.Pick.{pick}
 use Rattle.lists.specs.Numbers.{lowest, any, sum, highest}
 use Rattle.lists.specs.Sequences.{some}
-use Rattle.lists.proofs.Tests.{no-both, or-l, or-r, or-cases}
+use Rattle.lists.proofs.Tests.{no-both, or-l, or-r, or-cases, cases, yes-pick, no-pick}
 
 -- ---- the lowest that passes
 pub lowest-hit : (p : ℕ → Bool) (i n : ℕ) → lowest p i n < i + n → p (lowest p i n) ≡ true
@@ -145,25 +146,38 @@ module _ (p : ℕ → Bool) (n i : ℕ) where
   unfolding any
   any-over h = rw (left-none n i h)
 
+-- the lowest where the number before the others is tried too
+pub lowest-below : (p : ℕ → Bool) (n v r : ℕ) → 0 < v → v ≤ n → r ≡ lowest p v (n - v)
+    → pick (p (v - 1)) (v - 1) r ≡ lowest p (v - 1) (n - (v - 1))
+lowest-below p n v r some low e = go (cases (p (v - 1)))
+  where
+    go : (p (v - 1) ≡ true) ⊎ (p (v - 1) ≡ false) → pick (p (v - 1)) (v - 1) r ≡ lowest p (v - 1) (n - (v - 1))
+    go (inl h) = yes-pick (p (v - 1)) (v - 1) r h ∙ sym (lowest-here p n (v - 1) (omega arith) h)
+    go (inr h) =
+        no-pick (p (v - 1)) (v - 1) r h ∙ e ∙ ap (λ (j : ℕ). lowest p j (n - j)) (omega arith) ∙ sym (lowest-on p n (v - 1) (omega arith) h)
+
 pub lowest-start : (p : ℕ → Bool) (n : ℕ) → lowest p 0 (n - 0) ≡ lowest p 0 n
 lowest-start p n = rw (sub-zero n)
 
--- the loop has come to i, and the lowest of all n is the lowest of those left
-pub record Searching (p : ℕ → Bool) (n i : ℕ) : Type 0 where
+-- the loop has come to i, and what is sought is the lowest of those left
+pub record Searching (p : ℕ → Bool) (n i found : ℕ) : Type 0 where
   pub inside : i ≤ n
-  pub left : lowest p i (n - i) ≡ lowest p 0 n
+  pub left : lowest p i (n - i) ≡ found
 
-pub searching-first : (p : ℕ → Bool) (n : ℕ) → Searching p n 0
+pub searching-first : (p : ℕ → Bool) (n : ℕ) → Searching p n 0 (lowest p 0 n)
 searching-first p n = record { inside = omega arith; left = lowest-start p n }
 
-module _ (p : ℕ → Bool) (n i : ℕ) (s : Searching p n i) where
-  pub searching-found : i < n → p i ≡ true → i ≡ lowest p 0 n
+pub searching-from : (p : ℕ → Bool) (first n : ℕ) → first ≤ n → Searching p n first (lowest p first (n - first))
+searching-from p first n h = record { inside = h; left = refl }
+
+module _ (p : ℕ → Bool) (n i found : ℕ) (s : Searching p n i found) where
+  pub searching-found : i < n → p i ≡ true → i ≡ found
   searching-found h t = sym (lowest-here p n i h t) ∙ s .left
 
-  pub searching-next : i < n → p i ≡ false → Searching p n (i + 1)
+  pub searching-next : i < n → p i ≡ false → Searching p n (i + 1) found
   searching-next h t = record { inside = omega arith; left = sym (lowest-on p n i h t) ∙ s .left }
 
-  pub searching-over : n ≤ i → i ≡ lowest p 0 n
+  pub searching-over : n ≤ i → i ≡ found
   searching-over h = sym (lowest-over p n i h) ∙ s .left
 
 pub sum-shift : (f : ℕ → ℕ) (i n : ℕ) → sum f (suc i) n ≡ sum (λ k. f (suc k)) i n

@@ -34,6 +34,10 @@ or-true-r false b e = e
 pub or-none : (a b : Bool) → a ≡ false → b ≡ false → (a || b) ≡ false
 or-none a b p q = rw p q
 
+pub or-no : (a : Bool) → (a || false) ≡ a
+or-no true = refl
+or-no false = refl
+
 pub and-l : (a b : Bool) → (a && b) ≡ true → a ≡ true
 and-l true b e = refl
 and-l false b e = no-both false e refl
@@ -98,3 +102,8 @@ same-ltb a b c d f g = go (split a b)
         below : (c < d) ⊎ (d ≤ c) → d ≤ c
         below (inl p) = absurd (let q : a < b = g p in omega arith)
         below (inr p) = p
+
+-- a test as a bit
+pub bit-low : (b : Bool) → pick b 1 0 < 2
+bit-low true = omega arith
+bit-low false = omega arith

@@ -1,12 +1,12 @@
 -- Laws of a buffer that was written from a place on, or to its front.
-use mathlib.Core.Path.{_≡_, sym, _∙_, ap}
+use mathlib.Core.Path.{_≡_, sym, _∙_, ap, ap₂}
 use mathlib.Core.List.{List, [], _∷_, _++_, append-assoc}
 use Prim.Native.Nat.{ℕ, _+_, _≤_, _<_}
 use native.Mathlib.Nat.{add-zero}
 use native.Mathlib.Numerals.{add-one}
 use native.Mathlib.Omega.{arith}
 use lib.ListN.{length, take, drop, set, length-append, length-take, length-drop, take-append-drop}
-use lib.Seq.{take-at, drop-at, drop-drop}
+use lib.Seq.{take-at, drop-at, drop-drop, take-append-le, take-take, length-take-le}
 use Rattle.lists.specs.Sequences.{written, over}
 
 pub written-none : (out : List ℕ) (at : ℕ) → written out at [] ≡ out
@@ -69,3 +69,18 @@ written-more out₀ at done more out out′ place p room e e′ =
 pub written-front : (out vs : List ℕ) → written out 0 vs ≡ over vs out
 unfolding written
 written-front out vs = let e : 0 + length vs ≡ length vs = omega arith in ap (λ (k : ℕ). vs ++ drop k out) e
+
+-- a run written in front of another
+pub written-before : (out : List ℕ) (at : ℕ) (vs ws : List ℕ) (place : ℕ) → place ≡ at + length vs → place ≤ length out
+    → written (written out place ws) at vs ≡ written out at (vs ++ ws)
+unfolding written
+written-before out at vs ws place p room =
+    let rest : List ℕ = ws ++ drop (place + length ws) out in
+    let front : take at (take place out ++ rest) ≡ take at out =
+    take-append-le at (take place out) rest (simp length-take (omega arith)) ∙ take-take at place out (omega arith) in
+    let back : drop (at + length vs) (take place out ++ rest) ≡ rest =
+    drop-at (take place out) rest (at + length vs) (length-take-le place out room ∙ p) in
+    let n : place + length ws ≡ at + length (vs ++ ws) = simp length-append (omega arith) in
+    ap₂ (λ (xs ys : List ℕ). xs ++ (vs ++ ys)) front back
+    ∙ ap (λ (xs : List ℕ). take at out ++ xs) (sym (append-assoc vs ws (drop (place + length ws) out)))
+    ∙ ap (λ (k : ℕ). take at out ++ ((vs ++ ws) ++ drop k out)) n

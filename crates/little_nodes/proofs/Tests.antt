@@ -1,19 +1,15 @@
 -- What is tried of records, by the tests that the code makes.
 use Prim.Native.Nat.{ℕ, _+_, _-_}
 use mathlib.Core.Bool.{Bool, true, false, _||_, not}
-use mathlib.Core.Path.{_≡_, refl, sym, _∙_, ap}
+use mathlib.Core.Path.{_≡_, sym, _∙_, ap}
 use native.Mathlib.Omega.{arith}
 use lib.Dec.{eqb}
 use borrow.Author.Tests.{eq-eqb, ne-eqb}
 use Rattle.lists.specs.Numbers.{any}
 use Rattle.frames.specs.Frame.{size}
-use Rattle.lists.proofs.Tests.{or-true-l, or-true-r, or-none}
+use Rattle.lists.proofs.Tests.{or-true-l, or-true-r, or-none, or-no}
 use Rattle.charts.specs.Chart.{Chart, kind, next0, next1}
 use Rattle.little_search.specs.inner.Search.{has, arcLeads, enters, clashes, repeats, barredNode, leadsOther, lonely}
-
-or-no : (b : Bool) → (b || false) ≡ b
-or-no true = refl
-or-no false = refl
 
 module _ (c : Chart) (u t k : ℕ) (q : k ≡ kind c u) where
   pub leads-end : k ≡ 1 → false ≡ arcLeads c u t

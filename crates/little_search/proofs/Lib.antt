@@ -1,4 +1,3 @@
 pub mod Ruled
 pub mod Alike
-pub mod Lists
 pub mod Same

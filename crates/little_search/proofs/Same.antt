@@ -14,8 +14,9 @@ use Rattle.lists.specs.Sequences.{filter, concatMap, All}
 use Rattle.lists.proofs.Tests.{no-both, and-l, and-r, yes-pick, no-pick}
 use Rattle.lists.proofs.Searches.{any-none}
 use Rattle.lists.proofs.Ranges.{filter-yes, filter-no}
-use Rattle.lists.proofs.Joins.{all-of, all-append, all-map, length-concat, concat-append, concat-map}
+use Rattle.lists.proofs.Joins.{all-of, all-append, all-map, length-concat, concat-append, concat-map, concat-alike}
 use Rattle.lists.proofs.Filters.{filter-none}
+use Rattle.lists.proofs.Elements.{filter-nothing, map-map, map-alike, filter-concat, concat-each, concat-within}
 use Rattle.frames.specs.Frame.{size}
 use Rattle.frames.specs.Verdict.{fine}
 use Rattle.frames.proofs.Frames.{Frame}
@@ -30,7 +31,6 @@ use Rattle.little_search.specs.inner.Search.{nodeCount, operationAt, con
 use Rattle.little_search.specs.inner.Search.{lonely, missingEnds, firstTried, past, searched}
 use Rattle.little_search.proofs.Ruled.{Plain, not-lonely, not-barred, no-second, needed}
 use Rattle.little_search.proofs.Alike.{SameFields, front-alike, barred-alike, has-alike, missing-alike}
-use Rattle.little_search.proofs.Lists.{filter-nothing, map-map, map-alike, filter-concat, concat-each, concat-range, concat-within}
 
 abbrev ok : Chart → Bool
 ok c = passes (chartVerdict c)
@@ -236,7 +236,7 @@ module _ (n : ℕ) (a : 2 ≤ n) (b : n ≤ 4) where
         let low : firstTried n c v ≤ n = first-low n c v in
         let high : (n + 1 ≤ past n c v) × (past n c v ≤ nodeCount n) = past-within n c v in
         ap (λ (w : ℕ). concatMap (tried w) (range (firstTried n c w) (past n c w - firstTried n c w))) c-size
-        ∙ concat-range (tried v) rest (firstTried n c v) (past n c v - firstTried n c v)
+        ∙ concat-alike (tried v) rest (firstTried n c v) (past n c v - firstTried n c v)
         (λ i x y. tried-rest ih i (omega (arith, low, high .0, high .1)))
         ∙ sym (concat-within rest (firstTried n c v) (past n c v) (nodeCount n) (omega (arith, low, high .0)) (high .1)
         (λ i x. low-empty i (omega (arith, low, high .0, high .1)) x) (λ i x y. high-empty i y x))

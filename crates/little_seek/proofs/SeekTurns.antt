@@ -9,12 +9,11 @@ use lib.Seq.{length-take-le, take-take, take-at, getD-append-add}
 use borrow.Author.Tests.{lt-ltb, le-ltb, ltb-true, ltb-false}
 use Rattle.lists.specs.Numbers.{range}
 use Rattle.lists.specs.Sequences.{concatMap}
-use Rattle.lists.proofs.Joins.{concat-range-snoc}
+use Rattle.lists.proofs.Joins.{concat-range-snoc, concat-split}
 use Rattle.frames.specs.Frame.{size}
 use Rattle.charts.specs.Chart.{Chart}
 use Rattle.little_search.specs.inner.Search.{nodeCount, nodeAt, barredNode, firstTried, past, searched}
 use Rattle.little_search.proofs.Alike.{SameFields, front-alike, barred-alike, first-alike, past-alike}
-use Rattle.little_search.proofs.Lists.{concat-split}
 use Rattle.little_search.proofs.Same.{first-low, past-within}
 use Rattle.little_seek.specs.declared.Sought.{Sought}
 use Rattle.little_seek.specs.inner.SeekContracts.{FewFrames, RecordPlaced, GivesSought}

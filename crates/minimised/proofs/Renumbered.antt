@@ -15,7 +15,6 @@ use Rattle.rows.specs.Rows.{bestRow, Found, found, missing, leads}
 use Rattle.state.specs.declared.State.{State}
 use Rattle.state.specs.State.{noPlaces, bottomAlone, labelAt, entryAt, placeAt}
 use Rattle.ticks.specs.Tick.{rowLeads}
-use Rattle.ticks.proofs.Leads.{Sort, homeSort, returnSort, numberedSort, sort}
 use Rattle.covering.proofs.Hits.{OneRow}
 use Rattle.grouping.specs.Classes.{classOf}
 use Rattle.grouping.proofs.Onward.{onwardLabel, best-found}
@@ -66,15 +65,6 @@ module _ (i : Image) (S : SoundImage i) (c : List ℕ) (R : ClassRound i c) wher
   one-same (suc (suc l)) h =
       ne-eqb (new (suc (suc l))) 1 (λ q. omega (arith, new-high i S c R (suc (suc l)) h (omega arith)))
       ∙ sym (ne-eqb (suc (suc l)) 1 (λ q. omega arith))
-
--- a label that is neither home nor return
-pub high : (i : Image) → SoundImage i → (l : ℕ) → l < length (i .labels) → labelAt i l .kind ≤ 2 → 2 ≤ l
-high i S l h k = go (sort i S l h)
-  where
-    go : Sort i S l → 2 ≤ l
-    go (homeSort z q o) = absurd (omega arith)
-    go (returnSort z q o) = absurd (omega arith)
-    go (numberedSort z q) = z
 
 -- ---- where a label leads
 abbrev pub renamedFound : List ℕ → Found → Found

@@ -21,7 +21,7 @@ use Rattle.fitness.specs.Fitness.{ofHandler}
 use Rattle.fitness.proofs.Fitness.{Fits}
 use Rattle.ticks.specs.Tick.{rowLeads, MachineTick, finished, stopped, moved, dropping, alone}
 use Rattle.ticks.specs.Tick.{opening, keepsFull, full, pushed, popped, tickBy, tick}
-use Rattle.ticks.proofs.Leads.{call-kind, carry-told}
+use Rattle.ticks.proofs.Leads.{call-kind, kind-high, carry-told}
 use Rattle.ticks.proofs.Keeps.{Keeps, tick-keeps}
 use Rattle.runs.specs.Run.{MachineRun, then, ticks}
 use Rattle.covering.proofs.Hits.{OneRow}
@@ -29,7 +29,7 @@ use Rattle.grouping.proofs.Rounds.{ClassRound}
 use Rattle.group_numbers.specs.Smaller.{renumbered, joinedLabels}
 use Rattle.group_numbers.proofs.Numbering.{new-zero, label-new}
 use Rattle.minimised.specs.Renamed.{renamed, renamedTick, renamedMachineRun}
-use Rattle.minimised.proofs.Renumbered.{map-set, same-handler, entry-at, place-new, only-new, high}
+use Rattle.minimised.proofs.Renumbered.{map-set, same-handler, entry-at, place-new, only-new}
 use Rattle.minimised.proofs.Renumbered.{renamedFound, GroupLeads, row-some, row-new}
 use Rattle.minimised.proofs.Fitting.{of-handler-new}
 
@@ -124,7 +124,7 @@ module _ (i : Image) (S : SoundImage i) (one : OneRow i) where
         let two : 1 < s .depth = leb-false (s .depth) 1 e in
         let k : ℕ = s .depth - 2 in
         let told = carry-told i S under (numberAt s (k + 1)) (serverAt s (k + 1)) (placeAt s (k + 1)) (f .carries k (omega arith)) in
-        high i S under (under-inside e) (call-kind i S under (told .0) .1)
+        kind-high i S under (under-inside e) (call-kind i S under (told .0) .1)
 
     -- ---- no tick misses a row
     moved-some : (m code : ℕ) (t : State) (k : ℕ) (g : Found) (u : ℕ) → g ≡ found u → Stops17 (moved m code t k g)
@@ -146,7 +146,7 @@ module _ (i : Image) (S : SoundImage i) (one : OneRow i) where
 
     some-by : (w : ℕ) (b : Results) (k : ℕ) → labelAt i top .kind ≡ k → Stops17 (tickBy i s w top (labelAt i top) b (tickKind k))
     some-by w b zero e = moved-some (labelAt i top .mask) 0 (withBits s b) (s .depth - 1) (rowLeads i b top w) _
-        (row-some i S one b top w (high i S top top-inside (omega arith)) top-inside)
+        (row-some i S one b top w (kind-high i S top top-inside (omega arith)) top-inside)
     some-by w b (suc zero) e = let h : ℕ = labelAt i top .called in
         pushed-some (labelAt i top .mask) (16 + h) h (served (s .serving) h) b (leb (s .size) (s .depth))
     some-by w b (suc (suc zero)) e = let h : ℕ = labelAt i top .called in
@@ -177,7 +177,7 @@ module _ (i : Image) (S : SoundImage i) (one : OneRow i) where
         let l : ℕ = top s f in
         let k : ℕ = s .depth - 1 in
         ap (moved (labelAt i l .mask) 0 (renamed c (withBits s b)) k)
-        (row-new i S one b l w (high i S l (top-inside s f) (omega arith)) (top-inside s f) c R leads)
+        (row-new i S one b l w (kind-high i S l (top-inside s f) (omega arith)) (top-inside s f) c R leads)
         ∙ moved-new i S c R (labelAt i l .mask) 0 (withBits s b) k (rowLeads i b l w)
     tick-by s f w b (suc zero) e = let h : ℕ = labelAt i (top s f) .called in
         pushed-new i S c R s (f .labels 0 (f .some)) (labelAt i (top s f) .mask) (16 + h)

@@ -1,36 +1,34 @@
 -- The smaller image joined again is itself.
-use Prim.Native.Nat.{ℕ, zero, suc, _+_, _/_, _≤_, _<_}
+use Prim.Native.Nat.{ℕ, _+_, _≤_, _<_}
 use mathlib.Core.Bool.{Bool, true, false}
-use mathlib.Core.Path.{_≡_, refl, sym, _∙_, ap, ap₂, subst}
-use mathlib.Core.List.{List, [], _∷_, map}
+use mathlib.Core.Path.{_≡_, sym, _∙_, ap, subst}
+use mathlib.Core.List.{List, map}
 use native.Mathlib.Nat.{zero-add}
 use native.Mathlib.Omega.{arith}
 use lib.Dec.{eqb}
-use lib.ListN.{length, getD, take}
+use lib.ListN.{length, getD}
 use borrow.Author.Tests.{eqb-true, eq-eqb}
 use Rattle.lists.specs.Pick.{pick}
 use Rattle.lists.specs.Numbers.{range, count}
-use Rattle.lists.specs.Sequences.{filter, over, All}
+use Rattle.lists.specs.Sequences.{filter}
 use Rattle.lists.proofs.Tests.{and-l}
 use Rattle.lists.proofs.Counts.{count-alike, count-all}
-use Rattle.lists.proofs.Ranges.{filter-yes, map-places}
-use Rattle.lists.proofs.Filters.{filter-none}
+use Rattle.lists.proofs.Ranges.{map-places}
+use Rattle.lists.proofs.Elements.{map-own, filter-own}
 use Rattle.lists.proofs.Joins.{all-places, all-of, all-range}
 use Rattle.frames.specs.Frame.{contents}
-use Rattle.frames.specs.Verdict.{Verdict, fine, next, when}
-use Rattle.frames.specs.Answer.{success, bufferOn}
+use Rattle.frames.specs.Verdict.{fine, next, when}
 use Rattle.frames.proofs.Verdicts.{next-first, next-rest, when-fine}
-use Rattle.frames.proofs.Lent.{lent-told, lent-fits, front}
-use Rattle.image.specs.Image.{Image, Row, imageText, noRow}
+use Rattle.image.specs.Image.{Image, Row, imageText, nthRow}
 use Rattle.image.specs.Decode.{decoded}
 use Rattle.image.specs.Check.{imageVerdict}
 use Rattle.image.specs.inner.Sound.{noLabel, SoundRow, SoundImage}
-use Rattle.image.proofs.Accepted.{image-sound}
 use Rattle.image.proofs.Passes.{image-fine}
 use Rattle.image.proofs.Decoded.{image-decoded}
 use Rattle.rows.specs.Rows.{matches, isCandidate}
 use Rattle.state.specs.State.{labelAt}
-use Rattle.covering.specs.Matched.{uneven, rowAt}
+use Rattle.covering.specs.Matched.{uneven}
+use Rattle.covering.proofs.Covered.{sound-rows}
 use Rattle.covering.proofs.Hits.{OneRow, one-row}
 use Rattle.grouping.specs.Rule.{Meets}
 use Rattle.grouping.specs.Classes.{classOf, isFirst, grouping}
@@ -38,19 +36,11 @@ use Rattle.grouping.proofs.Onward.{onwardLabel, onward-is}
 use Rattle.grouping.proofs.Rounds.{ClassRound, group-round, group-leads}
 use Rattle.grouping.proofs.Coarsest.{bit-of, within-grouping}
 use Rattle.group_numbers.specs.Smaller.{renumbered, renumberedRow, joinedLabels, smaller}
-use Rattle.minimising.specs.Entry.{minimiseVerdict, minimise}
+use Rattle.minimising.specs.Entry.{minimiseVerdict}
 use Rattle.group_numbers.proofs.Numbering.{new-inside, label-new, joined-sound}
 use Rattle.group_numbers.proofs.Led.{Member, member, one-new, even-new, onward-new}
 
 -- ---- an image in which each label is alone stays as it is
-map-own : {A : Type 0} (f : A → A) (xs : List A) → All (λ x. f x ≡ x) xs → map f xs ≡ xs
-map-own f [] a = refl
-map-own f (x ∷ xs) a = ap₂ (λ y ys. y ∷ ys) (a .0) (map-own f xs (a .1))
-
-filter-own : {A : Type 0} (p : A → Bool) (xs : List A) → All (λ x. p x ≡ true) xs → filter p xs ≡ xs
-filter-own p [] a = filter-none p
-filter-own p (x ∷ xs) a = filter-yes p x xs (a .0) ∙ ap (λ ys. x ∷ ys) (filter-own p xs (a .1))
-
 module _ (i : Image) (S : SoundImage i) (c : List ℕ) (alone : (l : ℕ) → l < length (i .labels) → classOf c l ≡ l) where
   abbrev n : ℕ
   n = length (i .labels)
@@ -61,9 +51,6 @@ module _ (i : Image) (S : SoundImage i) (c : List ℕ) (alone : (l : ℕ) → l 
   number-own : (l : ℕ) → l < n → renumbered c l ≡ l
   number-own l h = ap (λ (x : ℕ). count (isFirst c) 0 x) (alone l h)
       ∙ count-alike (λ _. true) (isFirst c) 0 l (λ k a b. first-own k (omega arith)) ∙ count-all 0 l
-
-  sound-rows : All (SoundRow i) (i .rows)
-  sound-rows = all-places (SoundRow i) noRow (i .rows) (S .each)
 
   row-own : (r : Row) → SoundRow i r → renumberedRow c r ≡ r
   row-own r x =
@@ -83,8 +70,8 @@ module _ (i : Image) (S : SoundImage i) (c : List ℕ) (alone : (l : ℕ) → l 
       ∙ map-places (labelAt i) noLabel (i .labels) 0 (λ k h. ap (labelAt i) (zero-add k)) in
       let r : map (renumberedRow c) (filter (λ r. isFirst c (r .from)) (i .rows)) ≡ i .rows =
       ap (map (renumberedRow c)) (filter-own (λ r. isFirst c (r .from)) (i .rows)
-      (all-of (SoundRow i) (λ r. isFirst c (r .from) ≡ true) (λ r x. first-own (r .from) (x .high)) (i .rows) sound-rows))
-      ∙ map-own (renumberedRow c) (i .rows) (all-of (SoundRow i) (λ r. renumberedRow c r ≡ r) row-own (i .rows) sound-rows) in
+      (all-of (SoundRow i) (λ r. isFirst c (r .from) ≡ true) (λ r x. first-own (r .from) (x .high)) (i .rows) (sound-rows i S)))
+      ∙ map-own (renumberedRow c) (i .rows) (all-of (SoundRow i) (λ r. renumberedRow c r ≡ r) row-own (i .rows) (sound-rows i S)) in
       λ j. record { handler = i .handler; entries = e j; labels = l j; rows = r j }
 
 -- ---- the labels of the smaller image are alone in their groups
@@ -120,15 +107,15 @@ module _ (i : Image) (S : SoundImage i) (even : uneven i ≡ false) where
   inside : (l : ℕ) → l < length (i .labels) → renumbered (grouping i) l < length (smaller i .labels)
   inside = new-inside i S (grouping i) R
 
-  module _ (l w b k : ℕ) (h : k < length (i .rows)) (own : isCandidate l w b (rowAt i k) ≡ true) where
-    from-is : rowAt i k .from ≡ l
-    from-is = eqb-true (rowAt i k .from) l (and-l (eqb (rowAt i k .from) l) (matches w b (rowAt i k)) own)
+  module _ (l w b k : ℕ) (h : k < length (i .rows)) (own : isCandidate l w b (nthRow i k) ≡ true) where
+    from-is : nthRow i k .from ≡ l
+    from-is = eqb-true (nthRow i k .from) l (and-l (eqb (nthRow i k .from) l) (matches w b (nthRow i k)) own)
 
-    next-whole : (t : Bool) → pick t 1 0 ≡ b → whole (rowAt i k .next) ≡ classOf d (onwardLabel (smaller i) (renumbered c l) w t)
+    next-whole : (t : Bool) → pick t 1 0 ≡ b → whole (nthRow i k .next) ≡ classOf d (onwardLabel (smaller i) (renumbered c l) w t)
     next-whole t q =
         let low : 2 ≤ l = omega (arith, S .each k h .low, from-is) in
         let high : l < length (i .labels) = omega (arith, S .each k h .high, from-is) in
-        ap whole (sym (onward-is i S one l w t low high k h (subst (λ (x : ℕ). isCandidate l w x (rowAt i k) ≡ true) (sym q) own)))
+        ap whole (sym (onward-is i S one l w t low high k h (subst (λ (x : ℕ). isCandidate l w x (nthRow i k) ≡ true) (sym q) own)))
         ∙ ap (classOf d) (sym (onward-new i S (grouping i) R one (group-leads i S one) l w t low high))
 
   whole-meets : Meets i whole

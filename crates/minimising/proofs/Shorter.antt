@@ -4,8 +4,7 @@ use mathlib.Core.Bool.{false}
 use mathlib.Core.Path.{_≡_, _∙_, ap}
 use mathlib.Core.List.{List}
 use native.Mathlib.Omega.{arith}
-use lib.ListN.{length, length-map}
-use Rattle.lists.specs.Sequences.{filter}
+use lib.ListN.{length}
 use Rattle.lists.proofs.Counts.{count-le}
 use Rattle.frames.specs.Frame.{contents}
 use Rattle.frames.specs.Verdict.{Verdict, fine}
@@ -13,7 +12,7 @@ use Rattle.frames.specs.Answer.{success, BufferOutcome, bufferOn}
 use Rattle.frames.proofs.Contents.{any-contents-length}
 use Rattle.frames.proofs.Texts.{text-length}
 use Rattle.frames.proofs.Lent.{lent-told, lent-fits}
-use Rattle.image.specs.Image.{Image, Row, imageFrames, imageText}
+use Rattle.image.specs.Image.{Image, imageFrames, imageText}
 use Rattle.image.specs.Decode.{decoded}
 use Rattle.image.specs.Check.{imageVerdict}
 use Rattle.image.specs.inner.Sound.{SoundImage}
@@ -25,9 +24,8 @@ use Rattle.grouping.specs.Rule.{Grouping, Meets, groups}
 use Rattle.grouping.specs.Classes.{isFirst, grouping}
 use Rattle.grouping.proofs.Rounds.{ClassRound, group-round}
 use Rattle.grouping.proofs.Coarsest.{groups-counted, even-fewest}
-use Rattle.group_numbers.specs.Smaller.{renumberedRow, joinedLabels, smaller}
+use Rattle.group_numbers.specs.Smaller.{smaller}
 use Rattle.group_numbers.proofs.Numbering as numbered
-use Rattle.group_numbers.proofs.Numbering.{length-filtered}
 use Rattle.minimising.specs.Entry.{minimiseVerdict, minimise}
 use Rattle.minimising.proofs.Again.{smaller-sound, AllowedImage, minimise-allowed}
 
@@ -39,14 +37,6 @@ module _ (i : Image) (S : SoundImage i) (even : uneven i ≡ false) where
   fewest-labels g m =
       omega (arith, numbered.labels-count i S (grouping i) rounds, groups-counted i S (one-row i S even), even-fewest i S even g m)
 
-  rows-fewer : length (smaller i .rows) ≤ length (i .rows)
-  unfolding joinedLabels
-  rows-fewer = omega (
-    arith,
-    length-map (filter (λ r. isFirst (grouping i) (r .from)) (i .rows)) (renumberedRow (grouping i)),
-    length-filtered (λ (r : Row). isFirst (grouping i) (r .from)) (i .rows),
-  )
-
   pub text-shorter : length (imageText (smaller i)) ≤ 23 * length (imageFrames i)
   unfolding imageText
   text-shorter = omega (
@@ -57,7 +47,7 @@ module _ (i : Image) (S : SoundImage i) (even : uneven i ≡ false) where
     numbered.entries-count i S (grouping i) rounds,
     numbered.labels-count i S (grouping i) rounds,
     count-le (isFirst (grouping i)) 0 (length (i .labels)),
-    rows-fewer,
+    numbered.rows-fewer i S (grouping i) rounds,
   )
 
 -- an accepted text has a frame for each part of its image

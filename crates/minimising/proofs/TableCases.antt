@@ -2,15 +2,14 @@
 use Prim.Native.Nat.{ℕ, _+_, _-_, _*_, _≤_, _<_}
 use mathlib.Core.Path.{_≡_, refl, sym, _∙_, ap, ap₂, subst}
 use mathlib.Core.Bool.{Bool, true, false}
-use mathlib.Core.List.{List, [], _∷_, map}
+use mathlib.Core.List.{List, map}
 use native.Mathlib.Omega.{arith}
 use lib.Dec.{eqb}
 use lib.ListN.{length, getD}
 use Rattle.lists.specs.Numbers.{range, count}
-use Rattle.lists.specs.Sequences.{filter, written, All}
+use Rattle.lists.specs.Sequences.{filter, written}
 use Rattle.lists.proofs.Counts.{count-alike}
-use Rattle.lists.proofs.Ranges.{filter-yes, filter-no}
-use Rattle.lists.proofs.Filters.{filter-none}
+use Rattle.lists.proofs.Elements.{map-all, filter-all}
 use Rattle.lists.proofs.Joins.{all-places, all-of, all-filter, all-range}
 use Rattle.lists.proofs.Written.{written-front}
 use Rattle.frames.specs.Frame.{size, field}
@@ -21,35 +20,24 @@ use Rattle.frames.specs.declared.Answer.the-variants.{Done, Refused}
 use Rattle.frames.proofs.Chains.{when-holds, when-fails}
 use Rattle.frames.proofs.Lent.{lent-refused, lent-short, lent-done}
 use Rattle.frames.proofs.Texts.{text-length}
-use Rattle.image.specs.Image.{Image, Row, imageFrames, imageText, noRow}
+use Rattle.image.specs.Image.{Image, Row, imageFrames, imageText}
 use Rattle.image.specs.Decode.{schemeCount, lastLabel, rowCount, rowsFrom, decoded}
 use Rattle.image.specs.inner.Sound.{SoundRow, SoundImage}
 use Rattle.image.proofs.Written.{frames-length, image-frames}
 use Rattle.image.proofs.Accepted.{entries-count, labels-count}
 use Rattle.state.specs.State.{labelAt}
 use Rattle.covering.specs.Matched.{uneven}
+use Rattle.covering.proofs.Covered.{sound-rows}
 use Rattle.covering.proofs.Hits.{one-row}
 use Rattle.grouping.specs.Classes.{classOf, isFirst, grouping}
 use Rattle.grouping.proofs.Rounds.{ClassRound, group-round}
 use Rattle.group_numbers.specs.Smaller.{renumbered, renumberedRow, joinedLabels, smaller}
 use Rattle.group_numbers.specs.inner.NumberContracts.{LowestOfClass, GroupNumbers}
-use Rattle.group_text.specs.inner.Pieces.{groupsIn, rowsKept, allPieces}
-use Rattle.group_text.specs.inner.TextContracts.{NumberedGroups}
+use Rattle.group_pieces.specs.inner.Pieces.{groupsIn, rowsKept, allPieces}
+use Rattle.group_pieces.specs.inner.TextContracts.{NumberedGroups}
 use Rattle.group_text.proofs.PieceLaws.{groups-are, rows-are, entries-are, pieces-are}
 use Rattle.minimising.specs.inner.MinimisingContracts.{Grouped, smallerOutcome}
 use Rattle.minimising.proofs.Again.{smaller-sound}
-
-map-all : {A B : Type 0} (f g : A → B) (xs : List A) → All (λ x. f x ≡ g x) xs → map f xs ≡ map g xs
-map-all f g [] a = refl
-map-all f g (x ∷ xs) a = ap₂ (λ y ys. y ∷ ys) (a .0) (map-all f g xs (a .1))
-
-filter-all : {A : Type 0} (p q : A → Bool) (xs : List A) → All (λ x. p x ≡ q x) xs → filter p xs ≡ filter q xs
-filter-all p q [] a = filter-none p ∙ sym (filter-none q)
-filter-all p q (x ∷ xs) a = go (p x) refl (filter-all p q xs (a .1))
-  where
-    go : (t : Bool) → p x ≡ t → filter p xs ≡ filter q xs → filter p (x ∷ xs) ≡ filter q (x ∷ xs)
-    go true e ih = filter-yes p x xs e ∙ ap (λ ys. x ∷ ys) ih ∙ sym (filter-yes q x xs (sym (a .0) ∙ e))
-    go false e ih = filter-no p x xs e ∙ ih ∙ sym (filter-no q x xs (sym (a .0) ∙ e))
 
 -- ---- write_groups
 -- what is counted before anything is written
@@ -101,9 +89,6 @@ module _ (b buffer : List ℕ) (G : Grouped b buffer) where
       let q : renumbered buffer (r .next) ≡ renumbered c (r .next) = number-same (r .next) (x .0 .leading .inside) in
       λ j. record { from = p j; care = r .care; values = r .values; bit = r .bit; next = q j }
 
-  sound-rows : All (SoundRow i) (i .rows)
-  sound-rows = all-places (SoundRow i) noRow (i .rows) (S .each)
-
   joined-same : joinedLabels i buffer ≡ smaller i
   unfolding joinedLabels
   joined-same =
@@ -118,11 +103,11 @@ module _ (b buffer : List ℕ) (G : Grouped b buffer) where
       (renumberedRow c) (filter (λ r. isFirst c (r .from)) (i .rows)) =
       ap (map (renumberedRow buffer)) (filter-all (λ r. isFirst buffer (r .from)) (λ r. isFirst c (r .from)) (i .rows)
       (all-of (SoundRow i) (λ r. isFirst buffer (r .from) ≡ isFirst c (r .from))
-      (λ r s. first-same (r .from) (s .high)) (i .rows) sound-rows))
+      (λ r s. first-same (r .from) (s .high)) (i .rows) (sound-rows i S)))
       ∙ map-all (renumberedRow buffer) (renumberedRow c) (filter (λ r. isFirst c (r .from)) (i .rows))
       (all-of (λ r. SoundRow i r × (isFirst c (r .from) ≡ true)) (λ r. renumberedRow buffer r ≡ renumberedRow c r)
       row-same (filter (λ r. isFirst c (r .from)) (i .rows))
-      (all-filter (SoundRow i) (λ r. isFirst c (r .from)) (i .rows) sound-rows)) in
+      (all-filter (SoundRow i) (λ r. isFirst c (r .from)) (i .rows) (sound-rows i S))) in
       λ j. record { handler = i .handler; entries = e j; labels = l j; rows = r j }
 
   sound : SoundImage (joinedLabels i buffer)

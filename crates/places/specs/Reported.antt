@@ -2,6 +2,7 @@
 use Prim.Native.Nat.{ℕ, _≤_}
 use mathlib.Core.Path.{_≡_}
 use mathlib.Core.List.{List}
+use Rattle.frames.specs.Sizes.{SCHEMES}
 use Rattle.frames.specs.Refusals.{CALLS-ITSELF}
 use Rattle.frames.specs.Frame.{contents}
 use Rattle.frames.specs.Verdict.{fine}
@@ -13,6 +14,6 @@ use Rattle.places.specs.Entry.{placesNeeded}
 -- success tells the number of schemes of the longest chain; 20 tells of a circle, and of each where nothing else refuses
 pub record Reported (text : List ℕ) : Type 0 where
   pub longest : (n : ℕ) → placesNeeded text ≡ success n → Longest (contents text) n
-  pub few : (n : ℕ) → placesNeeded text ≡ success n → (1 ≤ n) × (n ≤ 16)
+  pub few : (n : ℕ) → placesNeeded text ≡ success n → (1 ≤ n) × (n ≤ SCHEMES)
   pub circle : placesNeeded text ≡ refusal CALLS-ITSELF 0 0 → Circle (contents text)
   pub refused : translateVerdict text ≡ fine → Circle (contents text) → placesNeeded text ≡ refusal CALLS-ITSELF 0 0

@@ -27,13 +27,14 @@ use Rattle.fitness.specs.Fitness.{unfit}
 use Rattle.runs.specs.Run.{MachineRun, ticks, RunOutcome, noRoom, runVerdict, runOn, run}
 use Rattle.runs.specs.InPlace.{bytesAfter, GivesRunOn}
 use Rattle.runs.proofs.RunCases.{keptRun}
+use Rattle.runs.proofs.RunCounts.{run-count}
 use Rattle.machine.proofs.Held.{run-held}
 use Rattle.prices.specs.Prices.{price}
 use Rattle.priced_runs.specs.declared.PricedReport.{PricedReport}
 use Rattle.priced_runs.specs.PricedRun.{tooManyWords, inTurn, pricedVerdict, manyVerdict}
 use Rattle.priced_runs.specs.PricedRun.{PricedOutcome, priceOn, pricedRun, GivesPricedRun}
 use Rattle.priced_runs.specs.InPlace.{bytesPriced, GivesPricedRunOn}
-use Rattle.priced_runs.proofs.Pricing.{does-all, run-count, by-the-masks}
+use Rattle.priced_runs.proofs.Pricing.{does-all, by-the-masks}
 
 -- ---- more words than are priced
 -- what is tried before 27, and with it

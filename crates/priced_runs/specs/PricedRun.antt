@@ -5,6 +5,7 @@ use mathlib.Core.Path.{_≡_}
 use mathlib.Core.List.{List}
 use lib.Dec.{ltb}
 use lib.ListN.{length}
+use Rattle.frames.specs.Sizes.{WORDS}
 use Rattle.frames.specs.Refusals.{UNFIT, NO-ROOM, MANY-WORDS}
 use Rattle.frames.specs.Frame.{contents}
 use Rattle.frames.specs.Verdict.{Verdict, fine, refused, next, when}
@@ -19,7 +20,7 @@ use Rattle.priced_runs.specs.declared.PricedStateReport.{PricedStateRepo
 
 -- more words than are priced
 abbrev pub tooManyWords : List ℕ → Bool
-tooManyWords words = ltb 65536 (length words)
+tooManyWords words = ltb WORDS (length words)
 
 -- what a run tries before 16, then 27, then 16
 abbrev pub inTurn : Verdict → Bool → Bool → Bool → Verdict

@@ -6,12 +6,10 @@ use machine::run_bytes;
 use prices::price_of;
 use state::State;
 use state::layout::STATE_BYTES;
-use state_bytes::bytes_of;
-use state_bytes::state_of;
 ghost use mathlib.Core.Path.{_≡_};
 ghost use Rattle.frames.specs.Answer.{reply, replyCount, judged};
 ghost use Rattle.state.specs.Bytes.{stateOf};
-ghost use Rattle.priced_runs.specs.PricedRun.{manyVerdict, pricedRun, GivesPricedRun};
+ghost use Rattle.priced_runs.specs.PricedRun.{manyVerdict, pricedRun};
 ghost use Rattle.priced_runs.specs.InPlace.{GivesPricedRunOn};
 
 // What a run on the bytes of a state answers, and its price in cents: 0 with every refusal but 17 and 18.
@@ -78,29 +76,4 @@ pub fn priced_run_bytes(
     let n = count_of(answer);
     let price = price_of(prices, &masks[..n]);
     PricedReport { answer, price }
-}
-
-// The same on a state that is taken and handed back.
-pub fn priced_run(
-    image: &[u8],
-    state: State,
-    prices: &[u16; 32],
-    words: &[u16],
-    masks: &mut [u32],
-    codes: &mut [u8],
-) -> PricedStateReport
-    ensures { λ r. ⌜ GivesPricedRun
-        (pricedRun (now (image .entry)) state (now (prices .entry)) (now (words .entry)) (now (masks .entry)) (now (codes .entry)))
-        r (now (masks .exit)) (now (codes .exit)) ⌝ }
-{
-    let mut bytes = bytes_of(state);
-    let done = priced_run_bytes(image, &mut bytes, prices, words, masks, codes);
-    let answer = done.answer;
-    let price = done.price;
-    let after = state_of(bytes);
-    PricedStateReport {
-        answer,
-        state: after,
-        price,
-    }
 }

@@ -3,37 +3,23 @@ use Prim.Native.Nat.{ℕ, zero, suc, _+_, _*_, _-_, _/_, _%_, _^_, _≤_, _<_}
 use mathlib.Core.Path.{_≡_, refl, sym, _∙_, ap, ap₂}
 use mathlib.Core.List.{List}
 use native.Mathlib.Nat.{pow-suc, zero-mul, one-mul}
-use native.Mathlib.Numerals.{one-add}
 use native.Mathlib.Omega.{arith}
 use lib.Arith.{lt-one}
 use lib.Bits.{bitAnd, and-step, and-self, and-le-r}
 use lib.Count.{trailingZeros, under}
 use lib.ListN.{getD}
-use lib.Pow.{shr-shr}
 use Rattle.lists.specs.Numbers.{sum}
 use Rattle.lists.proofs.Searches.{sum-shift}
 use Rattle.bits.specs.Word.{bit}
+use Rattle.lists.proofs.Sums.{sum-same, sum-zero}
 use Rattle.bits.proofs.BitLaws.{bit-zero, bit-none}
+use Rattle.bits.proofs.MaskLaws.{bit-suc}
 use Rattle.prices.specs.Prices.{tickPrice}
 use Rattle.prices.proofs.Sums.{tick-most}
-
--- ---- sums
-sum-same : (f g : ℕ → ℕ) → ((k : ℕ) → f k ≡ g k) → (i n : ℕ) → sum f i n ≡ sum g i n
-unfolding sum
-sum-same f g e i zero = refl
-sum-same f g e i (suc n) = ap₂ _+_ (e i) (sum-same f g e (suc i) n)
-
-sum-none : (f : ℕ → ℕ) → ((k : ℕ) → f k ≡ 0) → (i n : ℕ) → sum f i n ≡ 0
-unfolding sum
-sum-none f e i zero = refl
-sum-none f e i (suc n) = omega (arith, e i, sum-none f e (suc i) n)
 
 -- ---- the lowest k bits of n, each at its price
 abbrev costs : (ℕ → ℕ) → ℕ → ℕ → ℕ
 costs g k n = sum (λ j. bit n j * g j) 0 k
-
-bit-next : (n j : ℕ) → bit n (suc j) ≡ bit (n / 2) j
-bit-next n j = ap (λ (x : ℕ). bit n x) (sym (one-add j)) ∙ sym (ap (λ (x : ℕ). x % 2) (shr-shr n 1 j))
 
 -- bit 0, and the bits above it
 costs-step : (g : ℕ → ℕ) (k n : ℕ) → costs g (suc k) n ≡ n % 2 * g 0 + costs (λ j. g (suc j)) k (n / 2)
@@ -41,7 +27,8 @@ unfolding sum
 costs-step g k n =
     ap₂ (λ (x y : ℕ). x * g 0 + y) (bit-zero n)
     (sum-shift (λ j. bit n j * g j) 0 k
-    ∙ sum-same (λ j. bit n (suc j) * g (suc j)) (λ j. bit (n / 2) j * g (suc j)) (λ j. ap (λ (x : ℕ). x * g (suc j)) (bit-next n j)) 0 k)
+    ∙ sum-same (λ j. bit n (suc j) * g (suc j)) (λ j. bit (n / 2) j * g (suc j)) 0 k
+    (λ j a b. ap (λ (x : ℕ). x * g (suc j)) (bit-suc n j)))
 
 costs-even : (g : ℕ → ℕ) (k n m : ℕ) → n % 2 ≡ 0 → n / 2 ≡ m → costs g (suc k) n ≡ costs (λ j. g (suc j)) k m
 costs-even g k n m e h =
@@ -55,7 +42,8 @@ costs-odd g k n e = costs-step g k n ∙ ap (λ (x : ℕ). x * g 0 + costs (λ j
 tick-none : (prices : List ℕ) → tickPrice prices 0 ≡ 0
 unfolding tickPrice
 tick-none prices =
-    sum-none (λ j. bit 0 j * getD prices j 0) (λ j. ap (λ (x : ℕ). x * getD prices j 0) (bit-none j) ∙ zero-mul (getD prices j 0)) 0 32
+    sum-zero (λ j. bit 0 j * getD prices j 0) 0 32
+    (λ j a b. ap (λ (x : ℕ). x * getD prices j 0) (bit-none j) ∙ zero-mul (getD prices j 0))
 
 -- n without its lowest set bit
 abbrev pub less : ℕ → ℕ

@@ -2,12 +2,12 @@
 use Prim.Native.Nat.{ℕ, zero, suc, _+_, _*_, _≤_, _<_}
 use mathlib.Core.Path.{_≡_, refl, _∙_, ap}
 use mathlib.Core.List.{List, [], _∷_}
-use native.Mathlib.Nat.{mul-le-mul-right, one-mul, suc-mul}
+use native.Mathlib.Nat.{mul-le-mul-right, one-mul}
 use native.Mathlib.Numerals.{add-one}
 use native.Mathlib.Omega.{arith}
 use lib.ListN.{length, getD, take, length-take}
 use lib.Seq.{take-all}
-use Rattle.lists.specs.Numbers.{sum}
+use Rattle.lists.proofs.Sums.{sum-most}
 use Rattle.bits.specs.Word.{bit}
 use Rattle.prices.specs.Prices.{tickPrice, hundredths}
 
@@ -19,11 +19,6 @@ hundredths-next prices [] i l = absurd (omega arith)
 hundredths-next prices (m ∷ masks) zero l = omega arith
 hundredths-next prices (m ∷ masks) (suc i) l = omega (arith, hundredths-next prices masks i (omega arith))
 
-sum-most : (f : ℕ → ℕ) (b i n : ℕ) → ((k : ℕ) → f k ≤ b) → sum f i n ≤ n * b
-unfolding sum
-sum-most f b i zero h = omega arith
-sum-most f b i (suc n) h = omega (arith, h i, sum-most f b (suc i) n h, suc-mul n b)
-
 -- prices of 0 to 65,535
 module _ (prices : List ℕ) (small : (j : ℕ) → getD prices j 0 ≤ 65535) where
   one-bit : (m j : ℕ) → bit m j * getD prices j 0 ≤ 65535
@@ -34,7 +29,7 @@ module _ (prices : List ℕ) (small : (j : ℕ) → getD prices j 0 ≤ 65535) w
 
   pub tick-most : (m : ℕ) → tickPrice prices m ≤ 2097120
   unfolding tickPrice
-  tick-most m = sum-most (λ j. bit m j * getD prices j 0) 65535 0 32 (one-bit m)
+  tick-most m = sum-most (λ j. bit m j * getD prices j 0) 65535 0 32 (λ j a b. one-bit m j)
 
   pub hundredths-most : (masks : List ℕ) → hundredths prices masks ≤ 2097120 * length masks
   unfolding hundredths

@@ -13,7 +13,7 @@ use Rattle.frames.specs.Frame.{byteAt, frameCount, contents}
 use Rattle.frames.specs.Check.{badLength}
 use Rattle.frames.specs.inner.Read.{readInto}
 use Rattle.frames.proofs.Contents.{length-told}
-use Rattle.reading.specs.inner.Reads.{storedOf}
+use Rattle.frame_reading.specs.inner.FrameReads.{storedOf}
 
 map-concat : (g : ℕ → ℕ) (f : ℕ → List ℕ) (xs : List ℕ) → map g (concatMap f xs) ≡ concatMap (λ x. map g (f x)) xs
 unfolding concatMap

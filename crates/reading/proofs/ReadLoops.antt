@@ -1,48 +1,21 @@
 -- The loop that reads a text: its frames from the last one down.
-use mathlib.Core.Path.{_≡_, refl, sym, _∙_, ap, ap₂}
-use mathlib.Core.Logic.{_⊎_, inl, inr}
-use mathlib.Core.Bool.{Bool, true, false}
-use mathlib.Core.List.{List, _++_, append-assoc}
+use mathlib.Core.Path.{_≡_, refl, sym, _∙_, ap}
+use mathlib.Core.Bool.{Bool}
+use mathlib.Core.List.{List, _++_}
 use Prim.Native.Nat.{ℕ, suc, _+_, _-_, _*_, _≤_, _<_}
 use native.Mathlib.Nat.{sub-zero}
 use native.Mathlib.Omega.{arith}
-use lib.ListN.{length, take, drop, length-append, length-take}
-use lib.Seq.{take-append-le, take-take, drop-at, length-take-le}
+use lib.ListN.{length}
 use Rattle.lists.specs.Pick.{pick}
 use Rattle.lists.specs.Numbers.{range, lowest}
 use Rattle.lists.specs.Sequences.{concatMap, written}
-use Rattle.lists.proofs.Tests.{cases, yes-pick, no-pick}
-use Rattle.lists.proofs.Searches.{lowest-here, lowest-on, lowest-over}
+use Rattle.lists.proofs.Searches.{lowest-over, lowest-below}
 use Rattle.lists.proofs.Joins.{concat-cons}
-use Rattle.lists.proofs.Written.{written-none, written-front}
+use Rattle.lists.proofs.Written.{written-none, written-front, written-before}
 use Rattle.frames.specs.Check.{badForm, badSum}
-use Rattle.reading.specs.inner.Reads.{storedOf, FrameRead, FramesRead}
-use Rattle.reading.specs.declared.Faults.{Faults}
-
--- a run written in front of another
-pub written-before : (out : List ℕ) (at : ℕ) (vs ws : List ℕ) (place : ℕ) → place ≡ at + length vs → place ≤ length out
-    → written (written out place ws) at vs ≡ written out at (vs ++ ws)
-unfolding written
-written-before out at vs ws place p room =
-    let rest : List ℕ = ws ++ drop (place + length ws) out in
-    let front : take at (take place out ++ rest) ≡ take at out =
-    take-append-le at (take place out) rest (simp length-take (omega arith)) ∙ take-take at place out (omega arith) in
-    let back : drop (at + length vs) (take place out ++ rest) ≡ rest =
-    drop-at (take place out) rest (at + length vs) (length-take-le place out room ∙ p) in
-    let n : place + length ws ≡ at + length (vs ++ ws) = simp length-append (omega arith) in
-    ap₂ (λ (xs ys : List ℕ). xs ++ (vs ++ ys)) front back
-    ∙ ap (λ (xs : List ℕ). take at out ++ xs) (sym (append-assoc vs ws (drop (place + length ws) out)))
-    ∙ ap (λ (k : ℕ). take at out ++ ((vs ++ ws) ++ drop k out)) n
-
--- the lowest where the number before the others is tried too
-lowest-before : (p : ℕ → Bool) (n f r : ℕ) → 0 < f → f ≤ n → r ≡ lowest p f (n - f)
-    → pick (p (f - 1)) (f - 1) r ≡ lowest p (f - 1) (n - (f - 1))
-lowest-before p n f r some low e = go (cases (p (f - 1)))
-  where
-    go : (p (f - 1) ≡ true) ⊎ (p (f - 1) ≡ false) → pick (p (f - 1)) (f - 1) r ≡ lowest p (f - 1) (n - (f - 1))
-    go (inl h) = yes-pick (p (f - 1)) (f - 1) r h ∙ sym (lowest-here p n (f - 1) (omega arith) h)
-    go (inr h) =
-        no-pick (p (f - 1)) (f - 1) r h ∙ e ∙ ap (λ (j : ℕ). lowest p j (n - j)) (omega arith) ∙ sym (lowest-on p n (f - 1) (omega arith) h)
+use Rattle.frame_reading.specs.inner.FrameReads.{storedOf, FrameRead}
+use Rattle.reading.specs.inner.Reads.{FramesRead}
+use Rattle.frame_reading.specs.declared.Faults.{Faults}
 
 stored-before : (t : List ℕ) (n f : ℕ) → 0 < f → f ≤ n
     → concatMap (storedOf t) (range (f - 1) (n - (f - 1))) ≡ storedOf t (f - 1) ++ concatMap (storedOf t) (range f (n - f))
@@ -80,8 +53,8 @@ module _ (t out₀ out : List ℕ) (n f bad wrong : ℕ) (done : Frames t out₀
       let place : 10 * f ≡ 10 * (f - 1) + length (storedOf t (f - 1)) = omega arith in
       record {
         low = omega (arith, done .low);
-        form = x ∙ ap (λ (c : Bool). pick c (f - 1) bad) (read .form) ∙ lowest-before (badForm t) n f bad some (done .low) (done .form);
-        sum = y ∙ ap (λ (c : Bool). pick c (f - 1) wrong) (read .sum) ∙ lowest-before (badSum t) n f wrong some (done .low) (done .sum);
+        form = x ∙ ap (λ (c : Bool). pick c (f - 1) bad) (read .form) ∙ lowest-below (badForm t) n f bad some (done .low) (done .form);
+        sum = y ∙ ap (λ (c : Bool). pick c (f - 1) wrong) (read .sum) ∙ lowest-below (badSum t) n f wrong some (done .low) (done .sum);
         size = s ∙ done .size;
         buffer = read .buffer ∙ ap (λ (o : List ℕ). written o (10 * (f - 1)) (storedOf t (f - 1))) (done .buffer)
             ∙ written-before out₀ (10 * (f - 1)) (storedOf t (f - 1)) (concatMap (storedOf t) (range f (n - f)))

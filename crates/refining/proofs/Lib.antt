@@ -1,2 +1,1 @@
-pub mod SameCases
 pub mod GroupSteps

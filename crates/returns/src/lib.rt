@@ -1,6 +1,7 @@
 // The tick of a return, in place.
 use frames::codes::RETURN_CODE;
 use image::layout::NO_BIT;
+use image::layout::NO_LABEL;
 use rows::next_row;
 use state::layout::STATE_BYTES;
 use state_places::depth_of;
@@ -21,7 +22,7 @@ ghost use Rattle.state.specs.Bytes.{stateOf};
 ghost use Rattle.ticks.specs.inner.TickContracts.{Header, TopReturn, TopBack, beneath, GivesTickEnd};
 ghost use Rattle.ticks.specs.inner.TickContracts.{GivesTickMove};
 
-// Where the label beneath the top leads, or 256 where no row of it matches. The search where no bit decides is compiled by itself.
+// Where the label beneath the top leads, or NO_LABEL where no row of it matches. The search where no bit decides is compiled by itself.
 fn next_beneath(table: &[u8], schemes: u8, last: u8, bytes: &[u8; STATE_BYTES], word: u16) -> u16
     requires { ⌜ TopBack (now table) (stateOf (now bytes)) ⌝ }
     requires { ⌜ Header (now table) schemes last ⌝ }
@@ -29,10 +30,10 @@ fn next_beneath(table: &[u8], schemes: u8, last: u8, bytes: &[u8; STATE_BYTES], 
 {
     let l = place_of(bytes, (depth_of(bytes) as usize) - 2);
     if l < 2 {
-        return 256;
+        return NO_LABEL;
     }
     if last < l {
-        return 256;
+        return NO_LABEL;
     }
     let label = label_read(table, schemes, l as usize);
     let bit = bit_of(bytes, label.kind, label.called);
@@ -65,7 +66,7 @@ pub fn tick_back(
         return TickMove { step, label: 0 };
     }
     let next = next_beneath(table, schemes, last, bytes, word);
-    if 256 <= next {
+    if NO_LABEL <= next {
         let step = no_row();
         return TickMove { step, label: 1 };
     }

@@ -20,7 +20,7 @@ use borrow.Author.Tests.{eqb-true, eq-eqb, ne-eqb}
 use Rattle.lists.specs.Pick.{pick}
 use Rattle.lists.specs.Numbers.{count}
 use Rattle.lists.proofs.Counts.{count-suc, count-within, count-less}
-use Rattle.lists.proofs.Tests.{and-l, and-r, and-true, yes-pick, no-pick}
+use Rattle.lists.proofs.Tests.{and-l, and-r, and-true, and-no, yes-pick, no-pick}
 use Rattle.bits.specs.Word.{bit}
 use Rattle.bits.proofs.BitLaws.{bit-or, bit-pow-same, bit-add-same, bit-add-other, bit-cases}
 use Rattle.frames.specs.Frame.{size}
@@ -31,8 +31,7 @@ use Rattle.walk.proofs.Follow.{goes-on, taken-by}
 use Rattle.image.specs.Image.{Row}
 use Rattle.chart_labels.specs.inner.ChartContracts.{Ready}
 use Rattle.chart_labels.proofs.ReadyLaws.{ready-sound}
-use Rattle.chart_rows.specs.Rows.{paths}
-use Rattle.chart_rows.specs.inner.NodeRows.{testedNumber, untested}
+use Rattle.chart_rows.specs.inner.NodeRows.{pathsFrom, testedNumber, untested}
 use Rattle.chart_rows.specs.inner.PathContracts.{NotedAt, Entered, FewPaths, Masked}
 use Rattle.chart_rows.proofs.PathSteps.{entered0, entered1, at-stop, at-known, at-new}
 use Rattle.chart_rows.proofs.NumberLaws.{small-number, high-stops, low-condition, low-goes, low-number}
@@ -58,11 +57,7 @@ module _ (m n : ℕ) (w : MaskWithin m n) where
       (and-true (eqb (bit n i) 1) (eqb (bit care i) 0) (eq-eqb (bit n i) 1 one) (eq-eqb (bit care i) 0 z))
     where
       here : free m (care + 2 ^ i) i ≡ false
-      here = ap (λ (x : ℕ). eqb (bit m i) 1 && eqb x 0) (bit-add-same care i z) ∙ nothing (eqb (bit m i) 1)
-        where
-          nothing : (b : Bool) → (b && false) ≡ false
-          nothing true = refl
-          nothing false = refl
+      here = ap (λ (x : ℕ). eqb (bit m i) 1 && eqb x 0) (bit-add-same care i z) ∙ and-no (eqb (bit m i) 1) false refl
 
       go : (k : ℕ) → free m (care + 2 ^ i) k ≡ true → Dec (i ≡ k) → free n care k ≡ true
       go k e (yes q) =
@@ -118,7 +113,7 @@ count-values m h =
 -- ---- the paths on from a node
 module _ (c : Chart) (ready : Ready c) where
   abbrev P : ℕ → ℕ → ℕ → ℕ → ℕ → List Row
-  P l f care values v = paths (size c) c l f care values v
+  P l f care values v = pathsFrom (size c) c l f care values v
 
   pub few-stop : (v m : ℕ) → Entered c v → stops c v ≡ true → FewPaths c v m
   few-stop v m t s = record {
@@ -225,21 +220,13 @@ pub record Masking (c : Chart) (old masks : List ℕ) (v : ℕ) : Type 0 where
   pub size : length masks ≡ length old
   pub masked : Masked c masks
 
-pub masking-on : (c : Chart) (old masks : List ℕ) (v : ℕ) → Masking c old masks v → 0 < v
-    → (x : ℕ) → (Entered c (v - 1) → FewPaths c (v - 1) x)
-    → Masking c old (set masks (v - 1) x) (v - 1)
-masking-on c old masks v t l x f = record {
-  within = omega (arith, t .within);
-  size = length-set masks (v - 1) x ∙ t .size;
-  masked = masked-set c masks (v - 1) x (t .masked) (omega (arith, t .within)) f;
-}
-
-pub masking-up : (c : Chart) (old masks : List ℕ) (v : ℕ) → Masking c old masks v → v < size c → (x : ℕ) → (Entered c v → FewPaths c v x)
-    → Masking c old (set masks v x) (v + 1)
-masking-up c old masks v t l x f = record {
-  within = omega arith;
-  size = length-set masks v x ∙ t .size;
-  masked = masked-set c masks v x (t .masked) l f;
+-- the mask of node w, and on to node u
+pub masking-set : (c : Chart) (old masks : List ℕ) (v w u : ℕ) → Masking c old masks v → w < size c → u ≤ size c
+    → (x : ℕ) → (Entered c w → FewPaths c w x) → Masking c old (set masks w x) u
+masking-set c old masks v w u t l m x f = record {
+  within = m;
+  size = length-set masks w x ∙ t .size;
+  masked = masked-set c masks w x (t .masked) l f;
 }
 
 -- ---- the mask of a node by those behind its arcs

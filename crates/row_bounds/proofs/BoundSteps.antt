@@ -10,8 +10,8 @@ use Rattle.frames.specs.Frame.{size}
 use Rattle.charts.specs.Chart.{Chart, kind, argument, next0, next1}
 use Rattle.image.specs.Image.{Row}
 use Rattle.chart_labels.specs.Labels.{label}
-use Rattle.chart_rows.specs.Rows.{paths, rows}
-use Rattle.chart_rows.specs.inner.NodeRows.{untested, sides, nodeRows}
+use Rattle.chart_rows.specs.Rows.{rows}
+use Rattle.chart_rows.specs.inner.NodeRows.{pathsFrom, untested, sides, nodeRows}
 use Rattle.chart_rows.specs.inner.PathContracts.{NotedAt, Entered, Masked}
 use Rattle.chart_rows.proofs.PathSteps.{entered1}
 use Rattle.chart_rows.proofs.RowSteps.{rows-function, rows-condition, rows-other, no-rows, own-rows, other-entered, function-kind}
@@ -26,11 +26,12 @@ pub record Side (masks : List ℕ) (w low : ℕ) : Type 0 where
   pub most : ((care : ℕ) → 2 ^ untested (getD masks w 0) care ≤ low) × (low ≤ 65536)
 
 module _ (c : Chart) (notes masks : List ℕ) (v : ℕ) (node : NotedAt c notes v) (m : Masked c masks) (own : 2 ≤ getD notes v 0) where
-  side-paths : (w u low l f care values : ℕ) → w ≡ u → Entered c w → Side masks w low → length (paths (size c) c l f care values u) ≤ low
+  side-paths : (w u low l f care values : ℕ) → w ≡ u → Entered c w → Side masks w low
+      → length (pathsFrom (size c) c l f care values u) ≤ low
   side-paths w u low l f care values e t s =
       omega (
         arith,
-        ap (λ (x : ℕ). length (paths (size c) c l f care values x)) e,
+        ap (λ (x : ℕ). length (pathsFrom (size c) c l f care values x)) e,
         m .few w t .most l f care values,
         s .most .0 care,
       )
@@ -62,7 +63,7 @@ module _ (c : Chart) (notes masks : List ℕ) (v : ℕ) (node : NotedAt c notes 
           both l f g care values =
               omega (
                 arith,
-                length-append (paths (size c) c l f care 0 (next0 c v)) (paths (size c) c l g care values (next1 c v)),
+                length-append (pathsFrom (size c) c l f care 0 (next0 c v)) (pathsFrom (size c) c l g care values (next1 c v)),
                 side-paths w0 (next0 c v) low l f care 0 e0 (other-entered node own e0) s0,
                 side-paths w1 (next1 c v) high l g care values e1 entered-1 s1,
               )

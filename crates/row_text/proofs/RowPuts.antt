@@ -13,13 +13,13 @@ use Rattle.frames.specs.Frame.{size}
 use Rattle.charts.specs.Chart.{Chart, kind, argument, next0, next1}
 use Rattle.charts.proofs.Rank.{rank}
 use Rattle.walk.specs.Stops.{stops}
-use Rattle.image.specs.Image.{Row, rowFrame}
+use Rattle.image.specs.Image.{Row, rowFrame, row}
 use Rattle.chart_labels.specs.Labels.{label}
-use Rattle.chart_rows.specs.Rows.{paths, rowsOf}
+use Rattle.chart_rows.specs.Rows.{rowsOf}
 use Rattle.chart_rows.specs.inner.PathContracts.{Entered, PathAt}
 use Rattle.chart_labels.specs.inner.ChartContracts.{Charted}
-use Rattle.row_text.specs.inner.RowBytes.{makeRow, rowsBytes, nodeRowsBytes}
-use Rattle.chart_rows.specs.inner.NodeRows.{sides, nodeRows}
+use Rattle.row_text.specs.inner.RowBytes.{rowsBytes, nodeRowsBytes}
+use Rattle.chart_rows.specs.inner.NodeRows.{pathsFrom, sides, nodeRows}
 use Rattle.label_text.specs.inner.LabelBytes.{Put}
 use Rattle.label_text.proofs.Puts.{Parted, put-length, both-first, both-second, both-done, nothing-put, done-as}
 use Rattle.chart_rows.proofs.RowSteps.{rows-function, rows-condition, rows-other}
@@ -35,20 +35,20 @@ row-alone r = concat-cons rowFrame r [] ∙ (unfold concatMap in append-nil (row
 
 module _ (c : Chart) (labels : List ℕ) (chart : Charted c labels) (care values v u : ℕ) (st : Settled c care values v u)
     (s : stops c u ≡ true) (l f : ℕ) where
-  leaf-bytes : rowsBytes (paths (size c) c l f care values v) ≡ rowFrame (makeRow l care values f (label c u))
-  leaf-bytes = ap rowsBytes (stop-paths c (chart .ready) care values v u st s l f) ∙ row-alone (makeRow l care values f (label c u))
+  leaf-bytes : rowsBytes (pathsFrom (size c) c l f care values v) ≡ rowFrame (row l care values f (label c u))
+  leaf-bytes = ap rowsBytes (stop-paths c (chart .ready) care values v u st s l f) ∙ row-alone (row l care values f (label c u))
 
-  leaf-length : length (rowsBytes (paths (size c) c l f care values v)) ≡ 10
+  leaf-length : length (rowsBytes (pathsFrom (size c) c l f care values v)) ≡ 10
   leaf-length = ap (λ (x : List ℕ). length x) leaf-bytes
 
-  pub leaf-room : (at n : ℕ) → at + length (rowsBytes (paths (size c) c l f care values v)) ≤ n → at + 10 ≤ n
+  pub leaf-room : (at n : ℕ) → at + length (rowsBytes (pathsFrom (size c) c l f care values v)) ≤ n → at + 10 ≤ n
   leaf-room at n h = omega (arith, leaf-length)
 
-  pub leaf-done : (out out′ : List ℕ) (at r : ℕ) → Put out at (rowFrame (makeRow l care values f (getD labels u 0))) r out′
-      → Put out at (rowsBytes (paths (size c) c l f care values v)) r out′
+  pub leaf-done : (out out′ : List ℕ) (at r : ℕ) → Put out at (rowFrame (row l care values f (getD labels u 0))) r out′
+      → Put out at (rowsBytes (pathsFrom (size c) c l f care values v)) r out′
   leaf-done out out′ at r p =
       done-as _ _ out out′ at r
-      (leaf-bytes ∙ ap (λ (x : ℕ). rowFrame (makeRow l care values f x)) (sym (chart .labelled .at u (st .entered .inside)))) p
+      (leaf-bytes ∙ ap (λ (x : ℕ). rowFrame (row l care values f x)) (sym (chart .labelled .at u (st .entered .inside)))) p
 
 -- a path is settled at a stop that it comes to
 pub at-end : (c : Chart) (care values v : ℕ) → Entered c v → stops c v ≡ true → Settled c care values v v
@@ -60,10 +60,10 @@ at-end c care values v t s = record {
 }
 
 module _ (c : Chart) (care values v tested valued w0 w1 : ℕ) (k : Fork c care values v tested valued w0 w1) (l f : ℕ) where
-  pub fork-bytes : Parted (rowsBytes (paths (size c) c l f care values v)) (rowsBytes (paths (size c) c l f tested values w0))
-      (rowsBytes (paths (size c) c l f tested valued w1))
+  pub fork-bytes : Parted (rowsBytes (pathsFrom (size c) c l f care values v)) (rowsBytes (pathsFrom (size c) c l f tested values w0))
+      (rowsBytes (pathsFrom (size c) c l f tested valued w1))
   fork-bytes = record {
-    parts = ap rowsBytes (k .all l f) ∙ rows-append (paths (size c) c l f tested values w0) (paths (size c) c l f tested valued w1);
+    parts = ap rowsBytes (k .all l f) ∙ rows-append (pathsFrom (size c) c l f tested values w0) (pathsFrom (size c) c l f tested valued w1);
   }
 
 -- ---- the loop along 1 sides: of all rows some are put, and the others are those of the paths on from node v
@@ -72,10 +72,10 @@ pub record PutAlong (c : Chart) (notes all out₀ out : List ℕ) (at place l f 
   pub below : rank c v ≤ top
   pub done : List ℕ
   pub put : Put out₀ at done place out
-  pub rest : Parted all done (rowsBytes (paths (size c) c l f care values v))
+  pub rest : Parted all done (rowsBytes (pathsFrom (size c) c l f care values v))
 
 pub walked-start : (c : Chart) (notes out : List ℕ) (at l f top care values v : ℕ) → PathAt c notes care values v → rank c v ≡ top
-    → PutAlong c notes (rowsBytes (paths (size c) c l f care values v)) out out at at l f top care values v
+    → PutAlong c notes (rowsBytes (pathsFrom (size c) c l f care values v)) out out at at l f top care values v
 walked-start c notes out at l f top care values v p e = record {
   path = p;
   below = omega arith;
@@ -86,22 +86,22 @@ walked-start c notes out at l f top care values v p e = record {
 
 module _ {c : Chart} {notes all out₀ out : List ℕ} {at place l f top care values v : ℕ}
     (w : PutAlong c notes all out₀ out at place l f top care values v) (room : at + length all ≤ length out₀) where
-  pub walked-room : place + length (rowsBytes (paths (size c) c l f care values v)) ≤ length out
+  pub walked-room : place + length (rowsBytes (pathsFrom (size c) c l f care values v)) ≤ length out
   walked-room = both-second (w .rest) room (w .put)
 
   pub walked-long : length out ≡ length out₀
   walked-long = put-length (both-first (w .rest) at (length out₀) room) (w .put)
 
-  pub walked-done : {out′ : List ℕ} {r : ℕ} → Put out place (rowsBytes (paths (size c) c l f care values v)) r out′
+  pub walked-done : {out′ : List ℕ} {r : ℕ} → Put out place (rowsBytes (pathsFrom (size c) c l f care values v)) r out′
       → Put out₀ at all r out′
   walked-done q = both-done (w .rest) room (w .put) q
 
   module _ {tested valued w0 w1 : ℕ} (k : Fork c care values v tested valued w0 w1) where
     abbrev low : List ℕ
-    low = rowsBytes (paths (size c) c l f tested values w0)
+    low = rowsBytes (pathsFrom (size c) c l f tested values w0)
 
     abbrev high : List ℕ
-    high = rowsBytes (paths (size c) c l f tested valued w1)
+    high = rowsBytes (pathsFrom (size c) c l f tested valued w1)
 
     pub low-room : place + length low ≤ length out
     low-room = both-first (fork-bytes c care values v tested valued w0 w1 k l f) place (length out) walked-room
@@ -136,17 +136,17 @@ module _ (c : Chart) (v k : ℕ) (ek : k ≡ kind c v) (own : nodeRows c v ≡ r
   node-condition e o m = ap rowsBytes (own ∙ rows-condition c v k ek e ∙ ap (λ (x : ℕ). sides c (label c v) 2 2 x x v) (sym m))
 
   pub node-other : k < 3 → (l w : ℕ) → l ≡ label c v → w ≡ next0 c v
-      → nodeRowsBytes c v ≡ rowsBytes (paths (size c) c l 2 0 0 w)
+      → nodeRowsBytes c v ≡ rowsBytes (pathsFrom (size c) c l 2 0 0 w)
   node-other h l w el ew =
-      ap rowsBytes (own ∙ rows-other c v k ek h ∙ ap₂ (λ (x y : ℕ). paths (size c) c x 2 0 0 y) (sym el) (sym ew))
+      ap rowsBytes (own ∙ rows-other c v k ek h ∙ ap₂ (λ (x y : ℕ). pathsFrom (size c) c x 2 0 0 y) (sym el) (sym ew))
 
 module _ (c : Chart) (v f g care values l w0 w1 : ℕ) (el : l ≡ label c v) (e0 : w0 ≡ next0 c v) (e1 : w1 ≡ next1 c v) where
-  pub sides-text : Parted (rowsBytes (sides c (label c v) f g care values v)) (rowsBytes (paths (size c) c l f care 0 w0))
-      (rowsBytes (paths (size c) c l g care values w1))
+  pub sides-text : Parted (rowsBytes (sides c (label c v) f g care values v)) (rowsBytes (pathsFrom (size c) c l f care 0 w0))
+      (rowsBytes (pathsFrom (size c) c l g care values w1))
   sides-text = record {
     parts =
-        rows-append (paths (size c) c (label c v) f care 0 (next0 c v)) (paths (size c) c (label c v) g care values (next1 c v))
+        rows-append (pathsFrom (size c) c (label c v) f care 0 (next0 c v)) (pathsFrom (size c) c (label c v) g care values (next1 c v))
         ∙ ap₂ (λ (x y : List ℕ). x ++ y)
-        (ap₂ (λ (x y : ℕ). rowsBytes (paths (size c) c x f care 0 y)) (sym el) (sym e0))
-        (ap₂ (λ (x y : ℕ). rowsBytes (paths (size c) c x g care values y)) (sym el) (sym e1));
+        (ap₂ (λ (x y : ℕ). rowsBytes (pathsFrom (size c) c x f care 0 y)) (sym el) (sym e0))
+        (ap₂ (λ (x y : ℕ). rowsBytes (pathsFrom (size c) c x g care values y)) (sym el) (sym e1));
   }

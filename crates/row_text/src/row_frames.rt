@@ -13,18 +13,17 @@ ghost use Prim.Native.Nat.{_+_, _≤_};
 ghost use lib.ListN.{length};
 ghost use Rattle.frames.specs.Sizes.{FRAME};
 ghost use Rattle.frames.specs.Frame.{size};
-ghost use Rattle.image.specs.Image.{rowFrame};
+ghost use Rattle.image.specs.Image.{rowFrame, row};
 ghost use Rattle.chart_labels.specs.Labels.{label};
-ghost use Rattle.chart_rows.specs.Rows.{paths};
 ghost use Rattle.chart_rows.specs.inner.PathContracts.{Noted, NotedAt, PathAt, SidesAt};
-ghost use Rattle.row_text.specs.inner.RowBytes.{makeRow, rowsBytes, nodeRowsBytes};
-ghost use Rattle.chart_rows.specs.inner.NodeRows.{sides};
+ghost use Rattle.row_text.specs.inner.RowBytes.{rowsBytes, nodeRowsBytes};
+ghost use Rattle.chart_rows.specs.inner.NodeRows.{pathsFrom, sides};
 ghost use Rattle.label_text.specs.inner.LabelBytes.{upTo, Put};
 
 // One row; the offset after it.
 fn put_row(out: &mut [u8], at: usize, from: u8, care: u16, values: u16, bit: u8, next: u8) -> usize
     requires { ⌜ at + FRAME ≤ length (now out) ⌝ }
-    ensures { λ r. ⌜ Put (now (out .entry)) at (rowFrame (makeRow from care values bit next)) r (now (out .exit)) ⌝ }
+    ensures { λ r. ⌜ Put (now (out .entry)) at (rowFrame (row from care values bit next)) r (now (out .exit)) ⌝ }
 {
     let care0 = (care / 256) as u8;
     let care1 = (care % 256) as u8;
@@ -49,9 +48,9 @@ fn put_forks(
     at: usize,
 ) -> usize
     requires { ⌜ PathAt (now records) (now notes) care values node ⌝ }
-    requires { ⌜ at + length (rowsBytes (paths (size (now records)) (now records) from bit care values node)) ≤ length (now out) ⌝ }
+    requires { ⌜ at + length (rowsBytes (pathsFrom (size (now records)) (now records) from bit care values node)) ≤ length (now out) ⌝ }
     ensures { λ r. ⌜ Put (now (out .entry)) at
-        (rowsBytes (paths (size (now (records .entry))) (now (records .entry)) from bit care values node)) r (now (out .exit)) ⌝ }
+        (rowsBytes (pathsFrom (size (now (records .entry))) (now (records .entry)) from bit care values node)) r (now (out .exit)) ⌝ }
 {
     let mut place = at;
     let mut tested = care;
@@ -90,9 +89,9 @@ fn put_paths(
     at: usize,
 ) -> usize
     requires { ⌜ PathAt (now records) (now notes) care values node ⌝ }
-    requires { ⌜ at + length (rowsBytes (paths (size (now records)) (now records) from bit care values node)) ≤ length (now out) ⌝ }
+    requires { ⌜ at + length (rowsBytes (pathsFrom (size (now records)) (now records) from bit care values node)) ≤ length (now out) ⌝ }
     ensures { λ r. ⌜ Put (now (out .entry)) at
-        (rowsBytes (paths (size (now (records .entry))) (now (records .entry)) from bit care values node)) r (now (out .exit)) ⌝ }
+        (rowsBytes (pathsFrom (size (now (records .entry))) (now (records .entry)) from bit care values node)) r (now (out .exit)) ⌝ }
 {
     let v = node as usize;
     if notes[NODES + v] > 15 {

@@ -68,8 +68,8 @@ module _ (b : List ℕ) (turned bit f : ℕ) (small : turned < 65536) (bytes : (
       matching-bit k = sym (by-bit ∙ ap (λ (t : Bool). t || eqb only bit) (ne-eqb only 2 k))
 
 -- the row in it as one of label l's, by a bit that decides
-module _ (b : List ℕ) (l w bit : ℕ) (d : Deciding b l bit) (f : ℕ) where
-  own-bit : (eqb (rowOn b l f .bit) 2 || eqb (rowOn b l f .bit) bit) ≡ (eqb bit 2 || (eqb (field b f 6) 2 || eqb (field b f 6) bit))
+module _ (b : List ℕ) (l bit : ℕ) (d : Deciding b l bit) (f : ℕ) where
+  pub own-bit : (eqb (rowOn b l f .bit) 2 || eqb (rowOn b l f .bit) bit) ≡ (eqb bit 2 || (eqb (field b f 6) 2 || eqb (field b f 6) bit))
   own-bit = go (ℕ-discrete bit 2)
     where
       go : Dec (bit ≡ 2)
@@ -83,8 +83,8 @@ module _ (b : List ℕ) (l w bit : ℕ) (d : Deciding b l bit) (f : ℕ) where
           (eq-eqb (tableLabel b l .kind) 2 (d .some e))
           ∙ sym (ap (λ (t : Bool). t || (eqb (field b f 6) 2 || eqb (field b f 6) bit)) (ne-eqb bit 2 e))
 
-  own-test : isCandidate l w bit (rowOn b l f) ≡ matchingFrame b w bit f
-  own-test =
+  own-test : (w : ℕ) → isCandidate l w bit (rowOn b l f) ≡ matchingFrame b w bit f
+  own-test w =
       ap (λ (t : Bool). t && matches w bit (rowOn b l f)) (eq-eqb l l refl)
       ∙ ap (λ (t : Bool). agrees w (pairAt b f 2) (pairAt b f 4) && t) own-bit
 
@@ -138,7 +138,7 @@ module _ (b : List ℕ) (l w bit first end : ℕ) where
     module _ (d : Deciding b l bit) (h : f < end) (turned : ℕ) (e : turned ≡ swapped w) (small : w < 65536)
         (t : Bool) (q : t ≡ matchingFrame b (swapped turned) bit f) where
       own : t ≡ isCandidate l w bit (rowOn b l f)
-      own = q ∙ ap (λ (v : ℕ). matchingFrame b v bit f) (ap (λ (v : ℕ). swapped v) e ∙ swapped-twice w small) ∙ sym (own-test b l w bit d f)
+      own = q ∙ ap (λ (v : ℕ). matchingFrame b v bit f) (ap (λ (v : ℕ). swapped v) e ∙ swapped-twice w small) ∙ sym (own-test b l bit d f w)
 
       more : bestFrom f ≡ bestRow l w bit f (rowOn b l f ∷ map (rowOn b l) (range (suc f) (end - suc f)))
       more = ap (λ (n : ℕ). bestRow l w bit f (map (rowOn b l) (range f n))) (let z : end - f ≡ suc (end - suc f) = omega arith in z)
@@ -247,7 +247,7 @@ module _ (b : List ℕ) (l w bit first end : ℕ) (d : Deciding b l bit) (p : fi
           let at : r ≡ first = z ∙ yes-pick (matchingFrame b w bit first) first 131072 y in
           record {
             taken = ap (foundAt b l) at ∙ at-frame b first l inside
-                ∙ sym (best-own l w bit first (rowOn b l first) [] (own-test b l w bit d first ∙ y)
+                ∙ sym (best-own l w bit first (rowOn b l first) [] (own-test b l bit d first w ∙ y)
                 ∙ ap (better (row first (rowOn b l first))) (best-nothing l w bit (suc first)))
                 ∙ alone;
             inside = λ k. omega arith;
@@ -257,7 +257,7 @@ module _ (b : List ℕ) (l w bit first end : ℕ) (d : Deciding b l bit) (p : fi
           let at : r ≡ 131072 = z ∙ no-pick (matchingFrame b w bit first) first 131072 n in
           record {
             taken = ap (foundAt b l) at ∙ past-table b 131072 l (omega arith)
-                ∙ sym (best-other l w bit first (rowOn b l first) [] (own-test b l w bit d first ∙ n) ∙ best-nothing l w bit (suc first))
+                ∙ sym (best-other l w bit first (rowOn b l first) [] (own-test b l bit d first w ∙ n) ∙ best-nothing l w bit (suc first))
                 ∙ alone;
             inside = λ k. absurd (omega arith);
             outside = λ k. omega arith;

@@ -6,7 +6,7 @@ use lib.Count.{ones}
 use lib.Dec.{ltb, eqb}
 use Rattle.lists.specs.Pick.{pick}
 use Rattle.bits.specs.Word.{agrees}
-use Rattle.image.specs.Layout.{NO-BIT}
+use Rattle.image.specs.Layout.{NO-BIT, NO-LABEL}
 use Rattle.image.specs.Image.{Row}
 
 -- a row matches a word and the bit of the number that its label calls
@@ -42,7 +42,7 @@ abbrev pub leads : Choice → Found
 leads (row k r) = found (r .next)
 leads noChoice = missing
 
--- where a row leads, as a number: labels are below 256, and 256 says that no row matches
+-- where a row leads, as a number: NO-LABEL, above all labels, says that no row matches
 abbrev pub nextOf : Found → ℕ
 nextOf (found l) = l
-nextOf missing = 256
+nextOf missing = NO-LABEL

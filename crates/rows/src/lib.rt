@@ -140,7 +140,7 @@ pub fn find_row(table: &[u8], schemes: u8, l: usize, word: u16, bit: u8) -> usiz
     compare_rows(table, schemes, l, word, bit)
 }
 
-// Where the row that label l takes leads, or 256 where none matches.
+// Where the row that label l takes leads, or NO_LABEL where none matches.
 pub fn next_row(table: &[u8], schemes: u8, l: usize, word: u16, bit: u8) -> u16
     requires { ⌜ Deciding (now table) l bit ⌝ }
     requires { ⌜ schemes ≡ schemeCount (now table) ⌝ }
@@ -150,5 +150,5 @@ pub fn next_row(table: &[u8], schemes: u8, l: usize, word: u16, bit: u8) -> u16
     if f < NO_FRAME {
         return byte(table, f, NEXT) as u16;
     }
-    256
+    NO_LABEL
 }

@@ -2,37 +2,8 @@
 // Each call prints a frame: 00 for a check, 01 for a run, 02 for a fresh state; then the number or 00, the index, the count.
 // A run of eight words with room for all of them prints its masks and codes too.
 use edits::patch;
-use frames::Answer;
+use edits::report;
 use state::State;
-
-fn print(entry: u8, number: u8, index: usize, count: usize) {
-    let ten = [
-        entry,
-        number,
-        (index / 256 % 256) as u8,
-        (index % 256) as u8,
-        (count / 256 % 256) as u8,
-        (count % 256) as u8,
-        0,
-        0,
-        0,
-        0,
-    ];
-    let mut line = [0u8; 23];
-    frames::put_frame(&mut line, 0, &ten);
-    io::write_all(1, &line);
-}
-
-fn report(entry: u8, answer: Answer) {
-    match answer {
-        Answer::Done(count) => print(entry, 0, 0, count),
-        Answer::Refused {
-            number,
-            index,
-            count,
-        } => print(entry, number, index, count),
-    }
-}
 
 // The text of the table, edited.
 fn text_of(table: [u8; 120], edits: &[u8]) -> [u8; 276] {
@@ -45,7 +16,7 @@ fn text_of(table: [u8; 120], edits: &[u8]) -> [u8; 276] {
 
 fn check(table: [u8; 120], edits: &[u8]) {
     let text = text_of(table, edits);
-    report(0, image_check::check_image(&text));
+    report(0, image_check::check_image(&text), 0);
 }
 
 // The table is checked under each edit by itself.
@@ -62,14 +33,14 @@ fn check_each(table: [u8; 120], edits: &[u8]) {
 
 fn check_front(text: &[u8], n: usize) {
     if n <= text.len() {
-        report(0, image_check::check_image(&text[..n]));
+        report(0, image_check::check_image(&text[..n]), 0);
     }
 }
 
 fn check_text(table: [u8; 120], edits: &[u8]) {
     let mut text = text_of(table, &[]);
     patch(&mut text, edits);
-    report(0, image_check::check_image(&text));
+    report(0, image_check::check_image(&text), 0);
 }
 
 fn line(bytes: &[u8]) {
@@ -92,7 +63,7 @@ fn run(text: [u8; 276], state: State, words: [u16; 8]) -> State {
     let mut codes = [170u8; 8];
     let ran = machine::run(&text, state, &words, &mut masks, &mut codes);
     let answer = ran.answer;
-    report(1, answer);
+    report(1, answer, 0);
     print_ticks(masks, codes);
     ran.state
 }
@@ -104,7 +75,7 @@ fn rest(text: [u8; 276], state: State) {
     let words = [0u16; 1];
     let ran = machine::run(&text, state, &words[..0], &mut masks, &mut codes);
     let answer = ran.answer;
-    report(1, answer);
+    report(1, answer, 0);
 }
 
 // A run whose buffer of codes is one too short.
@@ -113,7 +84,7 @@ fn short(text: [u8; 276], state: State, words: [u16; 8]) -> State {
     let mut codes = [170u8; 7];
     let ran = machine::run(&text, state, &words, &mut masks, &mut codes);
     let answer = ran.answer;
-    report(1, answer);
+    report(1, answer, 0);
     ran.state
 }
 
@@ -123,7 +94,7 @@ fn texts(p: [u8; 120]) {
     check_front(&text, 0);
     check_front(&text, 275);
     let long = [48u8; 29854];
-    report(0, image_check::check_image(&long));
+    report(0, image_check::check_image(&long), 0);
     check_text(p, &[1, 102, 20, 101]);
     check_text(p, &[21, 103]);
     check_text(p, &[45, 32]);
@@ -244,7 +215,7 @@ fn states(p: [u8; 120]) {
 fn fresh(size: usize) -> State {
     let made = State::fresh(size);
     let answer = made.answer;
-    report(2, answer);
+    report(2, answer, 0);
     made.state
 }
 

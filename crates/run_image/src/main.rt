@@ -3,14 +3,14 @@
 use console::Input;
 
 fn main() {
-    let mut text = [0u8; programs::IMAGE_READ];
+    let mut text = [0u8; run_output::IMAGE_READ];
     let input = console::read_input(&mut text);
     let Input::Text(n) = input else {
         os::fail(b"run_image: standard input");
         return;
     };
-    let mut out = [0u8; programs::RUN_PRINTS];
-    let count = programs::run_text(&text[..n], &mut out);
+    let mut out = [0u8; run_output::RUN_PRINTS];
+    let count = run_output::run_text(&text[..n], &mut out);
     if !io::write_all(libc::STDOUT_FILENO, &out[..count]) {
         os::fail(b"run_image: standard output");
     }

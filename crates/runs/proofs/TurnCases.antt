@@ -21,7 +21,7 @@ use Rattle.ticks.specs.inner.TickContracts.{TickAsked, afterTick, endOfTick, Gi
 use Rattle.runs.specs.inner.RunContracts.{verdictOf, RunRoom, GivesRunEnd}
 use Rattle.ticks.specs.Tick.{topOf}
 use Rattle.ticks.proofs.Normal.{Normal, tick-normal}
-use Rattle.ticks.proofs.Depths.{deep-fine}
+use Rattle.fitness.proofs.Depths.{deep-fine}
 use Rattle.ticks.proofs.TickCases.{KeptDepth, tick-deep}
 
 -- ---- a tick by what the function that makes it answers

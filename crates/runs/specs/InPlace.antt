@@ -5,6 +5,7 @@ use mathlib.Core.Path.{_≡_}
 use mathlib.Core.List.{List}
 use lib.Dec.{eqb, leb}
 use Rattle.lists.specs.Pick.{pick}
+use Rattle.frames.specs.Refusals.{BAD-LENGTH, NO-ROOM}
 use Rattle.frames.specs.Answer.{replyNumber, reply}
 use Rattle.frames.specs.declared.Answer.{Answer}
 use Rattle.state.specs.Bytes.{bytesOf}
@@ -14,7 +15,7 @@ use Rattle.runs.specs.TickOutcome.{TickOutcome}
 
 -- refusals that change no state
 abbrev pub changesNothing : ℕ → Bool
-changesNothing n = leb 1 n && leb n 16
+changesNothing n = leb BAD-LENGTH n && leb n NO-ROOM
 
 -- refusals 1 to 16 of a run leave the bytes as they were
 unfoldable pub bytesAfter : List ℕ → RunOutcome → List ℕ

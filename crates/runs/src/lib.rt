@@ -3,8 +3,7 @@ use frames::Answer;
 
 mod runs;
 
-pub use runs::run_table;
-pub use runs::tick_table;
+pub use runs::tick_all;
 pub use runs::tick_word;
 
 // What the ticks over the words of a run answer: 0, or the number that stopped one, and the finished ticks.

@@ -5,14 +5,14 @@ use mathlib.Core.Bool.{Bool, true, false}
 use mathlib.Core.List.{List}
 use native.Mathlib.Omega.{arith}
 use lib.Dec.{ltb, eqb}
-use lib.ListN.{length, set}
+use lib.ListN.{length}
 use lib.Seq.{getD-set-same}
 use borrow.Author.Tests.{ne-eqb, eqb-true}
 use Rattle.lists.specs.Pick.{pick}
 use Rattle.lists.specs.Sequences.{written}
 use Rattle.lists.proofs.Tests.{yes-pick, no-pick}
 use Rattle.frames.specs.Verdict.{Verdict, fine, refused, next, when}
-use Rattle.frames.specs.Answer.{replyNumber, reply, judged}
+use Rattle.frames.specs.Answer.{replyNumber, reply}
 use Rattle.frames.proofs.Refuses.{next-refuses, when-refuses}
 use Rattle.image.specs.Check.{imageVerdict}
 use Rattle.tables.specs.Table.{badTable}
@@ -27,9 +27,10 @@ use Rattle.spindles.specs.inner.HeadAndTurn.{badSpinCall, refusedHead, GivesRef
 use Rattle.spindles.specs.inner.HeadAndTurn.{GivesTurnOn, fourDepths, headSpun, turnSpun, inParts}
 use Rattle.spindles.proofs.InParts.{call-four, call-named, depth-most, head-refused, spin-parts, live-spin-parts}
 use Rattle.turning.proofs.Settled.{NumberedVerdict, image-numbered, table-numbered}
-use Rattle.spindle_bytes.specs.Bytes.{partOf, statesOf, bytesSpun, GivesSpinOn, depthsIn}
-use Rattle.spindle_bytes.specs.inner.DepthBytes.{stateCount}
-use Rattle.spindle_bytes.proofs.States.{count-is, state-is, part-length, depths-are, part-back}
+use Rattle.spindle_parts.specs.FourStates.{partOf, statesOf, depthsIn}
+use Rattle.spindle_bytes.specs.Bytes.{bytesSpun, GivesSpinOn}
+use Rattle.spindle_parts.specs.inner.DepthBytes.{stateCount}
+use Rattle.spindle_parts.proofs.States.{count-is, state-is, part-length, depths-are, part-back}
 
 -- ---- what a call that is no bad one tells of the bytes
 module _ (b : List ℕ) (n k : ℕ) (counted : n ≡ stateCount (length b)) (t : Bool) (tested : t ≡ badSpinCall n k) (good : t ≡ false) where

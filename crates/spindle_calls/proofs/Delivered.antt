@@ -14,9 +14,8 @@ use Rattle.frames.specs.Frame.{contents}
 use Rattle.frames.specs.Answer.{Reply, reply, replyNumber, success, refusal}
 use Rattle.state.specs.declared.State.{State}
 use Rattle.state.specs.State.{fresh, noState, badSize, StateOutcome, freshState}
-use Rattle.machine.proofs.Live.{PreparedTable}
-use Rattle.agreement.specs.Calls.{TableOf, prepared}
-use Rattle.agreement.proofs.OneCall.{prepared-rebind-is, prepared-holds}
+use Rattle.agreement.specs.Calls.{TableOf}
+use Rattle.agreement.proofs.OneCall.{prepared-rebind-is, table-prepared}
 use Rattle.spindles.specs.declared.SpinReport.{SpinReport}
 use Rattle.spindles.specs.Spindles.{stateAt, depths, SpinOutcome, spin, liveSpin, GivesSpin}
 use Rattle.spindles.proofs.Live.{live-spin-is}
@@ -32,11 +31,6 @@ use Rattle.spindle_calls.proofs.Row.{Hears, hearsNo, hearsTick, HeardFr
 
 abbrev headWith : List State → ℕ → Head
 headWith states taken = record { states = states; taken = taken }
-
--- a call of prepare that succeeded
-table-prepared : (image : List ℕ) {table : List ℕ} → TableOf image table → PreparedTable image table
-table-prepared image (prepared before after answer c n e k h) =
-    subst (λ (b : List ℕ). PreparedTable image (take k b)) (sym (c .written)) (prepared-holds image before n (sym (c .answered) ∙ e) k h)
 
 module _ (states : List State) (taken : ℕ) where
   -- ---- a tick

@@ -19,8 +19,8 @@ use Rattle.fairleadow.specs.Calls.{GivesStateC}
 use Rattle.agreement.proofs.ForC.{returned-0}
 use Rattle.spindles.specs.Spindles.{depths}
 use Rattle.spindles.proofs.InParts.{four-depths}
-use Rattle.spindle_bytes.specs.Bytes.{partOf, statesOf, depthsIn}
-use Rattle.spindle_bytes.proofs.States.{count-is, state-is, depths-are}
+use Rattle.spindle_parts.specs.FourStates.{partOf, statesOf, depthsIn}
+use Rattle.spindle_parts.proofs.States.{count-is, state-is, depths-are}
 use Rattle.spindle_places.specs.Calls.{newHead}
 use Rattle.spindle_places.specs.Calls as calls
 use Rattle.spindle_places.specs.PlacesBalance.{placesReturned}

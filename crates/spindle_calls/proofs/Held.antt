@@ -31,8 +31,9 @@ use Rattle.spindles.specs.Spindles.{stateAt, badHead, headVerdict, SpinOutcome,
 use Rattle.spindles.proofs.OneCall.{tickTried, tickByVerdict, spinBy, spin-by, live-spin-by, kept-by}
 use Rattle.spindles.proofs.Others.{Tried, tried}
 use Rattle.turning.proofs.Settled.{NumberedVerdict, image-numbered, table-numbered}
-use Rattle.spindle_bytes.specs.Bytes.{partOf, statesOf, bytesSpun}
-use Rattle.spindle_bytes.proofs.States.{count-is, state-is}
+use Rattle.spindle_parts.specs.FourStates.{partOf, statesOf}
+use Rattle.spindle_bytes.specs.Bytes.{bytesSpun}
+use Rattle.spindle_parts.proofs.States.{count-is, state-is}
 use Rattle.fairleadow.specs.Calls.{spinFor, liveSpinFor}
 use Rattle.spindle_calls.specs.Held.{BytesHold}
 use Rattle.spindle_calls.proofs.StateParts.{put-states}

@@ -5,7 +5,7 @@ use mathlib.Core.Bool.{Bool, true, false}
 use mathlib.Core.List.{List}
 use native.Mathlib.Omega.{arith}
 use lib.Dec.{eqb}
-use lib.ListN.{length, getD, set, take, drop}
+use lib.ListN.{length, getD, set, drop}
 use lib.Seq.{getD-take, getD-drop}
 use borrow.Author.Tests.{ne-eqb}
 use Rattle.lists.specs.Pick.{pick}
@@ -13,23 +13,23 @@ use Rattle.lists.specs.Sequences.{written}
 use Rattle.lists.proofs.Tests.{no-pick}
 use Rattle.frames.specs.Frame.{contents}
 use Rattle.frames.specs.Verdict.{next}
-use Rattle.frames.specs.Answer.{success, replyNumber}
+use Rattle.frames.specs.Answer.{replyNumber}
 use Rattle.image.specs.Decode.{decoded}
 use Rattle.image.specs.Check.{imageVerdict}
 use Rattle.state.specs.declared.State.{State}
 use Rattle.state.specs.State.{StateOutcome}
 use Rattle.state.specs.Bytes.{stateOf, bytesOf}
-use Rattle.machine.proofs.Live.{PreparedTable}
 use Rattle.rebinding.specs.Rebind.{rebindVerdict, rebind}
 use Rattle.rebinding.proofs.Held.{rebinding-held}
 use Rattle.fairleadow.specs.Calls.{rebindFor, liveRebindFor, GivesRebindingC, spinFor, liveSpinFor, GivesSpinC}
-use Rattle.agreement.specs.ForC.{TableOfC, prepared}
-use Rattle.agreement.proofs.Numbers.{prepare-success}
-use Rattle.agreement.proofs.OneCall.{prepared-rebind-is, prepared-holds}
+use Rattle.agreement.specs.ForC.{TableOfC}
+use Rattle.agreement.proofs.OneCall.{prepared-rebind-is}
+use Rattle.agreement.proofs.OneCallC.{table-prepared}
 use Rattle.spindles.specs.Spindles.{stateAt, SpinOutcome}
 use Rattle.spindles.proofs.Live.{live-spin-is}
-use Rattle.spindle_bytes.specs.Bytes.{partOf, statesOf, ifSpun, bytesSpun}
-use Rattle.spindle_bytes.proofs.States.{part-length, state-is}
+use Rattle.spindle_parts.specs.FourStates.{partOf, statesOf}
+use Rattle.spindle_bytes.specs.Bytes.{ifSpun, bytesSpun}
+use Rattle.spindle_parts.proofs.States.{part-length, state-is}
 use Rattle.spindle_places.specs.Calls.{Head, headAfter}
 use Rattle.spindle_calls.specs.ObservedCalls.{ObservedCall, observedSpin, observedRebinding, callOf}
 use Rattle.spindle_calls.specs.ForC.{observedTickC}
@@ -44,12 +44,6 @@ headOf bytes taken = record { states = statesOf bytes; taken = taken }
 pub record SpindleLikeC (bytes : List ℕ) (taken : ℕ) (x : ObservedCall) (after : List ℕ) (recorded : ℕ) : Type 0 where
   pub left-is : headAfter (headOf bytes taken) (callOf x) ≡ headOf after recorded
   pub long : length after ≡ 520
-
--- a call of fairleadow_prepare that returned 0 succeeded with the count that it wrote
-pub table-prepared : (image : List ℕ) {table : List ℕ} → TableOfC image table → PreparedTable image table
-table-prepared image (prepared before after at n c k h) =
-    subst (λ (b : List ℕ). PreparedTable image (take k b)) (sym (c .written))
-    (prepared-holds image before n (prepare-success image before (sym (c .told .number-is)) ∙ ap success (sym (c .told .count-is))) k h)
 
 module _ (bytes : List ℕ) (long : length bytes ≡ 520) (taken : ℕ) where
   depth-byte : (k : ℕ) → k < 4 → getD bytes (130 * k + 1) 0 ≡ stateAt (statesOf bytes) k .depth

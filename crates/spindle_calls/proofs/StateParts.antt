@@ -15,8 +15,8 @@ use Rattle.lists.proofs.Ranges.{map-count}
 use Rattle.lists.proofs.Written.{written-length}
 use Rattle.state.specs.declared.State.{State}
 use Rattle.state.specs.Bytes.{stateOf}
-use Rattle.spindle_bytes.specs.Bytes.{partOf, statesOf}
-use Rattle.spindle_bytes.proofs.States.{part-length, part-is}
+use Rattle.spindle_parts.specs.FourStates.{partOf, statesOf}
+use Rattle.spindle_parts.proofs.States.{part-length, part-is}
 
 abbrev pub fourStates : List ℕ → List State
 fourStates b = stateOf (partOf b 0) ∷ stateOf (partOf b 1) ∷ stateOf (partOf b 2) ∷ stateOf (partOf b 3) ∷ []

@@ -14,7 +14,7 @@ use Rattle.state.specs.State.{freshState}
 use Rattle.spindles.specs.Layout.{SPINDLES, HEAD-BYTES}
 use Rattle.fairleadow.specs.Calls.{GivesBufferC, GivesStateC, rebindFor, liveRebindFor, GivesRebindingC, spinFor, liveSpinFor, GivesSpinC}
 use Rattle.agreement.specs.ForC.{TableOfC}
-use Rattle.spindle_bytes.specs.Bytes.{partOf, depthsIn}
+use Rattle.spindle_parts.specs.FourStates.{partOf, depthsIn}
 use Rattle.spindle_walks.specs.Walks.{HandsImage, FollowsWalk}
 use Rattle.spindle_calls.specs.ObservedCalls.{ObservedTick, ObservedCall, observedSpin, observedRebinding}
 use Rattle.spindle_calls.specs.ObservedCalls.{callOf, ObservedBalance, finishedIn}

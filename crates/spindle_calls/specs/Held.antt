@@ -3,7 +3,7 @@ use Prim.Native.Nat.{ℕ}
 use mathlib.Core.Path.{_≡_}
 use mathlib.Core.List.{List}
 use Rattle.spindles.specs.Spindles.{SpinOutcome}
-use Rattle.spindle_bytes.specs.Bytes.{statesOf}
+use Rattle.spindle_parts.specs.FourStates.{statesOf}
 use Rattle.fairleadow.specs.Calls.{GivesSpinC}
 
 -- a call on an image, and one on a prepared table

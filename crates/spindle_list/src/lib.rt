@@ -1,11 +1,11 @@
 // Four spindles whose states stand in one list: a call ticks one and leaves the others as they are.
+use spindle_heads::live_refuse_head;
+use spindle_heads::refuse_head;
 use spindles::SpinReport;
 use spindles::bad_call;
 use state::State;
-use turning::live_refuse_head;
-use turning::live_turn_state;
-use turning::refuse_head;
-use turning::turn_state;
+use state_turns::live_turn_state;
+use state_turns::turn_state;
 ghost use Rattle.spindles.specs.Spindles.{spin, liveSpin, GivesSpin};
 
 // 25, what the image check tries, 15, 17, 26, 18; a refused call leaves the list as it was.

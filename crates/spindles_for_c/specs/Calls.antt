@@ -3,7 +3,8 @@ use Prim.Native.Nat.{ℕ}
 use mathlib.Core.Path.{_≡_}
 use mathlib.Core.List.{List}
 use Rattle.spindles.specs.Spindles.{SpinOutcome, spin, liveSpin}
-use Rattle.spindle_bytes.specs.Bytes.{statesOf, ifSpun, bytesSpun}
+use Rattle.spindle_parts.specs.FourStates.{statesOf}
+use Rattle.spindle_bytes.specs.Bytes.{ifSpun, bytesSpun}
 use Rattle.telling.specs.AnswersForC.{GivesReplyC}
 
 -- one tick of a spindle among four whose states the bytes hold, and the same on a prepared table

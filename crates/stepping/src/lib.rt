@@ -4,6 +4,7 @@ use frames::codes::HOME_CODE;
 use frames::codes::PLAIN_CODE;
 use image::layout::FUNCTION_CALL;
 use image::layout::NO_BIT;
+use image::layout::NO_LABEL;
 use image::layout::OPERATION_CALL;
 use returns::tick_back;
 use rows::next_row;
@@ -39,7 +40,7 @@ fn tick_plain(
     ensures { λ r. ⌜ GivesTickMove (now (table .entry)) (now (bytes .entry)) word r (now (bytes .exit)) ⌝ }
 {
     let next = next_row(table, schemes, l as usize, word, NO_BIT);
-    if 256 <= next {
+    if NO_LABEL <= next {
         let step = no_row();
         return TickMove { step, label: l };
     }

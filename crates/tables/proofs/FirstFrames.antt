@@ -1,10 +1,9 @@
 -- The frames at which the rows of each label of an accepted table begin:
 -- they follow one another, and between two of them stand rows of one label.
-use Prim.Native.Nat.{ℕ, zero, suc, _+_, _-_, _≤_, _<_}
-use mathlib.Core.Path.{_≡_, sym, _∙_, ap}
+use Prim.Native.Nat.{ℕ, _+_, _-_, _≤_, _<_}
+use mathlib.Core.Path.{_≡_, _∙_, ap}
 use mathlib.Core.Logic.{_⊎_, inl, inr}
 use mathlib.Core.List.{List}
-use native.Mathlib.Nat.{add-zero}
 use native.Mathlib.Omega.{arith}
 use lib.ListN.{getD}
 use borrow.Author.Tests.{leb-true, leb-false, le-leb, lt-leb}
@@ -14,11 +13,12 @@ use Rattle.lists.proofs.Searches.{lowest-from, lowest-none, lowest-here, lowest
 use Rattle.lists.proofs.Tests.{split}
 use Rattle.frames.specs.Frame.{size, field}
 use Rattle.frames.specs.Verdict.{fine}
-use Rattle.image.specs.Image.{Row, nthRow}
+use Rattle.image.specs.Image.{nthRow}
 use Rattle.image.specs.Decode.{lastLabel, rowsFrom, decoded}
 use Rattle.image.specs.Check.{tableVerdict}
 use Rattle.image.specs.inner.Sound.{SoundRow}
-use Rattle.image.proofs.Accepted.{rows-count, labels-count, row-read, counted, accepted-sound}
+use Rattle.image.proofs.Accepted.{rows-count, labels-count, counted, accepted-sound}
+use Rattle.image.proofs.Rising.{from-read, rises-on}
 use Rattle.tables.specs.Prepare.{rowReached, firstFrame}
 use Rattle.tables.proofs.Noted.{rows-inside}
 use Rattle.tables.proofs.NotingCases.{below-more}
@@ -37,36 +37,13 @@ module _ (b : List ℕ) (ok : tableVerdict b ≡ fine) where
       omega (arith, lowest-above (rowReached b (l + 1)) (firstFrame b l) (size b - firstFrame b l))
 
   module _ (bytes : (k : ℕ) → getD b k 0 < 256) where
-    -- the row in frame f, as row k of the image
-    pub from-read : (f : ℕ) → rowsFrom b ≤ f → f < size b → nthRow (decoded b) (f - rowsFrom b) .from ≡ field b f 1
-    from-read f h g =
-        ap (λ (r : Row). r .from) (row-read b (f - rowsFrom b) (omega (arith, counted b ok .all)))
-        ∙ ap (λ (i : ℕ). field b i 1) (let z : rowsFrom b + (f - rowsFrom b) ≡ f = omega arith in z)
-
     -- 13: a row leaves a label of 2 to M
     from-sound : (f : ℕ) → rowsFrom b ≤ f → f < size b → (2 ≤ field b f 1) × (field b f 1 ≤ lastLabel b)
     from-sound f h g =
         let s : SoundRow (decoded b) (nthRow (decoded b) (f - rowsFrom b)) =
         accepted-sound b ok bytes .each (f - rowsFrom b) (omega (arith, counted b ok .all, rows-count b)) in
-        (omega (arith, from-read f h g, s .low), omega (arith, from-read f h g, s .high, labels-count b))
-
-    -- 12: from-labels never fall
-    rises : (f : ℕ) → rowsFrom b ≤ f → suc f < size b → field b f 1 ≤ field b (suc f) 1
-    rises f h g =
-        let z : nthRow (decoded b) (suc f - rowsFrom b) .from ≡ nthRow (decoded b) (suc (f - rowsFrom b)) .from =
-        ap (λ (k : ℕ). nthRow (decoded b) k .from) (omega arith) in
-        omega (
-          arith,
-          from-read f h (omega arith),
-          from-read (suc f) (omega arith) g,
-          accepted-sound b ok bytes .rising (f - rowsFrom b) (omega (arith, counted b ok .all, rows-count b)),
-        )
-
-    rises-on : (f n : ℕ) → rowsFrom b ≤ f → f + n < size b → field b f 1 ≤ field b (f + n) 1
-    rises-on f zero h g = let e : field b f 1 ≡ field b (f + 0) 1 = ap (λ (i : ℕ). field b i 1) (sym (add-zero f)) in omega arith
-    rises-on f (suc n) h g =
-        let e : field b (suc (f + n)) 1 ≡ field b (f + suc n) 1 = ap (λ (i : ℕ). field b i 1) (omega arith) in
-        omega (arith, rises-on f n h (omega arith), rises (f + n) (omega arith) (omega arith))
+        let is = from-read b (counted b ok .all) f h g in
+        (omega (arith, is, s .low), omega (arith, is, s .high, labels-count b))
 
     -- from the first frame of label l on no row leaves a lower label, and before it none leaves l or a higher one
     pub at-least : (l f : ℕ) → firstFrame b l ≤ f → f < size b → l ≤ field b f 1
@@ -74,7 +51,8 @@ module _ (b : List ℕ) (ok : tableVerdict b ≡ fine) where
         let first : ℕ = firstFrame b l in
         let hit : l ≤ field b first 1 =
         leb-true l (field b first 1) (lowest-hit (rowReached b l) (rowsFrom b) (size b - rowsFrom b) (omega (arith, rows-inside b ok))) in
-        let up : field b first 1 ≤ field b (first + (f - first)) 1 = rises-on first (f - first) (first-low l) (omega arith) in
+        let up : field b first 1 ≤ field b (first + (f - first)) 1 =
+        rises-on b (counted b ok .all) (accepted-sound b ok bytes) first (f - first) (first-low l) (omega arith) in
         let e : field b (first + (f - first)) 1 ≡ field b f 1 = ap (λ (i : ℕ). field b i 1) (omega arith) in
         omega arith
 

@@ -1,16 +1,17 @@
 -- Only the bytes of the frames that the header counts say which image a table holds: bytes behind them are no part of it.
 use Prim.Native.Nat.{ℕ, zero, suc, _+_, _*_, _-_, _≤_, _<_, min}
 use mathlib.Core.Bool.{Bool, false, _&&_, _||_, not}
-use mathlib.Core.Path.{_≡_, refl, sym, _∙_, ap, ap₂}
+use mathlib.Core.Path.{_≡_, refl, sym, _∙_, ap, ap₂, subst}
 use mathlib.Core.List.{List, map}
 use native.Mathlib.Omega.{arith}
 use lib.Dec.{ltb, eqb}
-use lib.ListN.{length, getD, length-take}
+use lib.ListN.{length, getD, take, length-take}
 use lib.Seq.{getD-take}
 use borrow.Author.Tests.{ltb-false, le-ltb}
 use Rattle.lists.specs.Pick.{pick}
 use Rattle.lists.specs.Numbers.{range}
 use Rattle.lists.specs.Sequences.{concatMap}
+use Rattle.lists.proofs.Joins.{concat-alike}
 use Rattle.lists.proofs.Tests.{or-l, or-r, no-pick}
 use Rattle.frames.specs.Frame.{size, field, pairAt, quadAt}
 use Rattle.image.specs.Image.{Label, noLabel}
@@ -18,7 +19,7 @@ use Rattle.image.specs.Decode.{schemeCount, lastLabel, rowCount, handlerIn, lab
 use Rattle.image.specs.Check.{badCounts, badHandler}
 use Rattle.tables.specs.Table.{tableEnd, badTable, labelOn, tableLabel, notedIn, firstOn, endOn, rowOn, rowsOn, tableImage}
 use Rattle.tables.specs.inner.Asked.{front, Whole}
-use Rattle.tables.proofs.RangeLaws.{map-alike, concat-alike}
+use Rattle.tables.proofs.RangeLaws.{map-alike}
 
 -- the rows of a label end within the table
 pub end-inside : (b : List ℕ) (l : ℕ) → endOn b l ≤ tableEnd b
@@ -164,3 +165,14 @@ module _ (b : List ℕ) (good : badTable b ≡ false) where
     handler = bad-handler-same b (front b) front-at ∙ handler-good;
     alone = omega (arith, length-take (10 * tableEnd b) b, end-holds, end-same b (front b) front-at);
   }
+
+-- the table alone, cut off at n bytes
+module _ (b : List ℕ) (n : ℕ) (e : n ≡ 10 * tableEnd b) where
+  pub cut-is : take n b ≡ front b
+  cut-is = ap (λ (k : ℕ). take k b) e
+
+  pub cut-length : badTable b ≡ false → n ≡ length (take n b)
+  cut-length g = omega (arith, length-take n b, end-holds b g)
+
+  pub cut-whole : badTable b ≡ false → Whole (take n b)
+  cut-whole g = subst Whole (sym cut-is) (front-whole b g)

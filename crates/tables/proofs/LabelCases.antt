@@ -8,25 +8,20 @@ use borrow.Author.Tests.{lt-ltb, le-ltb}
 use Rattle.lists.specs.Pick.{pick}
 use Rattle.lists.proofs.Tests.{yes-pick, no-pick}
 use Rattle.frames.specs.Frame.{field, pairAt, quadAt}
-use Rattle.image.specs.Image.{Label, noLabel, homeLabel, returnLabel}
+use Rattle.image.specs.Image.{Label, homeLabel, returnLabel}
 use Rattle.image.specs.Decode.{schemeCount, lastLabel, labelsFrom, labelIn}
 use Rattle.tables.specs.Table.{labelOn, tableLabel}
 use Rattle.tables.specs.inner.Asked.{entryOf}
+use Rattle.tables.proofs.TableReads.{label-on}
 use Rattle.tables.specs.inner.Labels.{NumberedLabel, Framed}
 
--- ---- a label of the table, and one above M
+-- ---- a label of the table
 module _ (b : List ℕ) (l : ℕ) where
-  pub label-above : lastLabel b < l → noLabel ≡ tableLabel b l
-  label-above h = sym (yes-pick (ltb (lastLabel b) l) noLabel (labelOn b l) (lt-ltb (lastLabel b) l h))
-
-  pub label-within : l ≤ lastLabel b → tableLabel b l ≡ labelOn b l
-  label-within h = no-pick (ltb (lastLabel b) l) noLabel (labelOn b l) (le-ltb (lastLabel b) l h)
-
   pub label-home : l ≤ lastLabel b → l ≡ 0 → homeLabel ≡ tableLabel b l
-  label-home h e = sym (label-within h ∙ ap (labelOn b) e)
+  label-home h e = sym (label-on b l h ∙ ap (labelOn b) e)
 
   pub label-return : l ≤ lastLabel b → l ≡ 1 → returnLabel ≡ tableLabel b l
-  label-return h e = sym (label-within h ∙ ap (labelOn b) e)
+  label-return h e = sym (label-on b l h ∙ ap (labelOn b) e)
 
 -- ---- a label with fields of its own
 -- its kind and its called scheme, as any table counts them
@@ -47,7 +42,7 @@ on-numbered b (suc (suc l)) h = refl
 
 module _ (b : List ℕ) (l : ℕ) (asked : NumberedLabel b l) where
   pub label-numbered : tableLabel b l ≡ numbered b l
-  label-numbered = label-within b l (asked .high) ∙ on-numbered b l (asked .low)
+  label-numbered = label-on b l (asked .high) ∙ on-numbered b l (asked .low)
 
   module _ (k : ℕ) (found : k ≡ field b (labelsFrom b + l) 2) where
     pub kind-high : 2 < k → 0 ≡ tableLabel b l .kind

@@ -10,3 +10,4 @@ pub mod FirstFrames
 pub mod PreparedImage
 pub mod Alike
 pub mod Made
+pub mod OwnRows

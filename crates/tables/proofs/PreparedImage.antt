@@ -13,6 +13,7 @@ use borrow.Author.Tests.{le-ltb, eq-eqb, ne-eqb}
 use Rattle.lists.specs.Pick.{pick}
 use Rattle.lists.specs.Numbers.{range}
 use Rattle.lists.specs.Sequences.{concatMap}
+use Rattle.lists.proofs.Joins.{concat-alike}
 use Rattle.lists.proofs.Tests.{or-none, yes-pick, no-pick}
 use Rattle.lists.proofs.Ranges.{length-map-range}
 use Rattle.frames.specs.Frame.{size, field, pairAt, contents}
@@ -21,7 +22,7 @@ use Rattle.frames.specs.Answer.{success}
 use Rattle.frames.proofs.Lent.{Success, lent-told}
 use Rattle.frames.proofs.Contents.{any-contents-length}
 use Rattle.image.specs.Image.{Label, Row, nthRow}
-use Rattle.image.specs.Decode.{schemeCount, lastLabel, rowCount, rowsFrom, entryIn, labelIn, rowIn, decoded}
+use Rattle.image.specs.Decode.{schemeCount, lastLabel, rowCount, rowsFrom, entryIn, labelIn, rowIn, decoded, rowInFrame}
 use Rattle.image.specs.Check.{badCounts, badHandler, tableVerdict, imageVerdict}
 use Rattle.image.specs.inner.Sound.{SoundLabel, SoundRow, nthLabel}
 use Rattle.image.proofs.Accepted.{label-read, row-read, labels-count, entries-count, rows-count}
@@ -29,16 +30,12 @@ use Rattle.image.proofs.Accepted.{counted, accepted-sound, image-bytes, image-t
 use Rattle.tables.specs.Prepare.{firstFrame, noted, prepare}
 use Rattle.tables.specs.Table.{tableEnd, badTable, labelOn, tableLabel, firstOn, endOn, rowOn, rowsOn, tableImage}
 use Rattle.tables.specs.inner.Asked.{Whole}
-use Rattle.tables.proofs.RangeLaws.{map-alike, map-moved, concat-alike, ranges-join}
+use Rattle.tables.proofs.RangeLaws.{map-alike, map-moved, ranges-join}
 use Rattle.tables.proofs.Front.{handler-alike, counts-alike, alike-image, counts-same, bad-handler-same, end-same}
 use Rattle.tables.proofs.TableReads.{label-on}
 use Rattle.tables.proofs.Noted.{noted-length, noted-schemes, noted-last, noted-rows, noted-handler, noted-rows-from, noted-end}
 use Rattle.tables.proofs.Noted.{noted-label, noted-late, noted-pair, noted-in}
 use Rattle.tables.proofs.FirstFrames.{first-low, first-inside, first-rises, first-own, first-two, first-last}
-
--- the row in frame f, with the label that its own byte 1 names
-abbrev pub rowInTable : List ℕ → ℕ → Row
-rowInTable b f = record { from = field b f 1; care = pairAt b f 2; values = pairAt b f 4; bit = field b f 6; next = field b f 7 }
 
 module _ (b : List ℕ) (ok : tableVerdict b ≡ fine) where
   pub whole-size : tableEnd b ≡ size b
@@ -123,8 +120,8 @@ module _ (b : List ℕ) (ok : tableVerdict b ≡ fine) where
         few : k < rowCount b
         few = omega (arith, first-low b ok l, first-inside b ok (l + 1), counted b ok .all)
 
-        row : nthRow (decoded b) k ≡ rowInTable b f
-        row = row-read b k few ∙ ap (rowInTable b) at
+        row : nthRow (decoded b) k ≡ rowInFrame b f
+        row = row-read b k few ∙ ap (rowInFrame b) at
 
         sound : SoundRow (decoded b) (nthRow (decoded b) k)
         sound = accepted-sound b ok bytes .each k (omega (arith, few, rows-count b))
@@ -146,7 +143,7 @@ module _ (b : List ℕ) (ok : tableVerdict b ≡ fine) where
             no-pick (eqb (tableLabel (noted b) l .kind) 2) (field b f 6) 2 (ne-eqb (tableLabel (noted b) l .kind) 2 e)
             ∙ sym (two e (decLt (nthRow (decoded b) k .bit) 2))
 
-    row-own : (l f : ℕ) → l ≤ lastLabel b → firstFrame b l ≤ f → f < firstFrame b (l + 1) → rowOn (noted b) l f ≡ rowInTable b f
+    row-own : (l f : ℕ) → l ≤ lastLabel b → firstFrame b l ≤ f → f < firstFrame b (l + 1) → rowOn (noted b) l f ≡ rowInFrame b f
     row-own l f m h g =
         let e₁ : l ≡ field b f 1 = sym (first-own b ok bytes l f h g) in
         let e₂ : pairAt (noted b) f 2 ≡ pairAt b f 2 = noted-pair b f 2 (omega arith) (omega arith) in
@@ -158,30 +155,30 @@ module _ (b : List ℕ) (ok : tableVerdict b ≡ fine) where
         λ j. record { from = e₁ j; care = e₂ j; values = e₄ j; bit = e₆ j; next = e₇ j }
 
     pub rows-own : (l : ℕ) → 1 ≤ l → l ≤ lastLabel b
-        → rowsOn (noted b) l ≡ map (rowInTable b) (range (firstFrame b l) (firstFrame b (l + 1) - firstFrame b l))
+        → rowsOn (noted b) l ≡ map (rowInFrame b) (range (firstFrame b l) (firstFrame b (l + 1) - firstFrame b l))
     rows-own l g h =
         ap₂ (λ (f e : ℕ). map (rowOn (noted b) l) (range f (e - f))) (first-noted l g h) (end-noted l h)
-        ∙ map-alike (rowOn (noted b) l) (rowInTable b) (firstFrame b l) (firstFrame b (l + 1) - firstFrame b l)
+        ∙ map-alike (rowOn (noted b) l) (rowInFrame b) (firstFrame b l) (firstFrame b (l + 1) - firstFrame b l)
         (λ f p q. row-own l f h p (omega (arith, first-rises b ok l)))
 
     -- the rows of n labels from 2 on stand in the frames from the first one of rows on
     rows-to : (n : ℕ) → n < lastLabel b
-        → concatMap (rowsOn (noted b)) (range 2 n) ≡ map (rowInTable b) (range (rowsFrom b) (firstFrame b (2 + n) - rowsFrom b))
+        → concatMap (rowsOn (noted b)) (range 2 n) ≡ map (rowInFrame b) (range (rowsFrom b) (firstFrame b (2 + n) - rowsFrom b))
     rows-to n h =
-        concat-alike (rowsOn (noted b)) (λ l. map (rowInTable b) (range (firstFrame b l) (firstFrame b (l + 1) - firstFrame b l)))
+        concat-alike (rowsOn (noted b)) (λ l. map (rowInFrame b) (range (firstFrame b l) (firstFrame b (l + 1) - firstFrame b l)))
         2 n (λ l p q. rows-own l (omega arith) (omega arith))
-        ∙ ranges-join (rowInTable b) (firstFrame b) (first-rises b ok) 2 n
-        ∙ ap (λ (f : ℕ). map (rowInTable b) (range f (firstFrame b (2 + n) - f))) (first-two b ok bytes)
+        ∙ ranges-join (rowInFrame b) (firstFrame b) (first-rises b ok) 2 n
+        ∙ ap (λ (f : ℕ). map (rowInFrame b) (range f (firstFrame b (2 + n) - f))) (first-two b ok bytes)
 
     rows-all : concatMap (rowsOn (noted b)) (range 2 (lastLabel b - 1)) ≡ map (rowIn b) (range 0 (rowCount b))
     rows-all =
         rows-to (lastLabel b - 1) (omega (arith, counted b ok .two))
-        ∙ ap (λ (e : ℕ). map (rowInTable b) (range (rowsFrom b) (e - rowsFrom b)))
+        ∙ ap (λ (e : ℕ). map (rowInFrame b) (range (rowsFrom b) (e - rowsFrom b)))
         (ap (firstFrame b) (let e : 2 + (lastLabel b - 1) ≡ lastLabel b + 1 = omega (arith, counted b ok .two) in e)
         ∙ first-last b ok bytes)
-        ∙ ap (λ (n : ℕ). map (rowInTable b) (range (rowsFrom b) n))
+        ∙ ap (λ (n : ℕ). map (rowInFrame b) (range (rowsFrom b) n))
         (let e : size b - rowsFrom b ≡ rowCount b = omega (arith, counted b ok .all) in e)
-        ∙ map-moved (rowInTable b) (rowIn b) (rowsFrom b) 0 (rowCount b) (λ k. ap (λ (n : ℕ). rowIn b n) (sym (zero-add k)))
+        ∙ map-moved (rowInFrame b) (rowIn b) (rowsFrom b) 0 (rowCount b) (λ k. ap (λ (n : ℕ). rowIn b n) (sym (zero-add k)))
 
     -- so that those of label l begin behind those of the labels below it
     pub prepared-starts : (l : ℕ) → 2 ≤ l → l ≤ lastLabel (noted b)
@@ -190,7 +187,7 @@ module _ (b : List ℕ) (ok : tableVerdict b ≡ fine) where
         let m : l ≤ lastLabel b = omega (arith, noted-last b) in
         let few : length (concatMap (rowsOn (noted b)) (range 2 (l - 2))) ≡ firstFrame b (2 + (l - 2)) - rowsFrom b =
         ap (λ (rs : List Row). length rs) (rows-to (l - 2) (omega arith))
-        ∙ length-map-range (rowInTable b) (rowsFrom b) (firstFrame b (2 + (l - 2)) - rowsFrom b) in
+        ∙ length-map-range (rowInFrame b) (rowsFrom b) (firstFrame b (2 + (l - 2)) - rowsFrom b) in
         let same : firstFrame b (2 + (l - 2)) ≡ firstFrame b l = ap (firstFrame b) (omega arith) in
         omega (arith, first-noted l (omega arith) m, noted-rows-from b, few, same, first-low b ok l)
 

@@ -2,11 +2,11 @@
 use Prim.Native.Nat.{ℕ, zero, suc, _+_, _-_, _≤_, _<_}
 use mathlib.Core.Path.{_≡_, refl, sym, _∙_, ap, ap₂}
 use mathlib.Core.List.{List, _∷_, _++_, map}
-use native.Mathlib.Nat.{add-zero, zero-add}
+use native.Mathlib.Nat.{add-zero}
 use native.Mathlib.Omega.{arith}
 use Rattle.lists.specs.Numbers.{range}
 use Rattle.lists.specs.Sequences.{concatMap}
-use Rattle.lists.proofs.Ranges.{map-append}
+use Rattle.lists.proofs.Ranges.{range-append, map-append}
 
 pub map-alike : {A : Type 0} (f g : ℕ → A) (a n : ℕ) → ((k : ℕ) → a ≤ k → k < a + n → f k ≡ g k) → map f (range a n) ≡ map g (range a n)
 map-alike f g a zero h = refl
@@ -19,19 +19,6 @@ map-moved f g a c (suc n) h =
     ap₂ (λ x xs. x ∷ xs) (ap f (sym (add-zero a)) ∙ h 0 ∙ ap g (add-zero c))
     (map-moved f g (suc a) (suc c) n (λ k. ap f (let e : suc a + k ≡ a + suc k = omega arith in e) ∙ h (suc k)
     ∙ ap g (let e : c + suc k ≡ suc c + k = omega arith in e)))
-
-pub concat-alike : {B : Type 0} (f g : ℕ → List B) (a n : ℕ) → ((k : ℕ) → a ≤ k → k < a + n → f k ≡ g k)
-    → concatMap f (range a n) ≡ concatMap g (range a n)
-unfolding concatMap
-concat-alike f g a zero h = refl
-concat-alike f g a (suc n) h =
-    ap₂ (λ xs ys. xs ++ ys) (h a (omega arith) (omega arith)) (concat-alike f g (suc a) n (λ k p q. h k (omega arith) (omega arith)))
-
-range-append : (a m n : ℕ) → range a (m + n) ≡ range a m ++ range (a + m) n
-range-append a zero n = ap₂ (λ (i k : ℕ). range i k) (sym (add-zero a)) (zero-add n)
-range-append a (suc m) n =
-    ap (range a) (let e : suc m + n ≡ suc (m + n) = omega arith in e)
-    ∙ ap (λ (xs : List ℕ). a ∷ xs) (range-append (suc a) m n ∙ ap (λ (i : ℕ). range (suc a) m ++ range i n) (omega arith))
 
 -- numbers from each bound up to the next are those from the first bound up to the last
 module _ {A : Type 0} (g : ℕ → A) (bound : ℕ → ℕ) (up : (l : ℕ) → bound l ≤ bound (l + 1)) where

@@ -45,6 +45,15 @@ module _ (i : Image) (sound : SoundImage i) where
   sort (suc zero) m = returnSort refl (ap (λ (x : Label). x .kind) (sound .back)) (ap (λ (x : Label). x .owner) (sound .back))
   sort (suc (suc l)) m = numberedSort (omega arith) (sound .others (suc (suc l)) (omega arith) m .kinds)
 
+  -- a label of a tick kind up to 2 is neither home nor a return
+  pub kind-high : (l : ℕ) → l < length (i .labels) → labelAt i l .kind ≤ 2 → 2 ≤ l
+  kind-high l h k = go (sort l h)
+    where
+      go : Sort l → 2 ≤ l
+      go (homeSort z q o) = absurd (omega arith)
+      go (returnSort z q o) = absurd (omega arith)
+      go (numberedSort z q) = z
+
   pub call-kind : (l : ℕ) → isCall (labelAt i l) ≡ true → (1 ≤ labelAt i l .kind) × (labelAt i l .kind ≤ 2)
   call-kind l e = go (or-cases (eqb (labelAt i l .kind) 1) (eqb (labelAt i l .kind) 2) e)
     where

@@ -2,7 +2,6 @@ pub mod Normal
 pub mod Leads
 pub mod Changes
 pub mod Keeps
-pub mod Depths
 pub mod TickCases
 pub mod RowCases
 pub mod Functions

@@ -1,6 +1,5 @@
 -- Which bit decides among the rows of a label, and where a row leads.
 use mathlib.Core.Path.{_≡_, refl, sym, _∙_, ap}
-use mathlib.Core.Bool.{Bool, true, false}
 use mathlib.Core.List.{List}
 use Prim.Native.Nat.{ℕ, _≤_, _<_}
 use native.Mathlib.Omega.{arith}
@@ -8,7 +7,7 @@ use native.Mathlib.Decide.{ℕ-discrete}
 use lib.Dec.{eqb}
 use borrow.Author.Tests.{eq-eqb, ne-eqb}
 use Rattle.lists.specs.Pick.{pick}
-use Rattle.lists.proofs.Tests.{yes-pick, no-pick}
+use Rattle.lists.proofs.Tests.{yes-pick, no-pick, bit-low}
 use Rattle.results.specs.Results.{Results, resultOf}
 use Rattle.image.specs.Image.{Label}
 use Rattle.tables.specs.Table.{tableLabel}
@@ -19,10 +18,6 @@ use Rattle.rows.specs.inner.Search.{Deciding}
 use Rattle.ticks.specs.inner.TickContracts.{bitOf}
 
 -- ---- the bit that decides among the rows of label l, read as z
-bit-low : (r : Bool) → pick r 1 0 < 2
-bit-low true = omega arith
-bit-low false = omega arith
-
 module _ (b : List ℕ) (l : ℕ) (z : declared.Label) (read : asLabel z ≡ tableLabel b l) (bs : Results)
     (bit : ℕ) (e : bit ≡ bitOf (z .kind) (z .called) bs) where
   pub bit-called : z .kind ≡ 2 → bit ≡ pick (resultOf (z .called) bs) 1 0

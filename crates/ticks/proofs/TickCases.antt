@@ -32,7 +32,7 @@ use Rattle.ticks.specs.Tick.{keepsFull, full, pushed, popped, tickBy, ti
 use Rattle.ticks.specs.inner.TickContracts.{TickAsked, beneath, afterTick, endOfTick, GivesTickEnd}
 use Rattle.ticks.specs.Tick.{topOf}
 use Rattle.ticks.specs.inner.TickContracts.{GivesTickMove}
-use Rattle.ticks.proofs.Depths.{DeepState, deep-told}
+use Rattle.fitness.proofs.Depths.{DeepState, deep-told}
 
 -- ---- what is answered and left, by what the tick is
 module _ (b before : List ℕ) (w : ℕ) where

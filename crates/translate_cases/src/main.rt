@@ -45,7 +45,7 @@ fn show(image: &[u8]) {
 
 fn run(text: &[u8]) {
     let mut image = [0u8; 29831];
-    let answer = translator::translate(text, &mut image);
+    let answer = translating::translate(text, &mut image);
     let Answer::Done(count) = answer else {
         refuse(answer);
         return;

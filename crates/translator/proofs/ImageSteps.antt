@@ -17,7 +17,7 @@ use Rattle.lists.proofs.Tests.{yes-pick, no-pick}
 use Rattle.lists.proofs.Counts.{count-suc, count-snoc}
 use Rattle.lists.proofs.Ranges.{mapFrom-cons, filter-yes, filter-no}
 use Rattle.lists.proofs.Joins.{concat-cons, concat-map, concat-append, length-concat-range}
-use Rattle.lists.proofs.Written.{written-more, written-front}
+use Rattle.lists.proofs.Written.{written-more, written-front, written-before}
 use Rattle.frames.specs.Frame.{size}
 use Rattle.frames.specs.Verdict.{fine, when}
 use Rattle.frames.specs.Answer.{GivesBuffer}
@@ -35,7 +35,6 @@ use Rattle.chart_rows.specs.inner.NodeRows.{nodeRows}
 use Rattle.label_text.specs.inner.LabelBytes.{headerBytes, entryBytes, fixedBytes, nodeLabelBytes, upTo, Put}
 use Rattle.translator.specs.inner.TranslatorContracts.{Sizes}
 use Rattle.translator.proofs.LabelLaws.{length-labels, length-entries}
-use Rattle.chart_text.proofs.SpreadSteps.{written-before}
 use Rattle.translator.proofs.ImageBytes.{bytes-length, image-length}
 use Rattle.chart_labels.proofs.LabelSteps.{label-own}
 use Rattle.chart_rows.proofs.RowSteps.{below-all}
@@ -193,8 +192,8 @@ chain out o₁ o₂ o₃ o₄ o₅ a b d e f p q r s ep eq er es room e₁ e₂ 
     let w₄ : o₄ ≡ written out p (((b ++ d) ++ e) ++ f) = written-more out p ((b ++ d) ++ e) f o₃ o₄ s (omega arith) (omega arith) w₃ e₄ in
     let g : ((b ++ d) ++ e) ++ f ≡ b ++ (d ++ (e ++ f)) = simp append-assoc in
     let k : p ≡ 0 + length a = omega arith in
-    e₅ ∙ ap (λ (o : List ℕ). written o 0 a) (w₄ ∙ ap (λ (j : ℕ). written out j (((b ++ d) ++ e) ++ f)) k)
-    ∙ written-before out a (((b ++ d) ++ e) ++ f) 0 (omega arith) ∙ ap (λ (x : List ℕ). written out 0 (a ++ x)) g
+    e₅ ∙ ap (λ (o : List ℕ). written o 0 a) w₄ ∙ written-before out 0 a (((b ++ d) ++ e) ++ f) p k (omega arith)
+    ∙ ap (λ (x : List ℕ). written out 0 (a ++ x)) g
 
 module _ (c : Chart) (highest own n : ℕ) (s : Sizes c highest own n) where
   pub bytes-long : length (tableBytes c) ≡ 10 * (3 + highest + own + n)

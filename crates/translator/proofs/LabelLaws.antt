@@ -8,16 +8,17 @@ use native.Mathlib.Numerals.{add-one}
 use native.Mathlib.Omega.{arith}
 use lib.ListN.{length, getD, length-map}
 use lib.Dec.{eqb}
-use borrow.Author.Tests.{eq-eqb, ne-eqb}
+use borrow.Author.Tests.{eq-eqb}
 use Rattle.lists.specs.Pick.{pick}
 use Rattle.lists.specs.Numbers.{count}
 use Rattle.lists.proofs.Tests.{yes-pick, and-no, split}
 use Rattle.lists.proofs.Counts.{count-le, count-below, count-apart, count-yes, count-pass, count-miss2}
 use Rattle.lists.proofs.Ranges.{length-map-range, getD-map-range, length-filter, getD-filter}
 use Rattle.frames.specs.Frame.{size}
-use Rattle.charts.specs.Chart.{Chart, kind, scheme, is, schemes, begin, end}
+use Rattle.charts.specs.Chart.{Chart, kind, scheme, next0, is, schemes, begin, end}
 use Rattle.walk.specs.Stops.{stops}
 use Rattle.walk.proofs.Facts.{Facts}
+use Rattle.walk.proofs.Follow.{stops-begin}
 use Rattle.image.specs.inner.Sound.{noLabel, nthLabel}
 use Rattle.chart_labels.specs.Labels.{numbered, numberedNodes, label, entry, homeLabel, returnLabel, stopLabel}
 use Rattle.chart_rows.specs.Rows.{rows}
@@ -92,7 +93,7 @@ module _ (c : Chart) where
   -- the Begin and the End of scheme 1 have no label of their own, so a byte holds every label
   first-unnumbered : (v : ℕ) → kind c v ≡ 0 → scheme c v ≡ 1 → numbered c v ≡ false
   first-unnumbered v k s =
-      unfold stops in rw (stops, ne-eqb (kind c v) 3 (λ e. omega arith), eq-eqb (kind c v) 0 k, eq-eqb (scheme c v) 1 s)
+      ap (λ x. x && not (is c 1 v)) (stops-begin c v k ∙ ap (λ x. not x && is c 3 (next0 c v)) (eq-eqb (scheme c v) 1 s))
 
   end-unnumbered : (v : ℕ) → kind c v ≡ 1 → numbered c v ≡ false
   end-unnumbered v k = and-no (stops c v) (not (is c 1 v)) (ap not (eq-eqb (kind c v) 1 k))

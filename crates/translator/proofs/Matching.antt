@@ -26,7 +26,8 @@ use Rattle.walk.proofs.Follow.{goes-on, follow-stays, follow-goes, takes-0, tak
 use Rattle.image.specs.Image.{Row}
 use Rattle.chart_labels.specs.Labels.{label}
 use Rattle.chart_rows.specs.Rows.{paths}
-use Rattle.chart_rows.proofs.PathSteps.{pathRow}
+use Rattle.chart_rows.specs.inner.NodeRows.{pathsFrom}
+use Rattle.chart_rows.proofs.PathSteps.{pathRow, paths-stop, paths-known, paths-new}
 
 -- a row of label l that matches word w and bit b
 abbrev pub matchingRow : ℕ → ℕ → ℕ → Row → Bool
@@ -78,52 +79,37 @@ module _ (l w b : ℕ) where
   one-no : (r : Row) → matchingRow l w b r ≡ false → targets l w b (r ∷ []) ≡ []
   one-no r e = targets-other r [] e ∙ targets-none
 
--- ---- the paths from a node
-module _ (n : ℕ) (c : Chart) (l f care values v : ℕ) where
-  paths-stop : stops c v ≡ true → paths (suc n) c l f care values v ≡ pathRow c l f care values v ∷ []
-  unfolding paths
-  paths-stop e = rw (paths, e)
-
-  paths-known : stops c v ≡ false → bit care (argument c v) ≡ 1
-      → paths (suc n) c l f care values v ≡ paths n c l f care values (taken c values v)
-  unfolding paths
-  paths-known e k = rw (paths, e, eq-eqb (bit care (argument c v)) 1 k)
-
-  paths-new : stops c v ≡ false → bit care (argument c v) ≡ 0
-      → paths (suc n) c l f care values v
-      ≡ paths n c l f (care + 2 ^ argument c v) values (next0 c v)
-      ++ paths n c l f (care + 2 ^ argument c v) (values + 2 ^ argument c v) (next1 c v)
-  unfolding paths
-  paths-new e k = rw (paths, e, ne-eqb (bit care (argument c v)) 1 (λ q. omega arith))
-
 -- rows of another label, or for the other bit of a function
 pub paths-none : (n : ℕ) (c : Chart) (l m w f b : ℕ) → ((r : Row) → r .from ≡ l → r .bit ≡ f → matchingRow m w b r ≡ false)
-    → (care values v : ℕ) → targets m w b (paths n c l f care values v) ≡ []
+    → (care values v : ℕ) → targets m w b (pathsFrom n c l f care values v) ≡ []
 paths-none zero c l m w f b q care values v = unfold paths in targets-none m w b
 paths-none (suc n) c l m w f b q care values v = go (cases (stops c v)) (bit-cases care (argument c v)) (paths-none n c l m w f b q)
   where
     go : (stops c v ≡ true) ⊎ (stops c v ≡ false) → (bit care (argument c v) ≡ 0) ⊎ (bit care (argument c v) ≡ 1)
-        → ((care values v : ℕ) → targets m w b (paths n c l f care values v) ≡ []) → targets m w b (paths (suc n) c l f care values v) ≡ []
+        → ((care values v : ℕ) → targets m w b (pathsFrom n c l f care values v) ≡ [])
+        → targets m w b (pathsFrom (suc n) c l f care values v) ≡ []
     go (inl s) x ih =
         ap (targets m w b) (paths-stop n c l f care values v s)
         ∙ one-no m w b (pathRow c l f care values v) (q (pathRow c l f care values v) refl refl)
     go (inr s) (inr k) ih = ap (targets m w b) (paths-known n c l f care values v s k) ∙ ih care values (taken c values v)
     go (inr s) (inl k) ih =
         let i : ℕ = argument c v in
-        ap (targets m w b) (paths-new n c l f care values v s k)
-        ∙ in-second m w b (paths n c l f (care + 2 ^ i) values (next0 c v)) (paths n c l f (care + 2 ^ i) (values + 2 ^ i) (next1 c v)) []
+        ap (targets m w b) (paths-new n c l f care values v s (λ q. omega (arith, k, q)))
+        ∙ in-second m w b (pathsFrom n c l f (care + 2 ^ i) values (next0 c v))
+        (pathsFrom n c l f (care + 2 ^ i) (values + 2 ^ i) (next1 c v)) []
         (ih (care + 2 ^ i) values (next0 c v)) (ih (care + 2 ^ i) (values + 2 ^ i) (next1 c v))
 
 module _ (c : Chart) (a : SoundChart c) (l w f b : ℕ) where
   -- a word that has not the values of the path so far matches none of its rows
   pub paths-miss : (n h care values v : ℕ) → Target c h v → Mask care values → Clash w care values
-      → targets l w b (paths n c l f care values v) ≡ []
+      → targets l w b (pathsFrom n c l f care values v) ≡ []
   paths-miss zero h care values v t m k = unfold paths in targets-none l w b
   paths-miss (suc n) h care values v t m k = go (cases (stops c v)) (bit-cases care (argument c v)) (paths-miss n h)
     where
       go : (stops c v ≡ true) ⊎ (stops c v ≡ false) → (bit care (argument c v) ≡ 0) ⊎ (bit care (argument c v) ≡ 1)
-          → ((care values v : ℕ) → Target c h v → Mask care values → Clash w care values → targets l w b (paths n c l f care values v) ≡ [])
-          → targets l w b (paths (suc n) c l f care values v) ≡ []
+          → ((care values v : ℕ) → Target c h v → Mask care values → Clash w care values
+          → targets l w b (pathsFrom n c l f care values v) ≡ [])
+          → targets l w b (pathsFrom (suc n) c l f care values v) ≡ []
       go (inl s) x ih =
           let q : eqb (bitAnd w care) values ≡ false = ne-eqb (bitAnd w care) values (clash-match w care values k) in
           ap (targets l w b) (paths-stop n c l f care values v s) ∙ one-no l w b (pathRow c l f care values v) (rw (eq-eqb l l refl, q))
@@ -134,8 +120,9 @@ module _ (c : Chart) (a : SoundChart c) (l w f b : ℕ) where
           let i : ℕ = argument c v in
           let e : kind c v ≡ 3 = goes-on c v (t .entered) s in
           let small : i ≤ 15 = conditions c a v (t .inside) e in
-          ap (targets l w b) (paths-new n c l f care values v s z)
-          ∙ in-second l w b (paths n c l f (care + 2 ^ i) values (next0 c v)) (paths n c l f (care + 2 ^ i) (values + 2 ^ i) (next1 c v)) []
+          ap (targets l w b) (paths-new n c l f care values v s (λ q. omega (arith, z, q)))
+          ∙ in-second l w b (pathsFrom n c l f (care + 2 ^ i) values (next0 c v))
+          (pathsFrom n c l f (care + 2 ^ i) (values + 2 ^ i) (next1 c v)) []
           (ih (care + 2 ^ i) values (next0 c v) (condition-arc0 c a h v t e)
           (mask-0 care values i z m small) (clash-0 care values i z m w k))
           (ih (care + 2 ^ i) (values + 2 ^ i) (next1 c v) (condition-arc1 c a h v t e)
@@ -144,7 +131,7 @@ module _ (c : Chart) (a : SoundChart c) (l w f b : ℕ) where
   -- a word that has them matches one row: that of the stop which following the arcs reaches
   pub paths-hit : (eqb f 2 || eqb f b) ≡ true → (n h care values v : ℕ) → Target c h v
       → rank c v ≤ n → Mask care values → Agree w care values
-      → targets l w b (paths n c l f care values v) ≡ label c (follow n c w v) ∷ []
+      → targets l w b (pathsFrom n c l f care values v) ≡ label c (follow n c w v) ∷ []
   paths-hit suits zero h care values v t r m g = absurd (omega (arith, rank-some c v (t .inside)))
   paths-hit suits (suc n) h care values v t r m g =
       go (cases (stops c v)) (bit-cases care (argument c v)) (bit-cases w (argument c v)) (paths-hit suits n h)
@@ -158,8 +145,8 @@ module _ (c : Chart) (a : SoundChart c) (l w f b : ℕ) where
       go : (stops c v ≡ true) ⊎ (stops c v ≡ false) → (bit care (argument c v) ≡ 0) ⊎ (bit care (argument c v) ≡ 1)
           → (bit w (argument c v) ≡ 0) ⊎ (bit w (argument c v) ≡ 1)
           → ((care values v : ℕ) → Target c h v → rank c v ≤ n → Mask care values → Agree w care values
-          → targets l w b (paths n c l f care values v) ≡ label c (follow n c w v) ∷ [])
-          → targets l w b (paths (suc n) c l f care values v) ≡ label c (follow (suc n) c w v) ∷ []
+          → targets l w b (pathsFrom n c l f care values v) ≡ label c (follow n c w v) ∷ [])
+          → targets l w b (pathsFrom (suc n) c l f care values v) ≡ label c (follow (suc n) c w v) ∷ []
       go (inl s) x y ih =
           let z : matchingRow l w b (pathRow c l f care values v) ≡ true =
           and-true (eqb l l) (agrees w care values && (eqb f 2 || eqb f b)) (eq-eqb l l refl)
@@ -176,9 +163,9 @@ module _ (c : Chart) (a : SoundChart c) (l w f b : ℕ) where
           let e : kind c v ≡ 3 = goes-on c v (t .entered) s in
           let small : i ≤ 15 = conditions c a v (t .inside) e in
           let q : taken c w v ≡ next0 c v = takes-0 c w v w0 in
-          ap (targets l w b) (paths-new n c l f care values v s z)
-          ∙ in-first l w b (paths n c l f (care + 2 ^ i) values (next0 c v))
-          (paths n c l f (care + 2 ^ i) (values + 2 ^ i) (next1 c v)) (label c (follow n c w (next0 c v)))
+          ap (targets l w b) (paths-new n c l f care values v s (λ q. omega (arith, z, q)))
+          ∙ in-first l w b (pathsFrom n c l f (care + 2 ^ i) values (next0 c v))
+          (pathsFrom n c l f (care + 2 ^ i) (values + 2 ^ i) (next1 c v)) (label c (follow n c w (next0 c v)))
           (ih (care + 2 ^ i) values (next0 c v) (condition-arc0 c a h v t e) (lower e (next0 c v) q)
           (mask-0 care values i z m small) (agree-0 care values i z m w g w0))
           (paths-miss n h (care + 2 ^ i) (values + 2 ^ i) (next1 c v) (condition-arc1 c a h v t e)
@@ -189,9 +176,9 @@ module _ (c : Chart) (a : SoundChart c) (l w f b : ℕ) where
           let e : kind c v ≡ 3 = goes-on c v (t .entered) s in
           let small : i ≤ 15 = conditions c a v (t .inside) e in
           let q : taken c w v ≡ next1 c v = takes-1 c w v w1 in
-          ap (targets l w b) (paths-new n c l f care values v s z)
-          ∙ in-second l w b (paths n c l f (care + 2 ^ i) values (next0 c v))
-          (paths n c l f (care + 2 ^ i) (values + 2 ^ i) (next1 c v)) (label c (follow n c w (next1 c v)) ∷ [])
+          ap (targets l w b) (paths-new n c l f care values v s (λ q. omega (arith, z, q)))
+          ∙ in-second l w b (pathsFrom n c l f (care + 2 ^ i) values (next0 c v))
+          (pathsFrom n c l f (care + 2 ^ i) (values + 2 ^ i) (next1 c v)) (label c (follow n c w (next1 c v)) ∷ [])
           (paths-miss n h (care + 2 ^ i) values (next0 c v) (condition-arc0 c a h v t e)
           (mask-0 care values i z m small) (clash-here-0 care values i z m w w1))
           (ih (care + 2 ^ i) (values + 2 ^ i) (next1 c v) (condition-arc1 c a h v t e) (lower e (next1 c v) q)

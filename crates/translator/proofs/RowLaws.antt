@@ -14,7 +14,7 @@ use borrow.Author.Tests.{eqb-true, eqb-false, eq-eqb, ne-eqb}
 use Rattle.lists.specs.Pick.{pick}
 use Rattle.lists.specs.Numbers.{range}
 use Rattle.lists.specs.Sequences.{filter}
-use Rattle.lists.proofs.Tests.{and-l, and-r, and-true, not-true, yes-pick, no-pick}
+use Rattle.lists.proofs.Tests.{and-l, and-r, not-true, yes-pick, no-pick}
 use Rattle.lists.proofs.Filters.{concat-only, one-passes}
 use Rattle.bits.specs.Word.{bit, agrees}
 use Rattle.bits.proofs.BitLaws.{bit-none, bit-cases, Mask, Agree, Clash, mask-none, agree-none, mask-0}
@@ -28,27 +28,12 @@ use Rattle.walk.specs.Stops.{stops, byArc, byWord}
 use Rattle.walk.proofs.Follow.{stops-other, stops-condition, stops-begin, follow-condition, takes-0, takes-1}
 use Rattle.image.specs.Image.{Row, noRow}
 use Rattle.chart_labels.specs.Labels.{numbered, label}
-use Rattle.chart_rows.specs.Rows.{paths, rowsOf, rows}
+use Rattle.chart_rows.specs.Rows.{rowsOf, rows}
+use Rattle.chart_rows.proofs.RowKinds.{function-rows, condition-rows, plain-rows}
+use Rattle.chart_rows.specs.inner.NodeRows.{pathsFrom}
+use Rattle.label_text.proofs.LabelPuts.{numbered-stop}
 use Rattle.translator.proofs.LabelLaws.{labels-apart}
 use Rattle.translator.proofs.Matching.{matchingRow, targets, targets-concat, in-first, in-second, paths-none, paths-miss, paths-hit}
-
--- ---- the rows of a node by its kind
-module _ (c : Chart) (v : ℕ) where
-  pub rows-function : kind c v ≡ 4
-      → rowsOf c v ≡ paths (size c) c (label c v) 0 0 0 (next0 c v) ++ paths (size c) c (label c v) 1 0 0 (next1 c v)
-  unfolding rowsOf
-  rows-function k = rw (rowsOf, eq-eqb (kind c v) 4 k)
-
-  pub rows-condition : kind c v ≡ 3
-      → rowsOf c v
-      ≡ paths (size c) c (label c v) 2 (2 ^ argument c v) 0 (next0 c v)
-      ++ paths (size c) c (label c v) 2 (2 ^ argument c v) (2 ^ argument c v) (next1 c v)
-  unfolding rowsOf
-  rows-condition k = rw (rowsOf, ne-eqb (kind c v) 4 (λ e. omega arith), eq-eqb (kind c v) 3 k)
-
-  pub rows-plain : (kind c v ≡ 4 → ⊥) → (kind c v ≡ 3 → ⊥) → rowsOf c v ≡ paths (size c) c (label c v) 2 0 0 (next0 c v)
-  unfolding rowsOf
-  rows-plain n k = rw (rowsOf, ne-eqb (kind c v) 4 n, ne-eqb (kind c v) 3 k)
 
 -- rows of another node's label match nothing
 rows-other : (c : Chart) (u m w b : ℕ) → (label c u ≡ m → ⊥) → targets m w b (rowsOf c u) ≡ []
@@ -59,20 +44,20 @@ rows-other c u m w b ne = go (ℕ-discrete (kind c u) 4) (ℕ-discrete (kind c u
         ap (λ (x : Bool). x && (agrees w (r .care) (r .values) && (eqb (r .bit) 2 || eqb (r .bit) b)))
         (ne-eqb (r .from) m (λ q. ne (sym e ∙ q)))
 
-    none : (f care values v : ℕ) → targets m w b (paths (size c) c (label c u) f care values v) ≡ []
+    none : (f care values v : ℕ) → targets m w b (pathsFrom (size c) c (label c u) f care values v) ≡ []
     none f = paths-none (size c) c (label c u) m w f b (λ r e x. elsewhere r e)
 
     go : Dec (kind c u ≡ 4) → Dec (kind c u ≡ 3) → targets m w b (rowsOf c u) ≡ []
     go (yes k) x =
-        ap (targets m w b) (rows-function c u k)
-        ∙ in-second m w b (paths (size c) c (label c u) 0 0 0 (next0 c u)) (paths (size c) c (label c u) 1 0 0 (next1 c u)) []
+        ap (targets m w b) (function-rows c u k)
+        ∙ in-second m w b (pathsFrom (size c) c (label c u) 0 0 0 (next0 c u)) (pathsFrom (size c) c (label c u) 1 0 0 (next1 c u)) []
         (none 0 0 0 (next0 c u)) (none 1 0 0 (next1 c u))
     go (no n) (yes k) =
         let p : ℕ = 2 ^ argument c u in
-        ap (targets m w b) (rows-condition c u k)
-        ∙ in-second m w b (paths (size c) c (label c u) 2 p 0 (next0 c u)) (paths (size c) c (label c u) 2 p p (next1 c u)) []
+        ap (targets m w b) (condition-rows c u k)
+        ∙ in-second m w b (pathsFrom (size c) c (label c u) 2 p 0 (next0 c u)) (pathsFrom (size c) c (label c u) 2 p p (next1 c u)) []
         (none 2 p 0 (next0 c u)) (none 2 p p (next1 c u))
-    go (no n) (no k) = ap (targets m w b) (rows-plain c u n k) ∙ none 2 0 0 (next0 c u)
+    go (no n) (no k) = ap (targets m w b) (plain-rows c u n k) ∙ none 2 0 0 (next0 c u)
 
 -- so among all rows those of the node itself decide
 pub rows-here : (c : Chart) (v w b : ℕ) → v < size c → numbered c v ≡ true
@@ -83,26 +68,23 @@ rows-here c v w b l e =
     ∙ concat-only (λ u. targets (label c v) w b (rowsOf c u)) (numbered c) v 0 (size c) (omega arith) (omega arith) e
     (λ u x y n ne. rows-other c u (label c v) w b (λ q. ne (labels-apart c u v n e q)))
 
-pub numbered-stop : (c : Chart) (v : ℕ) → stops c v ≡ true → (kind c v ≡ 1 → ⊥) → numbered c v ≡ true
-numbered-stop c v s n = and-true (stops c v) (not (is c 1 v)) s (ap not (ne-eqb (kind c v) 1 n))
-
 module _ (c : Chart) (a : SoundChart c) where
   -- all paths from an arc's end, with nothing tested yet
   from-arc : (l w f b : ℕ) → (eqb f 2 || eqb f b) ≡ true → (h u : ℕ) → Target c h u
-      → targets l w b (paths (size c) c l f 0 0 u) ≡ label c (byArc c w u) ∷ []
+      → targets l w b (pathsFrom (size c) c l f 0 0 u) ≡ label c (byArc c w u) ∷ []
   from-arc l w f b suits h u t = paths-hit c a l w f b suits (size c) h 0 0 u t (rank-le c u) mask-none (agree-none w)
 
   -- a stop with one arc: an operation or a Begin
   row-straight : (v w b : ℕ) → v < size c → numbered c v ≡ true → (kind c v ≡ 4 → ⊥) → (kind c v ≡ 3 → ⊥)
       → targets (label c v) w b (rows c) ≡ label c (byArc c w (next0 c v)) ∷ []
   row-straight v w b l e n k =
-      rows-here c v w b l e ∙ ap (targets (label c v) w b) (rows-plain c v n k)
+      rows-here c v w b l e ∙ ap (targets (label c v) w b) (plain-rows c v n k)
       ∙ from-arc (label c v) w 2 b refl (scheme c v) (next0 c v)
       (arc0 c a v l (eqb-false (kind c v) 1 (not-true (is c 1 v) (and-r (stops c v) (not (is c 1 v)) e))))
 
   pub row-plain : (v w b : ℕ) → v < size c → kind c v ≡ 2 → targets (label c v) w b (rows c) ≡ label c (byArc c w (next0 c v)) ∷ []
   row-plain v w b l k =
-      row-straight v w b l (numbered-stop c v (stops-other c v (λ e. omega arith) (λ e. omega arith)) (λ e. omega arith))
+      row-straight v w b l (numbered-stop c v (λ e. omega arith) ∙ stops-other c v (λ e. omega arith) (λ e. omega arith))
       (λ e. omega arith) (λ e. omega arith)
 
   -- the node after a stopping Begin is a condition that is no stop
@@ -115,13 +97,13 @@ module _ (c : Chart) (a : SoundChart c) where
       let k₃ : kind c (next0 c v) ≡ 3 = eqb-true (kind c (next0 c v)) 3 (and-r (not (eqb (scheme c v) 1)) (is c 3 (next0 c v)) x) in
       let one′ : eqb (scheme c (next0 c v)) 1 ≡ false = ap (λ (h : ℕ). eqb h 1) (t .same) ∙ one in
       let on : stops c (next0 c v) ≡ false = stops-condition c (next0 c v) k₃ ∙ rw one′ in
-      row-straight v w b l (numbered-stop c v s (λ e. omega arith)) (λ e. omega arith) (λ e. omega arith)
+      row-straight v w b l (numbered-stop c v (λ e. omega arith) ∙ s) (λ e. omega arith) (λ e. omega arith)
       ∙ ap (λ (u : ℕ). label c u ∷ []) (follow-condition c a (next0 c v) w (t .inside) k₃ on)
 
   pub row-condition : (v w b : ℕ) → v < size c → kind c v ≡ 3 → stops c v ≡ true
       → targets (label c v) w b (rows c) ≡ label c (byWord c w v) ∷ []
   row-condition v w b l k s =
-      rows-here c v w b l (numbered-stop c v s (λ e. omega arith)) ∙ ap (targets (label c v) w b) (rows-condition c v k)
+      rows-here c v w b l (numbered-stop c v (λ e. omega arith) ∙ s) ∙ ap (targets (label c v) w b) (condition-rows c v k)
       ∙ go (bit-cases w (argument c v))
     where
       two : 0 + 2 ^ argument c v ≡ 2 ^ argument c v
@@ -146,20 +128,20 @@ module _ (c : Chart) (a : SoundChart c) where
       mask₁ = subst (λ (x : ℕ). Mask x x) two (mask-1 0 0 (argument c v) free mask-none small)
 
       go : (bit w (argument c v) ≡ 0) ⊎ (bit w (argument c v) ≡ 1)
-          → targets (label c v) w b (paths (size c) c (label c v) 2 (2 ^ argument c v) 0 (next0 c v)
-          ++ paths (size c) c (label c v) 2 (2 ^ argument c v) (2 ^ argument c v) (next1 c v))
+          → targets (label c v) w b (pathsFrom (size c) c (label c v) 2 (2 ^ argument c v) 0 (next0 c v)
+          ++ pathsFrom (size c) c (label c v) 2 (2 ^ argument c v) (2 ^ argument c v) (next1 c v))
           ≡ label c (byWord c w v) ∷ []
       go (inl z) =
-          in-first (label c v) w b (paths (size c) c (label c v) 2 (2 ^ argument c v) 0 (next0 c v))
-          (paths (size c) c (label c v) 2 (2 ^ argument c v) (2 ^ argument c v) (next1 c v)) (label c (byArc c w (next0 c v)))
+          in-first (label c v) w b (pathsFrom (size c) c (label c v) 2 (2 ^ argument c v) 0 (next0 c v))
+          (pathsFrom (size c) c (label c v) 2 (2 ^ argument c v) (2 ^ argument c v) (next1 c v)) (label c (byArc c w (next0 c v)))
           (paths-hit c a (label c v) w 2 b refl (size c) (scheme c v) (2 ^ argument c v) 0 (next0 c v) t₀ (rank-le c (next0 c v)) mask₀
           (subst (λ (x : ℕ). Agree w x 0) two (agree-0 0 0 (argument c v) free mask-none w (agree-none w) z)))
           (paths-miss c a (label c v) w 2 b (size c) (scheme c v) (2 ^ argument c v) (2 ^ argument c v) (next1 c v) t₁ mask₁
           (subst (λ (x : ℕ). Clash w x x) two (clash-here-1 0 0 (argument c v) free mask-none w z)))
           ∙ ap (λ (u : ℕ). label c (byArc c w u) ∷ []) (sym (takes-0 c w v z))
       go (inr o) =
-          in-second (label c v) w b (paths (size c) c (label c v) 2 (2 ^ argument c v) 0 (next0 c v))
-          (paths (size c) c (label c v) 2 (2 ^ argument c v) (2 ^ argument c v) (next1 c v))
+          in-second (label c v) w b (pathsFrom (size c) c (label c v) 2 (2 ^ argument c v) 0 (next0 c v))
+          (pathsFrom (size c) c (label c v) 2 (2 ^ argument c v) (2 ^ argument c v) (next1 c v))
           (label c (byArc c w (next1 c v)) ∷ [])
           (paths-miss c a (label c v) w 2 b (size c) (scheme c v) (2 ^ argument c v) 0 (next0 c v) t₀ mask₀
           (subst (λ (x : ℕ). Clash w x 0) two (clash-here-0 0 0 (argument c v) free mask-none w o)))
@@ -172,8 +154,8 @@ module _ (c : Chart) (a : SoundChart c) where
   pub row-function : (v w : ℕ) (b : Bool) → v < size c → kind c v ≡ 4
       → targets (label c v) w (pick b 1 0) (rows c) ≡ label c (byArc c w (pick b (next1 c v) (next0 c v))) ∷ []
   row-function v w b l k =
-      rows-here c v w (pick b 1 0) l (numbered-stop c v (stops-other c v (λ e. omega arith) (λ e. omega arith)) (λ e. omega arith))
-      ∙ ap (targets (label c v) w (pick b 1 0)) (rows-function c v k) ∙ go b
+      rows-here c v w (pick b 1 0) l (numbered-stop c v (λ e. omega arith) ∙ stops-other c v (λ e. omega arith) (λ e. omega arith))
+      ∙ ap (targets (label c v) w (pick b 1 0)) (function-rows c v k) ∙ go b
     where
       none : (x y : Bool) → (x && (y && false)) ≡ false
       none true true = refl
@@ -186,16 +168,16 @@ module _ (c : Chart) (a : SoundChart c) where
           ∙ none (eqb (r .from) (label c v)) (agrees w (r .care) (r .values))
 
       go : (b : Bool) → targets (label c v) w (pick b 1 0)
-          (paths (size c) c (label c v) 0 0 0 (next0 c v) ++ paths (size c) c (label c v) 1 0 0 (next1 c v))
+          (pathsFrom (size c) c (label c v) 0 0 0 (next0 c v) ++ pathsFrom (size c) c (label c v) 1 0 0 (next1 c v))
           ≡ label c (byArc c w (pick b (next1 c v) (next0 c v))) ∷ []
       go false =
-          in-first (label c v) w 0 (paths (size c) c (label c v) 0 0 0 (next0 c v))
-          (paths (size c) c (label c v) 1 0 0 (next1 c v)) (label c (byArc c w (next0 c v)))
+          in-first (label c v) w 0 (pathsFrom (size c) c (label c v) 0 0 0 (next0 c v))
+          (pathsFrom (size c) c (label c v) 1 0 0 (next1 c v)) (label c (byArc c w (next0 c v)))
           (from-arc (label c v) w 0 0 refl (scheme c v) (next0 c v) (arc0 c a v l (λ e. omega arith)))
           (paths-none (size c) c (label c v) (label c v) w 1 0 (off 1 0 refl) 0 0 (next1 c v))
       go true =
-          in-second (label c v) w 1 (paths (size c) c (label c v) 0 0 0 (next0 c v))
-          (paths (size c) c (label c v) 1 0 0 (next1 c v)) (label c (byArc c w (next1 c v)) ∷ [])
+          in-second (label c v) w 1 (pathsFrom (size c) c (label c v) 0 0 0 (next0 c v))
+          (pathsFrom (size c) c (label c v) 1 0 0 (next1 c v)) (label c (byArc c w (next1 c v)) ∷ [])
           (paths-none (size c) c (label c v) (label c v) w 0 1 (off 0 1 refl) 0 0 (next0 c v))
           (from-arc (label c v) w 1 1 refl (scheme c v) (next1 c v) (arc1 c a v l (omega arith)))
 

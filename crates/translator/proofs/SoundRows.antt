@@ -1,15 +1,16 @@
 -- The rows of an accepted chart are sound, and their labels do not fall.
 use Prim.Native.Nat.{ℕ, zero, suc, _+_, _^_, _≤_, _<_}
-use mathlib.Core.Bool.{Bool, true, false, _&&_, not}
+use mathlib.Core.Bool.{Bool, true, false, not}
 use mathlib.Core.Path.{_≡_, refl, sym, _∙_, ap, subst}
 use mathlib.Core.Logic.{inl, inr}
 use mathlib.Core.List.{List, [], _∷_, _++_}
+use native.Mathlib.Decide.{ℕ-discrete}
 use native.Mathlib.Omega.{arith}
 use lib.ListN.{length, getD}
 use lib.Bits.{bitAnd, and-le-r, and-zero-l, and-self}
 use lib.Dec.{eqb}
 use lib.Pow.{pow-lt}
-use borrow.Author.Tests.{eqb-true, eqb-false}
+use borrow.Author.Tests.{eqb-true, eqb-false, eq-eqb}
 use Rattle.lists.specs.Pick.{pick}
 use Rattle.lists.specs.Numbers.{range, count}
 use Rattle.lists.specs.Sequences.{concatMap, filter, All}
@@ -25,8 +26,12 @@ use Rattle.walk.proofs.Facts.{Facts, Target}
 use Rattle.walk.proofs.Follow.{goes-on}
 use Rattle.image.specs.Image.{Label, Row, noRow}
 use Rattle.image.specs.inner.Sound.{nthLabel, endOf, Reaches, SoundRow}
+use Rattle.image.proofs.Rising.{Rising, rising-at}
 use Rattle.chart_labels.specs.Labels.{numbered, numberedNodes, label, stopLabel}
+use Rattle.chart_labels.proofs.LabelKinds.{label-function, label-owner}
 use Rattle.chart_rows.specs.Rows.{paths, rowsOf, rows}
+use Rattle.chart_rows.proofs.RowKinds.{function-rows, condition-rows, plain-rows}
+use Rattle.chart_rows.specs.inner.NodeRows.{pathsFrom}
 use Rattle.translator.specs.Table.{table}
 use Rattle.translator.proofs.LabelLaws.{label-is, label-low, label-inside, label-holds, labels-two}
 
@@ -48,7 +53,10 @@ label-reaches c h v l e = go (numbered c v) refl
     ends false = omega arith
 
     go : (b : Bool) → numbered c v ≡ b → Reaches (table c) h (label c v)
-    go true q = record { inside = label-inside c v l q; belongs = inl (ap (λ (x : Label). x .owner) (label-holds c v l q) ∙ e) }
+    go true q = record {
+      inside = label-inside c v l q;
+      belongs = inl (ap (λ (x : Label). x .owner) (label-holds c v l q) ∙ label-owner c v ∙ e);
+    }
     go false q =
         let p : label c v ≡ endOf (scheme c v) = rw q in
         record {
@@ -62,15 +70,15 @@ module _ (c : Chart) (F : Facts c) where
   pick-target h false u v s t = t
 
   paths-good : (n l f h care values v : ℕ) → care < 65536 → bitAnd values care ≡ values → Target c h v
-      → All (PathRow c l f h) (paths n c l f care values v)
+      → All (PathRow c l f h) (pathsFrom n c l f care values v)
   unfolding paths
   paths-good zero l f h care values v s w t = tt
   paths-good (suc n) l f h care values v s w t =
       go (λ care values v s w t. paths-good n l f h care values v s w t) (stops c v) refl
     where
       go : ((care values v : ℕ) → care < 65536 → bitAnd values care ≡ values → Target c h v
-          → All (PathRow c l f h) (paths n c l f care values v))
-          → (b : Bool) → stops c v ≡ b → All (PathRow c l f h) (paths (suc n) c l f care values v)
+          → All (PathRow c l f h) (pathsFrom n c l f care values v))
+          → (b : Bool) → stops c v ≡ b → All (PathRow c l f h) (pathsFrom (suc n) c l f care values v)
       go ih true e =
           rw (paths, e) (
             record { leaving = refl; flag = refl; cares = s; within = w; leading = label-reaches c h v (t .inside) (t .same) },
@@ -87,7 +95,7 @@ module _ (c : Chart) (F : Facts c) where
           t₁ : Target c h (next1 c v)
           t₁ = subst (λ (g : ℕ). Target c g (next1 c v)) (t .same) (F .arc1 v (t .inside) (omega (arith, three)))
 
-          further : (b : Bool) → eqb (bit care (argument c v)) 1 ≡ b → All (PathRow c l f h) (paths (suc n) c l f care values v)
+          further : (b : Bool) → eqb (bit care (argument c v)) 1 ≡ b → All (PathRow c l f h) (pathsFrom (suc n) c l f care values v)
           further true q =
               rw (paths, e, q) (ih care values (taken c values v) s w
               (pick-target h (eqb (bit values (argument c v)) 0) (next0 c v) (next1 c v) t₀ t₁))
@@ -96,8 +104,8 @@ module _ (c : Chart) (F : Facts c) where
               let small : care + 2 ^ argument c v < 65536 =
               more-small (argument c v) 16 care (omega (arith, F .conditions v (t .inside) three)) s free in
               rw (paths, e, q) (all-append (PathRow c l f h)
-              (paths n c l f (care + 2 ^ argument c v) values (next0 c v))
-              (paths n c l f (care + 2 ^ argument c v) (values + 2 ^ argument c v) (next1 c v))
+              (pathsFrom n c l f (care + 2 ^ argument c v) values (next0 c v))
+              (pathsFrom n c l f (care + 2 ^ argument c v) (values + 2 ^ argument c v) (next1 c v))
               (ih (care + 2 ^ argument c v) values (next0 c v) small (more-within-0 (argument c v) values care free w) t₀)
               (ih (care + 2 ^ argument c v) (values + 2 ^ argument c v) (next1 c v) small
               (more-within-1 (argument c v) values care free w) t₁))
@@ -121,23 +129,22 @@ module _ (c : Chart) (F : Facts c) where
             small = omega (arith, p .cares, p .within, and-le-r (r .values) (r .care));
             within = p .within;
             bits = omega (arith, p .flag);
-            function = λ b. ap (λ (x : Label). x .kind) at
-                ∙ ap (λ (t : Bool). pick t 2 (pick (is c 2 v && not (eqb (argument c v) 0)) 1 0)) (four (omega (arith, p .flag)));
-            leading = subst (λ (h : ℕ). Reaches (table c) h (r .next)) (sym (ap (λ (x : Label). x .owner) at)) (p .leading);
+            function = λ b. ap (λ (x : Label). x .kind) (at ∙ label-function c v (eqb-true (kind c v) 4 (four (omega (arith, p .flag)))));
+            leading = subst (λ (h : ℕ). Reaches (table c) h (r .next))
+                (sym (ap (λ (x : Label). x .owner) at ∙ label-owner c v)) (p .leading);
           },
           p .leaving,
         )
 
     of-paths : (f care values u : ℕ) → f ≤ 2 → (f < 2 → is c 4 v ≡ true) → care < 65536 → bitAnd values care ≡ values
         → Target c (scheme c v) u
-        → All Good (paths (size c) c (label c v) f care values u)
+        → All Good (pathsFrom (size c) c (label c v) f care values u)
     of-paths f care values u m four s w t =
-        all-of (PathRow c (label c v) f (scheme c v)) Good (row-good f m four) (paths (size c) c (label c v) f care values u)
+        all-of (PathRow c (label c v) f (scheme c v)) Good (row-good f m four) (pathsFrom (size c) c (label c v) f care values u)
         (paths-good (size c) (label c v) f (scheme c v) care values u s w t)
 
     rows-of : All Good (rowsOf c v)
-    unfolding rowsOf
-    rows-of = go (is c 4 v) refl (is c 3 v) refl
+    rows-of = go (ℕ-discrete (kind c v) 4) (ℕ-discrete (kind c v) 3)
       where
         t₀ : Target c (scheme c v) (next0 c v)
         t₀ = F .arc0 v l no-end
@@ -145,22 +152,22 @@ module _ (c : Chart) (F : Facts c) where
         none : 2 < 2 → is c 4 v ≡ true
         none z = absurd (omega arith)
 
-        go : (p : Bool) → is c 4 v ≡ p → (q : Bool) → is c 3 v ≡ q → All Good (rowsOf c v)
-        go true p q r = rw (rowsOf, p)
-            (all-append Good (paths (size c) c (label c v) 0 0 0 (next0 c v)) (paths (size c) c (label c v) 1 0 0 (next1 c v))
-            (of-paths 0 0 0 (next0 c v) (omega arith) (λ z. p) (omega arith) (and-zero-l 0) t₀)
-            (of-paths 1 0 0 (next1 c v) (omega arith) (λ z. p) (omega arith) (and-zero-l 0)
-            (F .arc1 v l (omega (arith, eqb-true (kind c v) 4 p)))))
-        go false p true r =
-            let three : kind c v ≡ 3 = eqb-true (kind c v) 3 r in
-            let small : 2 ^ argument c v < 65536 = pow-lt {i = argument c v} {j = 16} (omega (arith, F .conditions v l three)) in
-            rw (rowsOf, p, r) (all-append Good
-            (paths (size c) c (label c v) 2 (2 ^ argument c v) 0 (next0 c v))
-            (paths (size c) c (label c v) 2 (2 ^ argument c v) (2 ^ argument c v) (next1 c v))
+        go : Dec (kind c v ≡ 4) → Dec (kind c v ≡ 3) → All Good (rowsOf c v)
+        go (yes k) x = subst (All Good) (sym (function-rows c v k))
+            (all-append Good (pathsFrom (size c) c (label c v) 0 0 0 (next0 c v)) (pathsFrom (size c) c (label c v) 1 0 0 (next1 c v))
+            (of-paths 0 0 0 (next0 c v) (omega arith) (λ z. eq-eqb (kind c v) 4 k) (omega arith) (and-zero-l 0) t₀)
+            (of-paths 1 0 0 (next1 c v) (omega arith) (λ z. eq-eqb (kind c v) 4 k) (omega arith) (and-zero-l 0)
+            (F .arc1 v l (omega arith))))
+        go (no n) (yes k) =
+            let small : 2 ^ argument c v < 65536 = pow-lt {i = argument c v} {j = 16} (omega (arith, F .conditions v l k)) in
+            subst (All Good) (sym (condition-rows c v k)) (all-append Good
+            (pathsFrom (size c) c (label c v) 2 (2 ^ argument c v) 0 (next0 c v))
+            (pathsFrom (size c) c (label c v) 2 (2 ^ argument c v) (2 ^ argument c v) (next1 c v))
             (of-paths 2 (2 ^ argument c v) 0 (next0 c v) (omega arith) none small (and-zero-l (2 ^ argument c v)) t₀)
             (of-paths 2 (2 ^ argument c v) (2 ^ argument c v) (next1 c v) (omega arith) none small
             (and-self (2 ^ argument c v)) (F .arc1 v l (omega arith))))
-        go false p false r = rw (rowsOf, p, r) (of-paths 2 0 0 (next0 c v) (omega arith) none (omega arith) (and-zero-l 0) t₀)
+        go (no n) (no k) =
+            subst (All Good) (sym (plain-rows c v n k)) (of-paths 2 0 0 (next0 c v) (omega arith) none (omega arith) (and-zero-l 0) t₀)
 
     pub rows-of-sound : All (SoundRow (table c)) (rowsOf c v)
     unfolding Good
@@ -181,11 +188,6 @@ rows-sound c F = all-concat (SoundRow (table c)) (rowsOf c) (numberedNodes c)
     (all-of (λ v. (v < size c) × (numbered c v ≡ true)) (λ v. All (SoundRow (table c)) (rowsOf c v))
     (λ v p. rows-of-sound c F v (p .0) (p .1)) (numberedNodes c) (numbered-nodes c))
 
--- rows whose labels do not fall, the first at least m
-abbrev Rising : ℕ → List Row → Type 0
-Rising m [] = Unit {0}
-Rising m (r ∷ rs) = (m ≤ r .from) × Rising (r .from) rs
-
 rising-down : (m n : ℕ) (rs : List Row) → m ≤ n → Rising n rs → Rising m rs
 rising-down m n [] h a = tt
 rising-down m n (r ∷ rs) h a = (omega (arith, a .0), a .1)
@@ -193,15 +195,6 @@ rising-down m n (r ∷ rs) h a = (omega (arith, a .0), a .1)
 rising-append : (m l : ℕ) (xs ys : List Row) → m ≤ l → All (λ r. r .from ≡ l) xs → Rising l ys → Rising m (xs ++ ys)
 rising-append m l [] ys h a b = rising-down m l ys h b
 rising-append m l (x ∷ xs) ys h a b = (omega (arith, a .0), rising-append (x .from) l xs ys (omega (arith, a .0)) (a .1) b)
-
-rising-at : (m : ℕ) (rs : List Row) → Rising m rs → (k : ℕ) → suc k < length rs → getD rs k noRow .from ≤ getD rs (suc k) noRow .from
-rising-at m [] a k h = absurd (omega arith)
-rising-at m (r ∷ rs) a zero h = second rs (a .1) (omega arith)
-  where
-    second : (rs : List Row) → Rising (r .from) rs → 0 < length rs → r .from ≤ getD rs 0 noRow .from
-    second [] b l = absurd (omega arith)
-    second (s ∷ rs) b l = b .0
-rising-at m (r ∷ rs) a (suc k) h = rising-at (r .from) rs (a .1) k (omega arith)
 
 from-rising : (c : Chart) → Facts c → (n a m : ℕ) → a + n ≤ size c → m ≤ 2 + count (numbered c) 0 a
     → Rising m (concatMap (rowsOf c) (filter (numbered c) (range a n)))

@@ -1,6 +1,6 @@
 -- The table of an accepted chart of at most 1,024 rows is sound, so its text passes the image check and reads back as the table.
-use Prim.Native.Nat.{ℕ, suc, _+_, _*_, _-_, _≤_, _<_}
-use mathlib.Core.Bool.{Bool, true, false, _&&_, _||_, not}
+use Prim.Native.Nat.{ℕ, zero, suc, _+_, _*_, _-_, _≤_, _<_}
+use mathlib.Core.Bool.{Bool, true, false}
 use mathlib.Core.Path.{_≡_, refl, sym, _∙_, ap, subst}
 use mathlib.Core.List.{List}
 use native.Mathlib.Omega.{arith}
@@ -12,16 +12,17 @@ use Rattle.lists.proofs.Ranges.{getD-map}
 use Rattle.lists.proofs.Joins.{all-at}
 use Rattle.frames.specs.Frame.{contents, size}
 use Rattle.frames.specs.Verdict.{fine}
-use Rattle.charts.specs.Chart.{Chart, is, kind, scheme, argument, result, mask, schemes}
+use Rattle.charts.specs.Layout.{Function, kindOf}
+use Rattle.charts.specs.Chart.{Chart, kind, scheme, argument, result, mask, schemes}
 use Rattle.walk.specs.Stops.{start}
 use Rattle.walk.proofs.Facts.{Facts, StopOf}
-use Rattle.image.specs.Image.{Label, Row, imageText, noRow}
+use Rattle.image.specs.Image.{Row, imageText, noRow}
 use Rattle.image.specs.Decode.{decoded}
 use Rattle.image.specs.Check.{imageVerdict}
 use Rattle.image.specs.inner.Sound.{noLabel, nthLabel, Reaches, SoundLabel, SoundRow, SoundImage}
 use Rattle.image.proofs.Decoded.{image-decoded}
 use Rattle.image.proofs.Passes.{image-fine}
-use Rattle.chart_labels.specs.Labels.{numbered, numberedNodes, stopLabel}
+use Rattle.chart_labels.specs.Labels.{numbered, numberedNodes, bareLabel, labelAs, stopLabel}
 use Rattle.chart_rows.specs.Rows.{rows}
 use Rattle.translator.specs.Table.{table}
 use Rattle.translator.proofs.LabelLaws.{label-home, label-return, labels-two, labels-few, length-entries, entry-holds, rows-are}
@@ -33,48 +34,8 @@ module _ (c : Chart) (F : Facts c) where
   mask-small v = omega (arith, F .bytes (10 * v + 6), F .bytes (10 * v + 7), F .bytes (10 * v + 8), F .bytes (10 * v + 9))
 
   module _ (v : ℕ) (l : v < size c) where
-    -- what a label holds, by whether its node is a function, an operation, and calls nothing
-    made : Bool → Bool → Bool → Label
-    made p q z = record {
-      kind = pick p 2 (pick (q && not z) 1 0);
-      called = pick (q || p) (argument c v) 0;
-      owner = scheme c v;
-      result = pick q (result c v) 0;
-      mask = pick q (mask c v) 0;
-    }
-
-    made-sound : (p q z : Bool) → is c 4 v ≡ p → is c 2 v ≡ q → eqb (argument c v) 0 ≡ z → SoundLabel (schemes c) (made p q z)
-    unfolding made
-    made-sound true true z e f g = let a : kind c v ≡ 4 = eqb-true (kind c v) 4 e in
-        let b : kind c v ≡ 2 = eqb-true (kind c v) 2 f in absurd (omega arith)
-    made-sound true false z e f g = record {
-      kinds = omega arith;
-      some = F .owned v l .0;
-      most = F .owned v l .1;
-      results = omega arith;
-      masks = omega arith;
-      plain = λ o. absurd (omega arith);
-      calls = λ o. F .functions v l (eqb-true (kind c v) 4 e);
-    }
-    made-sound false true true e f g = record {
-      kinds = omega arith;
-      some = F .owned v l .0;
-      most = F .owned v l .1;
-      results = F .results v l (eqb-true (kind c v) 2 f);
-      masks = mask-small v;
-      plain = λ o. eqb-true (argument c v) 0 g;
-      calls = λ o. absurd (o refl);
-    }
-    made-sound false true false e f g = record {
-      kinds = omega arith;
-      some = F .owned v l .0;
-      most = F .owned v l .1;
-      results = F .results v l (eqb-true (kind c v) 2 f);
-      masks = mask-small v;
-      plain = λ o. absurd (omega arith);
-      calls = λ o. F .calls v l (eqb-true (kind c v) 2 f) (eqb-false (argument c v) 0 g);
-    }
-    made-sound false false z e f g = record {
+    bare-sound : SoundLabel (schemes c) (bareLabel (scheme c v))
+    bare-sound = record {
       kinds = omega arith;
       some = F .owned v l .0;
       most = F .owned v l .1;
@@ -84,9 +45,49 @@ module _ (c : Chart) (F : Facts c) where
       calls = λ o. absurd (o refl);
     }
 
+    operation-sound : kind c v ≡ 2 → (z : Bool) → eqb (argument c v) 0 ≡ z
+        → SoundLabel (schemes c)
+        (record { kind = pick z 0 1; called = argument c v; owner = scheme c v; result = result c v; mask = mask c v })
+    operation-sound e true g = record {
+      kinds = omega arith;
+      some = F .owned v l .0;
+      most = F .owned v l .1;
+      results = F .results v l e;
+      masks = mask-small v;
+      plain = λ o. eqb-true (argument c v) 0 g;
+      calls = λ o. absurd (o refl);
+    }
+    operation-sound e false g = record {
+      kinds = omega arith;
+      some = F .owned v l .0;
+      most = F .owned v l .1;
+      results = F .results v l e;
+      masks = mask-small v;
+      plain = λ o. absurd (omega arith);
+      calls = λ o. F .calls v l e (eqb-false (argument c v) 0 g);
+    }
+
+    function-sound : kind c v ≡ 4 → SoundLabel (schemes c) (labelAs c v Function)
+    function-sound e = record {
+      kinds = omega arith;
+      some = F .owned v l .0;
+      most = F .owned v l .1;
+      results = omega arith;
+      masks = omega arith;
+      plain = λ o. absurd (omega arith);
+      calls = λ o. F .functions v l e;
+    }
+
     pub label-sound : SoundLabel (schemes c) (stopLabel c v)
-    unfolding made
-    label-sound = made-sound (is c 4 v) (is c 2 v) (eqb (argument c v) 0) refl refl refl
+    label-sound = go (kind c v) refl
+      where
+        go : (k : ℕ) → kind c v ≡ k → SoundLabel (schemes c) (labelAs c v (kindOf k))
+        go zero e = bare-sound
+        go (suc zero) e = bare-sound
+        go (suc (suc zero)) e = operation-sound e (eqb (argument c v) 0) refl
+        go (suc (suc (suc zero))) e = bare-sound
+        go (suc (suc (suc (suc zero)))) e = function-sound e
+        go (suc (suc (suc (suc (suc k))))) e = bare-sound
 
   label-at : (k : ℕ) → k < length (numberedNodes c) → nthLabel (table c) (suc (suc k)) ≡ stopLabel c (getD (numberedNodes c) k 0)
   unfolding table

@@ -1,36 +1,29 @@
-// The image of an accepted chart: 10 and 16 are settled before anything is written.
+// The image of an accepted chart: whether 10 or 16 refuses it, and its table as bytes and as text.
+use chart_handler::handler_scheme;
 use chart_rows::COUNTED;
-use chart_rows::NOTES;
 use chart_rows::count_rows;
-use chart_rows::note_nodes;
 use chart_text::spread;
-use charts::handler_scheme;
-use frames::Answer;
+use entry_text::put_entries;
+use entry_text::put_header;
 use frames::refusals::MANY_ROWS;
 use frames::refusals::NO_ROOM;
-use frames::refused;
 use frames::sizes::*;
-use label_text::put_entries;
 use label_text::put_fixed;
-use label_text::put_header;
 use label_text::put_labels;
 use row_bounds::bound_rows;
 use row_text::put_rows;
 ghost use mathlib.Core.Path.{_≡_};
 ghost use Prim.Native.Nat.{_≤_};
-ghost use Rattle.frames.specs.Answer.{GivesBuffer};
-ghost use Rattle.charts.specs.Chart.{schemes};
 ghost use Rattle.image.specs.Image.{imageText};
 ghost use Rattle.chart_rows.specs.inner.PathContracts.{Noted};
 ghost use Rattle.label_text.specs.inner.LabelBytes.{Put};
 ghost use Rattle.translator.specs.Table.{table};
-ghost use Rattle.chart_labels.specs.inner.ChartContracts.{Ready};
 ghost use Rattle.translator.specs.inner.TranslatorContracts.{ImageRoom};
-ghost use Rattle.translator.specs.inner.ImageBytes.{tableBytes, sizeRefusal, imageOutcome};
+ghost use Rattle.translator.specs.inner.ImageBytes.{tableBytes, sizeRefusal};
 
 // 10, or 16 where there is no room for so many frames before the rows and for the rows, or 0. Where a bound on the rows excludes both,
 // the paths are not walked to count them.
-fn size_refusal(records: &[u8], notes: &[u8], before: usize, room: usize) -> u8
+pub fn size_refusal(records: &[u8], notes: &[u8], before: usize, room: usize) -> u8
     requires { ⌜ Noted (now records) (now notes) ⌝ }
     requires { ⌜ before ≤ 1024 ⌝ }
     ensures { λ r. ⌜ r ≡ sizeRefusal (now (records .entry)) before room ⌝ }
@@ -69,7 +62,7 @@ fn put_table(records: &[u8], notes: &[u8], highest: u8, own: usize, out: &mut [u
 }
 
 // The bytes first, and then all of them made into text in one pass, which the compiler makes of many characters at once.
-fn put_image(records: &[u8], notes: &[u8], highest: u8, own: usize, out: &mut [u8]) -> usize
+pub fn put_image(records: &[u8], notes: &[u8], highest: u8, own: usize, out: &mut [u8]) -> usize
     requires { ⌜ ImageRoom (now records) (now notes) highest own (now out) ⌝ }
     ensures { λ r. ⌜ Put (now (out .entry)) 0 (imageText (table (now (records .entry)))) r (now (out .exit)) ⌝ }
 {
@@ -77,18 +70,4 @@ fn put_image(records: &[u8], notes: &[u8], highest: u8, own: usize, out: &mut [u
     let n = end / FRAME;
     spread(out, n);
     LINE * n
-}
-
-pub fn write_image(records: &[u8], highest: u8, out: &mut [u8]) -> Answer
-    requires { ⌜ Ready (now records) ⌝ }
-    requires { ⌜ highest ≡ schemes (now records) ⌝ }
-    ensures { λ r. ⌜ GivesBuffer (imageOutcome (now (records .entry)) (now (out .entry))) r (now (out .exit)) ⌝ }
-{
-    let mut notes = [0u8; NOTES];
-    let own = note_nodes(records, &mut notes);
-    let number = size_refusal(records, &notes, 3 + highest as usize + own, out.len());
-    if number != 0 {
-        return refused(number, 0);
-    }
-    Answer::Done(put_image(records, &notes, highest, own, out))
 }

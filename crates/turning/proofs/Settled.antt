@@ -1,17 +1,16 @@
--- A turn in place by the tick that it makes, and by value by what the bytes then hold.
-use Prim.Native.Nat.{ℕ, _+_, _-_, _≤_, _<_}
+-- A turn on the bytes of a state by the tick that it makes, or by the head that is refused.
+use Prim.Native.Nat.{ℕ, _+_, _-_, _≤_}
 use mathlib.Core.Path.{_≡_, refl, sym, _∙_, ap, ap₂, subst}
-use mathlib.Core.Bool.{Bool, true, false, _&&_, _||_, not}
+use mathlib.Core.Bool.{Bool, true, false, _&&_, not}
 use mathlib.Core.List.{List, [], _∷_}
 use lib.Dec.{leb, ltb, eqb}
-use lib.ListN.{length}
 use native.Mathlib.Omega.{arith}
-use borrow.Author.Tests.{ne-eqb, le-ltb, lt-ltb, le-leb, lt-leb, eqb-true, ltb-false}
+use borrow.Author.Tests.{ne-eqb, le-ltb, eqb-true, ltb-false}
 use Rattle.lists.specs.Pick.{pick}
 use Rattle.lists.proofs.Tests.{or-l, or-r, not-false, yes-pick, no-pick}
 use Rattle.frames.specs.Frame.{contents}
 use Rattle.frames.specs.Verdict.{Verdict, fine, refused, next, when}
-use Rattle.frames.specs.Answer.{refusal, replyNumber, reply, judged}
+use Rattle.frames.specs.Answer.{refusal, reply, judged}
 use Rattle.frames.specs.declared.Answer.{Answer}
 use Rattle.frames.specs.declared.Answer.the-variants.{Refused}
 use Rattle.frames.proofs.Refuses.{RefusesWith, when-refuses}
@@ -21,9 +20,7 @@ use Rattle.image.specs.Decode.{decoded}
 use Rattle.image.specs.Check.{imageVerdict}
 use Rattle.tables.specs.Table.{badTable, tableImage}
 use Rattle.state.specs.declared.State.{State}
-use Rattle.state.specs.State.{Sized}
 use Rattle.state.specs.Bytes.{stateOf, bytesOf}
-use Rattle.state.proofs.ResultBytes.{state-back, held-back}
 use Rattle.runs.specs.declared.TickReport.{TickReport}
 use Rattle.runs.specs.Run.{run, runVerdict}
 use Rattle.runs.specs.TickOutcome.{TickOutcome, imageTick}
@@ -34,19 +31,19 @@ use Rattle.machine.proofs.OneTick.{advance-by}
 use Rattle.spindles.specs.declared.SpinReport.{SpinReport}
 use Rattle.spindles.specs.Spindles.{noneLeft, findsNone}
 use Rattle.spindles.specs.inner.HeadAndTurn as parts
-use Rattle.spindles.specs.inner.HeadAndTurn.{badRecord, refusedHead, TurnOutcome, stayed, turnBy, turnOn, turn, GivesTurn, GivesTurnOn}
+use Rattle.spindles.specs.inner.HeadAndTurn.{badRecord, refusedHead, TurnOutcome, stayed, turnBy, turnOn, turn, GivesTurnOn}
 use Rattle.spindles.proofs.OneCall.{tickByVerdict, live-tick-by}
-use Rattle.turning.specs.inner.TurnContracts.{depthIn, settledReport, GivesSettled}
+use Rattle.turning.specs.inner.TurnContracts.{depthIn, GivesSettled}
 
 -- ---- a tick leaves bytes that hold its state
-abbrev Held : List ℕ → TickOutcome → Type 0
+abbrev pub Held : List ℕ → TickOutcome → Type 0
 Held b x = stateOf (ifTicked x (bytesOf (x .state)) b) ≡ x .state
 
-image-held : (t b : List ℕ) (w : ℕ) → Held b (imageTick t (stateOf b) w)
+pub image-held : (t b : List ℕ) (w : ℕ) → Held b (imageTick t (stateOf b) w)
 unfolding imageTick run
 image-held t b w = tick-held b (decoded (contents t)) w (runVerdict t (stateOf b) (w ∷ []) (0 ∷ []) (0 ∷ []))
 
-table-held : (t b : List ℕ) (w : ℕ) → Held b (liveTick t (stateOf b) w)
+pub table-held : (t b : List ℕ) (w : ℕ) → Held b (liveTick t (stateOf b) w)
 unfolding liveTick liveRun
 table-held t b w = tick-held b (tableImage t) w (liveVerdict t (stateOf b) (w ∷ []) (0 ∷ []) (0 ∷ []))
 
@@ -72,12 +69,11 @@ module _ (s : State) (sum taken : ℕ) (e : badRecord sum taken ≡ false) where
   turn-table b w = subst (λ (x : TickOutcome). turn (when 11 (badTable b)) s sum taken x ≡ turnBy s taken x) (sym (live-tick-by b s w))
       (turn-ticks (when 11 (badTable b)) (tableImage b) w)
 
--- a record that holds is the sum, and at most 64
-pub record-sum : (sum taken : ℕ) → badRecord sum taken ≡ false → sum ≡ taken
-record-sum sum taken e = eqb-true sum taken (not-false (eqb sum taken) (or-l (not (eqb sum taken)) (ltb 64 taken) e))
-
-pub record-low : (sum taken : ℕ) → badRecord sum taken ≡ false → taken ≤ 64
-record-low sum taken e = ltb-false 64 taken (or-r (not (eqb sum taken)) (ltb 64 taken) e)
+-- a record that holds is the sum, and at most 64: so a depth of the sum is within it
+pub record-holds : (sum taken depth : ℕ) → badRecord sum taken ≡ false → depth ≤ sum → (depth ≤ taken) × (taken ≤ 64)
+record-holds sum taken depth e l =
+    let same : sum ≡ taken = eqb-true sum taken (not-false (eqb sum taken) (or-l (not (eqb sum taken)) (ltb 64 taken) e)) in
+    (omega arith, ltb-false 64 taken (or-r (not (eqb sum taken)) (ltb 64 taken) e))
 
 -- ---- what is settled after a tick
 -- by the depths as they are read, and the test as it comes out
@@ -188,65 +184,3 @@ record-refused v numbered before sum taken x r e z =
       taken = z .taken;
       bytes = sym (no-pick (eqb n 0) (bytesOf (stateOf before)) before (ne-eqb n 0 (λ m. omega arith)));
     }
-
--- ---- by value: the bytes are those of the state, and what they then hold is handed back
-module _ (b : List ℕ) (v : Verdict) (sum taken : ℕ) (x : TickOutcome) (held : Held b x) where
-  left : (n : ℕ) → stateOf (pick (eqb n 0) (bytesOf (stateOf b)) b) ≡ stateOf b
-  left n = go (eqb n 0)
-    where
-      go : (t : Bool) → stateOf (pick t (bytesOf (stateOf b)) b) ≡ stateOf b
-      go true = held-back b
-      go false = refl
-
-  turn-held : let y = turn v (stateOf b) sum taken x in stateOf (pick (eqb (replyNumber (y .reply)) 0) (bytesOf (y .state)) b) ≡ y .state
-  unfolding turn
-  turn-held = go (next v λ _. when 15 (badRecord sum taken))
-    where
-      by : (t : Bool) → let y = pick t (stayed 26 0 (stateOf b) taken)
-          (record {
-            reply = x .reply;
-            mask = x .mask;
-            code = x .code;
-            taken =
-                taken + x .state .depth - stateOf b .depth;
-            state = x .state;
-          }) in
-          stateOf (pick (eqb (replyNumber (y .reply)) 0) (bytesOf (y .state)) b) ≡ y .state
-      by true = refl
-      by false = held
-
-      go : (u : Verdict)
-          → let y = turnOn u (stateOf b) taken x in stateOf (pick (eqb (replyNumber (y .reply)) 0) (bytesOf (y .state)) b) ≡ y .state
-      go (refused n i) = left n
-      go fine = by (findsNone taken (stateOf b) x)
-
-module _ (state : State) (sized : Sized state) (bits : length (state .bits) ≡ 16) (bytes : List ℕ) (e : bytes ≡ bytesOf state) where
-  holds : stateOf bytes ≡ state
-  holds = ap stateOf e ∙ state-back state sized bits
-
-  pub start-depth : stateOf bytes .depth ≡ state .depth
-  start-depth = ap (λ (s : State). s .depth) holds
-
-  value-turn : (v : Verdict) (go : State → TickOutcome) → Held bytes (go (stateOf bytes))
-      → (sum taken : ℕ) (r : SpinReport) (after : List ℕ) (u : State)
-      → u ≡ stateOf after → GivesTurnOn (turn v (stateOf bytes) sum taken (go (stateOf bytes))) bytes r after
-      → GivesTurn (turn v state sum taken (go state)) r u
-  value-turn v go held sum taken r after u q z =
-      subst (λ (s : State). GivesTurn (turn v s sum taken (go s)) r u) holds
-      (record {
-        answered = z .answered;
-        mask = z .mask;
-        code = z .code;
-        taken = z .taken;
-        state = q ∙ ap stateOf (z .bytes) ∙ turn-held bytes v sum taken (go (stateOf bytes)) held;
-      })
-
-  pub image-value : (t : List ℕ) (sum taken w : ℕ) (r : SpinReport) (after : List ℕ) (u : State) → u ≡ stateOf after
-      → GivesTurnOn (turn (imageVerdict t) (stateOf bytes) sum taken (imageTick t (stateOf bytes) w)) bytes r after
-      → GivesTurn (turn (imageVerdict t) state sum taken (imageTick t state w)) r u
-  image-value t sum taken w = value-turn (imageVerdict t) (λ s. imageTick t s w) (image-held t bytes w) sum taken
-
-  pub table-value : (b : List ℕ) (sum taken w : ℕ) (r : SpinReport) (after : List ℕ) (u : State) → u ≡ stateOf after
-      → GivesTurnOn (turn (when 11 (badTable b)) (stateOf bytes) sum taken (liveTick b (stateOf bytes) w)) bytes r after
-      → GivesTurn (turn (when 11 (badTable b)) state sum taken (liveTick b state w)) r u
-  table-value b sum taken w = value-turn (when 11 (badTable b)) (λ s. liveTick b s w) (table-held b bytes w) sum taken

@@ -16,19 +16,25 @@ use Rattle.charts.proofs.Nodes.{Target, TheNode, begins, arc0, arc1}
 use Rattle.charts.proofs.Rank.{rank, rank-le, rank-some, rank-falls0, rank-falls1}
 use Rattle.walk.specs.Stops.{stops, start, follow, byArc, byWord}
 use Rattle.walk.proofs.Facts.{StopOf}
+use Rattle.walk.proofs.Views.{stops-by}
 
 -- ---- which nodes are stops
 pub stops-other : (c : Chart) (v : ℕ) → (kind c v ≡ 0 → ⊥) → (kind c v ≡ 3 → ⊥) → stops c v ≡ true
-unfolding stops
-stops-other c v z k = rw (stops, ne-eqb (kind c v) 3 k, ne-eqb (kind c v) 0 z)
+stops-other c v z n = go (kind c v) refl z n
+  where
+    go : (k : ℕ) → kind c v ≡ k → (k ≡ 0 → ⊥) → (k ≡ 3 → ⊥) → stops c v ≡ true
+    go zero e z n = absurd (z refl)
+    go (suc zero) e z n = stops-by c v 1 e
+    go (suc (suc zero)) e z n = stops-by c v 2 e
+    go (suc (suc (suc zero))) e z n = absurd (n refl)
+    go (suc (suc (suc (suc zero)))) e z n = stops-by c v 4 e
+    go (suc (suc (suc (suc (suc k))))) e z n = stops-by c v (suc (suc (suc (suc (suc k))))) e
 
 pub stops-condition : (c : Chart) (v : ℕ) → kind c v ≡ 3 → stops c v ≡ (eqb (scheme c v) 1 && eqb (next0 c (begin c 1)) v)
-unfolding stops
-stops-condition c v k = rw (stops, eq-eqb (kind c v) 3 k)
+stops-condition c v e = stops-by c v 3 e
 
 pub stops-begin : (c : Chart) (v : ℕ) → kind c v ≡ 0 → stops c v ≡ (not (eqb (scheme c v) 1) && is c 3 (next0 c v))
-unfolding stops
-stops-begin c v k = rw (stops, ne-eqb (kind c v) 3 (λ e. omega arith), eq-eqb (kind c v) 0 k)
+stops-begin c v e = stops-by c v 0 e
 
 -- an arc's end that is no stop is a condition
 pub goes-on : (c : Chart) (v : ℕ) → (kind c v ≡ 0 → ⊥) → stops c v ≡ false → kind c v ≡ 3

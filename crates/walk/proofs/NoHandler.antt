@@ -1,6 +1,6 @@
 -- With no handler the number of places does not matter, and where every number is served by its own scheme the walk of an accepted chart
 -- is the unbounded walk.
-use Prim.Native.Nat.{ℕ, zero, suc, _+_}
+use Prim.Native.Nat.{ℕ, zero, suc}
 use mathlib.Core.Bool.{Bool, true, false}
 use mathlib.Core.Path.{_≡_, refl, ap, _∙_, sym, subst}
 use mathlib.Core.List.{List, [], _∷_, _++_}
@@ -11,10 +11,11 @@ use Rattle.bindings.specs.Binding.{ownBinding}
 use Rattle.frames.specs.Frame.{contents}
 use Rattle.frames.specs.Verdict.{fine}
 use Rattle.charts.specs.Entry.{readVerdict}
-use Rattle.charts.specs.Chart.{Chart, scheme, argument, result, mask, handler, end}
+use Rattle.charts.specs.Chart.{Chart, scheme, argument, next0, next1, result, mask, handler, end}
 use Rattle.walk.specs.Stops.{start, Stop, plain, call, function, test, home, back, stopAt}
-use Rattle.walk.specs.Walk.{Signal, signals, Tick, oneTick, drops, walk}
-use Rattle.walk.specs.Unswapped.{Course, spent, ended, after, Performer, resume, performCall, act, perform, carriedOn, walkFrom}
+use Rattle.walk.specs.Walk.{Signal, signals, OpenScheme, Tick, oneTick, SchemeCall, callByOperation, callByFunction, drops, walk}
+use Rattle.walk.specs.Unswapped.{openAt, Course, spent, ended, after}
+use Rattle.walk.specs.Unswapped.{Performer, resume, performCall, act, perform, carriedOn, walkFrom}
 use Rattle.walk.specs.Unswapped.{walk as unswappedWalk}
 use Rattle.walk.specs.Unbounded as unbounded
 use Rattle.walk.proofs.Facts.{StopOf, Facts}
@@ -53,40 +54,42 @@ alike-after ts (unbounded.spent us) = refl
 alike-after ts (unbounded.ended us w ws b) = refl
 
 abbrev Alike : Performer → unbounded.Performer → Type 0
-Alike go free = (o v : ℕ) (ws : List ℕ) (b : Results) → go o v ws b ≡ alike (free o v ws b)
+Alike go free = (x : OpenScheme) (ws : List ℕ) (b : Results) → go x ws b ≡ alike (free x ws b)
 
-module _ (go : Performer) (free : unbounded.Performer) (ih : Alike go free) where
-  alike-on : (ts : List Tick) (o v : ℕ) (ws : List ℕ) (b : Results) → after ts (go o v ws b) ≡ alike (unbounded.after ts (free o v ws b))
-  alike-on ts o v ws b = ap (after ts) (ih o v ws b) ∙ alike-after ts (free o v ws b)
+module _ (go : Performer) (free : unbounded.Performer) (ih : Alike go free) (c : Chart) where
+  alike-on : (ts : List Tick) (x : OpenScheme) (ws : List ℕ) (b : Results) → after ts (go x ws b) ≡ alike (unbounded.after ts (free x ws b))
+  alike-on ts x ws b = ap (after ts) (ih x ws b) ∙ alike-after ts (free x ws b)
 
-  alike-resume : (o : ℕ) (ts : List Tick) (f : ℕ → Results → ℕ) (r : unbounded.Course)
-      → resume go o ts f (alike r) ≡ alike (unbounded.resume free o ts f r)
-  alike-resume o ts f (unbounded.spent us) = refl
-  alike-resume o ts f (unbounded.ended us w ws b) = alike-on (ts ++ us) o (f w b) ws b
+  alike-resume : (x : OpenScheme) (a : SchemeCall) (r : unbounded.Course) → resume go c x a (alike r) ≡ alike (unbounded.resume free c x a r)
+  alike-resume x a (unbounded.spent ts) = refl
+  alike-resume x a (unbounded.ended ts w ws b) = alike-on ts (openAt c (x .opened) (a .resumed w b)) ws b
 
-  module _ (c : Chart) (d : ℕ → Bool) (never : (o : ℕ) → d o ≡ false) where
-    alike-call : (o v m k h : ℕ) (f : ℕ → Results → ℕ) (ws : List ℕ) (b : Results)
-        → performCall go c o v m k h f ws b (d o)
-        ≡ alike (unbounded.resume free o (oneTick v (scheme c v) m (k + h) o) f (free (suc o) (start c h) ws (cleared h b)))
-    alike-call o v m k h f ws b =
-        ap (performCall go c o v m k h f ws b) (never o)
-        ∙ ap (resume go o (oneTick v (scheme c v) m (k + h) o) f) (ih (suc o) (start c h) ws (cleared h b))
-        ∙ alike-resume o (oneTick v (scheme c v) m (k + h) o) f (free (suc o) (start c h) ws (cleared h b))
+  module _ (d : ℕ → Bool) (never : (o : ℕ) → d o ≡ false) where
+    alike-call : (x : OpenScheme) (a : SchemeCall) (ws : List ℕ) (b : Results)
+        → performCall go c x a ws b (d (x .opened)) ≡ alike (unbounded.performCall free c x a ws b)
+    alike-call x a ws b =
+        let y : OpenScheme = openAt c (suc (x .opened)) (start c (a .called)) in
+        let e : Results = cleared (a .called) b in
+        let ts : List Tick = oneTick x (a .mask) (a .code) in
+        ap (performCall go c x a ws b) (never (x .opened))
+        ∙ ap (after ts) (ap (resume go c x a) (ih y ws e) ∙ alike-resume x a (free y ws e))
+        ∙ alike-after ts (unbounded.resume free c x a (free y ws e))
 
-    alike-act : (o v w : ℕ) (ws : List ℕ) (b : Results) (s : Stop) → act go c d o v w ws b s ≡ alike (unbounded.act free c o v w ws b s)
-    alike-act o v w ws b (plain m r u) = alike-on _ o _ ws _
-    alike-act o v w ws b (call m r h u) = alike-call o v m 16 h _ ws _
-    alike-act o v w ws b (function h u₀ u₁) = alike-call o v 0 64 h _ ws b
-    alike-act o v w ws b (test u) = alike-on _ o _ ws b
-    alike-act o v w ws b home = alike-on _ o _ ws b
-    alike-act o v w ws b back = refl
+    alike-act : (x : OpenScheme) (w : ℕ) (ws : List ℕ) (b : Results) (s : Stop)
+        → act go c d x w ws b s ≡ alike (unbounded.act free c x w ws b s)
+    alike-act x w ws b (plain m r u) = alike-on _ _ ws _
+    alike-act x w ws b (call m r h u) = alike-call x (callByOperation c m h u) ws _
+    alike-act x w ws b (function h u₀ u₁) = alike-call x (callByFunction c h u₀ u₁) ws b
+    alike-act x w ws b (test u) = alike-on _ _ ws b
+    alike-act x w ws b home = alike-on _ _ ws b
+    alike-act x w ws b back = refl
 
 alike-perform : (k : ℕ) (c : Chart) (d : ℕ → Bool) → ((o : ℕ) → d o ≡ false) → Alike (perform k c d) (unbounded.perform k c)
 unfolding perform unbounded.perform
-alike-perform zero c d never o v ws b = refl
-alike-perform (suc k) c d never o v [] b = refl
-alike-perform (suc k) c d never o v (w ∷ ws) b =
-    alike-act (perform k c d) (unbounded.perform k c) (alike-perform k c d never) c d never o v w ws b (stopAt c v)
+alike-perform zero c d never x ws b = refl
+alike-perform (suc k) c d never x [] b = refl
+alike-perform (suc k) c d never x (w ∷ ws) b =
+    alike-act (perform k c d) (unbounded.perform k c) (alike-perform k c d never) c d never x w ws b (stopAt c (x .node))
 
 -- ---- scheme 1 has no end, as at its End it goes on from home
 data Endless : unbounded.Course → Type 0 where
@@ -96,39 +99,49 @@ endless-after : (ts : List Tick) (r : unbounded.Course) → Endless r → Endles
 endless-after ts r (endless-spent us) = endless-spent (ts ++ us)
 
 module _ (c : Chart) (facts : Facts c) where
-  module _ (go : unbounded.Performer) (ih : (o v : ℕ) (ws : List ℕ) (b : Results) → StopOf c 1 v → Endless (go o v ws b)) where
-    endless-on : (ts : List Tick) (o v : ℕ) (ws : List ℕ) (b : Results) → StopOf c 1 v → Endless (unbounded.after ts (go o v ws b))
-    endless-on ts o v ws b s = endless-after ts (go o v ws b) (ih o v ws b s)
+  module _ (go : unbounded.Performer)
+      (ih : (x : OpenScheme) (ws : List ℕ) (b : Results) → StopOf c 1 (x .node) → Endless (go x ws b)) where
+    endless-on : (ts : List Tick) (x : OpenScheme) (ws : List ℕ) (b : Results) → StopOf c 1 (x .node)
+        → Endless (unbounded.after ts (go x ws b))
+    endless-on ts x ws b s = endless-after ts (go x ws b) (ih x ws b s)
 
-    endless-resume : (o : ℕ) (ts : List Tick) (f : ℕ → Results → ℕ) → ((w : ℕ) (b : Results) → StopOf c 1 (f w b))
-        → (r : unbounded.Course) → Endless (unbounded.resume go o ts f r)
-    endless-resume o ts f s (unbounded.spent us) = endless-spent (ts ++ us)
-    endless-resume o ts f s (unbounded.ended us w ws b) = endless-on (ts ++ us) o (f w b) ws b (s w b)
+    endless-resume : (x : OpenScheme) (a : SchemeCall) → ((w : ℕ) (b : Results) → StopOf c 1 (a .resumed w b))
+        → (r : unbounded.Course) → Endless (unbounded.resume go c x a r)
+    endless-resume x a s (unbounded.spent ts) = endless-spent ts
+    endless-resume x a s (unbounded.ended ts w ws b) = endless-on ts (openAt c (x .opened) (a .resumed w b)) ws b (s w b)
 
-    module _ (o v w : ℕ) (ws : List ℕ) (b : Results) (g : StopOf c 1 v) where
+    endless-call : (x : OpenScheme) (a : SchemeCall) (ws : List ℕ) (b : Results) → ((w : ℕ) (b : Results) → StopOf c 1 (a .resumed w b))
+        → Endless (unbounded.performCall go c x a ws b)
+    endless-call x a ws b s =
+        let r : unbounded.Course = go (openAt c (suc (x .opened)) (start c (a .called))) ws (cleared (a .called) b) in
+        endless-after (oneTick x (a .mask) (a .code)) (unbounded.resume go c x a r) (endless-resume x a s r)
+
+    module _ (x : OpenScheme) (w : ℕ) (ws : List ℕ) (b : Results) (g : StopOf c 1 (x .node)) where
+      abbrev v : ℕ
+      v = x .node
+
       own : (u : ℕ) → StopOf c (scheme c v) u → StopOf c 1 u
       own u = subst (λ (h : ℕ). StopOf c h u) (g .same)
 
-      endless-act : {s : Stop} → View c v s → Endless (unbounded.act go c o v w ws b s)
-      endless-act (a-plain e a) = endless-on _ o _ ws _ (own _ (arc-to c facts v w (g .inside) (λ p. omega arith)))
+      endless-act : {s : Stop} → View c v s → Endless (unbounded.act go c x w ws b s)
+      endless-act (a-plain e a) = endless-on _ _ ws _ (own _ (arc-to c facts v w (g .inside) (λ p. omega arith)))
       endless-act (a-call e a) =
-          endless-resume o (oneTick v (scheme c v) (mask c v) (16 + argument c v) o) _
-          (λ x d. own _ (arc-to c facts v x (g .inside) (λ p. omega arith)))
-          (go (suc o) (start c (argument c v)) ws (cleared (argument c v) (withResult (result c v) (scheme c v) b)))
+          endless-call x (callByOperation c (mask c v) (argument c v) (next0 c v)) ws (withResult (result c v) (x .number) b)
+          (λ y z. own _ (arc-to c facts v y (g .inside) (λ p. omega arith)))
       endless-act (a-function e) =
-          endless-resume o (oneTick v (scheme c v) 0 (64 + argument c v) o) _
-          (λ x d. own _ (function-to c facts v x (resultOf (argument c v) d) (g .inside) e))
-          (go (suc o) (start c (argument c v)) ws (cleared (argument c v) b))
-      endless-act (a-home e s) = endless-on _ o _ ws b (facts .starts 1 (omega arith) (facts .first))
+          endless-call x (callByFunction c (argument c v) (next0 c v) (next1 c v)) ws b
+          (λ y z. own _ (function-to c facts v y (resultOf (argument c v) z) (g .inside) e))
+      endless-act (a-home e s) = endless-on _ _ ws b (facts .starts 1 (omega arith) (facts .first))
       endless-act (a-back e s) = absurd (s (g .same))
-      endless-act (a-begin e) = endless-on _ o _ ws b (own _ (begin-to c facts v w (g .inside) e (g .stopping)))
-      endless-act (a-condition e) = endless-on _ o _ ws b (own _ (facts .tests v w (g .inside) e))
+      endless-act (a-begin e) = endless-on _ _ ws b (own _ (begin-to c facts v w (g .inside) e (g .stopping)))
+      endless-act (a-condition e) = endless-on _ _ ws b (own _ (facts .tests v w (g .inside) e))
 
-  endless : (k o v : ℕ) (ws : List ℕ) (b : Results) → StopOf c 1 v → Endless (unbounded.perform k c o v ws b)
+  endless : (k : ℕ) (x : OpenScheme) (ws : List ℕ) (b : Results) → StopOf c 1 (x .node) → Endless (unbounded.perform k c x ws b)
   unfolding unbounded.perform
-  endless zero o v ws b g = endless-spent []
-  endless (suc k) o v [] b g = endless-spent []
-  endless (suc k) o v (w ∷ ws) b g = endless-act (unbounded.perform k c) (endless k) o v w ws b g (view c v (facts .kinds v (g .inside)))
+  endless zero x ws b g = endless-spent []
+  endless (suc k) x [] b g = endless-spent []
+  endless (suc k) x (w ∷ ws) b g =
+      endless-act (unbounded.perform k c) (endless k) x w ws b g (view c (x .node) (facts .kinds (x .node) (g .inside)))
 
   -- ---- the two walks
   carried-ticks : (go : Bool → ℕ → List ℕ → Results → List Tick) (r : unbounded.Course)
@@ -140,9 +153,10 @@ module _ (c : Chart) (facts : Facts c) where
   alike-walks h n [] = refl
   alike-walks h n (w ∷ ws) =
       let k : ℕ = suc (length ws) in
-      ap (carriedOn (walkFrom (length ws) n c) c) (alike-perform k c (drops n c false) (no-drop c h n false) 1 (end c 1) (w ∷ ws) noResults)
-      ∙ carried-ticks (walkFrom (length ws) n c) (unbounded.perform k c 1 (end c 1) (w ∷ ws) noResults)
-      (endless k 1 (end c 1) (w ∷ ws) noResults (home-stop c facts))
+      let x : OpenScheme = openAt c 1 (end c 1) in
+      ap (carriedOn (walkFrom (length ws) n c) c) (alike-perform k c (drops n c false) (no-drop c h n false) x (w ∷ ws) noResults)
+      ∙ carried-ticks (walkFrom (length ws) n c) (unbounded.perform k c x (w ∷ ws) noResults)
+      (endless k x (w ∷ ws) noResults (home-stop c facts))
 
 -- ---- of every text that the reader accepts
 pub no-handler : (text : List ℕ) → readVerdict text ≡ fine → let c = contents text in handler c ≡ 0

@@ -1,6 +1,6 @@
 -- Where every number is served by its own scheme, the walk of an accepted chart is the walk with no rebinding:
 -- an open scheme goes by its own number.
-use Prim.Native.Nat.{ℕ, zero, suc, _+_, _-_, _≤_}
+use Prim.Native.Nat.{ℕ, zero, suc, _-_, _≤_}
 use mathlib.Core.Bool.{Bool, true, false}
 use mathlib.Core.Path.{_≡_, refl, ap, _∙_, sym, subst}
 use mathlib.Core.List.{List, [], _∷_, _++_}
@@ -12,10 +12,10 @@ use Rattle.bindings.specs.Binding.{ownBinding, served}
 use Rattle.frames.specs.Frame.{contents}
 use Rattle.frames.specs.Verdict.{fine}
 use Rattle.charts.specs.Entry.{readVerdict}
-use Rattle.charts.specs.Chart.{Chart, scheme, argument, mask, handler, schemes, end}
+use Rattle.charts.specs.Chart.{Chart, scheme, argument, handler, schemes, end}
 use Rattle.walk.specs.Stops.{start, Stop}
-use Rattle.walk.specs.Walk.{Signal, signals, Tick, oneTick, Course, spent, ended, dropped, after}
-use Rattle.walk.specs.Walk.{Performer, resume, performCall, act, perform}
+use Rattle.walk.specs.Walk.{Signal, signals, OpenScheme, atStop, Tick, Course, spent, ended, dropped, after, SchemeCall}
+use Rattle.walk.specs.Walk.{Performer, resume, openedBy, performCall, act, perform}
 use Rattle.walk.specs.Walk.{drops, bottom, carriedOn, walkFrom, walk}
 use Rattle.walk.specs.Unswapped as unswapped
 use Rattle.walk.proofs.Facts.{StopOf, Facts}
@@ -47,65 +47,87 @@ module _ (c : Chart) where
   alike-after ts (both-ended us w ws b) = both-ended (ts ++ us) w ws b
   alike-after ts (both-dropped us ws b n) = both-dropped (ts ++ us) ws b n
 
-  -- performing on from a stop of scheme g, which goes by number g
+  -- performing an open scheme on from a stop of the scheme of its number
   abbrev Performs : Performer → unswapped.Performer → Type 0
-  Performs go free = (o g v : ℕ) (ws : List ℕ) (b : Results) → StopOf c g v → Alike (go o g v (own ws) b) (free o v ws b)
+  Performs go free = (x : OpenScheme) (ws : List ℕ) (b : Results) → StopOf c (x .number) (x .node) → Alike (go x (own ws) b) (free x ws b)
 
   module _ (facts : Facts c) (d : ℕ → Bool) (handled : (o : ℕ) → d o ≡ true → handler c ≡ 0 → ⊥) where
     module _ (go : Performer) (free : unswapped.Performer) (ih : Performs go free) where
-      alike-resume : (o g : ℕ) (ts : List Tick) (f : ℕ → Results → ℕ) → ((w : ℕ) (b : Results) → StopOf c g (f w b))
-          → {r : Course} {q : unswapped.Course} → Alike r q → Alike (resume go o g ts f r) (unswapped.resume free o ts f q)
-      alike-resume o g ts f s (both-spent us) = both-spent (ts ++ us)
-      alike-resume o g ts f s (both-ended us w ws b) = alike-after (ts ++ us) (ih o g (f w b) ws b (s w b))
-      alike-resume o g ts f s (both-dropped us ws b n) = both-dropped (ts ++ us) ws b n
+      -- from another stop of its scheme
+      alike-on : (x : OpenScheme) (u : ℕ) (ws : List ℕ) (b : Results) → StopOf c (x .number) u
+          → Alike (go (atStop x u) (own ws) b) (free (unswapped.openAt c (x .opened) u) ws b)
+      alike-on x u ws b s =
+          let y : OpenScheme = unswapped.openAt c (x .opened) u in
+          subst (λ (g : ℕ). Alike (go (record { node = u; number = g; opened = x .opened }) (own ws) b) (free y ws b)) (s .same)
+          (ih y ws b (stop-as c (sym (s .same)) s))
 
-      -- a call of number h by stop v
-      alike-call : (o v m j h : ℕ) (f : ℕ → Results → ℕ) (ws : List ℕ) (b : Results)
-          → ((w : ℕ) (b : Results) → StopOf c (scheme c v) (f w b))
-          → (2 ≤ h) × (h ≤ schemes c) → (t : Bool) → (t ≡ true → handler c ≡ 0 → ⊥)
-          → Alike (performCall go c o (scheme c v) v m j h (served ownBinding h) f (own ws) b t)
-          (unswapped.performCall free c o v m j h f ws b t)
-      alike-call o v m j h f ws b s l true n = both-dropped _ ws _ (n refl)
-      alike-call o v m j h f ws b s l false n =
-          subst (λ (k : ℕ). Alike (performCall go c o (scheme c v) v m j h k f (own ws) b false)
-          (unswapped.performCall free c o v m j h f ws b false))
+      alike-resume : (x : OpenScheme) (a : SchemeCall) → ((w : ℕ) (b : Results) → StopOf c (x .number) (a .resumed w b))
+          → {r : Course} {q : unswapped.Course} → Alike r q → Alike (resume go x a r) (unswapped.resume free c x a q)
+      alike-resume x a s (both-spent ts) = both-spent ts
+      alike-resume x a s (both-ended ts w ws b) = alike-after ts (alike-on x (a .resumed w b) ws b (s w b))
+      alike-resume x a s (both-dropped ts ws b n) = both-dropped ts ws b n
+
+      alike-call : (x : OpenScheme) (a : SchemeCall) (ws : List ℕ) (b : Results)
+          → ((w : ℕ) (b : Results) → StopOf c (x .number) (a .resumed w b))
+          → (2 ≤ a .called) × (a .called ≤ schemes c) → (t : Bool) → (t ≡ true → handler c ≡ 0 → ⊥)
+          → Alike (performCall go c ownBinding x a (own ws) b t) (unswapped.performCall free c x a ws b t)
+      alike-call x a ws b s l true n = both-dropped _ ws _ (n refl)
+      alike-call x a ws b s l false n =
+          let h : ℕ = a .called in
+          let y : OpenScheme = openedBy c ownBinding x a in
+          let e : Results = cleared h b in
+          alike-after _ (alike-resume x a s (subst
+          (λ (k : ℕ). Alike (go (atStop y (start c k)) (own ws) e) (free (unswapped.openAt c (suc (x .opened)) (start c h)) ws e))
           (sym (served-own h (omega arith) (omega (arith, facts .most))))
-          (alike-resume o (scheme c v) (oneTick v (scheme c v) m (j + h) o) f s
-          (ih (suc o) h (start c h) ws (cleared h b) (facts .starts h (omega arith) (l .1))))
+          (alike-on y (start c h) ws e (facts .starts h (omega arith) (l .1)))))
 
-      alike-act : (o v w : ℕ) (ws : List ℕ) (b : Results) → StopOf c (scheme c v) v → {s : Stop} → View c v s
-          → Alike (act go c d o (scheme c v) v (record { word = w; binding = ownBinding }) (own ws) b s)
-          (unswapped.act free c d o v w ws b s)
-      alike-act o v w ws b g (a-plain e a) = alike-after _ (ih o _ _ ws _ (arc-to c facts v w (g .inside) (λ p. omega arith)))
-      alike-act o v w ws b g (a-call e a) =
-          alike-call o v (mask c v) 16 (argument c v) _ ws _ (λ x y. arc-to c facts v x (g .inside) (λ p. omega arith))
-          (facts .calls v (g .inside) e a) (d o) (handled o)
-      alike-act o v w ws b g (a-function e) =
-          alike-call o v 0 64 (argument c v) _ ws b (λ x y. function-to c facts v x (resultOf (argument c v) y) (g .inside) e)
-          (facts .functions v (g .inside) e) (d o) (handled o)
-      alike-act o v w ws b g (a-home e s) = alike-after _ (ih o _ _ ws b (stop-as c (sym s) (facts .starts 1 (omega arith) (facts .first))))
-      alike-act o v w ws b g (a-back e s) = both-ended _ w ws b
-      alike-act o v w ws b g (a-begin e) = alike-after _ (ih o _ _ ws b (begin-to c facts v w (g .inside) e (g .stopping)))
-      alike-act o v w ws b g (a-condition e) = alike-after _ (ih o _ _ ws b (facts .tests v w (g .inside) e))
+      module _ (x : OpenScheme) (w : ℕ) (ws : List ℕ) (b : Results) (g : StopOf c (x .number) (x .node)) where
+        abbrev v : ℕ
+        v = x .node
+
+        here : {u : ℕ} → StopOf c (scheme c v) u → StopOf c (x .number) u
+        here = stop-as c (g .same)
+
+        alike-act : {s : Stop} → View c v s
+            → Alike (act go c d x (record { word = w; binding = ownBinding }) (own ws) b s) (unswapped.act free c d x w ws b s)
+        alike-act (a-plain e a) = alike-after _ (alike-on x _ ws _ (here (arc-to c facts v w (g .inside) (λ p. omega arith))))
+        alike-act (a-call e a) =
+            alike-call x _ ws _ (λ y z. here (arc-to c facts v y (g .inside) (λ p. omega arith)))
+            (facts .calls v (g .inside) e a) (d (x .opened)) (handled (x .opened))
+        alike-act (a-function e) =
+            alike-call x _ ws b (λ y z. here (function-to c facts v y (resultOf (argument c v) z) (g .inside) e))
+            (facts .functions v (g .inside) e) (d (x .opened)) (handled (x .opened))
+        alike-act (a-home e s) =
+            alike-after _ (alike-on x _ ws b (here (stop-as c (sym s) (facts .starts 1 (omega arith) (facts .first)))))
+        alike-act (a-back e s) = both-ended _ w ws b
+        alike-act (a-begin e) = alike-after _ (alike-on x _ ws b (here (begin-to c facts v w (g .inside) e (g .stopping))))
+        alike-act (a-condition e) = alike-after _ (alike-on x _ ws b (here (facts .tests v w (g .inside) e)))
 
     alike-perform : (k : ℕ) → Performs (perform k c d) (unswapped.perform k c d)
     unfolding perform unswapped.perform
-    alike-perform zero o g v ws b s = both-spent []
-    alike-perform (suc k) o g v [] b s = both-spent []
-    alike-perform (suc k) o g v (w ∷ ws) b s =
-        subst (λ (h : ℕ). Alike (perform (suc k) c d o h v (own (w ∷ ws)) b) (unswapped.perform (suc k) c d o v (w ∷ ws) b)) (s .same)
-        (alike-act (perform k c d) (unswapped.perform k c d) (alike-perform k) o v w ws b (stop-as c (sym (s .same)) s)
-        (view c v (facts .kinds v (s .inside))))
+    alike-perform zero x ws b s = both-spent []
+    alike-perform (suc k) x [] b s = both-spent []
+    alike-perform (suc k) x (w ∷ ws) b s =
+        alike-act (perform k c d) (unswapped.perform k c d) (alike-perform k) x w ws b s
+        (view c (x .node) (facts .kinds (x .node) (s .inside)))
 
   -- ---- the first open scheme, and what follows it
   module _ (facts : Facts c) (n : ℕ) where
+    alike-first : (f : Bool) (x : OpenScheme) (ws : List ℕ) (b : Results) → StopOf c (x .number) (x .node)
+        → Alike (perform (length ws) c (drops n c f) x (own ws) b)
+        (unswapped.perform (length ws) c (drops n c f) (unswapped.openAt c (x .opened) (x .node)) ws b)
+    alike-first f x ws b s = let k : ℕ = length ws in let d : ℕ → Bool = drops n c f in
+        alike-on facts d (drop-handler n c f) (perform k c d) (unswapped.perform k c d) (alike-perform facts d (drop-handler n c f) k)
+        x (x .node) ws b s
+
     alike-from : (k : ℕ) (f : Bool) (v : ℕ) (ws : List ℕ) (b : Results) → StopOf c (bottom c f) v
         → walkFrom k n c f v (own ws) b ≡ unswapped.walkFrom k n c f v ws b
     unfolding walkFrom unswapped.walkFrom
     alike-from zero f v ws b s = refl
     alike-from (suc k) f v ws b s =
-        ap (λ (m : ℕ). carriedOn (walkFrom k n c) c (perform m c (drops n c f) 1 (bottom c f) v (own ws) b)) (length-map ws _)
-        ∙ go (alike-from k) (alike-perform facts (drops n c f) (drop-handler n c f) (length ws) 1 (bottom c f) v ws b s)
+        let x : OpenScheme = record { node = v; number = bottom c f; opened = 1 } in
+        ap (λ (m : ℕ). carriedOn (walkFrom k n c) c (perform m c (drops n c f) x (own ws) b)) (length-map ws _)
+        ∙ go (alike-from k) (alike-first f x ws b s)
       where
         go : ((f : Bool) (v : ℕ) (ws : List ℕ) (b : Results) → StopOf c (bottom c f) v
             → walkFrom k n c f v (own ws) b ≡ unswapped.walkFrom k n c f v ws b)

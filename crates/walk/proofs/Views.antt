@@ -1,12 +1,14 @@
 -- What a node is as a stop, by its kind.
 use Prim.Native.Nat.{ℕ, zero, suc, _≤_}
-use mathlib.Core.Bool.{Bool, true, false, _&&_, not}
-use mathlib.Core.Path.{_≡_, refl}
+use mathlib.Core.Bool.{Bool, true, false, not}
+use mathlib.Core.Path.{_≡_, refl, sym, _∙_, ap}
 use lib.Dec.{eqb}
 use native.Mathlib.Omega.{arith}
-use borrow.Author.Tests.{eqb-true, eqb-false, ne-eqb}
+use borrow.Author.Tests.{eqb-true, eqb-false, eq-eqb, ne-eqb}
+use Rattle.lists.proofs.Tests.{and-r, yes-pick, no-pick}
+use Rattle.charts.specs.Layout.{kindOf}
 use Rattle.charts.specs.Chart.{Chart, kind, scheme, argument, next0, next1, result, mask, is}
-use Rattle.walk.specs.Stops.{stops, Stop, plain, call, function, test, home, back, stopAt}
+use Rattle.walk.specs.Stops.{stopsAs, stops, Stop, plain, call, function, test, home, back, stopAs, stopAt}
 
 -- the seven cases; a test is made by a Begin, of the node after it, or by a condition, of itself
 pub data View (c : Chart) (v : ℕ) : Stop → Type 0 where
@@ -19,33 +21,30 @@ pub data View (c : Chart) (v : ℕ) : Stop → Type 0 where
   a-condition : kind c v ≡ 3 → View c v (test v)
 
 module _ (c : Chart) (v : ℕ) where
-  stop-plain : kind c v ≡ 2 → argument c v ≡ 0 → stopAt c v ≡ plain (mask c v) (result c v) (next0 c v)
+  stop-by : (k : ℕ) → kind c v ≡ k → stopAt c v ≡ stopAs c v (kindOf k)
   unfolding stopAt
-  stop-plain e a = rw (e, a, stopAt)
+  stop-by k e = ap (λ (k : ℕ). stopAs c v (kindOf k)) e
+
+  stop-plain : kind c v ≡ 2 → argument c v ≡ 0 → stopAt c v ≡ plain (mask c v) (result c v) (next0 c v)
+  stop-plain e a = stop-by 2 e ∙ yes-pick (eqb (argument c v) 0) _ _ (eq-eqb (argument c v) 0 a)
 
   pub stop-call : kind c v ≡ 2 → (argument c v ≡ 0 → ⊥) → stopAt c v ≡ call (mask c v) (result c v) (argument c v) (next0 c v)
-  unfolding stopAt
-  stop-call e a = rw (e, ne-eqb (argument c v) 0 a, stopAt)
+  stop-call e a = stop-by 2 e ∙ no-pick (eqb (argument c v) 0) _ _ (ne-eqb (argument c v) 0 a)
 
   pub stop-function : kind c v ≡ 4 → stopAt c v ≡ function (argument c v) (next0 c v) (next1 c v)
-  unfolding stopAt
-  stop-function e = rw (e, e, stopAt)
+  stop-function e = stop-by 4 e
 
   stop-home : kind c v ≡ 1 → scheme c v ≡ 1 → stopAt c v ≡ home
-  unfolding stopAt
-  stop-home e s = rw (e, e, e, s, stopAt)
+  stop-home e s = stop-by 1 e ∙ yes-pick (eqb (scheme c v) 1) home back (eq-eqb (scheme c v) 1 s)
 
   stop-back : kind c v ≡ 1 → (scheme c v ≡ 1 → ⊥) → stopAt c v ≡ back
-  unfolding stopAt
-  stop-back e s = rw (e, e, e, ne-eqb (scheme c v) 1 s, stopAt)
+  stop-back e s = stop-by 1 e ∙ no-pick (eqb (scheme c v) 1) home back (ne-eqb (scheme c v) 1 s)
 
   stop-begin : kind c v ≡ 0 → stopAt c v ≡ test (next0 c v)
-  unfolding stopAt
-  stop-begin e = rw (e, e, e, e, stopAt)
+  stop-begin e = stop-by 0 e
 
   stop-condition : kind c v ≡ 3 → stopAt c v ≡ test v
-  unfolding stopAt
-  stop-condition e = rw (e, e, e, e, stopAt)
+  stop-condition e = stop-by 3 e
 
   -- every node of an accepted chart has a view
   pub view : kind c v ≤ 4 → View c v (stopAt c v)
@@ -68,14 +67,12 @@ module _ (c : Chart) (v : ℕ) where
       go (suc (suc (suc (suc (suc k))))) e l = absurd (omega arith)
 
   -- a Begin that stops leads to a condition, and an End always stops
-  pub begin-leads : kind c v ≡ 0 → stops c v ≡ true → kind c (next0 c v) ≡ 3
+  pub stops-by : (k : ℕ) → kind c v ≡ k → stops c v ≡ stopsAs c v (kindOf k)
   unfolding stops
-  begin-leads e s = go (not (eqb (scheme c v) 1)) (rw (e, e, stops) at s)
-    where
-      go : (t : Bool) → (t && is c 3 (next0 c v)) ≡ true → kind c (next0 c v) ≡ 3
-      go true r = eqb-true (kind c (next0 c v)) 3 r
-      go false r = absurd (let z : _≡_ {A = ℕ} 0 1 = cc in omega arith)
+  stops-by k e = ap (λ (k : ℕ). stopsAs c v (kindOf k)) e
+
+  pub begin-leads : kind c v ≡ 0 → stops c v ≡ true → kind c (next0 c v) ≡ 3
+  begin-leads e s = eqb-true (kind c (next0 c v)) 3 (and-r (not (eqb (scheme c v) 1)) (is c 3 (next0 c v)) (sym (stops-by 0 e) ∙ s))
 
   pub end-stops : kind c v ≡ 1 → stops c v ≡ true
-  unfolding stops
-  end-stops e = rw (e, e, stops)
+  end-stops e = stops-by 1 e

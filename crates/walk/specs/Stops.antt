@@ -4,15 +4,20 @@ use mathlib.Core.Bool.{Bool, true, false, _&&_, not}
 use lib.Dec.{eqb}
 use Rattle.lists.specs.Pick.{pick}
 use Rattle.frames.specs.Frame.{size}
-use Rattle.charts.specs.Layout.{BEGIN, END, OPERATION, CONDITION, FUNCTION}
-use Rattle.charts.specs.Chart.{Chart, scheme, argument, next0, next1, result, mask, is, begin, taken}
+use Rattle.charts.specs.Layout.{CONDITION, Kind, Begin, End, Operation, Condition, Function, Unknown, kindOf}
+use Rattle.charts.specs.Chart.{Chart, kind, scheme, argument, next0, next1, result, mask, is, begin, taken}
 
--- a condition stops only as the first node of scheme 1; a Begin only before a condition, and not in scheme 1
+-- by the kind of a node: a condition stops only as the first node of scheme 1; a Begin only before a condition, and not in scheme 1
+abbrev pub stopsAs : Chart → ℕ → Kind → Bool
+stopsAs c v Begin = not (eqb (scheme c v) 1) && is c CONDITION (next0 c v)
+stopsAs c v End = true
+stopsAs c v Operation = true
+stopsAs c v Condition = eqb (scheme c v) 1 && eqb (next0 c (begin c 1)) v
+stopsAs c v Function = true
+stopsAs c v Unknown = true
+
 unfoldable pub stops : Chart → ℕ → Bool
-stops c v = elim (is c CONDITION v) [
-  | true ↦ eqb (scheme c v) 1 && eqb (next0 c (begin c 1)) v
-  | false ↦ elim (is c BEGIN v) [ true ↦ not (eqb (scheme c v) 1) && is c CONDITION (next0 c v) | false ↦ true ]
-]
+stops c v = stopsAs c v (kindOf (kind c v))
 
 -- the stop where performing a scheme starts
 unfoldable pub start : Chart → ℕ → ℕ
@@ -44,14 +49,14 @@ pub data Stop : Type 0 where
   home : Stop
   back : Stop
 
+abbrev pub stopAs : Chart → ℕ → Kind → Stop
+stopAs c v Begin = test (next0 c v)
+stopAs c v End = pick (eqb (scheme c v) 1) home back
+stopAs c v Operation = pick (eqb (argument c v) 0) (plain (mask c v) (result c v) (next0 c v))
+    (call (mask c v) (result c v) (argument c v) (next0 c v))
+stopAs c v Condition = test v
+stopAs c v Function = function (argument c v) (next0 c v) (next1 c v)
+stopAs c v Unknown = test (next0 c v)
+
 unfoldable pub stopAt : Chart → ℕ → Stop
-stopAt c v = elim (is c OPERATION v) [
-  | true ↦ pick (eqb (argument c v) 0) (plain (mask c v) (result c v) (next0 c v)) (call (mask c v) (result c v) (argument c v) (next0 c v))
-  | false ↦ elim (is c FUNCTION v) [
-    | true ↦ function (argument c v) (next0 c v) (next1 c v)
-    | false ↦ elim (is c END v) [
-      | true ↦ pick (eqb (scheme c v) 1) home back
-      | false ↦ test (pick (is c CONDITION v) v (next0 c v))
-    ]
-  ]
-]
+stopAt c v = stopAs c v (kindOf (kind c v))

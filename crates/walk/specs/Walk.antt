@@ -21,6 +21,16 @@ pub record Signal : Type 0 where
 abbrev pub signals : Binding → List ℕ → List Signal
 signals s ws = map (λ w. record { word = w; binding = s }) ws
 
+-- an open scheme: the stop where it stands, the number that it goes by, and how many schemes are open, itself among them
+pub record OpenScheme : Type 0 where
+  pub node : ℕ
+  pub number : ℕ
+  pub opened : ℕ
+
+-- the same scheme, at stop v
+abbrev pub atStop : OpenScheme → ℕ → OpenScheme
+atStop x v = record { node = v; number = x .number; opened = x .opened }
+
 -- a tick (the paper's word for one step):
 -- the stop that makes it, the number that its scheme was called by, its mask, its code, and how many schemes were open
 pub record Tick : Type 0 where
@@ -30,8 +40,9 @@ pub record Tick : Type 0 where
   pub code : ℕ
   pub opened : ℕ
 
-abbrev pub oneTick : ℕ → ℕ → ℕ → ℕ → ℕ → List Tick
-oneTick v g m k o = record { node = v; number = g; mask = m; code = k; opened = o } ∷ []
+-- the tick of an open scheme where it stands, with mask m and code k
+abbrev pub oneTick : OpenScheme → ℕ → ℕ → List Tick
+oneTick x m k = record { node = x .node; number = x .number; mask = m; code = k; opened = x .opened } ∷ []
 
 -- a call that was not made: all open schemes were dropped, code 60 hexadecimal
 abbrev pub isDrop : Tick → Bool
@@ -50,40 +61,59 @@ after ts (spent us) = spent (ts ++ us)
 after ts (ended us w ws b) = ended (ts ++ us) w ws b
 after ts (dropped us ws b) = dropped (ts ++ us) ws b
 
--- performing on from a stop, given how many schemes are open, the number that this one was called by, the words and the result bits
+-- a call: its mask and its code, the number called, and the stop where the caller goes on, by the word of the End and the result bits
+pub record SchemeCall : Type 0 where
+  pub mask : ℕ
+  pub code : ℕ
+  pub called : ℕ
+  pub resumed : ℕ → Results → ℕ
+
+-- an operation's call of number h, with mask m and next node u
+abbrev pub callByOperation : Chart → ℕ → ℕ → ℕ → SchemeCall
+callByOperation c m h u = record { mask = m; code = OPERATION-CALL-CODE + h; called = h; resumed = λ w b. byArc c w u }
+
+-- a function's call of number h, with next node u₀ or u₁ by the result bit of h
+abbrev pub callByFunction : Chart → ℕ → ℕ → ℕ → SchemeCall
+callByFunction c h u₀ u₁ =
+    record { mask = 0; code = FUNCTION-CALL-CODE + h; called = h; resumed = λ w b. byArc c w (pick (resultOf h b) u₁ u₀) }
+
+-- performing an open scheme on from where it stands, by the words and with the result bits
 abbrev pub Performer : Type 0
-Performer = ℕ → ℕ → ℕ → List Signal → Results → Course
+Performer = OpenScheme → List Signal → Results → Course
 
--- after a call's course the caller, itself called by number g, goes on from the stop that f gives for the End's word and the result bits;
--- a drop ends the caller too
-abbrev pub resume : Performer → ℕ → ℕ → List Tick → (ℕ → Results → ℕ) → Course → Course
-resume go o g ts f (spent us) = spent (ts ++ us)
-resume go o g ts f (ended us w ws b) = after (ts ++ us) (go o g (f w b) ws b)
-resume go o g ts f (dropped us ws b) = dropped (ts ++ us) ws b
+-- after the course of the scheme that call a opened, its caller x goes on; a drop ends the caller too
+abbrev pub resume : Performer → OpenScheme → SchemeCall → Course → Course
+resume go x a (spent ts) = spent ts
+resume go x a (ended ts w ws b) = after ts (go (atStop x (a .resumed w b)) ws b)
+resume go x a (dropped ts ws b) = dropped ts ws b
 
--- a call of number h by stop v with o open, after which the caller goes on by f: it clears the bit of h, and the scheme k that serves h is
--- performed; or all open schemes are dropped, and the bit of the handler is cleared
-abbrev pub performCall : Performer → Chart → ℕ → ℕ → ℕ → ℕ → ℕ → ℕ → ℕ → (ℕ → Results → ℕ) → List Signal → Results → Bool → Course
-performCall go c o g v m j h k f ws b false = resume go o g (oneTick v g m (j + h) o) f (go (suc o) h (start c k) ws (cleared h b))
-performCall go c o g v m j h k f ws b true = dropped (oneTick v g m DROP-CODE o) ws (cleared (handler c) b)
+-- the scheme that a call by x opens: the one that serves the number called, at its start
+abbrev pub openedBy : Chart → Binding → OpenScheme → SchemeCall → OpenScheme
+openedBy c s x a = record { node = start c (served s (a .called)); number = a .called; opened = suc (x .opened) }
 
--- one stop v of a scheme that was called by number g, with o open, by its word, and what follows it; v's own result is written, to the
--- bit of g, before its call; d tells of a number of open schemes whether a call drops them
-abbrev pub act : Performer → Chart → (ℕ → Bool) → ℕ → ℕ → ℕ → Signal → List Signal → Results → Stop → Course
-act go c d o g v w ws b (plain m r u) = after (oneTick v g m PLAIN-CODE o) (go o g (byArc c (w .word) u) ws (withResult r g b))
-act go c d o g v w ws b (call m r h u) =
-    performCall go c o g v m OPERATION-CALL-CODE h (served (w .binding) h) (λ x e. byArc c x u) ws (withResult r g b) (d o)
-act go c d o g v w ws b (function h u₀ u₁) =
-    performCall go c o g v 0 FUNCTION-CALL-CODE h (served (w .binding) h) (λ x e. byArc c x (pick (resultOf h e) u₁ u₀)) ws b (d o)
-act go c d o g v w ws b (test u) = after (oneTick v g 0 PLAIN-CODE o) (go o g (byWord c (w .word) u) ws b)
-act go c d o g v w ws b home = after (oneTick v g 0 HOME-CODE o) (go o g (start c 1) ws b)
-act go c d o g v w ws b back = ended (oneTick v g 0 RETURN-CODE o) (w .word) ws b
+-- call a by x under binding s: it clears the bit of the number called, and the scheme that it opens is performed; or all open schemes are
+-- dropped, and the bit of the handler is cleared
+abbrev pub performCall : Performer → Chart → Binding → OpenScheme → SchemeCall → List Signal → Results → Bool → Course
+performCall go c s x a ws b false =
+    after (oneTick x (a .mask) (a .code)) (resume go x a (go (openedBy c s x a) ws (cleared (a .called) b)))
+performCall go c s x a ws b true = dropped (oneTick x (a .mask) DROP-CODE) ws (cleared (handler c) b)
+
+-- what the stop where x stands does by its word w, and what follows it by the words ws, where go performs on; b are the result bits; the
+-- stop's own result is written, to the bit of x's number, before its call; d tells of a number of open schemes whether a call drops them
+abbrev pub act : Performer → Chart → (ℕ → Bool) → OpenScheme → Signal → List Signal → Results → Stop → Course
+act go c d x w ws b (plain m r u) = after (oneTick x m PLAIN-CODE) (go (atStop x (byArc c (w .word) u)) ws (withResult r (x .number) b))
+act go c d x w ws b (call m r h u) =
+    performCall go c (w .binding) x (callByOperation c m h u) ws (withResult r (x .number) b) (d (x .opened))
+act go c d x w ws b (function h u₀ u₁) = performCall go c (w .binding) x (callByFunction c h u₀ u₁) ws b (d (x .opened))
+act go c d x w ws b (test u) = after (oneTick x 0 PLAIN-CODE) (go (atStop x (byWord c (w .word) u)) ws b)
+act go c d x w ws b home = after (oneTick x 0 HOME-CODE) (go (atStop x (start c 1)) ws b)
+act go c d x w ws b back = ended (oneTick x 0 RETURN-CODE) (w .word) ws b
 
 -- k is at least the number of words
 unfoldable pub perform : ℕ → Chart → (ℕ → Bool) → Performer
-perform zero c d o g v ws b = spent []
-perform (suc k) c d o g v [] b = spent []
-perform (suc k) c d o g v (w ∷ ws) b = act (perform k c d) c d o g v w ws b (stopAt c v)
+perform zero c d x ws b = spent []
+perform (suc k) c d x [] b = spent []
+perform (suc k) c d x (w ∷ ws) b = act (perform k c d) c d x w ws b (stopAt c (x .node))
 
 -- with n places a call that finds n schemes open drops them where the chart has a handler, unless the handler is the first of them
 abbrev pub drops : ℕ → Chart → Bool → ℕ → Bool
@@ -102,7 +132,8 @@ carriedOn go c (dropped ts ws b) = ts ++ go true (start c (handler c)) ws b
 -- with n places, from stop v of the first open scheme on; k is at least the number of words
 unfoldable pub walkFrom : ℕ → ℕ → Chart → Bool → ℕ → List Signal → Results → List Tick
 walkFrom zero n c first v ws b = []
-walkFrom (suc k) n c first v ws b = carriedOn (walkFrom k n c) c (perform (length ws) c (drops n c first) 1 (bottom c first) v ws b)
+walkFrom (suc k) n c first v ws b =
+    carriedOn (walkFrom k n c) c (perform (length ws) c (drops n c first) (record { node = v; number = bottom c first; opened = 1 }) ws b)
 
 -- with n places, from the home tick on, every result bit 0
 unfoldable pub walk : ℕ → Chart → List Signal → List Tick

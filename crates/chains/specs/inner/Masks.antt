@@ -9,6 +9,7 @@ use lib.ListN.{getD}
 use Rattle.lists.specs.Pick.{pick}
 use Rattle.lists.specs.Numbers.{tabulate, any, lowest}
 use Rattle.bits.specs.Word.{bit}
+use Rattle.frames.specs.Sizes.{SCHEMES}
 use Rattle.frames.specs.Frame.{size}
 use Rattle.charts.specs.Chart.{Chart, argument}
 use Rattle.chart_labels.specs.inner.ChartContracts.{Ready}
@@ -25,7 +26,7 @@ maskOf p (suc n) = maskOf p n + pick (p n) (2 ^ n) 0
 
 -- for each scheme, those that the first v nodes call from it
 abbrev pub callMasks : Chart → ℕ → List ℕ
-callMasks c v = tabulate (λ g. maskOf (λ h. any (isCallOf c g h) 0 v) 17) 17
+callMasks c v = tabulate (λ g. maskOf (λ h. any (isCallOf c g h) 0 v) (suc SCHEMES)) (suc SCHEMES)
 
 -- the schemes that those of a set call, by the masks of the first n
 unfoldable pub calledBy : List ℕ → ℕ → ℕ → ℕ
@@ -35,11 +36,11 @@ calledBy masks set (suc g) = bitOr (calledBy masks set g) (pick (eqb (bit set g)
 -- the schemes that chains of k calls from scheme 1 end in
 unfoldable pub endsBy : List ℕ → ℕ → ℕ
 endsBy masks zero = 2
-endsBy masks (suc k) = calledBy masks (endsBy masks k) 17
+endsBy masks (suc k) = calledBy masks (endsBy masks k) (suc SCHEMES)
 
 -- the lowest number of calls that no chain has, or 0 where there are chains of 16 calls: of 17 schemes
 unfoldable pub longestBy : List ℕ → ℕ
-longestBy masks = let k = lowest (λ k. eqb (endsBy masks k) 0) 0 17 in pick (ltb k 17) k 0
+longestBy masks = let k = lowest (λ k. eqb (endsBy masks k) 0) 0 (suc SCHEMES) in pick (ltb k (suc SCHEMES)) k 0
 
 -- how many schemes the longest chain has, or 0 where a circle of calls can be reached
 abbrev pub longestChain : Chart → ℕ

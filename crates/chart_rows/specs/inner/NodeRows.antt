@@ -34,9 +34,13 @@ settledNode (suc n) c care values v = elim (known c care v) [
   | false ↦ v
 ]
 
+-- the paths on from node v, by the parts of the path so far
+abbrev pub pathsFrom : ℕ → Chart → ℕ → ℕ → ℕ → ℕ → ℕ → List Row
+pathsFrom n c l f care values v = paths n c (record { from = l; care = care; values = values; bit = f }) v
+
 -- the paths on from the two arcs of node v, with function bits f and g; the side of the 1 has the values
 abbrev pub sides : Chart → ℕ → ℕ → ℕ → ℕ → ℕ → ℕ → List Row
-sides c l f g care values v = paths (size c) c l f care 0 (next0 c v) ++ paths (size c) c l g care values (next1 c v)
+sides c l f g care values v = pathsFrom (size c) c l f care 0 (next0 c v) ++ pathsFrom (size c) c l g care values (next1 c v)
 
 -- the rows of node v, none where it has no label of its own
 abbrev pub nodeRows : Chart → ℕ → List Row

@@ -9,8 +9,7 @@ use Rattle.frames.specs.Frame.{size}
 use Rattle.charts.specs.Layout.{BEGIN, CONDITION}
 use Rattle.charts.specs.Chart.{Chart, kind}
 use Rattle.chart_labels.specs.inner.ChartContracts.{Charted}
-use Rattle.chart_rows.specs.Rows.{paths}
-use Rattle.chart_rows.specs.inner.NodeRows.{testedNumber, untested}
+use Rattle.chart_rows.specs.inner.NodeRows.{pathsFrom, testedNumber, untested}
 
 -- notes on the nodes of an accepted chart: the label of each, and from 256 on the number of the condition that a path tests there
 pub record Noted (c : Chart) (notes : List ℕ) : Type 0 where
@@ -46,7 +45,7 @@ pub record SidesAt (c : Chart) (notes : List ℕ) (care values v : ℕ) : Type 0
 
 -- a mask of the numbers that paths on from node v may test: they have at most that many values, so there are no more paths
 pub record FewPaths (c : Chart) (v mask : ℕ) : Type 0 where
-  pub most : (l f care values : ℕ) → length (paths (size c) c l f care values v) ≤ 2 ^ untested mask care
+  pub most : (l f care values : ℕ) → length (pathsFrom (size c) c l f care values v) ≤ 2 ^ untested mask care
 
 pub record Masked (c : Chart) (masks : List ℕ) : Type 0 where
   pub long : size c ≤ length masks

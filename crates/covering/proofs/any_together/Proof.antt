@@ -4,7 +4,8 @@ use mathlib.Core.Path.{_≡_, sym, _∙_}
 use Prim.Native.Nat.{_-_, _≤_}
 use Rattle.lists.specs.Numbers.{any}
 use Rattle.lists.proofs.Searches.{any-here, any-on, any-over}
-use Rattle.covering.specs.inner.CoveringContracts.{rowInFrame, togetherSome, togetherAny}
+use Rattle.image.specs.Decode.{rowInFrame}
+use Rattle.covering.specs.inner.CoveringContracts.{togetherSome, togetherAny}
 use Rattle.covering.proofs.any_together.Statement.{statement}
 use Rattle.covering.proofs.any_together.Tie as tie
 

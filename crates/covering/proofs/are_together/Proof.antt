@@ -1,6 +1,6 @@
 -- `covering::are_together` meets its contract: by `meets`, with what decides of the first row.
 use borrow.Author.Needs.{needs}
-use Rattle.covering.specs.inner.CoveringContracts.{rowInFrame}
+use Rattle.image.specs.Decode.{rowInFrame}
 use Rattle.covering.proofs.CoverCases.{read-row}
 use Rattle.covering.proofs.are_together.Statement.{statement}
 use Rattle.covering.proofs.are_together.Tie as tie

@@ -4,8 +4,9 @@ use mathlib.Core.Path.{_≡_, sym, _∙_}
 use Prim.Native.Nat.{_-_, _≤_}
 use Rattle.lists.specs.Numbers.{any}
 use Rattle.lists.proofs.Searches.{any-here, any-on, any-over}
+use Rattle.image.specs.Decode.{rowInFrame}
 use Rattle.covering.specs.Matched.{together}
-use Rattle.covering.specs.inner.CoveringContracts.{rowInFrame, togetherSome}
+use Rattle.covering.specs.inner.CoveringContracts.{togetherSome}
 use Rattle.covering.proofs.CoverCases.{read-row}
 use Rattle.covering.proofs.meets_before.Statement.{statement}
 use Rattle.covering.proofs.meets_before.Tie as tie

@@ -7,10 +7,11 @@ use lib.Count.{ones}
 use lib.Dec.{eqb}
 use Rattle.lists.specs.Pick.{pick}
 use Rattle.lists.specs.Numbers.{any, sum}
-use Rattle.frames.specs.Frame.{size, field, pairAt}
-use Rattle.image.specs.Layout.{FROM, CARE, VALUES, FUNCTION-BIT, NEXT, NO-BIT}
+use Rattle.frames.specs.Frame.{size, field}
+use Rattle.frames.specs.Sizes.{CONDITIONS, WORDS}
+use Rattle.image.specs.Layout.{FROM, NO-BIT}
 use Rattle.image.specs.Image.{Row}
-use Rattle.image.specs.Decode.{rowCount, rowsFrom, decoded}
+use Rattle.image.specs.Decode.{rowCount, rowsFrom, rowInFrame, decoded}
 use Rattle.image.specs.inner.Sound.{SoundImage}
 use Rattle.covering.specs.Matched.{together}
 
@@ -18,16 +19,6 @@ use Rattle.covering.specs.Matched.{together}
 pub record SoundTable (b : List ℕ) : Type 0 where
   pub image : SoundImage (decoded b)
   pub all : size b ≡ rowsFrom b + rowCount b
-
--- the row in frame f
-abbrev pub rowInFrame : List ℕ → ℕ → Row
-rowInFrame b f = record {
-  from = field b f FROM;
-  care = pairAt b f CARE;
-  values = pairAt b f VALUES;
-  bit = field b f FUNCTION-BIT;
-  next = field b f NEXT;
-}
 
 -- a row of which only that is told which decides what it matches
 abbrev pub rowWith : ℕ → ℕ → ℕ → Row
@@ -43,14 +34,14 @@ togetherAny b first n = any (λ f. togetherSome b (rowInFrame b f) first (f - fi
 
 -- how many words a row matches with bit b, whatever its label
 abbrev pub wordsWith : ℕ → Row → ℕ
-wordsWith b r = pick (eqb (r .bit) NO-BIT || eqb (r .bit) b) (2 ^ (16 - ones (r .care))) 0
+wordsWith b r = pick (eqb (r .bit) NO-BIT || eqb (r .bit) b) (2 ^ (CONDITIONS - ones (r .care))) 0
 
 abbrev pub wordsIn : List ℕ → ℕ → ℕ → ℕ → ℕ
 wordsIn b bit first n = sum (λ f. wordsWith bit (rowInFrame b f)) first n
 
 -- of the n rows from frame first on, if they are those of one label, some word and bit match none or two
 abbrev pub unevenRows : List ℕ → ℕ → ℕ → Bool
-unevenRows b first n = not (eqb (wordsIn b 0 first n) 65536) || not (eqb (wordsIn b 1 first n) 65536) || togetherAny b first n
+unevenRows b first n = not (eqb (wordsIn b 0 first n) WORDS) || not (eqb (wordsIn b 1 first n) WORDS) || togetherAny b first n
 
 -- frame f holds no row of label l
 abbrev pub isOther : List ℕ → ℕ → ℕ → Bool

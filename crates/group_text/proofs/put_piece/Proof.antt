@@ -1,7 +1,7 @@
 -- `group_text::put_piece` meets its contract: entry, label or row, by the frame number.
 use mathlib.Core.Path.{refl}
 use native.Mathlib.Omega.{arith}
-use Rattle.group_text.proofs.PieceCases.{entry-small, entry-kept, frame-room, frame-put}
+use Rattle.group_pieces.proofs.PieceCases.{entry-small, entry-kept, frame-room, frame-put}
 use borrow.Author.Needs.{needs}
 use Rattle.group_text.proofs.put_piece.Statement.{statement}
 use Rattle.group_text.proofs.put_piece.Tie as tie

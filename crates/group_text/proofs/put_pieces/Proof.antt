@@ -2,8 +2,8 @@
 use Prim.Native.Nat.{_-_}
 use Rattle.frames.specs.Frame.{size}
 use Rattle.label_text.proofs.Puts.{Appended}
-use Rattle.group_text.specs.inner.Pieces.{piece}
-use Rattle.group_text.proofs.PieceCases.{header-first, header-room, Rest, rest-start, rest-room, rest-on, rest-length, rest-all}
+use Rattle.group_pieces.specs.inner.Pieces.{piece}
+use Rattle.group_pieces.proofs.PieceCases.{header-first, header-room, Rest, rest-start, rest-room, rest-on, rest-length, rest-all}
 use borrow.Author.Needs.{needs}
 use Rattle.group_text.proofs.put_pieces.Statement.{statement}
 use Rattle.group_text.proofs.put_pieces.Tie as tie

@@ -9,12 +9,11 @@ use Rattle.lists.specs.Numbers.{any, lowest}
 use Rattle.frames.specs.Sizes.{LABELS}
 use Rattle.frames.specs.Frame.{field}
 use Rattle.image.specs.Layout.{FUNCTION-BIT, NEXT}
-use Rattle.image.specs.Decode.{lastLabel}
+use Rattle.image.specs.Decode.{lastLabel, rowInFrame}
 use Rattle.image.specs.inner.Sound.{SoundImage}
 use Rattle.tables.specs.Table.{tableLabel, firstOn, endOn, rowOn, tableImage}
 use Rattle.tables.specs.inner.Asked.{Whole}
 use Rattle.covering.specs.Matched.{uneven, together}
-use Rattle.covering.specs.inner.CoveringContracts.{rowInFrame}
 use Rattle.grouping.specs.Classes.{sameFields, classOf, classes}
 
 -- a table of a sound image to which 23 does not apply, with a function bit only in the rows of a function call's label

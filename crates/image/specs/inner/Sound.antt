@@ -6,6 +6,7 @@ use lib.ListN.{length, getD}
 use lib.Bits.{bitAnd}
 use lib.Dec.{eqb}
 use Rattle.lists.specs.Pick.{pick}
+use Rattle.frames.specs.Sizes.{SCHEMES, LABELS, ROWS, WORDS}
 use Rattle.image.specs.Image.{Image, Label, Row, homeLabel, returnLabel, nthRow}
 pub use Rattle.image.specs.Image.{noLabel}
 
@@ -34,8 +35,8 @@ pub record SoundLabel (n : ℕ) (x : Label) : Type 0 where
 pub record SoundRow (i : Image) (r : Row) : Type 0 where
   pub low : 2 ≤ r .from
   pub high : r .from < length (i .labels)
-  pub cares : r .care < 65536
-  pub small : r .values < 65536
+  pub cares : r .care < WORDS
+  pub small : r .values < WORDS
   pub within : bitAnd (r .values) (r .care) ≡ r .values
   pub bits : r .bit ≤ 2
   pub function : r .bit < 2 → nthLabel i (r .from) .kind ≡ 2
@@ -43,10 +44,10 @@ pub record SoundRow (i : Image) (r : Row) : Type 0 where
 
 pub record SoundImage (i : Image) : Type 0 where
   pub first : 1 ≤ length (i .entries)
-  pub most : length (i .entries) ≤ 16
+  pub most : length (i .entries) ≤ SCHEMES
   pub two : 2 ≤ length (i .labels)
-  pub last : length (i .labels) ≤ 256
-  pub few : length (i .rows) ≤ 1024
+  pub last : length (i .labels) ≤ LABELS
+  pub few : length (i .rows) ≤ ROWS
   pub handled : (i .handler ≡ 0 → ⊥) → (2 ≤ i .handler) × (i .handler ≤ length (i .entries))
   pub starts : (h : ℕ) → h < length (i .entries) → Reaches i (suc h) (getD (i .entries) h 0)
   pub home : nthLabel i 0 ≡ homeLabel

@@ -1,9 +1,7 @@
--- Parts of the image check that a function of the code tries by itself.
+-- The kind of a frame by its position, which a function of the code finds by itself.
 use Prim.Native.Nat.{ℕ}
-use mathlib.Core.Bool.{Bool, _||_}
-use mathlib.Core.List.{List}
 use Rattle.image.specs.Layout.{HEADER, ENTRY, LABEL, ROW}
-use Rattle.image.specs.Check.{Position, headerPosition, entryPosition, labelPosition, rowPosition, stray, badContent}
+use Rattle.image.specs.Check.{Position, headerPosition, entryPosition, labelPosition, rowPosition}
 
 -- the kind byte that a frame has by its position
 abbrev pub positionKind : Position → ℕ
@@ -11,7 +9,3 @@ positionKind headerPosition = HEADER
 positionKind (entryPosition h) = ENTRY
 positionKind (labelPosition l) = LABEL
 positionKind (rowPosition k) = ROW
-
--- 12 or 13 refuses frame f
-abbrev pub faulty : List ℕ → ℕ → Bool
-faulty b f = stray b f || badContent b f

@@ -14,8 +14,8 @@ use borrow.Fn.PlainCycle.{Measures, is, falls, and}
 use Rattle.little_seek.proofs.seek.Reads as reads
 use Rattle.little_seek.proofs.seek.Kinds as kinds
 use Rattle.little_seek.proofs.+seek.Lts-seek as lts
-use Rattle.little_nodes.proofs.first_number.Reads as first-number-reads
-use Rattle.little_nodes.proofs.past_number.Reads as past-number-reads
+use Rattle.little_numbers.proofs.first_number.Reads as first-number-reads
+use Rattle.little_numbers.proofs.past_number.Reads as past-number-reads
 use Rattle.little_nodes.proofs.is_barred.Reads as is-barred-reads
 use Rattle.little_seek.proofs.count_chart.Reads as count-chart-reads
 use Rattle.little_seek.proofs.place.Reads as place-reads

@@ -2,7 +2,7 @@
 use mathlib.Core.Path.{refl}
 use Prim.Native.Nat.{_-_}
 use Rattle.frames.specs.Frame.{size}
-use Rattle.row_bounds.proofs.BoundLaws.{Masking, masking-up}
+use Rattle.row_bounds.proofs.BoundLaws.{Masking, masking-set}
 use native.Mathlib.Omega.{arith}
 use borrow.Author.Needs.{needs}
 use Rattle.row_bounds.proofs.mask_upward.Statement.{statement}
@@ -40,7 +40,8 @@ loop-less : tie.Need-loop-less Inv-loop μ-loop
 loop-less c = search needs
 
 loop-again : tie.Need-loop-again Inv-loop μ-loop
-loop-again c = masking-up _ _ _ _ (c .before .before .before .loop .inv) (search needs) _ (c .mask-of .ensures)
+loop-again c =
+    masking-set _ _ _ _ _ _ (c .before .before .before .loop .inv) (search needs) (search needs) _ (c .mask-of .ensures)
 
 same-length : tie.Need-same-length Inv-loop μ-loop
 same-length c = c .before .loop .inv .size

@@ -6,9 +6,6 @@ use Rattle.charts.specs.Chart.{Chart}
 use Rattle.image.specs.Image.{Row, rowFrame}
 use Rattle.chart_rows.specs.inner.NodeRows.{nodeRows}
 
-abbrev pub makeRow : ℕ → ℕ → ℕ → ℕ → ℕ → Row
-makeRow l care values f n = record { from = l; care = care; values = values; bit = f; next = n }
-
 abbrev pub rowsBytes : List Row → List ℕ
 rowsBytes = concatMap rowFrame
 

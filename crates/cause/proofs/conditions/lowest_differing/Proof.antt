@@ -1,9 +1,10 @@
 -- `cause::conditions::lowest_differing` meets its contract: the loop keeps the lowest of the conditions passed.
 use native.Mathlib.Omega.{arith}
-use Rattle.cause.proofs.ConditionCases.{PassedCondition, passed-here, passed-on, passed-all}
+use Rattle.cause.proofs.ConditionCases.{PassedCondition, passed-turn, passed-all}
 use borrow.Author.Needs.{needs}
-use mathlib.Core.Path.{refl}
+use mathlib.Core.Path.{refl, sym}
 use Rattle.lists.specs.Numbers.{lowest}
+use Rattle.lists.proofs.Tests.{yes-pick, no-pick}
 use Rattle.cause.proofs.conditions.lowest_differing.Statement.{statement}
 use Rattle.cause.proofs.conditions.lowest_differing.Tie as tie
 
@@ -29,7 +30,8 @@ loop-less c = search needs
 loop-again : tie.Need-loop-again Inv-loop μ-loop
 loop-again c =
     let loop = c .before .before .before .loop in
-    passed-here _ _ _ (loop .low) (loop .i) (loop .inv) (search needs) _ (c .before .differs .ensures) (c .if1 .taken)
+    passed-turn _ _ _ (loop .low) (loop .i) (loop .inv) (search needs) _ (c .before .differs .ensures) _
+    (sym (yes-pick _ _ _ (c .if1 .taken)))
 
 loop-less-2 : tie.Need-loop-less-2 Inv-loop μ-loop
 loop-less-2 c = search needs
@@ -37,7 +39,8 @@ loop-less-2 c = search needs
 loop-again-2 : tie.Need-loop-again-2 Inv-loop μ-loop
 loop-again-2 c =
     let loop = c .before .before .before .loop in
-    passed-on _ _ _ (loop .low) (loop .i) (loop .inv) (search needs) _ (c .before .differs .ensures) (c .if1 .left)
+    passed-turn _ _ _ (loop .low) (loop .i) (loop .inv) (search needs) _ (c .before .differs .ensures) _
+    (sym (no-pick _ _ _ (c .if1 .left)))
 
 returns : tie.Need-returns Inv-loop μ-loop
 returns c = passed-all _ _ _ _ (c .before .loop .i) (c .before .loop .inv) (search needs)

@@ -2,7 +2,7 @@
 use mathlib.Core.Path.{sym}
 use mathlib.Core.Bool.{false}
 use Rattle.frames.specs.Frame.{size}
-use Rattle.chart_check.proofs.MarkCases.{part-long}
+use Rattle.node_marks.proofs.MarkCases.{part-long}
 use borrow.Author.Needs.{needs}
 use Rattle.chart_check.proofs.joined.check_joined.Statement.{statement}
 use Rattle.chart_check.proofs.joined.check_joined.Tie as tie

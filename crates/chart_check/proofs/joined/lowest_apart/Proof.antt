@@ -1,7 +1,7 @@
 -- `chart_check::joined::lowest_apart` meets its contract: the Begins are marked, the marks spread; where some node has none, the
 -- lowest is found.
 use mathlib.Core.Path.{sym, _∙_}
-use Rattle.chart_check.proofs.MarkCases.{spread-apart, all-marked}
+use Rattle.node_marks.proofs.MarkCases.{spread-apart, all-marked}
 use Rattle.graph.proofs.MarkedNodes.{listed-lowest}
 use borrow.Author.Needs.{needs}
 use Rattle.chart_check.proofs.joined.lowest_apart.Statement.{statement}

@@ -4,7 +4,8 @@ use mathlib.Core.Bool.{false}
 use native.Mathlib.Omega.{arith}
 use Rattle.tables.specs.Table.{badTable}
 use Rattle.tables.proofs.Front.{end-holds}
-use Rattle.rebinding.proofs.EntryCases.{cut-length, cut-whole, live-refused, live-rebinds}
+use Rattle.tables.proofs.Front.{cut-length, cut-whole}
+use Rattle.rebinding.proofs.EntryCases.{live-refused, live-rebinds}
 use borrow.Author.Needs.{needs}
 use Rattle.rebinding.proofs.in_place.live_rebind_bytes.Statement.{statement}
 use Rattle.rebinding.proofs.in_place.live_rebind_bytes.Tie as tie

@@ -6,9 +6,8 @@ use lib.ListN.{length, getD}
 use Rattle.frames.specs.Frame.{size}
 use Rattle.charts.proofs.Rank.{rank}
 use Rattle.walk.specs.Stops.{stops}
-use Rattle.chart_rows.specs.Rows.{paths}
 use Rattle.row_text.specs.inner.RowBytes.{rowsBytes}
-use Rattle.chart_rows.specs.inner.NodeRows.{testedNumber}
+use Rattle.chart_rows.specs.inner.NodeRows.{pathsFrom, testedNumber}
 use Rattle.chart_rows.proofs.NumberLaws.{high-stops, low-goes, low-number}
 use Rattle.chart_rows.proofs.Settled.{Settled, is-settled}
 use Rattle.chart_rows.proofs.PathCases.{New, Fork, new-small, fork}
@@ -34,7 +33,7 @@ measure κs a = rank (a .0 .now) (a .1 .1 .0)
 
 abbrev Inv-loop : lts.InvT-loop
 Inv-loop records notes node care values from bit out₀ at place₀ tested₀ valued₀ next₀ out place tested valued next =
-    PutAlong records notes (rowsBytes (paths (size records) records from bit care values node)) out₀ out at place from bit
+    PutAlong records notes (rowsBytes (pathsFrom (size records) records from bit care values node)) out₀ out at place from bit
     (rank records node) tested valued next
 
 abbrev μ-loop : lts.MeasureT-loop
@@ -68,7 +67,7 @@ module _ (t : ℕ) where
   start c = c .before .before .before .before
 
   room : (c : At lts.At-loop) → let a = start c .args in
-      a .at + length (rowsBytes (paths (size (a .records .now)) (a .records .now) (a .from) (a .bit) (a .care) (a .values) (a .node)))
+      a .at + length (rowsBytes (pathsFrom (size (a .records .now)) (a .records .now) (a .from) (a .bit) (a .care) (a .values) (a .node)))
       ≤ length (a .out .now)
   room c = start c .pre .1 .1
 

@@ -4,9 +4,9 @@ use lib.Bits.{and-self}
 use lib.ListN.{getD}
 use Rattle.frames.specs.Frame.{size}
 use Rattle.chart_labels.specs.Labels.{label}
-use Rattle.chart_rows.specs.Rows.{paths, rowsOf}
+use Rattle.chart_rows.specs.Rows.{rowsOf}
 use Rattle.row_text.specs.inner.RowBytes.{rowsBytes, nodeRowsBytes}
-use Rattle.chart_rows.specs.inner.NodeRows.{sides, nodeRows}
+use Rattle.chart_rows.specs.inner.NodeRows.{pathsFrom, sides, nodeRows}
 use Rattle.chart_rows.proofs.NumberLaws.{small-number}
 use Rattle.chart_rows.proofs.RowSteps.{no-rows, own-rows, own-mask, other-entered, function-kind}
 use Rattle.label_text.proofs.Puts.{nothing-put, room-as, done-as}
@@ -36,7 +36,7 @@ condition c =
 
 other : (c : tie.After-field3) → let a = begun (c .before .before .before) .args in
     nodeRowsBytes (a .records .now) (a .v)
-    ≡ rowsBytes (paths (size (a .records .now)) (a .records .now) (getD (a .notes .now) (a .v) 0) 2 0 0 (c .field3 .result))
+    ≡ rowsBytes (pathsFrom (size (a .records .now)) (a .records .now) (getD (a .notes .now) (a .v) 0) 2 0 0 (c .field3 .result))
 other c =
     let kind = c .before .before .before in
     let a = begun kind .args in

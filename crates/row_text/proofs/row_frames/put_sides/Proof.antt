@@ -3,9 +3,8 @@ use mathlib.Core.Path.{refl}
 use lib.ListN.{getD}
 use Rattle.frames.specs.Frame.{size}
 use Rattle.chart_labels.specs.Labels.{label}
-use Rattle.chart_rows.specs.Rows.{paths}
 use Rattle.row_text.specs.inner.RowBytes.{rowsBytes}
-use Rattle.chart_rows.specs.inner.NodeRows.{sides}
+use Rattle.chart_rows.specs.inner.NodeRows.{pathsFrom, sides}
 use Rattle.chart_rows.proofs.RowSteps.{side-entered0, side-entered1}
 use Rattle.label_text.proofs.Puts.{Parted, both-first, both-second, both-done}
 use Rattle.row_text.proofs.RowPuts.{sides-text}
@@ -28,8 +27,8 @@ sided : (c : tie.After-field2) → let a = start c .args in let from = getD (a .
     let n = size (a .records .now) in
     Parted
     (rowsBytes (sides (a .records .now) (label (a .records .now) (a .v)) (a .first) (a .second) (a .care) (a .values) (a .v)))
-    (rowsBytes (paths n (a .records .now) from (a .first) (a .care) 0 (c .before .field .result)))
-    (rowsBytes (paths n (a .records .now) from (a .second) (a .care) (a .values) (c .field2 .result)))
+    (rowsBytes (pathsFrom n (a .records .now) from (a .first) (a .care) 0 (c .before .field .result)))
+    (rowsBytes (pathsFrom n (a .records .now) from (a .second) (a .care) (a .values) (c .field2 .result)))
 sided c =
     let a = start c .args in
     let node = start c .pre .0 in

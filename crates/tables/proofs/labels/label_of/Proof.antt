@@ -1,5 +1,7 @@
 -- `tables::labels::label_of` meets its contract: none, one of the two that every image has, or the one in its frame.
-use Rattle.tables.proofs.LabelCases.{label-above, label-home, label-return}
+use mathlib.Core.Path.{sym}
+use Rattle.tables.proofs.TableReads.{label-above}
+use Rattle.tables.proofs.LabelCases.{label-home, label-return}
 use borrow.Author.Needs.{needs}
 use Rattle.tables.proofs.labels.label_of.Statement.{statement}
 use Rattle.tables.proofs.labels.label_of.Tie as tie
@@ -8,7 +10,8 @@ last-label-requires : tie.Need-last-label-requires
 last-label-requires c κs = search needs
 
 returns : tie.Need-returns
-returns c = let start = c .before .before .before in label-above (start .args .table .now) (start .args .l) (search needs)
+returns c = let start = c .before .before .before in
+    sym (label-above (start .args .table .now) (start .args .l) (search needs))
 
 scheme-count-requires : tie.Need-scheme-count-requires
 scheme-count-requires c κs = search needs

@@ -1,0 +1,2 @@
+pub mod NodeCases
+pub mod Downward

@@ -1,0 +1,2 @@
+pub mod SchemeCounts
+pub mod PassLoops

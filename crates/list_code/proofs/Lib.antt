@@ -1,0 +1,5 @@
+pub mod Means
+pub mod Lowered
+pub mod Promises
+pub mod Walk
+pub mod Meets

@@ -1,5 +1,0 @@
-pub mod Printed
-pub mod Translations
-pub mod Runs
-pub mod Limits
-pub mod Capitals

@@ -1,0 +1,2 @@
+pub mod FourStates
+pub mod inner

@@ -1,0 +1,2 @@
+pub mod TableConditions
+pub mod CauseCases

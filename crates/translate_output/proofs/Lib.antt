@@ -1,0 +1,3 @@
+pub mod Translations
+pub mod Limits
+pub mod Capitals
