@@ -60,7 +60,8 @@ module _ (go : Performer) (free : unbounded.Performer) (ih : Alike go free) (c :
   alike-on : (ts : List Tick) (x : OpenScheme) (ws : List ℕ) (b : Results) → after ts (go x ws b) ≡ alike (unbounded.after ts (free x ws b))
   alike-on ts x ws b = ap (after ts) (ih x ws b) ∙ alike-after ts (free x ws b)
 
-  alike-resume : (x : OpenScheme) (a : SchemeCall) (r : unbounded.Course) → resume go c x a (alike r) ≡ alike (unbounded.resume free c x a r)
+  alike-resume : (x : OpenScheme) (a : SchemeCall) (r : unbounded.Course)
+      → resume go c x a (alike r) ≡ alike (unbounded.resume free c x a r)
   alike-resume x a (unbounded.spent ts) = refl
   alike-resume x a (unbounded.ended ts w ws b) = alike-on ts (openAt c (x .opened) (a .resumed w b)) ws b
 
