@@ -19,9 +19,10 @@ module _ (b : List ℕ) (n l : ℕ) (x : Framed b n l) where
       q ∙ ap (λ (f : ℕ). field b f 0 + field b f 1 * 256)
       (let e : n + l ≡ labelsFrom b + (l - 1) = omega (arith, x .schemes, x .label .low) in e)
 
-  module _ (end : ℕ) (q : end ≡ field b (1 + n + l) 0 + field b (1 + n + l) 1 * 256) where
+  module _ (end : ℕ) (q : end ≡ field b (n + l + 1) 0 + field b (n + l + 1) 1 * 256) where
     end-read : end ≡ notedIn b l
-    end-read = q ∙ ap (λ (m : ℕ). field b (1 + m + l) 0 + field b (1 + m + l) 1 * 256) (x .schemes)
+    end-read =
+        q ∙ ap (λ (f : ℕ). field b f 0 + field b f 1 * 256) (let e : n + l + 1 ≡ labelsFrom b + l = omega (arith, x .schemes) in e)
 
     pub end-here : 10 * end < length b → end ≡ endOn b l
     end-here k = omega (arith, end-read, frames-all, x .label .whole .alone)

@@ -29,7 +29,7 @@ pub fn end_of(table: &[u8], schemes: u8, l: usize) -> usize
     requires { ⌜ Framed (now table) schemes l ⌝ }
     ensures { λ r. ⌜ r ≡ endOn (now (table .entry)) l ⌝ }
 {
-    let end = low_pair(table, 1 + (schemes as usize) + l, 0) as usize;
+    let end = low_pair(table, (schemes as usize) + l + 1, 0) as usize;
     if FRAME * end < table.len() {
         return end;
     }

@@ -78,12 +78,15 @@ module _ (b : List ℕ) (l : ℕ) (asked : NumberedLabel b l) where
 
 -- ---- with H as the caller has it, n
 module _ (b : List ℕ) (n l : ℕ) (asked : Framed b n l) where
-  pub field-framed : (k r : ℕ) → r ≡ field b (1 + n + l) k → r ≡ field b (labelsFrom b + l) k
-  field-framed k r e = e ∙ ap (λ (m : ℕ). field b (1 + m + l) k) (asked .schemes)
+  frame-at : n + l + 1 ≡ labelsFrom b + l
+  frame-at = omega (arith, asked .schemes)
 
-  pub mask-framed : (u v : ℕ) → u ≡ pairAt b (1 + n + l) 6 → v ≡ pairAt b (1 + n + l) 8 → u * 65536 + v ≡ tableLabel b l .mask
+  pub field-framed : (k r : ℕ) → r ≡ field b (n + l + 1) k → r ≡ field b (labelsFrom b + l) k
+  field-framed k r e = e ∙ ap (λ (f : ℕ). field b f k) frame-at
+
+  pub mask-framed : (u v : ℕ) → u ≡ pairAt b (n + l + 1) 6 → v ≡ pairAt b (n + l + 1) 8 → u * 65536 + v ≡ tableLabel b l .mask
   mask-framed u v p q =
-      ap₂ (λ (x y : ℕ). x * 65536 + y) p q ∙ ap (λ (m : ℕ). quadAt b (1 + m + l) 6) (asked .schemes)
+      ap₂ (λ (x y : ℕ). x * 65536 + y) p q ∙ ap (λ (f : ℕ). quadAt b f 6) frame-at
       ∙ sym (ap (λ (x : Label). x .mask) (label-numbered b l (asked .label)))
 
 -- ---- entries

@@ -12,13 +12,14 @@ ghost use Rattle.tables.specs.Table.{tableLabel};
 ghost use Rattle.tables.specs.inner.Asked.{Whole, entryOf};
 ghost use Rattle.tables.specs.inner.Labels.{asLabel, Framed};
 
-// Byte k of the frame of label l. H, read once by a caller that reads many, says where the frame stands.
-fn field_of(table: &[u8], schemes: u8, l: usize, k: usize) -> u8
+// Byte k of the frame of label l. H, read once by a caller that reads many, says where the frame stands; it is added first, so that the
+// compiler finds the frame before it by the same product.
+pub fn field_of(table: &[u8], schemes: u8, l: usize, k: usize) -> u8
     requires { ⌜ Framed (now table) schemes l ⌝ }
     requires { ⌜ k < FRAME ⌝ }
     ensures { λ r. ⌜ r ≡ field (now (table .entry)) (labelsFrom (now (table .entry)) + l) k ⌝ }
 {
-    byte(table, 1 + (schemes as usize) + l, k)
+    byte(table, (schemes as usize) + l + 1, k)
 }
 
 // A kind above 2 counts as 0.
@@ -49,7 +50,7 @@ fn mask_read(table: &[u8], schemes: u8, l: usize) -> u32
     requires { ⌜ Framed (now table) schemes l ⌝ }
     ensures { λ r. ⌜ r ≡ tableLabel (now (table .entry)) l .mask ⌝ }
 {
-    let f = 1 + (schemes as usize) + l;
+    let f = (schemes as usize) + l + 1;
     (pair(table, f, LABEL_MASK) as u32) * 65536 + (pair(table, f, LABEL_MASK2) as u32)
 }
 

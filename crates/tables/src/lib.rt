@@ -6,6 +6,7 @@ mod labels;
 pub use header::bad_table;
 pub use header::table_length;
 pub use labels::entry_of;
+pub use labels::field_of;
 pub use labels::handler_of;
 pub use labels::kind_read;
 pub use labels::label_of;
