@@ -1,6 +1,5 @@
 // The tick of a return, in place.
 use frames::codes::RETURN_CODE;
-use image::layout::NO_BIT;
 use image::layout::NO_LABEL;
 use rows::next_row;
 use state::layout::STATE_BYTES;
@@ -22,7 +21,7 @@ ghost use Rattle.state.specs.Bytes.{stateOf};
 ghost use Rattle.ticks.specs.inner.TickContracts.{Header, TopReturn, TopBack, beneath, GivesTickEnd};
 ghost use Rattle.ticks.specs.inner.TickContracts.{GivesTickMove};
 
-// Where the label beneath the top leads, or NO_LABEL where no row of it matches. The search where no bit decides is compiled by itself.
+// Where the label beneath the top leads, or NO_LABEL where no row of it matches.
 fn next_beneath(table: &[u8], schemes: u8, last: u8, bytes: &[u8; STATE_BYTES], word: u16) -> u16
     requires { ⌜ TopBack (now table) (stateOf (now bytes)) ⌝ }
     requires { ⌜ Header (now table) schemes last ⌝ }
@@ -37,9 +36,6 @@ fn next_beneath(table: &[u8], schemes: u8, last: u8, bytes: &[u8; STATE_BYTES], 
     }
     let label = label_read(table, schemes, l as usize);
     let bit = bit_of(bytes, label.kind, label.called);
-    if bit == NO_BIT {
-        return next_row(table, schemes, l as usize, word, NO_BIT);
-    }
     next_row(table, schemes, l as usize, word, bit)
 }
 

@@ -3,11 +3,10 @@ use calls::tick_call;
 use frames::codes::HOME_CODE;
 use frames::codes::PLAIN_CODE;
 use image::layout::FUNCTION_CALL;
-use image::layout::NO_BIT;
 use image::layout::NO_LABEL;
 use image::layout::OPERATION_CALL;
 use returns::tick_back;
-use rows::next_row;
+use rows::next_free;
 use state::layout::STATE_BYTES;
 use state_places::depth_of;
 use state_places::number_of;
@@ -39,7 +38,7 @@ fn tick_plain(
     requires { ⌜ l ≡ topOf (stateOf (now bytes)) ⌝ }
     ensures { λ r. ⌜ GivesTickMove (now (table .entry)) (now (bytes .entry)) word r (now (bytes .exit)) ⌝ }
 {
-    let next = next_row(table, schemes, l as usize, word, NO_BIT);
+    let next = next_free(table, schemes, l as usize, word);
     if NO_LABEL <= next {
         let step = no_row();
         return TickMove { step, label: l };

@@ -1,6 +1,6 @@
 -- `returns::next_beneath` meets its contract: the label beneath the top has no rows, or its row is looked for.
 use borrow.Author.Needs.{needs}
-use mathlib.Core.Path.{_≡_, sym, _∙_, ap}
+use mathlib.Core.Path.{_≡_, _∙_, ap}
 use Prim.Native.Nat.{ℕ, _-_}
 use native.Mathlib.Omega.{arith}
 use Rattle.tables.specs.inner.Labels.{NumberedLabel}
@@ -76,41 +76,19 @@ cast-next-row c = search needs
 
 next-row-requires : tie.Need-next-row-requires
 next-row-requires c κs =
-    let bit = c .before in
-    let other = bit .before .before in
+    let other = c .before .before in
     let d = depth (place other) in (
-      bit-decides _ _ _ (bit .before .label-read .ensures) (state d .bits) _ (sym (c .if3 .taken) ∙ bit .bit-of .ensures) (numbered other),
+      bit-decides _ _ _ (c .before .label-read .ensures) (state d .bits) _ (c .bit-of .ensures) (numbered other),
       start d .pre .1 .schemes,
     )
 
 returns-3 : tie.Need-returns-3
 returns-3 c =
-    let bit = c .before .before in
-    let label = bit .before in
-    let p = place (label .before) in
-    beneath-row _ (state (depth p)) _ _ (under-read p) (numbered (label .before)) _ (label .label-read .ensures) _
-    (sym (c .before .if3 .taken) ∙ bit .bit-of .ensures) _ (c .next-row .ensures)
-
-cast-next-row-2 : tie.Need-cast-next-row-2
-cast-next-row-2 c = search needs
-
-next-row-requires-2 : tie.Need-next-row-requires-2
-next-row-requires-2 c κs =
     let bit = c .before in
-    let other = bit .before .before in
-    let d = depth (place other) in (
-      bit-decides _ _ _ (bit .before .label-read .ensures) (state d .bits) _ (bit .bit-of .ensures)
-          (numbered other),
-      start d .pre .1 .schemes,
-    )
-
-returns-4 : tie.Need-returns-4
-returns-4 c =
-    let bit = c .before .before in
     let label = bit .before in
     let p = place (label .before) in
     beneath-row _ (state (depth p)) _ _ (under-read p) (numbered (label .before)) _ (label .label-read .ensures) _
-    (bit .bit-of .ensures) _ (c .next-row2 .ensures)
+    (bit .bit-of .ensures) _ (c .next-row .ensures)
 
 pub next-beneath-spec : {M : Type 1} → statement M
 next-beneath-spec =
@@ -127,7 +105,4 @@ next-beneath-spec =
     bit-of-requires
     cast-next-row
     next-row-requires
-    returns-3
-    cast-next-row-2
-    next-row-requires-2
-    returns-4)
+    returns-3)

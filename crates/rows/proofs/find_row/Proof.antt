@@ -1,63 +1,114 @@
--- `rows::find_row` meets its contract: a single row, the last match where there is one at most, else the best of several.
+-- `rows::find_row` meets its contract: the row that matched, as long as no second one does, is the best so far.
 use borrow.Author.Needs.{needs}
+use Prim.Native.Nat.{_+_, _-_, _<_}
+use mathlib.Core.Path.{sym, subst}
+use mathlib.Core.Logic.{⊎-elim}
 use native.Mathlib.Omega.{arith}
-use Rattle.rows.proofs.SearchCases.{end-within, first-small, few-frames, one-found}
+use Rattle.frames.specs.Frame.{size}
+use Rattle.rows.proofs.SearchCases.{end-within, first-small, few-frames}
+use Rattle.rows.proofs.SearchCases.{PassedRows, pass-start, pass-skip, pass-other, pass-own, pass-over}
 use Rattle.rows.proofs.find_row.Statement.{statement}
 use Rattle.rows.proofs.find_row.Tie as tie
 
-first-of-requires : tie.Need-first-of-requires
-first-of-requires c κs = search needs
+abbrev Inv-loop : tie.InvT-loop
+Inv-loop table schemes l word bit turned end first f₀ found₀ f found = PassedRows table l word bit first end f found
 
-end-of-requires : tie.Need-end-of-requires
-end-of-requires c κs = search needs
+abbrev μ-loop : tie.MeasureT-loop
+μ-loop table schemes l word bit turned end first f₀ found₀ f found = end - f
 
-add-if1 : tie.Need-add-if1
-add-if1 c =
-    let known = c .before .before in
-    let small = first-small (known .before .args .table .now) (known .before .args .l)
-    (λ k. omega (arith, known .shared-slice-known .given k)) in
-    let is = c .before .first-of .ensures in
-    search needs
+swap-requires : tie.Need-swap-requires Inv-loop μ-loop
+swap-requires c κs = tt
 
-one-row-requires : tie.Need-one-row-requires
-one-row-requires c κs =
-    let start = c .before .before .before .before in
-    omega (arith, end-within _ _ _ (start .pre .0 .label .whole) (c .before .end-of .ensures), c .if1 .taken)
+end-of-requires : tie.Need-end-of-requires Inv-loop μ-loop
+end-of-requires c κs = let start = c .before .before in record { label = start .pre .0 .label; schemes = start .pre .1 }
 
-returns : tie.Need-returns
-returns c =
-    let ended = c .before .before in
-    let first = ended .before in
-    let known = first .before in
+first-of-requires : tie.Need-first-of-requires Inv-loop μ-loop
+first-of-requires c κs = let start = c .before .before .before in record { label = start .pre .0 .label; schemes = start .pre .1 }
+
+skip-rows-requires : tie.Need-skip-rows-requires Inv-loop μ-loop
+skip-rows-requires c κs =
+    let ended = c .before in
+    let known = ended .before .before in
     let start = known .before in
-    one-found (start .args .table .now) (start .args .l) (start .args .word) (start .args .bit)
-    _ _ (start .pre .0) (first .first-of .ensures)
-    (ended .end-of .ensures) (c .before .if1 .taken)
-    (omega (arith, end-within _ _ _ (start .pre .0 .label .whole) (ended .end-of .ensures), c .before .if1 .taken))
-    (few-frames _ (start .pre .0 .label .whole) (λ k. omega (arith, known .shared-slice-known .given k))) _ (c .one-row .ensures)
+    let small = first-small (start .args .table .now) (start .args .l) (λ k. omega (arith, known .shared-slice-known .given k)) in
+    (omega (arith, small, c .first-of .ensures), end-within _ _ _ (start .pre .0 .label .whole) (ended .end-of .ensures))
 
-last-match-requires : tie.Need-last-match-requires
-last-match-requires c κs = search needs
+loop-holds : tie.Need-loop-holds Inv-loop μ-loop
+loop-holds c =
+    let first = c .before in
+    let swapped = first .before .before in
+    let known = swapped .before in
+    let start = known .before in
+    let small = few-frames _ (start .pre .0 .label .whole) (λ k. omega (arith, known .shared-slice-known .given k)) in
+    pass-skip (start .args .table .now) (start .args .l) (start .args .word) (start .args .bit) _ _ (start .pre .0) _ (swapped .swap .ensures)
+    (search needs) _ _ _ (c .skip-rows .ensures) (pass-start _ _ _ _ _ _ small)
 
-returns-2 : tie.Need-returns-2
-returns-2 c = c .before .before .last-match .ensures (c .if2 .taken)
+-- the frame that is looked at stands in the table
+inside : (c : tie.In-loop Inv-loop μ-loop) → c .before .loop .f < size (c .before .before .before .before .before .before .before .args .table .now)
+inside c =
+    let ended = c .before .before .before .before in
+    omega (arith, end-within _ _ _ (ended .before .before .before .pre .0 .label .whole) (ended .end-of .ensures), c .loop-test .taken)
 
-compare-rows-requires : tie.Need-compare-rows-requires
+is-matching-requires : tie.Need-is-matching-requires Inv-loop μ-loop
+is-matching-requires c κs = inside c
+
+compare-rows-requires : tie.Need-compare-rows-requires Inv-loop μ-loop
 compare-rows-requires c κs = search needs
 
-returns-3 : tie.Need-returns-3
-returns-3 c = search needs
+returns : tie.Need-returns Inv-loop μ-loop
+returns c = search needs
+
+add-f : tie.Need-add-f Inv-loop μ-loop
+add-f c = search needs
+
+loop-less : tie.Need-loop-less Inv-loop μ-loop
+loop-less c = search needs
+
+loop-again : tie.Need-loop-again Inv-loop μ-loop
+loop-again c =
+    let test = c .before .before in
+    let loop = test .before .loop in
+    let first = test .before .before .before in
+    let ended = first .before in
+    let start = ended .before .before .before in
+    let given = start .args in
+    let found = c .before .is-matching in
+    let on = PassedRows (given .table .now) (given .l) (given .word) (given .bit) (first .first-of .result) (ended .end-of .result)
+    (loop .f + 1) in
+    ⊎-elim
+    (λ z. subst on (sym (z .2))
+    (pass-own (given .table .now) (given .l) (given .word) (given .bit) (first .first-of .result) (ended .end-of .result)
+    (start .pre .0) _ (ended .before .swap .ensures) (search needs) (loop .f) (loop .found) (loop .inv) (test .loop-test .taken)
+    _ (found .ensures) (z .0 .taken) (inside test) (z .1 .left)))
+    (λ z. subst on (sym (z .1))
+    (pass-other (given .table .now) (given .l) (given .word) (given .bit) (first .first-of .result) (ended .end-of .result)
+    (start .pre .0) _ (ended .before .swap .ensures) (search needs) (loop .f) (loop .found) (loop .inv) (test .loop-test .taken)
+    _ (found .ensures) (z .0 .left)))
+    (c .if1 .came)
+
+returns-2 : tie.Need-returns-2 Inv-loop μ-loop
+returns-2 c =
+    let first = c .before .before .before in
+    let ended = first .before in
+    let start = ended .before .before .before in
+    pass-over (start .args .table .now) (start .args .l) (start .args .word) (start .args .bit) _ _ _ _ (c .before .loop .inv)
+    (c .loop-test .left) (first .first-of .ensures) (ended .end-of .ensures)
 
 pub find-row-spec : {M : Type 1} → statement M
 find-row-spec =
     tie.close
     (tie.spec
-    first-of-requires
+    Inv-loop
+    μ-loop
+    swap-requires
     end-of-requires
-    add-if1
-    one-row-requires
-    returns
-    last-match-requires
-    returns-2
+    first-of-requires
+    skip-rows-requires
+    loop-holds
+    is-matching-requires
     compare-rows-requires
-    returns-3)
+    returns
+    add-f
+    loop-less
+    loop-again
+    returns-2)

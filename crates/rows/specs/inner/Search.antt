@@ -1,6 +1,6 @@
 -- What the search for a row among the frames of a table asks and promises.
 use Prim.Native.Nat.{ℕ, _+_, _*_, _/_, _%_, _≤_, _<_}
-use mathlib.Core.Bool.{Bool, _&&_, _||_}
+use mathlib.Core.Bool.{Bool, false, _&&_, _||_}
 use mathlib.Core.Path.{_≡_}
 use mathlib.Core.List.{List}
 use lib.Dec.{ltb, eqb}
@@ -11,7 +11,6 @@ use Rattle.image.specs.Layout.{CARE, VALUES, FUNCTION-BIT, NO-BIT, FUNCTION-CAL
 use Rattle.tables.specs.Table.{tableLabel, firstOn, rowOn, rowsOn}
 use Rattle.tables.specs.inner.Labels.{NumberedLabel}
 use Rattle.rows.specs.Rows.{Choice, row, noChoice, better, bestRow}
-use Rattle.rows.specs.declared.LastMatch.{LastMatch}
 
 -- a word of two bytes with its bytes in the other order
 abbrev pub swapped : ℕ → ℕ
@@ -36,9 +35,11 @@ pub record Chosen (b : List ℕ) (l w bit r : ℕ) : Type 0 where
   pub inside : r < 131072 → r < size b
   pub outside : 131072 ≤ r → size b ≤ r
 
--- what one pass over the rows of label l tells: the last that matches, and how many do; with no more than one it is the row taken
-abbrev pub LastTaken : List ℕ → ℕ → ℕ → ℕ → LastMatch → Type 0
-LastTaken b l w bit r = r .count < 2 → Chosen b l w bit (r .frame)
+-- r is where a search from a frame on stopped: no row that it passed matches, and it passed none behind the end
+pub record Skipped (b : List ℕ) (w bit from end r : ℕ) : Type 0 where
+  pub on : from ≤ r
+  pub within : from < r → r ≤ end
+  pub none : (k : ℕ) → from ≤ k → k < r → matchingFrame b w bit k ≡ false
 
 -- a label that has rows of its own, and a bit that decides among them where it calls a function and nowhere else
 pub record Deciding (b : List ℕ) (l bit : ℕ) : Type 0 where

@@ -12,10 +12,10 @@ use Rattle.stepping.proofs.tick_plain.Statement.{statement}
 use Rattle.stepping.proofs.tick_plain.Tie as tie
 
 -- ---- the stages: where the row of the top leads, its label, the depth
-abbrev start : tie.After-next-row → tie.Start
+abbrev start : tie.After-next-free → tie.Start
 start c = c .before .before
 
-abbrev next : tie.After-depth-of → tie.After-next-row
+abbrev next : tie.After-depth-of → tie.After-next-free
 next c = c .before .before .before .before
 
 -- the place of the top is one of 32
@@ -25,8 +25,8 @@ deep c =
     omega (arith, depth-some asked, depth-most asked, size-most asked, c .depth-of .ensures)
 
 -- ---- the needs
-next-row-requires : tie.Need-next-row-requires
-next-row-requires c κs =
+next-free-requires : tie.Need-next-free-requires
+next-free-requires c κs =
     let asked = c .before .pre in
     (plain-decides (asked .1 .1) (asked .0 .label) (asked .0 .kind), asked .1 .0)
 
@@ -37,7 +37,7 @@ returns : tie.Need-returns
 returns c =
     let n = c .before .before in
     let asked = start n .pre in
-    plain-stop _ _ _ (asked .0) _ (asked .1 .1) _ (n .next-row .ensures)
+    plain-stop _ _ _ (asked .0) _ (asked .1 .1) _ (n .next-free .ensures)
     (λ k. omega (arith, n .before .shared-slice-known .given k)) (c .before .if1 .taken) _ (c .no-row .ensures)
 
 cast-after : tie.Need-cast-after
@@ -76,7 +76,7 @@ returns-2 c =
     let asked = start n .pre in
     let s = stateOf (start n .args .bytes .now) in
     let is = d .depth-of .ensures in
-    plain-steps _ _ _ (asked .0) _ (asked .1 .1) _ (n .next-row .ensures)
+    plain-steps _ _ _ (asked .0) _ (asked .1 .1) _ (n .next-free .ensures)
     (read .before .if1 .left) _ (ap (λ (n : ℕ). n - 1) is) (deep d) _ (read .label-read .ensures)
     _ (number .number-of .ensures ∙ ap (λ (n : ℕ). numberAt s (n - 1)) is) _ _ (written .put-result .ensures) (c .put-place .ensures)
 
@@ -84,7 +84,7 @@ pub tick-plain-spec : {M : Type 1} → statement M
 tick-plain-spec =
     tie.close
     (tie.spec
-    next-row-requires
+    next-free-requires
     no-row-requires
     returns
     cast-after
