@@ -1,7 +1,7 @@
 // The tick of a return, in place.
 use frames::codes::RETURN_CODE;
 use image::layout::NO_LABEL;
-use rows::next_row;
+use row_search::next_row;
 use state::layout::STATE_BYTES;
 use state_places::depth_of;
 use state_places::open_place;

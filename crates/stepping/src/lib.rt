@@ -6,7 +6,7 @@ use image::layout::FUNCTION_CALL;
 use image::layout::NO_LABEL;
 use image::layout::OPERATION_CALL;
 use returns::tick_back;
-use rows::next_free;
+use row_search::next_free;
 use state::layout::STATE_BYTES;
 use state_places::depth_of;
 use state_places::number_of;

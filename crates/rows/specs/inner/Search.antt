@@ -1,6 +1,6 @@
 -- What the search for a row among the frames of a table asks and promises.
 use Prim.Native.Nat.{ℕ, _+_, _*_, _/_, _%_, _≤_, _<_}
-use mathlib.Core.Bool.{Bool, false, _&&_, _||_}
+use mathlib.Core.Bool.{Bool, _&&_, _||_}
 use mathlib.Core.Path.{_≡_}
 use mathlib.Core.List.{List}
 use lib.Dec.{ltb, eqb}
@@ -34,12 +34,6 @@ pub record Chosen (b : List ℕ) (l w bit r : ℕ) : Type 0 where
   pub taken : foundAt b l r ≡ bestRow l w bit (firstOn b l) (rowsOn b l)
   pub inside : r < 131072 → r < size b
   pub outside : 131072 ≤ r → size b ≤ r
-
--- r is where a search from a frame on stopped: no row that it passed matches, and it passed none behind the end
-pub record Skipped (b : List ℕ) (w bit from end r : ℕ) : Type 0 where
-  pub on : from ≤ r
-  pub within : from < r → r ≤ end
-  pub none : (k : ℕ) → from ≤ k → k < r → matchingFrame b w bit k ≡ false
 
 -- a label that has rows of its own, and a bit that decides among them where it calls a function and nowhere else
 pub record Deciding (b : List ℕ) (l bit : ℕ) : Type 0 where

@@ -1,11 +1,12 @@
--- `rows::skip_rows` meets its contract: none of the rows passed so far matches.
+-- `row_search::skip_rows` meets its contract: none of the rows passed so far matches.
 use borrow.Author.Needs.{needs}
 use Prim.Native.Nat.{_+_, _-_, _≤_}
 use native.Mathlib.Omega.{arith}
-use Rattle.rows.specs.inner.Search.{swapped, Skipped}
-use Rattle.rows.proofs.SearchCases.{skip-start, skip-one, skip-two}
-use Rattle.rows.proofs.skip_rows.Statement.{statement}
-use Rattle.rows.proofs.skip_rows.Tie as tie
+use Rattle.rows.specs.inner.Search.{swapped}
+use Rattle.row_search.specs.inner.Skipped.{Skipped}
+use Rattle.row_search.proofs.PassCases.{skip-start, skip-one, skip-two}
+use Rattle.row_search.proofs.skip_rows.Statement.{statement}
+use Rattle.row_search.proofs.skip_rows.Tie as tie
 
 abbrev Inv-loop : tie.InvT-loop
 Inv-loop table from end turned bit f₀ f = Skipped table (swapped turned) bit from end f × (f ≤ from + end)

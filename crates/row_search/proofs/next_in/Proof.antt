@@ -1,8 +1,8 @@
--- `rows::next_in` meets its contract: the byte of the row, or the number of no label.
+-- `row_search::next_in` meets its contract: the byte of the row, or the number of no label.
 use borrow.Author.Needs.{needs}
 use borrow.Author.Tests.{lt-ltb, le-ltb}
-use Rattle.rows.proofs.next_in.Statement.{statement}
-use Rattle.rows.proofs.next_in.Tie as tie
+use Rattle.row_search.proofs.next_in.Statement.{statement}
+use Rattle.row_search.proofs.next_in.Tie as tie
 
 byte-requires : tie.Need-byte-requires
 byte-requires c κs = let inside = c .before .before .pre (c .if1 .taken) in search needs

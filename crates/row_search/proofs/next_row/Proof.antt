@@ -1,8 +1,8 @@
--- `rows::next_row` meets its contract: the row taken says where it leads.
+-- `row_search::next_row` meets its contract: the row taken says where it leads.
 use borrow.Author.Needs.{needs}
 use Rattle.rows.proofs.TableRows.{next-taken}
-use Rattle.rows.proofs.next_row.Statement.{statement}
-use Rattle.rows.proofs.next_row.Tie as tie
+use Rattle.row_search.proofs.next_row.Statement.{statement}
+use Rattle.row_search.proofs.next_row.Tie as tie
 
 take-row-requires : tie.Need-take-row-requires
 take-row-requires c κs = search needs

@@ -1,14 +1,14 @@
--- `rows::find_row` meets its contract: the row that matched, as long as no second one does, is the best so far.
+-- `row_search::find_row` meets its contract: the row that matched, as long as no second one does, is the best so far.
 use borrow.Author.Needs.{needs}
 use Prim.Native.Nat.{_+_, _-_, _<_}
 use mathlib.Core.Path.{sym, subst}
 use mathlib.Core.Logic.{⊎-elim}
 use native.Mathlib.Omega.{arith}
 use Rattle.frames.specs.Frame.{size}
 use Rattle.rows.proofs.SearchCases.{end-within, first-small, few-frames}
-use Rattle.rows.proofs.SearchCases.{PassedRows, pass-start, pass-skip, pass-other, pass-own, pass-over}
-use Rattle.rows.proofs.find_row.Statement.{statement}
-use Rattle.rows.proofs.find_row.Tie as tie
+use Rattle.row_search.proofs.PassCases.{PassedRows, pass-start, pass-skip, pass-other, pass-own, pass-over}
+use Rattle.row_search.proofs.find_row.Statement.{statement}
+use Rattle.row_search.proofs.find_row.Tie as tie
 
 abbrev Inv-loop : tie.InvT-loop
 Inv-loop table schemes l word bit turned end first f₀ found₀ f found = PassedRows table l word bit first end f found

@@ -1,10 +1,11 @@
--- `rows::take_row` meets its contract: a single row, the one of two that matches, else what the search finds.
+-- `row_search::take_row` meets its contract: a single row, the one of two that matches, else what the search finds.
 use borrow.Author.Needs.{needs}
 use native.Mathlib.Omega.{arith}
 use Rattle.lists.proofs.Tests.{not-true}
-use Rattle.rows.proofs.SearchCases.{end-within, first-small, few-frames, one-found, first-of-two, second-of-two}
-use Rattle.rows.proofs.take_row.Statement.{statement}
-use Rattle.rows.proofs.take_row.Tie as tie
+use Rattle.rows.proofs.SearchCases.{end-within, first-small, few-frames, one-found}
+use Rattle.row_search.proofs.PassCases.{first-of-two, second-of-two}
+use Rattle.row_search.proofs.take_row.Statement.{statement}
+use Rattle.row_search.proofs.take_row.Tie as tie
 
 first-of-requires : tie.Need-first-of-requires
 first-of-requires c κs = search needs

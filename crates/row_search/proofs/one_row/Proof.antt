@@ -1,8 +1,8 @@
--- `rows::one_row` meets its contract: the word is compared with its bytes swapped.
+-- `row_search::one_row` meets its contract: the word is compared with its bytes swapped.
 use borrow.Author.Needs.{needs}
 use Rattle.rows.proofs.SearchCases.{one-matches, one-fails}
-use Rattle.rows.proofs.one_row.Statement.{statement}
-use Rattle.rows.proofs.one_row.Tie as tie
+use Rattle.row_search.proofs.one_row.Statement.{statement}
+use Rattle.row_search.proofs.one_row.Tie as tie
 
 swap-requires : tie.Need-swap-requires
 swap-requires c κs = search needs
