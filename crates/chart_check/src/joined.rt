@@ -7,7 +7,7 @@ use frames::refusals::CUT_OFF;
 use frames::refused;
 use frames::sizes::NODES;
 use frames::sizes::RECORD;
-use node_marks::join;
+use node_marks::join_all;
 use node_marks::mark_kind;
 ghost use mathlib.Core.Path.{_≡_};
 ghost use mathlib.Core.Bool.{not};
@@ -33,7 +33,7 @@ fn lowest_apart(records: &[u8], marks: &mut [bool], list: &mut [u8]) -> usize
 {
     mark_kind(records, BEGIN, marks);
     let count = graph::list_marked(marks, list);
-    let joined = join(records, false, marks, list, count);
+    let joined = join_all(records, marks, list, count);
     if joined == marks.len() {
         return joined;
     }

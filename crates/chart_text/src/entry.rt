@@ -1,9 +1,9 @@
 // The chart reader and the chart writer. Nothing is written before every refusal is settled.
-use crate::in_place::write_text;
 use chart_check::check_chart;
 use frames::Answer;
 use frames::bad_length;
 use frames::put_bytes;
+use frames::put_text;
 use frames::refusals::BAD_LENGTH;
 use frames::refusals::NO_ROOM;
 use frames::refused;
@@ -49,6 +49,6 @@ pub fn write_chart(records: &[u8], out: &mut [u8]) -> Answer
     if out.len() < count {
         return refused(NO_ROOM, 0);
     }
-    write_text(out, records);
+    put_text(out, 0, records);
     Answer::Done(count)
 }

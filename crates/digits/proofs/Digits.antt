@@ -1,12 +1,12 @@
 -- Digits and characters: each of the sixteen digits has one character, its capital where it is a letter.
-use Prim.Native.Nat.{ℕ, zero, suc, _+_, _*_, _-_, _≤_, _<_}
+use Prim.Native.Nat.{ℕ, zero, suc, _+_, _*_, _-_, _/_, _%_, _≤_, _<_}
 use mathlib.Core.Bool.{Bool, true, false, _&&_}
 use mathlib.Core.Path.{_≡_, refl, sym, _∙_, ap}
 use mathlib.Core.Logic.{⊎-elim, _⊎_, inl, inr}
 use mathlib.Core.List.{List, [], _∷_, _++_, map}
 use native.Mathlib.Omega.{arith}
 use mir.Val.{boolByte}
-use lib.Bits.{bitAnd}
+use lib.Bits.{bitAnd, and-le-r}
 use lib.Dec.{leb, ltb}
 use lib.ListN.{getD, replicate}
 use borrow.Author.Tests.{le-ltb, lt-ltb, le-leb, lt-leb, leb-true}
@@ -139,6 +139,41 @@ char-made d =
     ⊎-elim (λ (l : d < 10). ap (λ (b : Bool). d + 48 + 7 * boolByte b) (le-ltb 9 d (omega arith)) ∙ omega arith ∙ sym (char-low d l))
     (λ (l : 10 ≤ d). ap (λ (b : Bool). d + 48 + 7 * boolByte b) (lt-ltb 9 d (omega arith)) ∙ omega arith ∙ sym (char-high d l))
     (split d 10)
+
+pub char-small : (d : ℕ) → d < 16 → charOf d < 128
+char-small d h =
+    ⊎-elim (λ (l : d < 10). omega (arith, char-low d l)) (λ (l : 10 ≤ d). omega (arith, char-high d l)) (split d 10)
+
+-- both characters of a byte by one sum: of each of the 256 computed
+abbrev pub bothDigits : ℕ → ℕ
+bothDigits b = b / 16 + b % 16 * 256
+
+abbrev pub letters : ℕ → ℕ
+letters b = bitAnd ((bothDigits b + 1542) / 16) 257
+
+pub letters-few : (b : ℕ) → letters b ≤ 257
+letters-few b = and-le-r ((bothDigits b + 1542) / 16) 257
+
+abbrev summed : ℕ → ℕ
+summed b = bothDigits b + 12336 + 7 * letters b
+
+abbrev pair : ℕ → ℕ
+pair b = charOf (b / 16) + 256 * charOf (b % 16)
+
+pair-each : tabulate summed 256 ≡ tabulate pair 256
+unfolding tabulate charOf
+pair-each = refl
+
+pub pair-made : (b : ℕ) → b < 256 → summed b ≡ pair b
+pair-made = each summed pair pair-each
+
+-- each of the two again
+module _ (b r : ℕ) (small : b < 256) (e : r ≡ pair b) where
+  pub pair-first : r % 256 ≡ charOf (b / 16)
+  pair-first = omega (arith, char-small (b / 16) (omega arith))
+
+  pub pair-second : r / 256 ≡ charOf (b % 16)
+  pair-second = omega (arith, char-small (b / 16) (omega arith))
 
 pub digit-char : (d : ℕ) → d < 16 → digitOf (charOf d) ≡ d
 digit-char d h =

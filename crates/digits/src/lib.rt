@@ -1,6 +1,6 @@
 // Characters and digits, each found from the other by arithmetic.
 ghost use mathlib.Core.Path.{_≡_};
-ghost use Prim.Native.Nat.{_<_};
+ghost use Prim.Native.Nat.{_+_, _*_, _/_, _%_, _<_};
 ghost use Rattle.digits.specs.Digit.{numeralOf, letterOf, digitOf, charOf};
 
 // What stands for no digit.
@@ -39,4 +39,13 @@ pub fn character(d: u8) -> u8
     ensures { λ r. ⌜ r ≡ charOf d ⌝ }
 {
     d + 48 + 7 * ((9 < d) as u8)
+}
+
+// The two characters of a byte as one number, the first one low. Both are made at once: six more than a digit is sixteen and more where it
+// is a letter's, which stands seven further than the numerals would go.
+pub fn characters(b: u8) -> u16
+    ensures { λ r. ⌜ r ≡ charOf (b / 16) + 256 * charOf (b % 16) ⌝ }
+{
+    let both = (b / 16) as u16 + (b % 16) as u16 * 256;
+    both + 12336 + 7 * ((both + 1542) / 16 & 257)
 }

@@ -1,5 +1,5 @@
 -- The loop that writes a frame: its sum and its characters.
-use mathlib.Core.Path.{_≡_, refl, sym, _∙_, ap}
+use mathlib.Core.Path.{_≡_, refl, sym, _∙_, ap, ap₂}
 use mathlib.Core.List.{List, [], _∷_, _++_, append-assoc}
 use Prim.Native.Nat.{ℕ, _+_, _-_, _*_, _%_, _≤_, _<_}
 use native.Mathlib.Omega.{arith}
@@ -8,7 +8,7 @@ use Rattle.lists.specs.Numbers.{sum, range}
 use Rattle.lists.specs.Sequences.{concatMap, written}
 use Rattle.lists.proofs.Searches.{sum-turn}
 use Rattle.lists.proofs.Joins.{concat-places, length-concat, all-every}
-use Rattle.lists.proofs.Written.{written-more, written-snoc}
+use Rattle.lists.proofs.Written.{written-one, written-more, written-snoc}
 use Rattle.lists.proofs.Fills.{Pieces, pieces-none, pieces-turn, pieces-all}
 use Rattle.frames.specs.Frame.{byteText, total, sumByte, frameText}
 use Rattle.frames.proofs.Frames.{sum-places}
@@ -19,6 +19,14 @@ length-frame bs e =
     let l : length (concatMap byteText bs) ≡ 2 * length bs =
     length-concat byteText 2 bs (all-every (λ b. length (byteText b) ≡ 2) (λ b. refl) bs) in
     simp length-append (omega arith)
+
+-- two characters, one after the other
+pub two-put : (out : List ℕ) (at x y a b : ℕ) → at + 2 ≤ length out → x ≡ a → y ≡ b
+    → set (set out at x) (at + 1) y ≡ written out at (a ∷ b ∷ [])
+two-put out at x y a b room p q =
+    ap (λ (l : List ℕ). set l (at + 1) y) (written-one out at x (omega arith))
+    ∙ written-snoc out at (x ∷ []) y (omega arith)
+    ∙ ap₂ (λ (x y : ℕ). written out at (x ∷ y ∷ [])) p q
 
 -- after k bytes of ten
 pub record Digits (out₀ bs out : List ℕ) (at s k : ℕ) : Type 0 where

@@ -8,7 +8,7 @@ use Rattle.lists.specs.Numbers.{range}
 use Rattle.lists.specs.Sequences.{concatMap, written}
 use Rattle.lists.proofs.Joins.{concat-map, length-concat-range}
 use Rattle.lists.proofs.Ranges.{length-map-range}
-use Rattle.lists.proofs.Fills.{Pieces, pieces-none, pieces-turn, pieces-all}
+use Rattle.lists.proofs.Fills.{Pieces, pieces-turn, pieces-all}
 use Rattle.frames.specs.Frame.{size, field, tenAt, frameText, textOf}
 use Rattle.frames.proofs.FrameLoops.{length-frame}
 
@@ -32,15 +32,6 @@ module _ (b out₀ out : List ℕ) (at n f : ℕ) (done : Pieces (frameOf b) 23 
   text-end e h =
       pieces-all (frameOf b) 23 out₀ at n out f done h
       ∙ ap (written out₀ at) (ap (λ (m : ℕ). concatMap (frameOf b) (range 0 m)) e ∙ sym (concat-map frameText (tenAt b) (range 0 (size b))))
-
--- a text of one frame
-pub text-one : (b out₀ out : List ℕ) (at : ℕ) → at + 23 * size b ≤ length out₀ → size b ≡ 1
-    → length out ≡ length out₀ → out ≡ written out₀ at (frameOf b 0)
-    → out ≡ written out₀ at (textOf b)
-text-one b out₀ out at room one s e =
-    let put : out ≡ written out₀ (at + 0 * 23) (frameOf b 0) = e ∙ ap (λ (p : ℕ). written out₀ p (frameOf b 0)) (omega arith) in
-    let none : Pieces (frameOf b) 23 out₀ out₀ at 1 0 = pieces-none (frameOf b) 23 out₀ at 1 in
-    text-end b out₀ out at 1 1 (text-turn b out₀ out₀ at 1 0 none out (omega arith) (omega arith) s put) (sym one) (omega arith)
 
 pub length-text : (b : List ℕ) → length (textOf b) ≡ 23 * size b
 unfolding textOf

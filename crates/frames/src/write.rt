@@ -1,6 +1,7 @@
 // Bytes and frames written into a lent buffer.
 use crate::sizes::*;
 use digits::character;
+use digits::characters;
 ghost use mathlib.Core.Path.{_≡_};
 ghost use Prim.Native.Nat.{_+_, _*_, _≤_, _<_};
 ghost use lib.ListN.{length};
@@ -26,6 +27,17 @@ fn put_byte(out: &mut [u8], at: usize, b: u8)
     requires { ⌜ at + 2 ≤ length (now out) ⌝ }
     ensures { λ _. ⌜ now (out .exit) ≡ written (now (out .entry)) at (byteText b) ⌝ }
 {
+    let both = characters(b);
+    out[at] = (both % 256) as u8;
+    out[at + 1] = (both / 256) as u8;
+}
+
+// The same for the byte that ends a sum. Each character is made by a comparison of its own: where one follows the sum, the compiler adds
+// eight bytes at once.
+fn put_sum(out: &mut [u8], at: usize, b: u8)
+    requires { ⌜ at + 2 ≤ length (now out) ⌝ }
+    ensures { λ _. ⌜ now (out .exit) ≡ written (now (out .entry)) at (byteText b) ⌝ }
+{
     out[at] = character(b / 16);
     out[at + 1] = character(b % 16);
 }
@@ -46,7 +58,7 @@ pub fn put_frame(out: &mut [u8], at: usize, bytes: &[u8])
         sum += b as u32;
         k += 1;
     }
-    put_byte(out, at + 20, ((256 - sum % 256) % 256) as u8);
+    put_sum(out, at + 20, ((256 - sum % 256) % 256) as u8);
     out[at + DIGITS] = LINE_FEED;
 }
 
@@ -74,17 +86,12 @@ fn put_nth(out: &mut [u8], at: usize, bytes: &[u8], f: usize)
     put_frame(out, at, &ten);
 }
 
-// The text of contents, from an offset on. One frame is put apart: a function that is called at two places is not compiled into the loop,
-// and so the loop is not turned into one over many frames at once, which would take five times as long.
+// The text of contents, from an offset on.
 pub fn put_text(out: &mut [u8], at: usize, bytes: &[u8])
     requires { ⌜ at + LINE * size (now bytes) ≤ length (now out) ⌝ }
     ensures { λ _. ⌜ now (out .exit) ≡ written (now (out .entry)) at (textOf (now (bytes .entry))) ⌝ }
 {
     let n = bytes.len() / FRAME;
-    if n == 1 {
-        put_nth(out, at, bytes, 0);
-        return;
-    }
     let mut f: usize = 0;
     while f < n {
         put_nth(out, at + f * LINE, bytes, f);

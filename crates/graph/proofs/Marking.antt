@@ -13,10 +13,10 @@ use borrow.Author.Tests.{eqb-true, eq-eqb}
 use Rattle.lists.specs.Numbers.{count}
 use Rattle.lists.specs.Sequences.{some}
 use Rattle.lists.proofs.Tests.{no-both, or-cases, or-true-l, or-true-r, cases}
-use Rattle.lists.proofs.Counts.{count-add}
+use Rattle.lists.proofs.Counts.{count-add, count-miss}
 use Rattle.graph.specs.Reach.{member, marked, only, reach}
 use Rattle.graph.specs.inner.Listed.{many}
-use Rattle.graph.proofs.Closure.{marked-below, only-long, only-at, Closed, reach-long, reach-grow, reach-least}
+use Rattle.graph.proofs.Closure.{marked-below, only-long, only-at, Closed, reach-long, reach-grow, reach-least, reach-closed}
 
 -- ---- one mark
 module _ (ms : List Bool) (u : ℕ) where
@@ -130,3 +130,23 @@ module _ (n : ℕ) (arcs : ℕ → List ℕ) (first : List Bool) (e : length fir
           (reach-least n arcs (marked now) k n first (j .from) v x) m)
           (λ (x : marked (reach n arcs n first) v ≡ false). m ∙ sym x)
           (cases (marked (reach n arcs n first) v))
+
+  -- marks on the way join what the first ones do
+  pub joining-same : (now : List Bool) → Joining n arcs first now → reach n arcs n now ≡ reach n arcs n first
+  joining-same now j = joining-done (reach n arcs n now) (record {
+    long = reach-long n arcs n now (j .long);
+    from = λ v m. reach-grow n arcs n now (j .long) v (j .from v m);
+    within = reach-least n arcs (marked (reach n arcs n first)) (reach-closed n arcs first e) n now (j .within);
+  }) (reach-closed n arcs now (j .long))
+
+-- ---- every node marked
+module _ (ms : List Bool) (full : many ms ≡ length ms) where
+  pub full-marked : (v : ℕ) → v < length ms → marked ms v ≡ true
+  full-marked v l =
+      ⊎-elim (λ (t : marked ms v ≡ true). t)
+      (λ (t : marked ms v ≡ false). absurd (omega (arith, count-miss (marked ms) (length ms) v l t)))
+      (cases (marked ms v))
+
+  pub full-reach : (n : ℕ) (arcs : ℕ → List ℕ) → length ms ≡ n → ms ≡ reach n arcs n ms
+  full-reach n arcs e = joining-done n arcs ms e ms (joining-first n arcs ms e)
+      (record { goes = λ u v lu lv m s. full-marked v (omega arith) })

@@ -14,12 +14,12 @@ use lib.Seq.{drop-cons, set-at, append-snoc}
 use borrow.Author.Tests.{eq-eqb, ne-eqb}
 use Rattle.lists.specs.Pick.{pick}
 use Rattle.lists.specs.Numbers.{range, lowest}
-use Rattle.lists.proofs.Tests.{no-both, cases}
+use Rattle.lists.proofs.Tests.{no-both}
 use Rattle.lists.proofs.Searches.{lowest-none}
-use Rattle.lists.proofs.Counts.{count-miss}
 use Rattle.lists.proofs.Ranges.{length-map-range, map-range-snoc}
 use Rattle.graph.specs.Reach.{marked, only, reach, joinedFrom}
 use Rattle.graph.specs.inner.Listed.{many, Listing, listing, enlist, enlistAll, Listed}
+use Rattle.graph.proofs.Marking.{full-marked}
 use Rattle.graph.proofs.Lists.{listed-none}
 use Rattle.graph.proofs.Enlisted.{Enlisted, enlisted-all}
 use Rattle.frames.specs.Frame.{size}
@@ -163,12 +163,8 @@ spread-apart c begins joined r first spread long found = (
 
 -- where as many are marked as there are, there is none without
 pub all-marked : (ms : List Bool) → many ms ≡ length ms → length ms ≡ lowest (λ v. not (marked ms v)) 0 (length ms)
-all-marked ms e = sym (lowest-none (λ v. not (marked ms v)) 0 (length ms) (λ k h. one k h (cases (marked ms (0 + k))))
-    ∙ zero-add (length ms))
-  where
-    one : (k : ℕ) → k < length ms → (marked ms (0 + k) ≡ true) ⊎ (marked ms (0 + k) ≡ false) → not (marked ms (0 + k)) ≡ false
-    one k h (inl t) = ap not t
-    one k h (inr t) = absurd (omega (arith, count-miss (marked ms) (length ms) (0 + k) (omega arith) t))
+all-marked ms e =
+    sym (lowest-none (λ v. not (marked ms v)) 0 (length ms) (λ k h. ap not (full-marked ms e (0 + k) (omega arith))) ∙ zero-add (length ms))
 
 -- ---- marks that a table of 256 lends
 pub part-of : {A : Type 0} (m n : ℕ) (a : A) → n ≤ m → take n (replicate m a) ≡ replicate n a

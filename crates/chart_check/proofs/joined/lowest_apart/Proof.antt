@@ -14,10 +14,10 @@ start c = c .before .before .before .before .before
 abbrev begins : tie.After-list-marked → tie.After-mark-kind
 begins c = c .before .before .before .before .before
 
-abbrev listed : tie.After-join → tie.After-list-marked
+abbrev listed : tie.After-join-all → tie.After-list-marked
 listed c = c .before .before .before .before .before
 
-abbrev joined : tie.After-slice-known6 → tie.After-join
+abbrev joined : tie.After-slice-known6 → tie.After-join-all
 joined c = c .before .before .before .before
 
 -- ---- the needs
@@ -27,8 +27,8 @@ mark-kind-requires c κs = search needs
 list-marked-requires : tie.Need-list-marked-requires
 list-marked-requires c κs = search needs
 
-join-requires : tie.Need-join-requires
-join-requires c κs =
+join-all-requires : tie.Need-join-all-requires
+join-all-requires c κs =
     record {
       long = search needs;
       room = search needs;
@@ -44,12 +44,12 @@ same-length-2 c = search needs
 
 returns : tie.Need-returns
 returns c =
-    let join = joined (c .before) .join in
+    let join = joined (c .before) .join-all in
     let first = begins (listed (joined (c .before))) in
     let begun = start first in
     spread-apart (begun .args .records .now) _ _ _ (first .mark-kind .ensures) (join .ensures .0)
-    (join .kept .1 .1 .0 ∙ first .mark-kind .kept .1 .1 .0 ∙ begun .pre .0)
-    (c .if1 .taken ∙ all-marked (join .last .1 .1 .0) (sym (join .ensures .1) ∙ c .if1 .taken))
+    (join .kept .1 .0 ∙ first .mark-kind .kept .1 .1 .0 ∙ begun .pre .0)
+    (c .if1 .taken ∙ all-marked (join .last .1 .0) (sym (join .ensures .1) ∙ c .if1 .taken))
 
 lowest-unmarked-requires : tie.Need-lowest-unmarked-requires
 lowest-unmarked-requires c κs = search needs
@@ -63,11 +63,11 @@ same-length-4 c = search needs
 returns-2 : tie.Need-returns-2
 returns-2 c =
     let after = joined (c .before .before .before) in
-    let join = after .join in
+    let join = after .join-all in
     let first = begins (listed after) in
     let begun = start first in
     spread-apart (begun .args .records .now) _ _ _ (first .mark-kind .ensures) (join .ensures .0)
-    (join .kept .1 .1 .0 ∙ first .mark-kind .kept .1 .1 .0 ∙ begun .pre .0) (c .lowest-unmarked .ensures)
+    (join .kept .1 .0 ∙ first .mark-kind .kept .1 .1 .0 ∙ begun .pre .0) (c .lowest-unmarked .ensures)
 
 pub lowest-apart-spec : {M : Type 1} → statement M
 lowest-apart-spec =
@@ -75,7 +75,7 @@ lowest-apart-spec =
     (tie.spec
     mark-kind-requires
     list-marked-requires
-    join-requires
+    join-all-requires
     same-length
     same-length-2
     returns

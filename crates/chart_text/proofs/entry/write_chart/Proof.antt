@@ -57,10 +57,8 @@ returns-3 c =
     write-short _ _ (known (check .before)) _ (check .check-chart .ensures) _ (accepted .enum-told .given .1)
     (c .before .if2 .taken) _ (c .refused2 .ensures)
 
-write-text-requires : tie.Need-write-text-requires
-write-text-requires c κs =
-    let room = c .before in
-    (whole-asked _ (known (checked (room .before) .before)) .0, room .if2 .left)
+put-text-requires : tie.Need-put-text-requires
+put-text-requires c κs = search needs
 
 same-length : tie.Need-same-length
 same-length c = search needs
@@ -72,7 +70,7 @@ returns-4 c =
     let accepted = room .before in
     let check = checked accepted in
     write-done _ _ (known (check .before)) _ (check .check-chart .ensures) _ (accepted .enum-told .given .1)
-    (room .if2 .left) _ (put .write-text .ensures)
+    (room .if2 .left) _ (put .put-text .ensures)
 
 pub write-chart-spec : {M : Type 1} → statement M
 write-chart-spec =
@@ -88,6 +86,6 @@ write-chart-spec =
     mul-count
     refused-requires-2
     returns-3
-    write-text-requires
+    put-text-requires
     same-length
     returns-4)

@@ -61,32 +61,32 @@ loop-again c =
     digits-turn _ _ _ _ _ _ _ (search needs) (turn put .loop .inv) (search needs) (small put)
     (put .put-byte .kept .0) (put .put-byte .ensures)
 
-add-put-byte-2 : tie.Need-add-put-byte-2 Inv-loop μ-loop
-add-put-byte-2 c = search needs
+add-put-sum : tie.Need-add-put-sum Inv-loop μ-loop
+add-put-sum c = search needs
 
-sub-put-byte : tie.Need-sub-put-byte Inv-loop μ-loop
-sub-put-byte c = search needs
+sub-put-sum : tie.Need-sub-put-sum Inv-loop μ-loop
+sub-put-sum c = search needs
 
-cast-put-byte : tie.Need-cast-put-byte Inv-loop μ-loop
-cast-put-byte c = search needs
+cast-put-sum : tie.Need-cast-put-sum Inv-loop μ-loop
+cast-put-sum c = search needs
 
-put-byte-requires-2 : tie.Need-put-byte-requires-2 Inv-loop μ-loop
-put-byte-requires-2 c κs = search needs
+put-sum-requires : tie.Need-put-sum-requires Inv-loop μ-loop
+put-sum-requires c κs = search needs
 
 add-out : tie.Need-add-out Inv-loop μ-loop
 add-out c = search needs
 
 slice-write-out : tie.Need-slice-write-out Inv-loop μ-loop
-slice-write-out c = omega (arith, c .before .before .put-byte2 .kept .0)
+slice-write-out c = omega (arith, c .before .before .put-sum .kept .0)
 
 same-length : tie.Need-same-length Inv-loop μ-loop
-same-length c = simp length-set (omega (arith, c .before .before .put-byte2 .kept .0))
+same-length c = simp length-set (omega (arith, c .before .before .put-sum .kept .0))
 
 returns : tie.Need-returns Inv-loop μ-loop
 returns c =
     let last = c .before .before in
     digits-end _ _ _ _ _ _ _ (search needs) (last .before .before .before .loop .inv)
-    (search needs) (search needs) (last .put-byte2 .ensures)
+    (search needs) (search needs) (last .put-sum .ensures)
 
 pub put-frame-spec : {M : Type 1} → statement M
 put-frame-spec =
@@ -104,10 +104,10 @@ put-frame-spec =
     add-k
     loop-less
     loop-again
-    add-put-byte-2
-    sub-put-byte
-    cast-put-byte
-    put-byte-requires-2
+    add-put-sum
+    sub-put-sum
+    cast-put-sum
+    put-sum-requires
     add-out
     slice-write-out
     same-length

@@ -3,7 +3,7 @@ use mathlib.Core.Path.{refl}
 use Prim.Native.Nat.{_-_}
 use borrow.Author.Needs.{needs}
 use Rattle.lists.proofs.Fills.{Pieces, pieces-none}
-use Rattle.frames.proofs.TextLoops.{frameOf, text-turn, text-end, text-one}
+use Rattle.frames.proofs.TextLoops.{frameOf, text-turn, text-end}
 use Rattle.frames.proofs.write.put_text.Statement.{statement}
 use Rattle.frames.proofs.write.put_text.Tie as tie
 
@@ -17,24 +17,13 @@ abbrev μ-loop : tie.MeasureT-loop
 abbrev At : (tie.InvT-loop → tie.MeasureT-loop → Type 0) → Type 0
 At stage = stage Inv-loop μ-loop
 
-abbrev turn : At tie.After-put-nth2 → At tie.At-loop
+abbrev turn : At tie.After-put-nth → At tie.At-loop
 turn c = c .before .before .before
 
 abbrev start : At tie.At-loop → At tie.Start
-start c = c .before .before .before .before
+start c = c .before .before .before
 
 -- ---- the needs
-put-nth-requires : tie.Need-put-nth-requires Inv-loop μ-loop
-put-nth-requires c κs = search needs
-
-same-length : tie.Need-same-length Inv-loop μ-loop
-same-length c = search needs
-
-returns : tie.Need-returns Inv-loop μ-loop
-returns c =
-    let put = c .before .before .put-nth in
-    text-one _ _ _ _ (search needs) (search needs) (put .kept .0) (put .ensures)
-
 loop-holds : tie.Need-loop-holds Inv-loop μ-loop
 loop-holds c = pieces-none _ _ _ _ _
 
@@ -44,8 +33,8 @@ mul-put-nth c = search needs
 add-put-nth : tie.Need-add-put-nth Inv-loop μ-loop
 add-put-nth c = search needs
 
-put-nth-requires-2 : tie.Need-put-nth-requires-2 Inv-loop μ-loop
-put-nth-requires-2 c κs = search needs
+put-nth-requires : tie.Need-put-nth-requires Inv-loop μ-loop
+put-nth-requires c κs = search needs
 
 add-f : tie.Need-add-f Inv-loop μ-loop
 add-f c = search needs
@@ -57,13 +46,13 @@ loop-again : tie.Need-loop-again Inv-loop μ-loop
 loop-again c =
     let put = c .before .before in
     text-turn (start (turn put) .args .bytes .now) _ _ _ _ _ (turn put .loop .inv) _ (search needs) (search needs)
-    (put .put-nth2 .kept .0) (put .put-nth2 .ensures)
+    (put .put-nth .kept .0) (put .put-nth .ensures)
 
-same-length-2 : tie.Need-same-length-2 Inv-loop μ-loop
-same-length-2 c = search needs
+same-length : tie.Need-same-length Inv-loop μ-loop
+same-length c = search needs
 
-returns-2 : tie.Need-returns-2 Inv-loop μ-loop
-returns-2 c = text-end _ _ _ _ _ _ (c .before .loop .inv) refl (search needs)
+returns : tie.Need-returns Inv-loop μ-loop
+returns c = text-end _ _ _ _ _ _ (c .before .loop .inv) refl (search needs)
 
 pub put-text-spec : {M : Type 1} → statement M
 put-text-spec =
@@ -71,15 +60,12 @@ put-text-spec =
     (tie.spec
     Inv-loop
     μ-loop
-    put-nth-requires
-    same-length
-    returns
     loop-holds
     mul-put-nth
     add-put-nth
-    put-nth-requires-2
+    put-nth-requires
     add-f
     loop-less
     loop-again
-    same-length-2
-    returns-2)
+    same-length
+    returns)
