@@ -1,4 +1,4 @@
--- What the functions that make an image smaller ask and promise.
+-- What the function that writes the smaller image asks and promises.
 use Prim.Native.Nat.{ℕ}
 use mathlib.Core.Bool.{false}
 use mathlib.Core.Path.{_≡_}
@@ -7,18 +7,11 @@ use Rattle.frames.specs.Verdict.{Verdict}
 use Rattle.frames.specs.Answer.{BufferOutcome, bufferOn}
 use Rattle.image.specs.Image.{imageText}
 use Rattle.image.specs.Decode.{decoded}
-use Rattle.tables.specs.Table.{tableImage}
 use Rattle.covering.specs.Matched.{uneven}
 use Rattle.covering.specs.inner.CoveringContracts.{SoundTable}
 use Rattle.grouping.specs.Classes.{grouping}
-use Rattle.grouping.specs.inner.GroupingContracts.{Even, Classed}
+use Rattle.grouping.specs.inner.GroupingContracts.{Classed}
 use Rattle.group_numbers.specs.Smaller.{smaller}
-
--- a prepared table, read as one of either form
-pub record ReadableTable (b : List ℕ) : Type 0 where
-  pub table : SoundTable b
-  pub holds : tableImage b ≡ decoded b
-  pub even : uneven (decoded b) ≡ false → Even b
 
 -- a table to which 23 does not apply, and the classes of its labels
 pub record Grouped (b c : List ℕ) : Type 0 where

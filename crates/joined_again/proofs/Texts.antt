@@ -21,8 +21,8 @@ use Rattle.grouping.specs.Rule.{Grouping, Meets, groups}
 use Rattle.grouping.specs.Classes.{classOf, grouping}
 use Rattle.grouping.proofs.Coarsest.{even-meets, even-fewest}
 use Rattle.group_numbers.specs.Smaller.{smaller}
 use Rattle.minimising.specs.Entry.{minimiseVerdict, minimise}
-use Rattle.minimising.proofs.Again.{smaller-even, smaller-again, smaller-passes, smaller-decoded, AllowedImage, minimise-allowed}
+use Rattle.joined_again.proofs.Again.{smaller-even, smaller-again, smaller-passes, smaller-decoded, AllowedImage, minimise-allowed}
 
 module _ (t : List ℕ) (ok : minimiseVerdict t ≡ fine) where
   abbrev image : Image

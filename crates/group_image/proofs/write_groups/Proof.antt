@@ -1,10 +1,10 @@
--- `minimising::write_groups` meets its contract: no room for the text, or all of it is written.
+-- `group_image::write_groups` meets its contract: no room for the text, or all of it is written.
 use mathlib.Core.Path.{_∙_}
 use native.Mathlib.Omega.{arith}
-use Rattle.minimising.proofs.TableCases.{CountedFirst, buffer-lowest, counts, smaller-short, pieces-room, smaller-done}
+use Rattle.group_image.proofs.WriteCases.{CountedFirst, buffer-lowest, counts, smaller-short, pieces-room, smaller-done}
 use borrow.Author.Needs.{needs}
-use Rattle.minimising.proofs.write_groups.Statement.{statement}
-use Rattle.minimising.proofs.write_groups.Tie as tie
+use Rattle.group_image.proofs.write_groups.Statement.{statement}
+use Rattle.group_image.proofs.write_groups.Tie as tie
 
 -- ---- the stages: groups and rows are counted
 abbrev start : tie.After-count-kept → tie.Start

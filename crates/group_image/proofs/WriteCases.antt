@@ -1,7 +1,7 @@
--- Cases of the functions on a table: the classes in a buffer make the smaller image, whose text is as long as the counts say.
+-- Cases of what is written: the classes in a buffer make the smaller image, whose text is as long as the counts say.
 use Prim.Native.Nat.{ℕ, _+_, _-_, _*_, _≤_, _<_}
 use mathlib.Core.Path.{_≡_, refl, sym, _∙_, ap, ap₂, subst}
-use mathlib.Core.Bool.{Bool, true, false}
+use mathlib.Core.Bool.{true}
 use mathlib.Core.List.{List, map}
 use native.Mathlib.Omega.{arith}
 use lib.Dec.{eqb}
@@ -13,12 +13,11 @@ use Rattle.lists.proofs.Elements.{map-all, filter-all}
 use Rattle.lists.proofs.Joins.{all-places, all-of, all-filter, all-range}
 use Rattle.lists.proofs.Written.{written-front}
 use Rattle.frames.specs.Frame.{size, field}
-use Rattle.frames.specs.Verdict.{Verdict, fine, when}
-use Rattle.frames.specs.Answer.{reply, GivesBuffer}
+use Rattle.frames.specs.Verdict.{fine}
+use Rattle.frames.specs.Answer.{GivesBuffer}
 use Rattle.frames.specs.declared.Answer.{Answer}
 use Rattle.frames.specs.declared.Answer.the-variants.{Done, Refused}
-use Rattle.frames.proofs.Chains.{when-holds, when-fails}
-use Rattle.frames.proofs.Lent.{lent-refused, lent-short, lent-done}
+use Rattle.frames.proofs.Lent.{lent-short, lent-done}
 use Rattle.frames.proofs.Texts.{text-length}
 use Rattle.image.specs.Image.{Image, Row, imageFrames, imageText}
 use Rattle.image.specs.Decode.{schemeCount, lastLabel, rowCount, rowsFrom, decoded}
@@ -26,20 +25,18 @@ use Rattle.image.specs.inner.Sound.{SoundRow, SoundImage}
 use Rattle.image.proofs.Written.{frames-length, image-frames}
 use Rattle.image.proofs.Accepted.{entries-count, labels-count}
 use Rattle.state.specs.State.{labelAt}
-use Rattle.covering.specs.Matched.{uneven}
 use Rattle.covering.proofs.Covered.{sound-rows}
 use Rattle.covering.proofs.Hits.{one-row}
 use Rattle.grouping.specs.Classes.{classOf, isFirst, grouping}
 use Rattle.grouping.proofs.Rounds.{ClassRound, group-round}
 use Rattle.group_numbers.specs.Smaller.{renumbered, renumberedRow, joinedLabels, smaller}
 use Rattle.group_numbers.specs.inner.NumberContracts.{LowestOfClass, GroupNumbers}
+use Rattle.group_numbers.proofs.Numbering.{joined-sound}
 use Rattle.group_pieces.specs.inner.Pieces.{groupsIn, rowsKept, allPieces}
 use Rattle.group_pieces.specs.inner.TextContracts.{NumberedGroups}
 use Rattle.group_text.proofs.PieceLaws.{groups-are, rows-are, entries-are, pieces-are}
-use Rattle.minimising.specs.inner.MinimisingContracts.{Grouped, smallerOutcome}
-use Rattle.minimising.proofs.Again.{smaller-sound}
+use Rattle.group_image.specs.inner.WriteContracts.{Grouped, smallerOutcome}
 
--- ---- write_groups
 -- what is counted before anything is written
 pub record CountedFirst (b buffer numbers : List ℕ) (schemes groups rows : ℕ) : Type 0 where
   pub sixteen : schemes ≤ 16
@@ -111,7 +108,7 @@ module _ (b buffer : List ℕ) (G : Grouped b buffer) where
       λ j. record { handler = i .handler; entries = e j; labels = l j; rows = r j }
 
   sound : SoundImage (joinedLabels i buffer)
-  sound = subst SoundImage (sym joined-same) (smaller-sound i S (G .even))
+  sound = subst SoundImage (sym joined-same) (joined-sound i S (grouping i) R)
 
   pieces-smaller : allPieces b buffer ≡ imageText (smaller i)
   pieces-smaller = pieces-are b buffer (G .table .all) ∙ ap imageText joined-same
@@ -180,16 +177,3 @@ module _ (b buffer numbers : List ℕ) (schemes groups rows : ℕ) (C : CountedF
       let m : length (imageText (smaller (decoded b))) ≡ 23 * (1 + schemes + groups + rows) = C .long in
       lent-done fine 1 (λ _. imageText (smaller (decoded b))) old refl (omega arith) (23 * (1 + schemes + groups + rows)) (omega arith) out
       (e ∙ ap (written old 0) (C .text) ∙ written-front old (imageText (smaller (decoded b))))
-
--- ---- minimise_table: 23 applies, or not
-module _ (b : List ℕ) (t : Bool) (told : t ≡ uneven (decoded b)) (old : List ℕ) where
-  pub uneven-refused : t ≡ true → (a : Answer) → a ≡ Refused 23 0 0
-      → GivesBuffer (smallerOutcome b (when 23 (uneven (decoded b))) old) a old
-  uneven-refused z a e =
-      lent-refused (when 23 (uneven (decoded b))) 1 (λ _. imageText (smaller (decoded b))) old 23 0
-      (when-holds 23 (uneven (decoded b)) (sym told ∙ z)) a (ap reply e)
-
-  pub even-on : t ≡ false → (a : Answer) (out : List ℕ) → GivesBuffer (smallerOutcome b fine old) a out
-      → GivesBuffer (smallerOutcome b (when 23 (uneven (decoded b))) old) a out
-  even-on z a out x = subst (λ (v : Verdict). GivesBuffer (smallerOutcome b v old) a out)
-      (sym (when-fails 23 (uneven (decoded b)) (sym told ∙ z))) x

@@ -1,11 +1,11 @@
--- `minimising::minimise_in` meets its contract: the labels are grouped, and the groups written.
+-- `joining::minimise_in` meets its contract: the labels are grouped, and the groups written.
 use mathlib.Core.Path.{subst}
 use Rattle.image.specs.Image.{Image}
 use Rattle.grouping.specs.Classes.{grouping}
 use Rattle.grouping.specs.inner.GroupingContracts.{Classed}
 use borrow.Author.Needs.{needs}
-use Rattle.minimising.proofs.minimise_in.Statement.{statement}
-use Rattle.minimising.proofs.minimise_in.Tie as tie
+use Rattle.joining.proofs.minimise_in.Statement.{statement}
+use Rattle.joining.proofs.minimise_in.Tie as tie
 
 group-requires : tie.Need-group-requires
 group-requires c κs = let s = c .before .before .before .before .before in (s .pre .0 .0 .even (s .pre .0 .1), s .pre .1 .0)

@@ -1,9 +1,9 @@
--- `minimising::minimise_table` meets its contract: 23, or the smaller image.
+-- `joining::minimise_table` meets its contract: 23, or the smaller image.
 use mathlib.Core.Path.{_∙_, sym}
-use Rattle.minimising.proofs.TableCases.{uneven-refused, even-on}
+use Rattle.joining.proofs.TableCases.{uneven-refused, even-on}
 use borrow.Author.Needs.{needs}
-use Rattle.minimising.proofs.minimise_table.Statement.{statement}
-use Rattle.minimising.proofs.minimise_table.Tie as tie
+use Rattle.joining.proofs.minimise_table.Statement.{statement}
+use Rattle.joining.proofs.minimise_table.Tie as tie
 
 is-uneven-requires : tie.Need-is-uneven-requires
 is-uneven-requires c κs = search needs

@@ -26,8 +26,8 @@ use Rattle.grouping.proofs.Rounds.{ClassRound, group-round}
 use Rattle.grouping.proofs.Coarsest.{groups-counted, even-fewest}
 use Rattle.group_numbers.specs.Smaller.{smaller}
 use Rattle.group_numbers.proofs.Numbering as numbered
 use Rattle.minimising.specs.Entry.{minimiseVerdict, minimise}
-use Rattle.minimising.proofs.Again.{smaller-sound, AllowedImage, minimise-allowed}
+use Rattle.joined_again.proofs.Again.{smaller-sound, AllowedImage, minimise-allowed}
 
 module _ (i : Image) (S : SoundImage i) (even : uneven i ≡ false) where
   rounds : ClassRound i (grouping i)
