@@ -1,8 +1,8 @@
--- `images_for_c::translate` meets its contract: what the function that it calls ensures, told.
+-- `translating_for_c::translate` meets its contract: what the function that it calls ensures, told.
 use borrow.Author.Needs.{needs}
 use Rattle.telling.proofs.Reports.{told-as}
-use Rattle.images_for_c.proofs.translate.Statement.{statement}
-use Rattle.images_for_c.proofs.translate.Tie as tie
+use Rattle.translating_for_c.proofs.translate.Statement.{statement}
+use Rattle.translating_for_c.proofs.translate.Tie as tie
 
 translate-requires : tie.Need-translate-requires
 translate-requires c κs = search needs

@@ -1,8 +1,8 @@
--- `images_for_c::minimise` meets its contract: what the function that it calls ensures, told.
+-- `minimising_for_c::minimise` meets its contract: what the function that it calls ensures, told.
 use borrow.Author.Needs.{needs}
 use Rattle.telling.proofs.Reports.{told-as}
-use Rattle.images_for_c.proofs.minimise.Statement.{statement}
-use Rattle.images_for_c.proofs.minimise.Tie as tie
+use Rattle.minimising_for_c.proofs.minimise.Statement.{statement}
+use Rattle.minimising_for_c.proofs.minimise.Tie as tie
 
 minimise-requires : tie.Need-minimise-requires
 minimise-requires c κs = search needs
