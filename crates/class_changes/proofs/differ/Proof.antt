@@ -1,4 +1,4 @@
--- `refining::differ` meets its contract: the loop keeps what is left of the search.
+-- `class_changes::differ` meets its contract: the loop keeps what is left of the search.
 use borrow.Author.Needs.{needs}
 use mathlib.Core.Path.{_≡_, sym, _∙_, ap}
 use Prim.Native.Nat.{ℕ, _-_, _≤_}
@@ -6,9 +6,9 @@ use native.Mathlib.Nat.{sub-zero}
 use Rattle.lists.specs.Numbers.{any}
 use Rattle.lists.proofs.Searches.{any-here, any-on, any-over}
 use Rattle.grouping.specs.inner.GroupingContracts.{classDiffers}
-use Rattle.refining.proofs.GroupSteps.{differs-yes, differs-no}
-use Rattle.refining.proofs.differ.Statement.{statement}
-use Rattle.refining.proofs.differ.Tie as tie
+use Rattle.class_changes.proofs.Differences.{differs-yes, differs-no}
+use Rattle.class_changes.proofs.differ.Statement.{statement}
+use Rattle.class_changes.proofs.differ.Tie as tie
 
 abbrev Inv-loop : tie.InvT-loop
 Inv-loop classes next n l₀ l = (l ≤ n) × (any (classDiffers classes next) l (n - l) ≡ any (classDiffers classes next) 0 n)

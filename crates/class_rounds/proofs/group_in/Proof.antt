@@ -1,15 +1,15 @@
--- `refining::group_in` meets its contract: the buffer holds the classes after k rounds, and the marks are those of the last one.
+-- `class_rounds::group_in` meets its contract: the buffer holds the classes after k rounds, and the marks are those of the last one.
 use borrow.Author.Needs.{needs}
 use mathlib.Core.Path.{_≡_, refl, sym, _∙_}
 use Prim.Native.Nat.{_-_}
 use native.Mathlib.Omega.{arith}
 use lib.ListN.{length}
 use Rattle.lists.proofs.Tests.{not-true}
-use Rattle.refining.proofs.GroupSteps.{Rounding, rounding-start, rounding-refined, rounding-room}
-use Rattle.refining.proofs.GroupSteps.{rounding-on, rounding-rest, rounding-all}
+use Rattle.class_rounds.proofs.GroupSteps.{Rounding, rounding-start, rounding-refined, rounding-room}
+use Rattle.class_rounds.proofs.GroupSteps.{rounding-on, rounding-rest, rounding-all}
 use Rattle.grouping.proofs.Marked.{ones-long}
-use Rattle.refining.proofs.group_in.Statement.{statement}
-use Rattle.refining.proofs.group_in.Tie as tie
+use Rattle.class_rounds.proofs.group_in.Statement.{statement}
+use Rattle.class_rounds.proofs.group_in.Tie as tie
 
 abbrev Inv-loop : tie.InvT-loop
 Inv-loop table classes₀ next₀ marks₀ touched₀ kept₀ n k₀ classes next marks touched kept k =

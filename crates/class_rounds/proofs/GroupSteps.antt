@@ -1,13 +1,13 @@
 -- Steps of all rounds over a table.
 use Prim.Native.Nat.{ℕ, zero, suc, _+_, _-_, _≤_, _<_}
-use mathlib.Core.Bool.{Bool, true, false, not}
+use mathlib.Core.Bool.{Bool, false}
 use mathlib.Core.Path.{_≡_, sym, _∙_, ap, subst}
 use mathlib.Core.List.{List, _++_, append-nil}
 use native.Mathlib.Omega.{arith}
 use lib.Dec.{eqb}
 use lib.ListN.{length, getD, replicate, drop-of-length-le}
 use lib.Seq.{ext-getD}
-use borrow.Author.Tests.{eq-eqb, ne-eqb, eqb-true}
+use borrow.Author.Tests.{eqb-true}
 use Rattle.lists.specs.Numbers.{any}
 use Rattle.lists.specs.Sequences.{written}
 use Rattle.lists.proofs.Tests.{not-false}
@@ -22,14 +22,6 @@ use Rattle.grouping.specs.inner.GroupingContracts.{Classed, Refined, OneMore, M
 use Rattle.grouping.proofs.TableRounds.{classes-long}
 use Rattle.grouping.proofs.Marked.{first-marks}
 
--- ---- differ
-module _ (c d : List ℕ) (l : ℕ) where
-  pub differs-yes : (getD c l 0 ≡ getD d l 0 → ⊥) → classDiffers c d l ≡ true
-  differs-yes e = ap not (ne-eqb (getD c l 0) (getD d l 0) e)
-
-  pub differs-no : getD c l 0 ≡ getD d l 0 → classDiffers c d l ≡ false
-  differs-no e = ap not (eq-eqb (getD c l 0) (getD d l 0) e)
-
 module _ (b : List ℕ) where
   abbrev i : Image
   i = tableImage b
@@ -37,7 +29,6 @@ module _ (b : List ℕ) where
   abbrev n : ℕ
   n = length (i .labels)
 
-  -- ---- group_in
   at-rest-on : (k : ℕ) → classes i (suc k) ≡ classes i k → (d : ℕ) → classes i (d + k) ≡ classes i k
   unfolding classes
   at-rest-on k e zero = ap (classes i) (let z : 0 + k ≡ k = omega arith in z)
