@@ -43,8 +43,8 @@ use Rattle.rebinding.proofs.live_rebind as live-rebind
 use Rattle.rebinding.proofs.live_rebind.Reads as live-rebind-reads
 use Rattle.spindle_bytes.proofs.spin_bytes as spin-bytes
 use Rattle.spindle_bytes.proofs.spin_bytes.Reads as spin-bytes-reads
-use Rattle.spindle_bytes.proofs.live_spin_bytes as live-spin-bytes
-use Rattle.spindle_bytes.proofs.live_spin_bytes.Reads as live-spin-bytes-reads
+use Rattle.live_spindle_bytes.proofs.live_spin_bytes as live-spin-bytes
+use Rattle.live_spindle_bytes.proofs.live_spin_bytes.Reads as live-spin-bytes-reads
 use Rattle.fairleadow.proofs.fairleadow_read_chart as c-read-chart
 use Rattle.fairleadow.proofs.fairleadow_read_chart.Reads as c-read-chart-reads
 use Rattle.fairleadow.proofs.fairleadow_write_chart as c-write-chart

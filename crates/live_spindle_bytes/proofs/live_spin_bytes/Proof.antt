@@ -1,12 +1,12 @@
--- `spindle_bytes::live_spin_bytes` meets its contract: the head is refused, or the turn of the part is put back.
+-- `live_spindle_bytes::live_spin_bytes` meets its contract: the head is refused, or the turn of the part is put back.
 use Prim.Native.Nat.{_<_}
 use mathlib.Core.Path.{_≡_}
 use native.Mathlib.Omega.{arith}
 use lib.ListN.{length}
 use Rattle.spindle_bytes.proofs.Calls.{bytes-long, bytes-named, turn-deep, part-full, table-refused, table-spins}
 use borrow.Author.Needs.{needs}
-use Rattle.spindle_bytes.proofs.live_spin_bytes.Statement.{statement}
-use Rattle.spindle_bytes.proofs.live_spin_bytes.Tie as tie
+use Rattle.live_spindle_bytes.proofs.live_spin_bytes.Statement.{statement}
+use Rattle.live_spindle_bytes.proofs.live_spin_bytes.Tie as tie
 
 -- ---- the stages: the states are counted and the call tried, then it is known to be no bad one
 abbrev start : tie.After-bad-call → tie.Start
