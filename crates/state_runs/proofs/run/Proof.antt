@@ -1,11 +1,11 @@
--- `machine::by_value::live_run` meets its contract: the run in place on the bytes of the state, read back.
+-- `state_runs::run` meets its contract: the run in place on the bytes of the state, read back.
 use borrow.Author.Needs.{needs}
 use mathlib.Core.Path.{_≡_}
 use lib.ListN.{length}
 use Rattle.state.specs.State.{Sized}
-use Rattle.machine.proofs.EntryCases.{live-run-value}
-use Rattle.machine.proofs.by_value.live_run.Statement.{statement}
-use Rattle.machine.proofs.by_value.live_run.Tie as tie
+use Rattle.state_runs.proofs.Values.{run-value}
+use Rattle.state_runs.proofs.run.Statement.{statement}
+use Rattle.state_runs.proofs.run.Tie as tie
 
 sized : (c : tie.Start) → Sized (c .args .state)
 sized c = record { places = search needs; serving = search needs; numbers = search needs; servers = search needs }
@@ -16,8 +16,8 @@ all-bits c = search needs
 bytes-of-requires : tie.Need-bytes-of-requires
 bytes-of-requires c κs = search needs
 
-live-run-bytes-requires : tie.Need-live-run-bytes-requires
-live-run-bytes-requires c κs = search needs
+run-bytes-requires : tie.Need-run-bytes-requires
+run-bytes-requires c κs = search needs
 
 state-of-requires : tie.Need-state-of-requires
 state-of-requires c κs = search needs
@@ -33,15 +33,15 @@ returns c =
     let done = c .before .before .before .before .before in
     let made = done .before .before .before .before in
     let start = made .before .before .before .before .before in
-    live-run-value _ (sized start) (all-bits start) _ (made .bytes-of .ensures) _ _ _ _ _ _ _
-    _ _ (c .state-of .ensures) (done .live-run-bytes .ensures)
+    run-value _ (sized start) (all-bits start) _ (made .bytes-of .ensures) _ _ _ _ _ _
+    _ _ _ (c .state-of .ensures) (done .run-bytes .ensures)
 
-pub live-run-spec : {M : Type 1} → statement M
-live-run-spec =
+pub run-spec : {M : Type 1} → statement M
+run-spec =
     tie.close
     (tie.spec
     bytes-of-requires
-    live-run-bytes-requires
+    run-bytes-requires
     state-of-requires
     same-length
     same-length-2

@@ -1,11 +1,11 @@
--- `machine::by_value::tick_image` meets its contract: the tick in place on the bytes of the state, read back.
+-- `state_runs::tick_image` meets its contract: the tick in place on the bytes of the state, read back.
 use borrow.Author.Needs.{needs}
 use mathlib.Core.Path.{_≡_}
 use lib.ListN.{length}
 use Rattle.state.specs.State.{Sized}
-use Rattle.machine.proofs.EntryCases.{tick-value}
-use Rattle.machine.proofs.by_value.tick_image.Statement.{statement}
-use Rattle.machine.proofs.by_value.tick_image.Tie as tie
+use Rattle.state_runs.proofs.Values.{tick-value}
+use Rattle.state_runs.proofs.tick_image.Statement.{statement}
+use Rattle.state_runs.proofs.tick_image.Tie as tie
 
 sized : (c : tie.Start) → Sized (c .args .state)
 sized c = record { places = search needs; serving = search needs; numbers = search needs; servers = search needs }

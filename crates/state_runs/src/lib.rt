@@ -1,17 +1,22 @@
-// Runs and ticks that take a state and hand one back, and a tick on a state behind a reference.
-use super::State;
-use super::StateReport;
-use super::TickReport;
-use super::TickStateReport;
-use crate::in_place::live_run_bytes;
-use crate::in_place::live_tick_bytes;
-use crate::in_place::run_bytes;
-use crate::in_place::tick_bytes;
+// Runs and ticks that take a state and hand one back.
+use machine::live_run_bytes;
+use machine::live_tick_bytes;
+use machine::run_bytes;
+use machine::tick_bytes;
+use runs::TickReport;
+use state::State;
+use state::StateReport;
 use state_bytes::bytes_of;
 use state_bytes::state_of;
 ghost use Rattle.runs.specs.Run.{run, GivesRun};
 ghost use Rattle.runs.specs.TickOutcome.{imageTick, GivesTick};
 ghost use Rattle.machine.specs.Live.{liveRun, liveTick};
+
+// A tick's report, and the state after it.
+pub struct TickStateReport {
+    pub report: TickReport,
+    pub state: State,
+}
 
 // A run: what the image check tries, 15 and 16 before the first tick, 17 and 18 tick by tick.
 pub fn run(
@@ -77,14 +82,4 @@ pub fn live_tick(table: &[u8], state: State, word: u16) -> TickStateReport
         report,
         state: after,
     }
-}
-
-// One tick on a state that the caller keeps: a refused tick leaves it as it was.
-pub fn tick(state: &mut State, image: &[u8], word: u16) -> TickReport
-    ensures { λ r. ⌜ GivesTick (imageTick (now (image .entry)) (now (state .entry)) word) r (now (state .exit)) ⌝ }
-{
-    let old = *state;
-    let done = tick_image(image, old, word);
-    *state = done.state;
-    done.report
 }

@@ -45,23 +45,23 @@ use denote.Triple.Walked.{goes-none-slice, goes-ref, Walks, ends-at, walked, wal
 use denote.Triple.Clauses.{ensured, lasts}
 use denote.Exit.{yes}
 use Rattle.runs.specs.TickOutcome.{imageTick, GivesTick}
-use Rattle.machine.specs.declared.TickStateReport.{TickStateReport}
+use Rattle.state_runs.specs.declared.TickStateReport.{TickStateReport}
 use Rattle.state.specs.declared.State.{State}
 use Rattle.runs.specs.declared.TickReport.{TickReport}
 use Rattle.runs.proofs.TickReport as R
 use Rattle.runs.proofs.TickReport.Laws as R′
 use Rattle.state.proofs.State as T
 use Rattle.state.proofs.State.Laws as T′
-use Rattle.machine.proofs.TickStateReport as S
-use Rattle.machine.proofs.TickStateReport.Laws as S′
-use Rattle.machine.proofs.by_value.tick_image as core
-use Rattle.machine.proofs.by_value.tick_image.Symbol as core-def
-use Rattle.machine.proofs.by_value.tick_image.Symbol.{name as #machine·by-value·tick-image}
-use Rattle.machine.proofs.by_value.tick_image.Met as core-thm
-use Rattle.machine.proofs.by_value.tick.Key.{name as #machine·by-value·tick}
-use Rattle.machine.proofs.by_value.tick as tick
-use Rattle.machine.proofs.by_value.tick.Statement as stated
-use Rattle.machine.proofs.by_value.tick.Code as code
+use Rattle.state_runs.proofs.TickStateReport as S
+use Rattle.state_runs.proofs.TickStateReport.Laws as S′
+use Rattle.state_runs.proofs.tick_image as core
+use Rattle.state_runs.proofs.tick_image.Symbol as core-def
+use Rattle.state_runs.proofs.tick_image.Symbol.{name as #state-runs·tick-image}
+use Rattle.state_runs.proofs.tick_image.Met as core-thm
+use Rattle.kept_states.proofs.tick.Key.{name as #kept-states·tick}
+use Rattle.kept_states.proofs.tick as tick
+use Rattle.kept_states.proofs.tick.Statement as stated
+use Rattle.kept_states.proofs.tick.Code as code
 
 abbrev Arg : Type 0
 Arg = RefT State × (RefT (List ℕ) × (ℕ × Unit {0}))
@@ -135,7 +135,7 @@ module _ {M : Type 1} (𝓤 : URA M) (H : Heap 𝓤) (A : Atoms 𝓤) (W : Given
   said r = exE 𝓤 _ (λ ws. snd∗ 𝓤 (sem 𝓤 H A (lasts core.ended (κ₁, tt) (s, (h, (n, tt))) ws)) (fact 𝓤 (Right r)))
 
   module _ (C : Calls 𝓤 H) (Λ : Loops 𝓤 H) (fm : FmC 𝓤 H (W .laws) C)
-      (known-core : Triple 𝓤 (C #machine·by-value·tick-image) (Core 𝓤 H A at-mem run)) where
+      (known-core : Triple 𝓤 (C #state-runs·tick-image) (Core 𝓤 H A at-mem run)) where
     walk : ent 𝓤 (onEntry 𝓤 H A tick.signature (κ, (κ₁, tt)) (q, (q₁, tt)) x at)
         (WpFn 𝓤 H C Λ code.function (vptr b o ∷ sv ∷ vint w16 n ∷ []) Post)
     walk =
@@ -193,7 +193,7 @@ module _ {M : Type 1} (𝓤 : URA M) (H : Heap 𝓤) (A : Atoms 𝓤) (W : Given
         keep ! (0 ∷ 1 ∷ 2 ∷ 3 ∷ 4 ∷ []) $ by ! (exits (gn .1) r e (LL.owed S.the-type S′.the-laws r (v ∷ []) is .0))))))))))))))))
 
 module _ {M : Type 1} (𝓤 : URA M) (H : Heap 𝓤) (A : Atoms 𝓤) (W : Given 𝓤 H A) (at-mem : Memory → SProp 𝓤) (run : Routine → Fun 𝓤) where
-  tick-walks : (C : Calls 𝓤 H) (Λ : Loops 𝓤 H) → FmC 𝓤 H (W .laws) C → Triple 𝓤 (C #machine·by-value·tick-image) (Core 𝓤 H A at-mem run)
+  tick-walks : (C : Calls 𝓤 H) (Λ : Loops 𝓤 H) → FmC 𝓤 H (W .laws) C → Triple 𝓤 (C #state-runs·tick-image) (Core 𝓤 H A at-mem run)
       → Walks 𝓤 H A tick.ended stayed (WpFn 𝓤 H C Λ code.function) (tick.clauses 𝓤 H A at-mem run)
   tick-walks C Λ fm known-core = walked 𝓤 H A tick.ended stayed (tick.clauses 𝓤 H A at-mem run) (WpFn 𝓤 H C Λ code.function)
       (λ κs. (ptr-vals, (slice-vals, (uint-vals w16, tt))))
@@ -210,7 +210,7 @@ module _ {M : Type 1} (𝓤 : URA M) (H : Heap 𝓤) (A : Atoms 𝓤) (W : Given
 
 tick-meets : {M : Type 1} (𝓤 : URA M) (H : Heap 𝓤) (A : Atoms 𝓤) (W : Given 𝓤 H A)
     (at-mem : Memory → SProp 𝓤) (run : Routine → Fun 𝓤) (𝓣 : Tables 𝓤 H)
-    → Triple 𝓤 (𝓣 .C #machine·by-value·tick-image) (Core 𝓤 H A at-mem run)
+    → Triple 𝓤 (𝓣 .C #state-runs·tick-image) (Core 𝓤 H A at-mem run)
     → Meets 𝓤 H A tick.signature (WpFn 𝓤 H (𝓣 .C) (𝓣 .Λ) code.function) (tick.spec 𝓤 H A at-mem run)
 tick-meets 𝓤 H A W at-mem run 𝓣 known-core = walk-meets 𝓤 H A tick.ended stayed W (goes 𝓤 H A W at-mem run) (tick.clauses 𝓤 H A at-mem run)
     (WpFn 𝓤 H (𝓣 .C) (𝓣 .Λ) code.function) (WpFn-mono 𝓤 H (W .laws) 𝓣 code.function)
@@ -220,7 +220,7 @@ pub tick-spec : {M : Type 1} → stated.statement M
 unfolding code.routine tablesOf
 tick-spec 𝓤 H 𝓜 𝓖 𝓡 =
     entered 𝓤 H (tripleOf 𝓤 H (𝓖 .A) tick.signature (tick.spec 𝓤 H (𝓖 .A) (𝓜 .mem) (𝓡 .run)))
-    (tables 𝓤 H 𝓜 𝓡 code.env .C) (tables 𝓤 H 𝓜 𝓡 code.env .Λ) #machine·by-value·tick code.function (code.unfolded 𝓤 H 𝓜 𝓡)
+    (tables 𝓤 H 𝓜 𝓡 code.env .C) (tables 𝓤 H 𝓜 𝓡 code.env .Λ) #kept-states·tick code.function (code.unfolded 𝓤 H 𝓜 𝓡)
     (tick-meets 𝓤 H (𝓖 .A) (givenOf 𝓤 H 𝓜 𝓖) (𝓜 .mem) (𝓡 .run) (tablesOf 𝓤 H 𝓜 (tables 𝓤 H 𝓜 𝓡 code.env))
-    (cited 𝓤 H (Core 𝓤 H (𝓖 .A) (𝓜 .mem) (𝓡 .run)) 𝓜 𝓡 code.env #machine·by-value·tick-image core-def.routine
-    code.calls-machine·by-value·tick-image (core-thm.met 𝓤 H 𝓜 𝓖 𝓡)))
+    (cited 𝓤 H (Core 𝓤 H (𝓖 .A) (𝓜 .mem) (𝓡 .run)) 𝓜 𝓡 code.env #state-runs·tick-image core-def.routine
+    code.calls-state-runs·tick-image (core-thm.met 𝓤 H 𝓜 𝓖 𝓡)))

@@ -1,11 +1,11 @@
--- `machine::by_value::live_tick` meets its contract: the tick in place on the bytes of the state, read back.
+-- `state_runs::live_tick` meets its contract: the tick in place on the bytes of the state, read back.
 use borrow.Author.Needs.{needs}
 use mathlib.Core.Path.{_≡_}
 use lib.ListN.{length}
 use Rattle.state.specs.State.{Sized}
-use Rattle.machine.proofs.EntryCases.{live-tick-value}
-use Rattle.machine.proofs.by_value.live_tick.Statement.{statement}
-use Rattle.machine.proofs.by_value.live_tick.Tie as tie
+use Rattle.state_runs.proofs.Values.{live-tick-value}
+use Rattle.state_runs.proofs.live_tick.Statement.{statement}
+use Rattle.state_runs.proofs.live_tick.Tie as tie
 
 sized : (c : tie.Start) → Sized (c .args .state)
 sized c = record { places = search needs; serving = search needs; numbers = search needs; servers = search needs }
