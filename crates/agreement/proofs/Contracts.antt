@@ -25,14 +25,14 @@ use Rattle.runs.specs.TickOutcome.{imageTick, GivesTick}
 use Rattle.machine.specs.Live.{liveRun, liveTick}
 use Rattle.state.proofs.State.fresh as state-fresh
 use Rattle.state.proofs.State.fresh.Reads as state-fresh-reads
-use Rattle.machine.proofs.run as machine-run
-use Rattle.machine.proofs.run.Reads as machine-run-reads
-use Rattle.machine.proofs.tick_image as machine-tick
-use Rattle.machine.proofs.tick_image.Reads as machine-tick-reads
-use Rattle.machine.proofs.live_run as machine-live-run
-use Rattle.machine.proofs.live_run.Reads as machine-live-run-reads
-use Rattle.machine.proofs.live_tick as machine-live-tick
-use Rattle.machine.proofs.live_tick.Reads as machine-live-tick-reads
+use Rattle.state_runs.proofs.run as machine-run
+use Rattle.state_runs.proofs.run.Reads as machine-run-reads
+use Rattle.state_runs.proofs.tick_image as machine-tick
+use Rattle.state_runs.proofs.tick_image.Reads as machine-tick-reads
+use Rattle.state_runs.proofs.live_run as machine-live-run
+use Rattle.state_runs.proofs.live_run.Reads as machine-live-run-reads
+use Rattle.state_runs.proofs.live_tick as machine-live-tick
+use Rattle.state_runs.proofs.live_tick.Reads as machine-live-tick-reads
 use Rattle.priced_runs.specs.PricedRun.{pricedRun, GivesPricedRun}
 use Rattle.priced_states.proofs.priced_run as priced-run
 use Rattle.priced_states.proofs.priced_run.Reads as priced-run-reads
@@ -85,7 +85,7 @@ use Rattle.fairleadow.proofs.fairleadow_live_spin.Reads as c-live-spin-reads
 use Rattle.fairleadow.proofs.fairleadow_count_fillings as c-count-fillings
 use Rattle.fairleadow.proofs.fairleadow_count_fillings.Reads as c-count-fillings-reads
 
--- ---- translating::translate, preparing::prepare, minimising::minimise, fetching::little_chart, state::State::fresh, of machine run,
+-- ---- translating::translate, preparing::prepare, minimising::minimise, fetching::little_chart, state::State::fresh, of state_runs run,
 -- tick_image, live_run and live_tick, priced_states::priced_run, of rebinding rebind and live_rebind, and counting::count_fillings
 pub translate-lends : (κs : Lfts 2) (a : ArgsD translating-translate.signature κs) (r : ResD translating-translate.signature κs)
     (s : AtExit translating-translate.ended κs)

@@ -56,7 +56,7 @@ pub extern "C" fn fairleadow_translate(
     ensures { λ r. ⌜ GivesBufferC (translate (now (chart .entry)) (now (image .entry))) r
         (now (at .exit)) (now (made .exit)) (now (image .exit)) ⌝ }
 {
-    images_for_c::translate(chart, image, at, made)
+    translating_for_c::translate(chart, image, at, made)
 }
 
 #[no_mangle]
@@ -69,7 +69,7 @@ pub extern "C" fn fairleadow_minimise(
     ensures { λ r. ⌜ GivesBufferC (minimise (now (image .entry)) (now (smaller .entry))) r
         (now (at .exit)) (now (made .exit)) (now (smaller .exit)) ⌝ }
 {
-    images_for_c::minimise(image, smaller, at, made)
+    minimising_for_c::minimise(image, smaller, at, made)
 }
 
 #[no_mangle]

@@ -1,29 +1,11 @@
-// The calls from C on images: translated, minimised, checked, listed and prepared.
+// The calls from C on images: checked, listed and prepared.
 use telling::tell;
 ghost use Rattle.frames.specs.Answer.{judged};
 ghost use Rattle.image.specs.Check.{imageVerdict};
-ghost use Rattle.translator.specs.Entry.{translate};
-ghost use Rattle.minimising.specs.Entry.{minimise};
 ghost use Rattle.listing.specs.Listing.{list};
 ghost use Rattle.tables.specs.Prepare.{prepare};
 ghost use Rattle.telling.specs.AnswersForC.{GivesReplyC, GivesBufferC};
 ghost use Rattle.images_for_c.specs.Calls.{GivesListingC};
-
-pub fn translate(chart: &[u8], image: &mut [u8], at: &mut usize, made: &mut usize) -> u8
-    ensures { λ r. ⌜ GivesBufferC (translate (now (chart .entry)) (now (image .entry))) r
-        (now (at .exit)) (now (made .exit)) (now (image .exit)) ⌝ }
-{
-    let answer = translating::translate(chart, image);
-    tell(answer, at, made)
-}
-
-pub fn minimise(image: &[u8], smaller: &mut [u8], at: &mut usize, made: &mut usize) -> u8
-    ensures { λ r. ⌜ GivesBufferC (minimise (now (image .entry)) (now (smaller .entry))) r (now (at .exit)) (now (made .exit))
-        (now (smaller .exit)) ⌝ }
-{
-    let answer = minimising::minimise(image, smaller);
-    tell(answer, at, made)
-}
 
 pub fn check_image(image: &[u8], at: &mut usize, made: &mut usize) -> u8
     ensures { λ r. ⌜ GivesReplyC (judged (imageVerdict (now (image .entry))) 0) r (now (at .exit)) (now (made .exit)) ⌝ }

@@ -21,7 +21,7 @@ use Rattle.covering.proofs.Hits.{one-row}
 use Rattle.grouping.specs.Classes.{grouping}
 use Rattle.group_numbers.specs.Smaller.{smaller}
 use Rattle.minimising.specs.Entry.{minimiseVerdict}
-use Rattle.minimising.proofs.Again.{AllowedImage, minimise-allowed}
+use Rattle.joined_again.proofs.Again.{AllowedImage, minimise-allowed}
 use Rattle.minimised.specs.Renamed.{renamed, renamedTick, renamedRun, renamedState}
 use Rattle.minimised.proofs.SmallerTicks.{Stops17, never-18}
 use Rattle.minimised.proofs.Runs.{smaller-fits, smaller-tick, run-new, rebind-new}

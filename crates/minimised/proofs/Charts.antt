@@ -37,7 +37,7 @@ use Rattle.covering.specs.Matched.{hits, uneven}
 use Rattle.covering.proofs.Hits.{OneRow, even-of}
 use Rattle.group_numbers.specs.Smaller.{smaller}
 use Rattle.minimising.specs.Entry.{minimiseVerdict, minimise}
-use Rattle.minimising.proofs.Shorter.{never-longer, room-enough}
+use Rattle.joined_again.proofs.Shorter.{never-longer, room-enough}
 use Rattle.minimised.specs.Demand.{Shrunk, SmallerMade, SmallerAgreement}
 use Rattle.minimised.proofs.Runs.{calls-new}
 

@@ -30,7 +30,7 @@ use Rattle.grouping.specs.Classes.{grouping}
 use Rattle.grouping.proofs.Rounds.{ClassRound, group-round, group-leads}
 use Rattle.group_numbers.specs.Smaller.{smaller}
 use Rattle.group_numbers.proofs.Numbering.{entries-count}
-use Rattle.minimising.proofs.Again.{smaller-passes, smaller-decoded}
+use Rattle.joined_again.proofs.Again.{smaller-passes, smaller-decoded}
 use Rattle.minimised.specs.Renamed.{renamed, renamedTick, renamedMachineRun, renamedRun, renamedState}
 use Rattle.minimised.proofs.Renumbered.{same-handler, nothing-new}
 use Rattle.minimised.proofs.Fitting.{fits-new}

@@ -17,7 +17,8 @@ use Rattle.covering.specs.Matched.{uneven}
 use Rattle.covering.proofs.Tables.{noted-decoded, made-table, made-uneven}
 use Rattle.grouping.proofs.Prepared.{made-even}
 use Rattle.group_numbers.specs.Smaller.{smaller}
-use Rattle.minimising.specs.inner.MinimisingContracts.{ReadableTable, smallerOutcome}
+use Rattle.group_image.specs.inner.WriteContracts.{smallerOutcome}
+use Rattle.joining.specs.inner.JoiningContracts.{ReadableTable}
 use Rattle.minimising.specs.Entry.{minimiseVerdict, minimise}
 
 module _ (t : List ℕ) where

@@ -61,7 +61,7 @@ fn print_ticks(masks: [u32; 8], codes: [u8; 8]) {
 fn run(text: [u8; 276], state: State, words: [u16; 8]) -> State {
     let mut masks = [119u32; 8];
     let mut codes = [170u8; 8];
-    let ran = machine::run(&text, state, &words, &mut masks, &mut codes);
+    let ran = state_runs::run(&text, state, &words, &mut masks, &mut codes);
     let answer = ran.answer;
     report(1, answer, 0);
     print_ticks(masks, codes);
@@ -73,7 +73,7 @@ fn rest(text: [u8; 276], state: State) {
     let mut masks = [0u32; 1];
     let mut codes = [0u8; 1];
     let words = [0u16; 1];
-    let ran = machine::run(&text, state, &words[..0], &mut masks, &mut codes);
+    let ran = state_runs::run(&text, state, &words[..0], &mut masks, &mut codes);
     let answer = ran.answer;
     report(1, answer, 0);
 }
@@ -82,7 +82,7 @@ fn rest(text: [u8; 276], state: State) {
 fn short(text: [u8; 276], state: State, words: [u16; 8]) -> State {
     let mut masks = [119u32; 8];
     let mut codes = [170u8; 7];
-    let ran = machine::run(&text, state, &words, &mut masks, &mut codes);
+    let ran = state_runs::run(&text, state, &words, &mut masks, &mut codes);
     let answer = ran.answer;
     report(1, answer, 0);
     ran.state

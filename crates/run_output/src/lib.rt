@@ -2,9 +2,9 @@
 use frames::Answer;
 use frames::sizes::IMAGE_TEXT;
 use frames::sizes::LINE;
-use machine::State;
 use output_lines::put_codes;
 use output_lines::put_refusal;
+use state::State;
 ghost use mathlib.Core.Path.{_≡_};
 ghost use Prim.Native.Nat.{_≤_};
 ghost use lib.ListN.{length};
@@ -62,7 +62,7 @@ pub fn run_text(input: &[u8], out: &mut [u8; RUN_PRINTS]) -> usize
     let mut codes = [0u8; 64];
     let fresh = State::fresh(State::PLACES);
     let state = fresh.state;
-    let ran = machine::run(input, state, &all, &mut masks, &mut codes);
+    let ran = state_runs::run(input, state, &all, &mut masks, &mut codes);
     let answer = ran.answer;
     put_run(answer, &codes, out)
 }

@@ -1,6 +1,5 @@
-// Four spindles whose states are 520 bytes: one call, on an image and live on a prepared table.
+// Four spindles whose states are 520 bytes: one call on an image.
 use frames::put_bytes;
-use spindle_heads::live_refuse_head;
 use spindle_heads::refuse_head;
 use spindle_parts::depth_sum;
 use spindle_parts::part_of;
@@ -8,9 +7,8 @@ use spindle_parts::state_count;
 use spindles::SpinReport;
 use spindles::bad_call;
 use state::layout::STATE_BYTES;
-use turning::live_turn_bytes;
 use turning::turn_bytes;
-ghost use Rattle.spindles.specs.Spindles.{spin, liveSpin};
+ghost use Rattle.spindles.specs.Spindles.{spin};
 ghost use Rattle.spindle_parts.specs.FourStates.{statesOf};
 ghost use Rattle.spindle_bytes.specs.Bytes.{GivesSpinOn};
 
@@ -34,26 +32,4 @@ pub fn spin_bytes(
     let report = turn_bytes(image, &mut part, sum, taken, word);
     put_bytes(states, STATE_BYTES * spindle, &part);
     report
-}
-
-// The same on a prepared table: 25, 11, 15, 17, 26, 18.
-pub fn live_spin_bytes(
-    states: &mut [u8],
-    taken: usize,
-    spindle: usize,
-    table: &[u8],
-    word: u16,
-) -> SpinReport
-    ensures { λ r. ⌜ GivesSpinOn (liveSpin (now (table .entry)) (statesOf (now (states .entry))) taken spindle word)
-        (now (states .entry)) spindle r (now (states .exit)) ⌝ }
-{
-    let count = state_count(states);
-    if bad_call(count, spindle) {
-        return live_refuse_head(table, spindle, taken);
-    }
-    let sum = depth_sum(states);
-    let mut own = part_of(states, spindle);
-    let turned = live_turn_bytes(table, &mut own, sum, taken, word);
-    put_bytes(states, STATE_BYTES * spindle, &own);
-    turned
 }

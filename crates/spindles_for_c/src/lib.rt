@@ -1,6 +1,6 @@
 // The calls from C on four spindles, whose states are 520 bytes, on an image and live on a prepared table.
+use live_spindle_bytes::live_spin_bytes;
 use runs::TickReport;
-use spindle_bytes::live_spin_bytes;
 use spindle_bytes::spin_bytes;
 use telling::tell_tick;
 ghost use Rattle.spindles_for_c.specs.Calls.{spinFor, liveSpinFor, GivesSpinC};
