@@ -1,1 +1,2 @@
 pub mod CallCases
+pub mod CalleeCases

@@ -1,6 +1,7 @@
 // The tick of a call, in place: there is a free place, or the stack is full.
 use codes::code_of;
 use full_stack::tick_full;
+use image::layout::CALLED;
 use state::layout::STATE_BYTES;
 use state_places::depth_of;
 use state_places::number_of;
@@ -9,20 +10,31 @@ use state_places::place_of;
 use state_places::put_depth;
 use state_places::size_of;
 use state_results::put_result;
+use state_results::serving_at;
 use state_results::serving_of;
 use tables::entry_of;
+use tables::field_of;
 use tables::label_read;
 use ticks::TickEnd;
 use ticks::TickMove;
 ghost use mathlib.Core.Path.{_≡_};
 ghost use Rattle.image.specs.Decode.{schemeCount};
-ghost use Rattle.tables.specs.Table.{tableImage};
+ghost use Rattle.tables.specs.Table.{tableImage, tableLabel};
 ghost use Rattle.tables.specs.inner.Asked.{Whole};
+ghost use Rattle.tables.specs.inner.Labels.{Framed};
 ghost use Rattle.state.specs.State.{entryAt};
 ghost use Rattle.state.specs.Bytes.{stateOf};
 ghost use Rattle.ticks.specs.inner.TickContracts.{TopCalls, GivesTickEnd};
 ghost use Rattle.ticks.specs.Tick.{topOf};
 ghost use Rattle.ticks.specs.inner.TickContracts.{GivesTickMove};
+ghost use Rattle.calls.specs.inner.Callees.{IsCallee};
+
+// What a call opens: the number that it calls, the scheme that serves it, and the entry of that scheme.
+struct Callee {
+    number: u8,
+    server: u8,
+    entry: u8,
+}
 
 // The entry of the scheme that serves, 0 where the table has none of that number.
 fn server_entry(table: &[u8], schemes: u8, server: u8) -> u8
@@ -34,6 +46,51 @@ fn server_entry(table: &[u8], schemes: u8, server: u8) -> u8
         return 0;
     }
     entry_of(table, server)
+}
+
+// The callee of a label that calls no number of 1 to H, as only a table that no preparation makes has one: its number counts as 0.
+fn stray_callee(table: &[u8], schemes: u8, bytes: &[u8; STATE_BYTES]) -> Callee
+    requires { ⌜ Whole (now table) ⌝ }
+    requires { ⌜ schemes ≡ schemeCount (now table) ⌝ }
+    ensures { λ r. ⌜ IsCallee (now (table .entry)) (stateOf (now (bytes .entry))) 0 r ⌝ }
+{
+    let server = serving_of(bytes, 0);
+    let entry = server_entry(table, schemes, server);
+    Callee {
+        number: 0,
+        server,
+        entry,
+    }
+}
+
+// The callee of label l. Each test is a jump that is foreseen, where a choice between two values would have to wait for them: the next
+// label is known as soon as three bytes, one after the other, are read.
+fn callee_of(table: &[u8], schemes: u8, bytes: &[u8; STATE_BYTES], l: usize) -> Callee
+    requires { ⌜ Framed (now table) schemes l ⌝ }
+    ensures { λ r. ⌜ IsCallee (now (table .entry)) (stateOf (now (bytes .entry))) (tableLabel (now (table .entry)) l .called) r ⌝ }
+{
+    let number = field_of(table, schemes, l, CALLED);
+    if schemes < number {
+        return stray_callee(table, schemes, bytes);
+    }
+    if number == 0 {
+        return stray_callee(table, schemes, bytes);
+    }
+    let server = serving_at(bytes, number);
+    if server == 0 {
+        let entry = entry_of(table, 1);
+        return Callee {
+            number,
+            server,
+            entry,
+        };
+    }
+    let entry = server_entry(table, schemes, server);
+    Callee {
+        number,
+        server,
+        entry,
+    }
 }
 
 // A call: the entry of the scheme that serves the number called goes above the top, and the number's bit is cleared after the caller's
@@ -61,9 +118,10 @@ pub fn tick_call(
     }
     let top = (depth as usize) - 1;
     let label = label_read(table, schemes, l as usize);
-    let called = label.called;
-    let server = serving_of(bytes, called);
-    let entry = server_entry(table, schemes, server);
+    let callee = callee_of(table, schemes, bytes, l as usize);
+    let called = callee.number;
+    let server = callee.server;
+    let entry = callee.entry;
     let caller = number_of(bytes, top);
     put_result(bytes, label.result, caller);
     put_result(bytes, 1, called);

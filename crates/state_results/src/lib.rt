@@ -60,6 +60,15 @@ pub fn serving_of(bytes: &[u8; STATE_BYTES], h: u8) -> u8
     bytes[SERVING_FROM + k]
 }
 
+// The scheme that serves number h of 1 to 16.
+pub fn serving_at(bytes: &[u8; STATE_BYTES], h: u8) -> u8
+    requires { ⌜ 1 ≤ h ⌝ }
+    requires { ⌜ h ≤ SCHEMES ⌝ }
+    ensures { λ r. ⌜ r ≡ served (stateOf (now (bytes .entry)) .serving) h ⌝ }
+{
+    bytes[49 + (h as usize)]
+}
+
 // Number h, up to 16, is served by that scheme.
 pub fn put_serving(bytes: &mut [u8; STATE_BYTES], h: usize, scheme: u8)
     requires { ⌜ 1 ≤ h ⌝ }

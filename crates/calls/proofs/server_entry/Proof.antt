@@ -1,6 +1,6 @@
 -- `calls::server_entry` meets its contract: the table has the scheme, or not.
 use native.Mathlib.Omega.{arith}
-use Rattle.calls.proofs.CallCases.{server-none, server-entry}
+use Rattle.calls.proofs.CalleeCases.{server-none, server-entry}
 use Rattle.calls.proofs.server_entry.Statement.{statement}
 use Rattle.calls.proofs.server_entry.Tie as tie
 

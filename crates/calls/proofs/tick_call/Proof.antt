@@ -3,7 +3,6 @@ use borrow.Author.Needs.{needs}
 use mathlib.Core.Path.{_≡_, _∙_, ap}
 use Prim.Native.Nat.{ℕ, _-_, _≤_}
 use native.Mathlib.Omega.{arith}
-use Rattle.image.specs.Image.{Label}
 use Rattle.state.specs.declared.State.{State}
 use Rattle.state.specs.State.{numberAt}
 use Rattle.state.specs.Bytes.{stateOf}
@@ -13,7 +12,7 @@ use Rattle.calls.proofs.CallCases.{call-steps, full-moves}
 use Rattle.calls.proofs.tick_call.Statement.{statement}
 use Rattle.calls.proofs.tick_call.Tie as tie
 
--- ---- the stages: the size is read, a place is free, the label is read, then who serves and the entry, and the four writes
+-- ---- the stages: the size is read, a place is free, the label is read, then its callee, and the four writes
 abbrev start : tie.After-size-of → tie.Start
 start c = c .before .before .before .before .before
 
@@ -21,7 +20,7 @@ abbrev sized : tie.Else1 → tie.After-size-of
 sized c = c .before
 
 abbrev label : tie.After-number-of → tie.After-label-read
-label c = c .before .before .before .before .before
+label c = c .before .before .before .before
 
 abbrev state : tie.After-size-of → State
 state c = stateOf (start c .args .bytes .now)
@@ -70,14 +69,13 @@ label-read-requires c κs =
     let asked = start (sized c) .pre in
     record { label = numbered-as (asked .1 .1) (asked .0 .label); schemes = asked .1 .0 }
 
-serving-of-requires : tie.Need-serving-of-requires
-serving-of-requires c κs = search needs
-
-server-entry-requires : tie.Need-server-entry-requires
-server-entry-requires c κs = let asked = start (sized (c .before .before .before)) .pre in (asked .0 .stands .whole, asked .1 .0)
+callee-of-requires : tie.Need-callee-of-requires
+callee-of-requires c κs =
+    let asked = start (sized (c .before .before)) .pre in
+    record { label = numbered-as (asked .1 .1) (asked .0 .label); schemes = asked .1 .0 }
 
 number-of-requires : tie.Need-number-of-requires
-number-of-requires c κs = let size = sized (c .before .before .before .before .before) in omega (arith, some size, most size)
+number-of-requires c κs = let size = sized (c .before .before .before .before) in omega (arith, some size, most size)
 
 put-result-requires : tie.Need-put-result-requires
 put-result-requires c κs = search needs
@@ -102,10 +100,9 @@ put-depth-requires c κs = search needs
 
 code-of-requires : tie.Need-code-of-requires
 code-of-requires c κs =
-    let l = label (c .before .before .before .before .before .before .before .before) in
-    let begun = start (sized (l .before)) in
-    let few = called-few (begun .pre .0 .stands) (begun .args .l) in
-    omega (arith, few, ap (λ (x : Label). x .called) (l .label-read .ensures))
+    let number = c .before .before .before .before .before .before .before .before in
+    let begun = start (sized (label number .before)) in
+    omega (arith, called-few (begun .pre .0 .stands) (begun .args .l), number .before .before .callee-of .ensures .number)
 
 returns-2 : tie.Need-returns-2
 returns-2 c =
@@ -114,14 +111,12 @@ returns-2 c =
     let second = third .before .before in
     let first = second .before .before in
     let number = first .before .before in
-    let entry = number .before .before in
-    let serves = entry .before in
     let l = label number in
     let size = sized (l .before) in
     call-steps _ _ _ (start size .pre .0) _ (depth-read size) (omega (arith, size .size-of .ensures, l .before .if1 .left)) _
     (start size .pre .1 .1) _ (l .label-read .ensures)
     _ (number .number-of .ensures ∙ ap (λ (d : ℕ). numberAt (state size) (d - 1)) (depth-read size))
-    _ (serves .serving-of .ensures) _ (entry .server-entry .ensures) _ (c .code-of .ensures) _ _ _ _
+    _ (number .before .before .callee-of .ensures) _ (c .code-of .ensures) _ _ _ _
     (first .put-result .ensures) (second .put-result2 .ensures) (third .open-place .ensures) (fourth .put-depth .ensures)
 
 pub tick-call-spec : {M : Type 1} → statement M
@@ -136,8 +131,7 @@ tick-call-spec =
     cast-top
     sub-top
     label-read-requires
-    serving-of-requires
-    server-entry-requires
+    callee-of-requires
     number-of-requires
     put-result-requires
     put-result-requires-2
