@@ -7,8 +7,9 @@ use frames::refusals::CUT_OFF;
 use frames::refused;
 use frames::sizes::NODES;
 use frames::sizes::RECORD;
-use node_marks::join_all;
+use node_marks::join;
 use node_marks::mark_kind;
+use node_marks::sweep;
 ghost use mathlib.Core.Path.{_≡_};
 ghost use mathlib.Core.Bool.{not};
 ghost use lib.ListN.{length};
@@ -32,8 +33,12 @@ fn lowest_apart(records: &[u8], marks: &mut [bool], list: &mut [u8]) -> usize
         × (r ≡ lowest (λ v. not (marked (now (marks .exit)) v)) 0 (size (now (records .entry)))) ⌝ }
 {
     mark_kind(records, BEGIN, marks);
+    sweep(records, marks);
     let count = graph::list_marked(marks, list);
-    let joined = join_all(records, marks, list, count);
+    if count == marks.len() {
+        return count;
+    }
+    let joined = join(records, false, marks, list, count);
     if joined == marks.len() {
         return joined;
     }

@@ -16,7 +16,7 @@ ghost use Rattle.graph.specs.Reach.{marked, joinedFrom};
 ghost use Rattle.frames.specs.Frame.{size};
 ghost use Rattle.charts.specs.Check.{arcs, conditionArcs, onCircle};
 ghost use Rattle.node_marks.specs.inner.MarkContracts.{NodeRoom, Blank};
-ghost use Rattle.finishing.specs.inner.FinishContracts.{DepthFirst, NoneBelow};
+ghost use Rattle.finishing.specs.inner.FinishContracts.{DepthFirst};
 
 // The nodes that arcs of conditions join from the next nodes of v are marked; whether v is one of them.
 fn leads_back(records: &[u8], v: usize, marks: &mut [bool], list: &mut [u8]) -> bool
@@ -44,14 +44,13 @@ fn on_circle(records: &[u8], v: usize, list: &mut [u8]) -> bool
     leads_back(records, v, &mut marks[..n], list)
 }
 
-// The lowest node on a circle, or the number of nodes; none below the first is on one. A finished node is on none, so only the others
-// are tried.
-fn search_circle(records: &[u8], unfinished: &[bool], list: &mut [u8], first: usize) -> usize
-    requires { ⌜ DepthFirst (now records) (now unfinished) (now list) × NoneBelow (now records) first ⌝ }
+// The lowest node on a circle, or the number of nodes. A finished node is on none, so only the others are tried.
+fn search_circle(records: &[u8], unfinished: &[bool], list: &mut [u8]) -> usize
+    requires { ⌜ DepthFirst (now records) (now unfinished) (now list) ⌝ }
     ensures { λ r. ⌜ r ≡ lowest (onCircle (now (records .entry))) 0 (size (now (records .entry))) ⌝ }
 {
     let n = records.len() / RECORD;
-    let mut v = first;
+    let mut v: usize = 0;
     while v < n {
         if unfinished[v] {
             if on_circle(records, v, list) {
@@ -71,6 +70,6 @@ pub fn lowest_circle(records: &[u8], unfinished: &mut [bool], list: &mut [u8]) -
     ensures { λ r. ⌜ r ≡ lowest (onCircle (now (records .entry))) 0 (size (now (records .entry))) ⌝ }
 {
     mark_kind(records, CONDITION, unfinished);
-    let first = finish_all(records, unfinished, list);
-    search_circle(records, unfinished, list, first)
+    finish_all(records, unfinished, list);
+    search_circle(records, unfinished, list)
 }

@@ -12,8 +12,7 @@ use lib.Seq.{getD-set-same, getD-set-other}
 use borrow.Author.Tests.{eqb-true}
 use Rattle.lists.specs.Pick.{pick}
 use Rattle.lists.proofs.Tests.{no-both, not-true, or-cases, yes-pick, no-pick, cases}
-use Rattle.lists.specs.Numbers.{lowest}
-use Rattle.lists.proofs.Searches.{some-cons, searching-first, searching-next}
+use Rattle.lists.proofs.Searches.{some-cons}
 use Rattle.lists.proofs.Ranges.{length-map-range}
 use Rattle.graph.specs.Reach.{member, marked, joinedFrom}
 use Rattle.graph.proofs.Closure.{Closed, marks-at, marked-below, joined-least}
@@ -25,7 +24,6 @@ use Rattle.charts.specs.inner.Finished.{nextUnfinished, NoneAhead, Finished}
 use Rattle.charts.proofs.Nodes.{arcs-condition}
 use Rattle.charts.proofs.Meaning.{condition-arcs, leaves-condition, member-only}
 use Rattle.node_marks.proofs.MarkCases.{no-circle}
-use Rattle.finishing.specs.inner.FinishContracts.{NoneBelow}
 
 -- at first all conditions are unfinished
 pub finished-none : (c : Chart) (ms : List Bool) → ms ≡ kindMarks c 3 → Finished c ms
@@ -34,15 +32,6 @@ finished-none c ms e = subst (λ (xs : List Bool). Finished c xs) (sym e) (recor
   ahead = λ v l m u s. no-both (is c 3 v) (leaves-condition c v u s) (sym (marks-at (is c 3) (size c) v l) ∙ m);
   off = λ v l m. no-circle c v (sym (marks-at (is c 3) (size c) v l) ∙ m);
 })
-
--- ---- nodes passed in their order, none of them on a circle
-pub none-below-first : (c : Chart) → NoneBelow c 0
-none-below-first c = let s = searching-first (onCircle c) (size c) in record { inside = s .inside; left = s .left }
-
-pub none-below-next : (c : Chart) (v : ℕ) → NoneBelow c v → v < size c → onCircle c v ≡ false → NoneBelow c (v + 1)
-none-below-next c v b l o =
-    let s = searching-next (onCircle c) (size c) v (lowest (onCircle c) 0 (size c)) (record { inside = b .inside; left = b .left }) l o in
-    record { inside = s .inside; left = s .left }
 
 -- ---- the next nodes, the one on a 0 first
 module _ (c : Chart) (ms : List Bool) (v : ℕ) where

@@ -7,7 +7,7 @@ ghost use mathlib.Core.Path.{_≡_};
 ghost use Prim.Native.Nat.{_<_};
 ghost use Rattle.frames.specs.Frame.{size};
 ghost use Rattle.charts.specs.inner.Finished.{nextUnfinished, Finished};
-ghost use Rattle.finishing.specs.inner.FinishContracts.{DepthFirst, NoneBelow};
+ghost use Rattle.finishing.specs.inner.FinishContracts.{DepthFirst};
 
 // An unfinished next node of condition v, or the number of nodes.
 fn next_unfinished(records: &[u8], unfinished: &[bool], v: usize) -> usize
@@ -54,11 +54,10 @@ fn finish_from(records: &[u8], unfinished: &mut [bool], path: &mut [u8], v: usiz
     }
 }
 
-// Conditions are finished, the lowest first, up to one that leads to a circle. That one, or the number of nodes: none below it is on a
-// circle.
-pub fn finish_all(records: &[u8], unfinished: &mut [bool], path: &mut [u8]) -> usize
+// Conditions are finished, the lowest first, up to one that leads to a circle.
+pub fn finish_all(records: &[u8], unfinished: &mut [bool], path: &mut [u8])
     requires { ⌜ DepthFirst (now records) (now unfinished) (now path) ⌝ }
-    ensures { λ r. ⌜ Finished (now (records .entry)) (now (unfinished .exit)) × NoneBelow (now (records .entry)) r ⌝ }
+    ensures { λ _. ⌜ Finished (now (records .entry)) (now (unfinished .exit)) ⌝ }
 {
     let n = records.len() / RECORD;
     let mut v: usize = 0;
@@ -66,10 +65,9 @@ pub fn finish_all(records: &[u8], unfinished: &mut [bool], path: &mut [u8]) -> u
         if unfinished[v] {
             finish_from(records, unfinished, path, v);
             if unfinished[v] {
-                return v;
+                return;
             }
         }
         v += 1;
     }
-    v
 }

@@ -4,7 +4,8 @@ use charts::layout::*;
 use frames::sizes::RECORD;
 ghost use mathlib.Core.Path.{_≡_};
 ghost use Prim.Native.Nat.{_+_, _*_, _≤_, _<_};
-ghost use lib.ListN.{length};
+ghost use mathlib.Core.Bool.{true};
+ghost use lib.ListN.{length, set};
 ghost use Rattle.lists.specs.Pick.{pick};
 ghost use Rattle.graph.specs.Reach.{marked, reach};
 ghost use Rattle.graph.specs.inner.Listed.{many, listing, enlistAll};
@@ -12,7 +13,7 @@ ghost use Rattle.frames.specs.Sizes.{RECORD};
 ghost use Rattle.frames.specs.Frame.{size};
 ghost use Rattle.charts.specs.Check.{arcs};
 ghost use Rattle.charts.specs.inner.Marks.{arcsBy, kindMarks};
-ghost use Rattle.node_marks.specs.inner.MarkContracts.{ListedRoom};
+ghost use Rattle.node_marks.specs.inner.MarkContracts.{markedBy, ListedRoom};
 
 // How many arcs of node v count.
 fn arc_count(records: &[u8], conditions: bool, v: usize) -> usize
@@ -78,56 +79,57 @@ pub fn join(
     end
 }
 
-// The arcs of node v are followed where it is marked; how many are listed then.
-fn follow_marked(
-    records: &[u8],
-    v: usize,
-    marks: &mut [bool],
-    list: &mut [u8],
-    count: usize,
-) -> usize
+// Node u is marked, if it is one.
+fn mark(marks: &mut [bool], u: usize)
+    ensures { λ _. ⌜ now (marks .exit) ≡ set (now (marks .entry)) u true ⌝ }
+{
+    if u < marks.len() {
+        marks[u] = true;
+    }
+}
+
+// The nodes that the arcs of node v lead to are marked.
+fn mark_next(records: &[u8], v: usize, marks: &mut [bool])
     requires { ⌜ v < size (now records) ⌝ }
-    requires { ⌜ ListedRoom (now records) (now marks) (now list) count ⌝ }
-    ensures { λ r. ⌜ listing (now (marks .exit)) (now (list .exit)) r ≡ pick (marked (now (marks .entry)) v)
-        (enlistAll (listing (now (marks .entry)) (now (list .entry)) count) (arcs (now (records .entry)) v))
-        (listing (now (marks .entry)) (now (list .entry)) count) ⌝ }
+    ensures { λ _. ⌜ now (marks .exit) ≡ markedBy (now (marks .entry)) (arcs (now (records .entry)) v) ⌝ }
+{
+    let arcs = arc_count(records, false, v);
+    if arcs == 0 {
+        return;
+    }
+    mark(marks, field(records, v, NEXT0) as usize);
+    if arcs == 1 {
+        return;
+    }
+    mark(marks, field(records, v, NEXT1) as usize);
+}
+
+// The same where node v is marked itself.
+fn mark_on(records: &[u8], v: usize, marks: &mut [bool])
+    requires { ⌜ (v < size (now records)) × (length (now marks) ≡ size (now records)) ⌝ }
+    ensures { λ _. ⌜ now (marks .exit) ≡ pick (marked (now (marks .entry)) v)
+        (markedBy (now (marks .entry)) (arcs (now (records .entry)) v)) (now (marks .entry)) ⌝ }
 {
     if !marks[v] {
-        return count;
+        return;
     }
-    follow(records, false, v, marks, list, count)
+    mark_next(records, v, marks);
 }
 
-// The arcs of each marked node are followed, the lowest node first: a node that is marked on the way has its turn too, if it is a higher
-// one. How many are marked then; what arcs join from them has not changed.
-fn sweep(records: &[u8], marks: &mut [bool], list: &mut [u8], count: usize) -> usize
-    requires { ⌜ ListedRoom (now records) (now marks) (now list) count ⌝ }
-    ensures { λ r. ⌜ (reach (size (now (records .entry))) (arcs (now (records .entry))) (size (now (records .entry))) (now (marks .exit))
-        ≡ reach (size (now (records .entry))) (arcs (now (records .entry))) (size (now (records .entry))) (now (marks .entry)))
-        × ListedRoom (now (records .entry)) (now (marks .exit)) (now (list .exit)) r ⌝ }
+// The arcs of each marked node are followed once, the lowest node first: a node that is marked on the way has its turn too, if it is a
+// higher one. In most charts all are marked then. What arcs join from the marks has not changed. In a line of nodes `join` takes each from
+// the list just after it was written there, and waits for it; here the next node is known.
+pub fn sweep(records: &[u8], marks: &mut [bool])
+    requires { ⌜ length (now marks) ≡ size (now records) ⌝ }
+    ensures { λ _. ⌜ reach (size (now (records .entry))) (arcs (now (records .entry))) (size (now (records .entry))) (now (marks .exit))
+        ≡ reach (size (now (records .entry))) (arcs (now (records .entry))) (size (now (records .entry))) (now (marks .entry)) ⌝ }
 {
     let n = records.len() / RECORD;
-    let mut end = count;
     let mut v: usize = 0;
     while v < n {
-        end = follow_marked(records, v, marks, list, end);
+        mark_on(records, v, marks);
         v += 1;
     }
-    end
-}
-
-// As `join`, over all arcs. Most charts need no more than a sweep. In a line of nodes each is the last of the list when its turn comes, so
-// that `join` waits for what it has just written; a sweep does not.
-pub fn join_all(records: &[u8], marks: &mut [bool], list: &mut [u8], count: usize) -> usize
-    requires { ⌜ ListedRoom (now records) (now marks) (now list) count ⌝ }
-    ensures { λ r. ⌜ (now (marks .exit) ≡ reach (size (now (records .entry))) (arcs (now (records .entry)))
-        (size (now (records .entry))) (now (marks .entry))) × (r ≡ many (now (marks .exit))) ⌝ }
-{
-    let swept = sweep(records, marks, list, count);
-    if swept == marks.len() {
-        return swept;
-    }
-    join(records, false, marks, list, swept)
 }
 
 // The nodes of a kind are marked, and no others.

@@ -12,9 +12,7 @@ finish-all-requires c κs =
     record { few = search needs; room = search needs; finished = finished-none _ _ (c .before .before .before .before .mark-kind .ensures) }
 
 search-circle-requires : tie.Need-search-circle-requires
-search-circle-requires c κs =
-    let done = c .before .before .before .before .before .before .finish-all .ensures in
-    (record { few = search needs; room = search needs; finished = done .0 }, done .1)
+search-circle-requires c κs = search needs
 
 same-length : tie.Need-same-length
 same-length c = search needs

@@ -5,18 +5,18 @@ use mathlib.Core.Logic.{⊎-elim}
 use mathlib.Core.List.{List}
 use lib.ListN.{length}
 use Rattle.lists.specs.Numbers.{lowest}
-use Rattle.lists.proofs.Searches.{Searching, searching-found, searching-next, searching-over}
+use Rattle.lists.proofs.Searches.{Searching, searching-first, searching-found, searching-next, searching-over}
 use Rattle.charts.specs.Check.{onCircle}
 use borrow.Author.Needs.{needs}
 use Rattle.circles.proofs.search_circle.Statement.{statement}
 use Rattle.circles.proofs.search_circle.Tie as tie
 
 abbrev Inv-loop : tie.InvT-loop
-Inv-loop records unfinished list₀ first n v₀ list v =
+Inv-loop records unfinished list₀ n v₀ list v =
     (length list ≡ length list₀) × Searching (onCircle records) n v (lowest (onCircle records) 0 n)
 
 abbrev μ-loop : tie.MeasureT-loop
-μ-loop records unfinished list₀ first n v₀ list v = n - v
+μ-loop records unfinished list₀ n v₀ list v = n - v
 
 abbrev At : ((Inv : tie.InvT-loop) → (μ : tie.MeasureT-loop) → Type 0) → Type 0
 At stage = stage Inv-loop μ-loop
@@ -30,9 +30,7 @@ turn c = c .before .before .before .before .before
 
 -- ---- the needs
 loop-holds : tie.Need-loop-holds Inv-loop μ-loop
-loop-holds c =
-    let below = c .before .before .before .pre .1 in
-    (refl, record { inside = below .inside; left = below .left })
+loop-holds c = (refl, searching-first _ _)
 
 shared-slice-read-if1 : tie.Need-shared-slice-read-if1 Inv-loop μ-loop
 shared-slice-read-if1 c = search needs
@@ -65,7 +63,7 @@ loop-again c =
     ))
     (λ w. (
       ap (λ (xs : List ℕ). length xs) (w .1) ∙ loop .inv .0,
-      searching-next _ _ _ _ (loop .inv .1) (search needs) (start here .pre .0 .finished .off _ (search needs) (w .0 .left)),
+      searching-next _ _ _ _ (loop .inv .1) (search needs) (start here .pre .finished .off _ (search needs) (w .0 .left)),
     ))
     (c .if1 .came)
 

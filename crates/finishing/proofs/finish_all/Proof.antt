@@ -1,25 +1,23 @@
--- `finishing::finish_all` meets its contract: each call keeps what is finished, and a node that is finished is on no circle.
-use Prim.Native.Nat.{ℕ, _-_}
+-- `finishing::finish_all` meets its contract: each call keeps what is finished.
+use Prim.Native.Nat.{ℕ, _-_, _≤_}
 use mathlib.Core.Path.{_≡_, refl, sym, _∙_, ap, subst}
 use mathlib.Core.Logic.{⊎-elim}
 use mathlib.Core.Bool.{Bool}
 use mathlib.Core.List.{List}
 use lib.ListN.{length}
 use Rattle.charts.specs.inner.Finished.{Finished}
-use Rattle.finishing.specs.inner.FinishContracts.{NoneBelow}
-use Rattle.finishing.proofs.FinishedCases.{none-below-first, none-below-next}
 use borrow.Author.Needs.{needs}
 use Rattle.finishing.proofs.finish_all.Statement.{statement}
 use Rattle.finishing.proofs.finish_all.Tie as tie
 
 abbrev Inv-loop : tie.InvT-loop
-Inv-loop records unfinished₀ path₀ n v₀ unfinished path v = (length path ≡ length path₀) × Finished records unfinished × NoneBelow records v
+Inv-loop records unfinished₀ path₀ n v₀ unfinished path v = (v ≤ n) × (length path ≡ length path₀) × Finished records unfinished
 
 abbrev μ-loop : tie.MeasureT-loop
 μ-loop records unfinished₀ path₀ n v₀ unfinished path v = n - v
 
 loop-holds : tie.Need-loop-holds Inv-loop μ-loop
-loop-holds c = (refl, c .before .before .before .pre .finished, none-below-first _)
+loop-holds c = (search needs, refl, c .before .before .before .pre .finished)
 
 slice-read-if1 : tie.Need-slice-read-if1 Inv-loop μ-loop
 slice-read-if1 c = search needs
@@ -27,7 +25,7 @@ slice-read-if1 c = search needs
 finish-from-requires : tie.Need-finish-from-requires Inv-loop μ-loop
 finish-from-requires c κs =
     let here = c .before .before .before .before .before in
-    (search needs, record { few = search needs; room = search needs; finished = here .loop .inv .1 })
+    (search needs, record { few = search needs; room = search needs; finished = here .loop .inv .2 })
 
 slice-read-if2 : tie.Need-slice-read-if2 Inv-loop μ-loop
 slice-read-if2 c = search needs
@@ -39,9 +37,7 @@ same-length-2 : tie.Need-same-length-2 Inv-loop μ-loop
 same-length-2 c = search needs
 
 returns : tie.Need-returns Inv-loop μ-loop
-returns c =
-    let on = c .before .before .before .before .before .before in
-    (on .finish-from .ensures, on .before .before .before .before .before .before .loop .inv .2)
+returns c = search needs
 
 add-v : tie.Need-add-v Inv-loop μ-loop
 add-v c = search needs
@@ -56,14 +52,14 @@ loop-again c =
     let records = here .before .before .before .before .args .records .now in
     ⊎-elim
     (λ w. (
-      ap (λ (xs : List ℕ). length xs) (w .11) ∙ w .3 .kept .1 .1 .0 ∙ loop .inv .0,
+      search needs,
+      ap (λ (xs : List ℕ). length xs) (w .11) ∙ w .3 .kept .1 .1 .0 ∙ loop .inv .1,
       subst (λ (xs : List Bool). Finished records xs) (sym (w .10)) (w .3 .ensures),
-      none-below-next _ _ (loop .inv .2) (search needs) (w .3 .ensures .off _ (search needs) (w .9 .left)),
     ))
     (λ w. (
-      ap (λ (xs : List ℕ). length xs) (w .2) ∙ loop .inv .0,
-      subst (λ (xs : List Bool). Finished records xs) (sym (w .1)) (loop .inv .1),
-      none-below-next _ _ (loop .inv .2) (search needs) (loop .inv .1 .off _ (search needs) (w .0 .left)),
+      search needs,
+      ap (λ (xs : List ℕ). length xs) (w .2) ∙ loop .inv .1,
+      subst (λ (xs : List Bool). Finished records xs) (sym (w .1)) (loop .inv .2),
     ))
     (c .if1 .came)
 
@@ -71,10 +67,10 @@ same-length-3 : tie.Need-same-length-3 Inv-loop μ-loop
 same-length-3 c = search needs
 
 same-length-4 : tie.Need-same-length-4 Inv-loop μ-loop
-same-length-4 c = c .before .loop .inv .0
+same-length-4 c = c .before .loop .inv .1
 
 returns-2 : tie.Need-returns-2 Inv-loop μ-loop
-returns-2 c = (c .before .loop .inv .1, c .before .loop .inv .2)
+returns-2 c = c .before .loop .inv .2
 
 pub finish-all-spec : {M : Type 1} → statement M
 finish-all-spec =

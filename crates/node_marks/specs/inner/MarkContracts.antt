@@ -2,12 +2,16 @@
 use Prim.Native.Nat.{ℕ, _≤_}
 use mathlib.Core.Path.{_≡_}
 use mathlib.Core.Bool.{Bool, false}
-use mathlib.Core.List.{List}
+use mathlib.Core.List.{List, []}
 use lib.ListN.{length, replicate}
-use Rattle.graph.specs.inner.Listed.{Listed}
+use Rattle.graph.specs.inner.Listed.{listing, enlistAll, Listed}
 use Rattle.frames.specs.Sizes.{NODES}
 use Rattle.frames.specs.Frame.{size}
 use Rattle.charts.specs.Chart.{Chart}
+
+-- marks, and these nodes marked besides, as they are when they are enlisted
+abbrev pub markedBy : List Bool → List ℕ → List Bool
+markedBy ms us = enlistAll (listing ms [] 0) us .marks
 
 -- as many nodes as a byte can number, and a list with room for all
 pub record NodeRoom (c : Chart) (list : List ℕ) : Type 0 where

@@ -1,0 +1,105 @@
+-- `node_marks::mark_next` meets its contract: by how many arcs the node has.
+use mathlib.Core.Path.{refl, sym, _∙_, ap}
+use mathlib.Core.Bool.{Bool, true, false}
+use mathlib.Core.List.{List, []}
+use lib.ListN.{set}
+use Rattle.graph.specs.inner.Listed.{Listing, listing, enlist}
+use Rattle.node_marks.proofs.MarkCases.{marked-none, marked-one, marked-two}
+use Rattle.node_marks.proofs.Sweeps.{enlist-marks}
+use borrow.Author.Needs.{needs}
+use Rattle.node_marks.proofs.mark_next.Statement.{statement}
+use Rattle.node_marks.proofs.mark_next.Tie as tie
+
+-- ---- the stages: the arcs are counted, there are some, the first marks a node, there is another
+abbrev start : tie.After-arc-count → tie.Start
+start c = c .before .before .before
+
+abbrev some : tie.After-mark → tie.Else1
+some c = c .before .before .before
+
+abbrev first : tie.Else2 → tie.After-mark
+first c = c .before .before .before
+
+-- what is lent at first, with no list
+abbrev lent : tie.Start → Listing
+lent c = listing (c .args .marks .now) [] 0
+
+-- ---- the needs
+arc-count-requires : tie.Need-arc-count-requires
+arc-count-requires c κs = search needs
+
+returns : tie.Need-returns
+returns c =
+    let counted = c .before in
+    let a = start counted .args in
+    ap (λ (s : Listing). s .marks)
+    (marked-none (a .records .now) false (a .v) _ (counted .arc-count .ensures) (lent (start counted)) (c .if1 .taken))
+
+field-requires : tie.Need-field-requires
+field-requires c κs = search needs
+
+cast-mark : tie.Need-cast-mark
+cast-mark c = search needs
+
+mark-requires : tie.Need-mark-requires
+mark-requires c κs = search needs
+
+same-length : tie.Need-same-length
+same-length c = search needs
+
+returns-2 : tie.Need-returns-2
+returns-2 c =
+    let one = c .before .before .before in
+    let counted = some one .before in
+    let a = start counted .args in
+    let s = lent (start counted) in
+    let u = one .before .field .result in
+    one .mark .ensures ∙ sym (enlist-marks s u)
+    ∙ ap (λ (t : Listing). t .marks) (marked-one (a .records .now) false (a .v) _ (counted .arc-count .ensures) s (some one .if1 .left)
+    u (enlist s u) (one .before .field .ensures) refl (c .if2 .taken))
+
+field-requires-2 : tie.Need-field-requires-2
+field-requires-2 c κs = search needs
+
+cast-mark-2 : tie.Need-cast-mark-2
+cast-mark-2 c = search needs
+
+mark-requires-2 : tie.Need-mark-requires-2
+mark-requires-2 c κs = search needs
+
+same-length-2 : tie.Need-same-length-2
+same-length-2 c = search needs
+
+returns-3 : tie.Need-returns-3
+returns-3 c =
+    let two = c .before .before in
+    let another = two .before .before .before in
+    let one = first another in
+    let counted = some one .before in
+    let a = start counted .args in
+    let s = lent (start counted) in
+    let u = one .before .field .result in
+    let w = two .before .field2 .result in
+    two .mark2 .ensures
+    ∙ ap (λ (xs : List Bool). set xs w true) (one .mark .ensures ∙ sym (enlist-marks s u))
+    ∙ sym (enlist-marks (enlist s u) w)
+    ∙ ap (λ (t : Listing). t .marks) (marked-two (a .records .now) false (a .v) _ (counted .arc-count .ensures) s (some one .if1 .left)
+    u (enlist s u) (one .before .field .ensures) refl (another .if2 .left)
+    w (enlist (enlist s u) w) (two .before .field2 .ensures) refl)
+
+pub mark-next-spec : {M : Type 1} → statement M
+mark-next-spec =
+    tie.close
+    (tie.spec
+    arc-count-requires
+    returns
+    field-requires
+    cast-mark
+    mark-requires
+    same-length
+    returns-2
+    field-requires-2
+    cast-mark-2
+    mark-requires-2
+    same-length-2
+    returns-3)
