@@ -1,4 +1,5 @@
-// Frames made into text where they stand: their bytes at the front of a buffer, ten of each, give way to their characters.
+// Frames made into text where they stand, as the translator needs it: their bytes at the front of a buffer, ten of each, give way to their
+// characters.
 use frames::put_frame;
 use frames::sizes::LINE;
 use frames::ten_at;

@@ -41,11 +41,11 @@ pub fn character(d: u8) -> u8
     d + 48 + 7 * ((9 < d) as u8)
 }
 
-// The two characters of a byte as one number, the first one low. Both are made at once: six more than a digit is sixteen and more where it
-// is a letter's, which stands seven further than the numerals would go.
+// The two characters of a byte as one number, the first one low. Both are made at once, a byte of the number each: six more than a digit
+// is sixteen or more where its character is a letter, and letters begin seven places behind the numerals.
 pub fn characters(b: u8) -> u16
     ensures { λ r. ⌜ r ≡ charOf (b / 16) + 256 * charOf (b % 16) ⌝ }
 {
     let both = (b / 16) as u16 + (b % 16) as u16 * 256;
-    both + 12336 + 7 * ((both + 1542) / 16 & 257)
+    both + 0x3030 + 7 * ((both + 0x0606) / 16 & 0x0101)
 }

@@ -32,8 +32,8 @@ fn put_byte(out: &mut [u8], at: usize, b: u8)
     out[at + 1] = (both / 256) as u8;
 }
 
-// The same for the byte that ends a sum. Each character is made by a comparison of its own: where one follows the sum, the compiler adds
-// eight bytes at once.
+// The same for the byte of a sum. Each character is made by a comparison of its own: by a sum of both, the compiler would no longer add
+// eight bytes of a frame at once.
 fn put_sum(out: &mut [u8], at: usize, b: u8)
     requires { ⌜ at + 2 ≤ length (now out) ⌝ }
     ensures { λ _. ⌜ now (out .exit) ≡ written (now (out .entry)) at (byteText b) ⌝ }

@@ -12,7 +12,8 @@ use Rattle.rows.proofs.SearchCases.{Searched, search-start, search-over, search
 use Rattle.row_search.specs.inner.Skipped.{Skipped}
 
 -- ---- rows that a search passed over, none of which matches
-module _ (b : List ℕ) (w bit from end f : ℕ) (s : Skipped b w bit from end f) (t : Bool) (q : t ≡ matchingFrame b w bit f) (n : t ≡ false) where
+module _ (b : List ℕ) (w bit from end f : ℕ) (s : Skipped b w bit from end f)
+    (t : Bool) (q : t ≡ matchingFrame b w bit f) (n : t ≡ false) where
   pub skip-one : f + 1 ≤ end → Skipped b w bit from end (f + 1)
   skip-one h = record { on = omega (arith, s .on); within = λ _. h; none = none }
     where

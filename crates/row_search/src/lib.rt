@@ -30,10 +30,10 @@ fn one_row(table: &[u8], f: usize, word: u16, bit: u8) -> usize
     NO_FRAME
 }
 
-// The first matching row from a frame on, or where less than two rows are left: two rows a turn, since most rows of a long label do not
-// match, and a turn costs about as much as a row.
+// Rows that do not match are passed over, up to the first that does or to where fewer than two are left: two rows a turn, since most rows
+// of a long label do not match, and a turn costs about as much as a row.
 fn skip_rows(table: &[u8], from: usize, end: usize, turned: u16, bit: u8) -> usize
-    requires { ⌜ from < 65536 ⌝ }
+    requires { ⌜ from ≤ 131072 ⌝ }
     requires { ⌜ end ≤ size (now table) ⌝ }
     ensures { λ r. ⌜ Skipped (now (table .entry)) (swapped turned) bit from end r ⌝ }
 {
@@ -59,8 +59,7 @@ pub fn find_row(table: &[u8], schemes: u8, l: usize, word: u16, bit: u8) -> usiz
 {
     let turned = swap(word);
     let end = end_of(table, schemes, l);
-    let first = first_of(table, schemes, l);
-    let mut f = skip_rows(table, first, end, turned, bit);
+    let mut f = first_of(table, schemes, l);
     let mut found = NO_FRAME;
     while f < end {
         if is_matching(table, f, turned, bit) {
@@ -69,13 +68,13 @@ pub fn find_row(table: &[u8], schemes: u8, l: usize, word: u16, bit: u8) -> usiz
             }
             found = f;
         }
-        f += 1;
+        f = skip_rows(table, f + 1, end, turned, bit);
     }
     found
 }
 
-// The same, for a tick: labels of one row and of two, which most are, are settled here, so that the search is called for others alone. Which
-// of two rows matches is asked by jumps: where it is foreseen, the next tick need not wait for it.
+// The same, for a tick: labels of one row and of two, which most are, are settled here, so that the search is called for others alone.
+// Which of two rows matches is asked by jumps: where it is foreseen, the next tick need not wait for it.
 fn take_row(table: &[u8], schemes: u8, l: usize, word: u16, bit: u8) -> usize
     requires { ⌜ Deciding (now table) l bit ⌝ }
     requires { ⌜ schemes ≡ schemeCount (now table) ⌝ }

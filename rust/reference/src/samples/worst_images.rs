@@ -80,6 +80,12 @@ fn function_rows_that_match() -> Image {
     })
 }
 
+/// Functions of scheme 2: all rows match any word, but only the first and the last match a result of 0. So a search that goes on until a
+/// second row matches goes through all of them before they are compared.
+fn function_rows_at_both_ends() -> Image {
+    filled(FUNCTION_CALL, 2, |k| any_word(BUSY, u8::from(k % (ROWS - 1) != 0), RETURN_LABEL))
+}
+
 /// Rows spread over all labels, so that none has many.
 fn spread_rows() -> Image {
     filled(FUNCTION_CALL, 2, |k| {
@@ -130,6 +136,7 @@ pub fn worst_ticks() -> Vec<Ticks> {
         ("deep return, last but one of 1,024 function rows", function_rows(), deep, returns_first()),
         ("deep return, last of 1,024 function rows", function_rows(), deep, vec![1; WORDS]),
         ("deep return, 1,024 function rows that match", function_rows_that_match(), deep, returns_first()),
+        ("deep return, first and last of 1,024 function rows", function_rows_at_both_ends(), deep, vec![0; WORDS]),
         ("deep call", function_rows(), calling, vec![1; WORDS]),
         ("deep return, operations", operation_rows(), deep, vec![0; WORDS]),
         ("drop of a full stack", handled, full, vec![1; WORDS]),
