@@ -48,7 +48,15 @@ pub fn function_rows() -> Image {
     })
 }
 
-/// The same by operations, whose rows no bit decides.
+/// The same rows, of which the first matches a result of 0 too. So a search that goes on until a second row matches goes through nearly
+/// all of them before they are compared.
+fn function_rows_at_both_ends() -> Image {
+    let mut image = function_rows();
+    image.rows[0].function_bit = 0;
+    image
+}
+
+/// Rows of operations, which no bit decides.
 fn operation_rows() -> Image {
     filled(OPERATION_CALL, 2, |_| any_word(BUSY, 2, RETURN_LABEL))
 }
@@ -78,12 +86,6 @@ fn function_rows_that_match() -> Image {
         1 => Row { care: u16::MAX, values: 1, ..any_word(BUSY, 0, BUSY) },
         _ => Row { care: rising(k), ..any_word(BUSY, 0, RETURN_LABEL) },
     })
-}
-
-/// Functions of scheme 2: all rows match any word, but only the first and the last match a result of 0. So a search that goes on until a
-/// second row matches goes through all of them before they are compared.
-fn function_rows_at_both_ends() -> Image {
-    filled(FUNCTION_CALL, 2, |k| any_word(BUSY, u8::from(k % (ROWS - 1) != 0), RETURN_LABEL))
 }
 
 /// Rows spread over all labels, so that none has many.
@@ -136,7 +138,12 @@ pub fn worst_ticks() -> Vec<Ticks> {
         ("deep return, last but one of 1,024 function rows", function_rows(), deep, returns_first()),
         ("deep return, last of 1,024 function rows", function_rows(), deep, vec![1; WORDS]),
         ("deep return, 1,024 function rows that match", function_rows_that_match(), deep, returns_first()),
-        ("deep return, first and last of 1,024 function rows", function_rows_at_both_ends(), deep, vec![0; WORDS]),
+        (
+            "deep return, first and last of 1,024 function rows",
+            function_rows_at_both_ends(),
+            deep,
+            returns_first(),
+        ),
         ("deep call", function_rows(), calling, vec![1; WORDS]),
         ("deep return, operations", operation_rows(), deep, vec![0; WORDS]),
         ("drop of a full stack", handled, full, vec![1; WORDS]),
