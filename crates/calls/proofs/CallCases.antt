@@ -1,7 +1,6 @@
 -- What a call with a place free answers and leaves: of its label and its callee, as they were read, and of the bytes after each write.
 -- Which label is at the top after a call at a full stack.
-use mathlib.Core.Path.{_≡_, refl, sym, _∙_, ap, ap₂}
-use mathlib.Core.Bool.{Bool, true, false}
+use mathlib.Core.Path.{_≡_, _∙_, ap, ap₂}
 use mathlib.Core.List.{List}
 use Prim.Native.Nat.{ℕ, _+_, _-_, _<_}
 use native.Mathlib.Numerals.{add-one}
@@ -10,9 +9,7 @@ use borrow.Author.Tests.{lt-leb}
 use Rattle.results.specs.Results.{Results, withResult, cleared}
 use Rattle.bindings.specs.Binding.{served}
 use Rattle.image.specs.Layout.{tickKind}
-use Rattle.image.specs.Image.{Label, Image}
-use Rattle.lists.specs.Pick.{pick}
-use Rattle.lists.proofs.Tests.{yes-pick, no-pick}
+use Rattle.image.specs.Image.{Label}
 use Rattle.tables.specs.Table.{tableLabel, tableImage}
 use Rattle.tables.specs.inner.Labels.{asLabel}
 use Rattle.tables.specs.declared.Label as declared
@@ -21,11 +18,10 @@ use Rattle.state.specs.declared.State.{State}
 use Rattle.state.specs.State.{entryAt, placeAt, numberAt}
 use Rattle.state.specs.Changes.{withDepth, withOpened, afterResult}
 use Rattle.state.specs.Bytes.{stateOf}
-use Rattle.ticks.specs.Tick.{opening, pushed, topOf, MachineTick, keepsFull, finished, stopped, alone, tick}
-use Rattle.ticks.specs.inner.TickContracts.{TopCalls, GivesTickEnd}
-use Rattle.ticks.proofs.TickCases.{steps-ticked, tick-call, top-put, size-most, tick-full}
 use Rattle.ticks.specs.declared.TickEnd.{TickEnd}
-use Rattle.ticks.specs.inner.TickContracts.{TopFull, afterTick, endOfTick, GivesTickMove}
+use Rattle.ticks.specs.Tick.{topOf, opening, pushed}
+use Rattle.ticks.specs.inner.TickContracts.{TopCalls, GivesTickEnd, GivesTickMove}
+use Rattle.ticks.proofs.TickCases.{steps-ticked, tick-call, top-put, size-most}
 use Rattle.calls.specs.declared.Callee.{Callee}
 use Rattle.calls.specs.inner.Callees.{IsCallee}
 
@@ -78,39 +74,11 @@ module _ (b before : List ℕ) (w : ℕ) where
         ∙ ap (pushed (tableImage b) s (caller .mask) _ (caller .called) _ _) (lt-leb (s .size) (s .depth) (omega arith))) left) in
         record {
           steps = step;
-          label = λ _. top-put second bytes d (r .entry) (ap (λ (u : State). u .places) e₄ ∙ ap (λ (u : State). u .places) e₃)
+          label = top-put second bytes d (r .entry) (ap (λ (u : State). u .places) e₄ ∙ ap (λ (u : State). u .places) e₃)
               (ap (λ (u : State). u .depth - 1) e₄ ∙ omega arith) (omega (arith, size-most (y .stands)));
         }
 
-  -- a call at a full stack that is not stopped leaves one place, the bottom
-  module _ (y : TopFull b s) (r : TickEnd) (bytes : List ℕ) (q : GivesTickEnd b before w r bytes) where
-    abbrev i : Image
-    i = tableImage b
-
-    abbrev at : Label
-    at = tableLabel b (topOf s)
-
-    abbrev left : Results
-    left = withResult (at .result) (numberAt s (s .depth - 1)) (s .bits)
-
-    abbrev made : MachineTick
-    made = tick i s w
-
-    full-alone : r .number ≡ 0 → stateOf bytes .depth ≡ 1
-    full-alone z = go (keepsFull i s) refl
-      where
-        is : made
-            ≡ pick (keepsFull i s) (stopped 17)
-            (finished (at .mask) 96 (alone s (entryAt i (i .handler)) (i .handler) (cleared (i .handler) left)))
-        is = tick-full b s (y .calls .stands) w (y .calls .low) (y .calls .high) (y .full)
-
-        go : (t : Bool) → keepsFull i s ≡ t → stateOf bytes .depth ≡ 1
-        go true e = absurd (omega (arith, sym z ∙ ap (λ (u : TickEnd). u .number) (q .step ∙ ap endOfTick (is ∙ yes-pick _ _ _ e))))
-        go false e = ap (λ (u : State). u .depth) (q .state ∙ ap (afterTick s) (is ∙ no-pick _ _ _ e))
-
-    pub full-moves : (l : ℕ) → l ≡ placeAt (stateOf bytes) 0 → GivesTickMove b before w (record { step = r; label = l }) bytes
-    full-moves l e = record {
-      steps = q;
-      label = λ z.
-          let d : _≡_ {A = ℕ} 0 (stateOf bytes .depth - 1) = omega (arith, full-alone z) in e ∙ ap (placeAt (stateOf bytes)) d;
-    }
+  -- a call at a full stack: d is the depth that it leaves, and l the label read there
+  pub full-moves : (r : TickEnd) (bytes : List ℕ) → GivesTickEnd b before w r bytes → (d : ℕ) → d ≡ stateOf bytes .depth
+      → (l : ℕ) → l ≡ placeAt (stateOf bytes) (d - 1) → GivesTickMove b before w (record { step = r; label = l }) bytes
+  full-moves r bytes q d is l e = record { steps = q; label = e ∙ ap (λ (k : ℕ). placeAt (stateOf bytes) (k - 1)) is }

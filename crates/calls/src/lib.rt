@@ -11,7 +11,6 @@ use state_places::put_depth;
 use state_places::size_of;
 use state_results::put_result;
 use state_results::serving_at;
-use state_results::serving_of;
 use tables::entry_of;
 use tables::field_of;
 use tables::label_read;
@@ -24,9 +23,8 @@ ghost use Rattle.tables.specs.inner.Asked.{Whole};
 ghost use Rattle.tables.specs.inner.Labels.{Framed};
 ghost use Rattle.state.specs.State.{entryAt};
 ghost use Rattle.state.specs.Bytes.{stateOf};
-ghost use Rattle.ticks.specs.inner.TickContracts.{TopCalls, GivesTickEnd};
 ghost use Rattle.ticks.specs.Tick.{topOf};
-ghost use Rattle.ticks.specs.inner.TickContracts.{GivesTickMove};
+ghost use Rattle.ticks.specs.inner.TickContracts.{TopCalls, GivesTickMove};
 ghost use Rattle.calls.specs.inner.Callees.{IsCallee};
 
 // What a call opens: the number that it calls, the scheme that serves it, and the entry of that scheme.
@@ -48,13 +46,14 @@ fn server_entry(table: &[u8], schemes: u8, server: u8) -> u8
     entry_of(table, server)
 }
 
-// The callee of a label that calls no number of 1 to H, as only a table that no preparation makes has one: its number counts as 0.
+// The callee of a label that calls no number of 1 to H, as only a table that no preparation makes has one: its number counts as 0, which
+// is served as number 1 is.
 fn stray_callee(table: &[u8], schemes: u8, bytes: &[u8; STATE_BYTES]) -> Callee
     requires { ⌜ Whole (now table) ⌝ }
     requires { ⌜ schemes ≡ schemeCount (now table) ⌝ }
     ensures { λ r. ⌜ IsCallee (now (table .entry)) (stateOf (now (bytes .entry))) 0 r ⌝ }
 {
-    let server = serving_of(bytes, 0);
+    let server = serving_at(bytes, 1);
     let entry = server_entry(table, schemes, server);
     Callee {
         number: 0,
@@ -110,11 +109,8 @@ pub fn tick_call(
     let depth = depth_of(bytes);
     if size_of(bytes) <= depth {
         let step = tick_full(table, schemes, bytes, word);
-        let bottom = place_of(bytes, 0);
-        return TickMove {
-            step,
-            label: bottom,
-        };
+        let label = place_of(bytes, (depth_of(bytes) as usize) - 1);
+        return TickMove { step, label };
     }
     let top = (depth as usize) - 1;
     let label = label_read(table, schemes, l as usize);

@@ -23,7 +23,7 @@ pub enum Meaning {
     Unknown,
 }
 
-// The code of a tick, by its kind and the scheme that it calls.
+// The code of a tick, by its kind and the number that it calls.
 pub fn code_of(kind: u8, called: u8) -> u8
     requires { ⌜ called ≤ SCHEMES ⌝ }
     ensures { λ r. ⌜ r ≡ codeOf (tickKind kind) called ⌝ }

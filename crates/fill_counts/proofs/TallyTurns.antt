@@ -16,7 +16,8 @@ use Rattle.state.specs.Bytes.{stateOf}
 use Rattle.ticks.specs.declared.TickEnd.{TickEnd}
 use Rattle.ticks.specs.Tick.{MachineTick, tick}
 use Rattle.ticks.specs.inner.TickContracts.{TickAsked, GivesTickEnd}
-use Rattle.runs.proofs.TurnCases.{went, stood, stands-on}
+use Rattle.ticks.proofs.TickCases.{stands-on}
+use Rattle.runs.proofs.TurnCases.{went, stood}
 use Rattle.fillings.specs.Counts.{wordsOf, lists, met, meeting}
 use Rattle.fill_counts.specs.declared.Tally.{Tally}
 use Rattle.fill_counts.specs.inner.TallyContracts.{tallyOf, allMeet, added, FewLists}
@@ -75,7 +76,7 @@ module _ {b bytes₀ : List ℕ} {n : ℕ} {bytes : List ℕ} {left : ℕ} (y : 
   module _ (l : 0 < left) (r : TickEnd) (next : List ℕ) (q : GivesTickEnd b bytes 0 r next) where
     pub one-on : r .number ≡ 0 → One b bytes₀ n next (left - 1)
     one-on z = record {
-      stands = stands-on b bytes 0 r next q (y .stands) z;
+      stands = stands-on q (y .stands);
       same = went-share b bytes 0 r next q (left - 1) 0 z ∙ by-share l;
     }
 

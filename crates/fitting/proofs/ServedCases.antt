@@ -16,8 +16,9 @@ use Rattle.fitness.specs.Fitness.{badServed}
 use Rattle.fitness.specs.inner.FitnessContracts.{misserved}
 
 -- the numbers from h up hold one that is served amiss where 2 to 16 do
-abbrev pub Left : Image → State → ℕ → Type 0
-Left i s h = any (badServed i s) h (17 - h) ≡ any (badServed i s) 2 15
+pub record Left (i : Image) (s : State) (h : ℕ) : Type 0 where
+  pub low : 2 ≤ h
+  pub same : any (badServed i s) h (17 - h) ≡ any (badServed i s) 2 15
 
 -- n schemes, the handler g and the scheme k that serves number h were read; t is what the test of h answered
 module _ (b : List ℕ) (s : State) (n g h k : ℕ) (schemes : n ≡ schemeCount b)
@@ -28,12 +29,15 @@ module _ (b : List ℕ) (s : State) (n g h k : ℕ) (schemes : n ≡ schemeCount
       ap₂ (λ (m f : ℕ). misserved m f h (served (s .serving) h)) (entries-count b ∙ sym schemes) (handler-at b ∙ sym handler)
       ∙ ap (misserved n g h) (sym serves) ∙ sym tested
 
-  module _ (low : h ≤ 16) (left : Left (tableImage b) s h) where
+  module _ (most : h ≤ 16) (left : Left (tableImage b) s h) where
     pub served-found : t ≡ true → true ≡ any (badServed (tableImage b) s) 2 15
-    served-found e = sym (any-here (badServed (tableImage b) s) 17 h (omega arith) (served-is ∙ e)) ∙ left
+    served-found e = sym (any-here (badServed (tableImage b) s) 17 h (omega arith) (served-is ∙ e)) ∙ left .same
 
     pub served-next : t ≡ false → Left (tableImage b) s (h + 1)
-    served-next e = sym (any-on (badServed (tableImage b) s) 17 h (omega arith) (served-is ∙ e)) ∙ left
+    served-next e = record {
+      low = omega (arith, left .low);
+      same = sym (any-on (badServed (tableImage b) s) 17 h (omega arith) (served-is ∙ e)) ∙ left .same;
+    }
 
 pub served-all : (i : Image) (s : State) (h : ℕ) → 16 < h → Left i s h → false ≡ any (badServed i s) 2 15
-served-all i s h l left = sym (any-over (badServed i s) 17 h (omega arith)) ∙ left
+served-all i s h l left = sym (any-over (badServed i s) 17 h (omega arith)) ∙ left .same

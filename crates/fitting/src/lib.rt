@@ -9,7 +9,7 @@ use state_places::number_of;
 use state_places::place_of;
 use state_places::server_of;
 use state_places::size_of;
-use state_results::serving_of;
+use state_results::serving_at;
 use tables::handler_of;
 use tables::scheme_count;
 ghost use mathlib.Core.Path.{_≡_};
@@ -66,7 +66,7 @@ fn any_misserved(table: &[u8], bytes: &[u8; STATE_BYTES]) -> bool
     let handler = handler_of(table);
     let mut h: u8 = 2;
     while h <= 16 {
-        if is_misserved(schemes, handler, h, serving_of(bytes, h)) {
+        if is_misserved(schemes, handler, h, serving_at(bytes, h)) {
             return true;
         }
         h += 1;

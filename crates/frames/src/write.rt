@@ -58,7 +58,7 @@ pub fn put_frame(out: &mut [u8], at: usize, bytes: &[u8])
         sum += b as u32;
         k += 1;
     }
-    put_sum(out, at + 20, ((256 - sum % 256) % 256) as u8);
+    put_sum(out, at + 2 * FRAME, ((256 - sum % 256) % 256) as u8);
     out[at + DIGITS] = LINE_FEED;
 }
 

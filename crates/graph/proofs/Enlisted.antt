@@ -13,8 +13,8 @@ use borrow.Author.Tests.{ltb-true, lt-ltb, le-ltb}
 use Rattle.lists.proofs.Tests.{no-both, and-l, and-r, and-true, and-no, not-true, cases, split}
 use Rattle.lists.proofs.Counts.{count-le}
 use Rattle.graph.specs.Reach.{marked, only}
-use Rattle.graph.specs.inner.Listed.{many, Listing, listing, unmarked, enlist, enlistAll, Among, Listed}
-use Rattle.graph.proofs.Marking.{markAll, set-hit, set-grow, set-back, set-many, all-only}
+use Rattle.graph.specs.inner.Listed.{many, markAll, Listing, listing, unmarked, enlist, enlistAll, Among, Listed}
+use Rattle.graph.proofs.Marking.{set-hit, set-grow, set-back, set-many, all-only}
 use Rattle.graph.proofs.Lists.{Longer, longer-same, longer-on, listed-none}
 
 -- ---- the first k of a list and one more

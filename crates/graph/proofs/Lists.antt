@@ -10,9 +10,9 @@ use lib.ListN.{length, getD, replicate, length-replicate, getD-replicate}
 use Rattle.lists.proofs.Tests.{no-both}
 use Rattle.lists.proofs.Counts.{count-le, count-none}
 use Rattle.graph.specs.Reach.{member, marked}
-use Rattle.graph.specs.inner.Listed.{Among, Listed}
+use Rattle.graph.specs.inner.Listed.{markAll, Among, Listed}
 use Rattle.graph.proofs.Closure.{marked-below, Closed, reach-closed}
-use Rattle.graph.proofs.Marking.{markAll, all-long, all-grow, all-hit, all-back, Joining}
+use Rattle.graph.proofs.Marking.{all-long, all-grow, all-hit, all-back, Joining}
 
 -- ---- a list that stays
 -- the list goes on: its first k stay, and j, not fewer, now count

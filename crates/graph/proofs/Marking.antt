@@ -15,7 +15,7 @@ use Rattle.lists.specs.Sequences.{some}
 use Rattle.lists.proofs.Tests.{no-both, or-cases, or-true-l, or-true-r, cases}
 use Rattle.lists.proofs.Counts.{count-add, count-miss}
 use Rattle.graph.specs.Reach.{member, marked, only, reach}
-use Rattle.graph.specs.inner.Listed.{many}
+use Rattle.graph.specs.inner.Listed.{many, markAll}
 use Rattle.graph.proofs.Closure.{marked-below, only-long, only-at, Closed, reach-long, reach-grow, reach-least, reach-closed}
 
 -- ---- one mark
@@ -45,11 +45,6 @@ module _ (ms : List Bool) (u : ℕ) where
       m (set-hit l) (λ k n. getD-set-other ms u k true false n)
 
 -- ---- the nodes of a list
--- all are marked, where they are nodes
-unfoldable pub markAll : List ℕ → List Bool → List Bool
-markAll [] ms = ms
-markAll (u ∷ us) ms = markAll us (set ms u true)
-
 pub all-long : (us : List ℕ) (ms : List Bool) → length (markAll us ms) ≡ length ms
 unfolding markAll
 all-long [] ms = refl

@@ -10,7 +10,6 @@ use lib.Dec.{eqb, ltb, leb}
 use lib.ListN.{length, getD, set, replicate, length-set, length-replicate, getD-replicate}
 use lib.Seq.{getD-set-same, getD-set-other}
 use borrow.Author.Tests.{eq-eqb, ne-eqb, eqb-true, lt-ltb, le-leb, lt-leb, ltb-true, leb-false}
-use Rattle.lists.specs.Pick.{pick}
 use Rattle.lists.specs.Numbers.{any}
 use Rattle.lists.specs.Sequences.{some}
 use Rattle.lists.proofs.Tests.{no-both, and-l, and-r, and-true, and-false, and-no, not-true, not-false, or-cases, or-true-l, or-true-r}
@@ -24,7 +23,7 @@ use Rattle.covering.specs.Matched.{together}
 use Rattle.covering.proofs.Together.{together-turned}
 use Rattle.grouping.specs.Classes.{classes}
 use Rattle.grouping.specs.inner.GroupingContracts.{Even, Classed, partsIn, partsAny, partedOn, isMarked}
-use Rattle.grouping.specs.inner.GroupingContracts.{partedBy, Unmarked, Marks, Touched, KeptClasses}
+use Rattle.grouping.specs.inner.GroupingContracts.{partedBy, Marks, Touched, KeptClasses}
 use Rattle.grouping.proofs.Onward.{some-none}
 use Rattle.grouping.proofs.Partings.{some-own}
 use Rattle.grouping.proofs.TableRounds.{unparted-before}
@@ -187,7 +186,7 @@ first-marks b c bytes marks touched p q = record {
     one : (xs : List ℕ) → xs ≡ replicate 256 1 → (k : ℕ) → k < 256 → getD xs k 0 ≡ 1
     one xs e k h = ap (λ (ys : List ℕ). getD ys k 0) e ∙ getD-replicate 256 k 1 0 h
 
--- ---- mark, touch
+-- ---- mark, touch_of
 module _ (former c kept : List ℕ) where
   pub kept-start : (marks : List ℕ) → length marks ≡ 256 → KeptClasses 0 former c kept marks
   kept-start marks h = record { long = h; one = λ l z. absurd (omega arith) }
@@ -212,32 +211,6 @@ module _ (b marks : List ℕ) where
 
   pub leads-unmarked : (f next : ℕ) → next ≡ field b f 7 → getD marks next 0 < 1 → isMarked b marks 1 f ≡ false
   leads-unmarked f next e h = ap (λ (x : ℕ). leb 1 (getD marks x 0)) (sym e) ∙ lt-leb 1 (getD marks next 0) h
-
-  pub touched-start : (touched : List ℕ) → length touched ≡ 256 → Touched b marks 2 touched
-  touched-start touched h = record { long = h; none = λ l u z. absurd (omega arith) }
-
-  pub touched-on : (touched : List ℕ) (l first end v : ℕ) → Touched b marks l touched → l < 256 → first ≡ firstOn b l → end ≡ endOn b l
-      → v ≡ pick (any (isMarked b marks 1) first (end - first)) 1 0 → Touched b marks (l + 1) (set touched l v)
-  touched-on touched l first end v T h p q e =
-      record { long = length-set touched l v ∙ T .long; none = λ k u z s. go k u s (eq-or-lt-of-le (below k z)) }
-    where
-      below : (k : ℕ) → k < l + 1 → k ≤ l
-      below k z = omega arith
-
-      none : (t : Bool) → v ≡ pick t 1 0 → v ≡ 0 → t ≡ false
-      none true r z = absurd (omega arith)
-      none false r z = refl
-
-      go : (k : ℕ) → 2 ≤ k → getD (set touched l v) k 0 ≡ 0 → (k ≡ l) ⊎ (k < l) → Unmarked b marks k
-      go k u s (inl r) =
-          subst (Unmarked b marks) (sym r)
-          (none (any (isMarked b marks 1) (firstOn b l) (endOn b l - firstOn b l))
-          (e ∙ ap₂ (λ (x y : ℕ). pick (any (isMarked b marks 1) x (y - x)) 1 0) p q)
-          (sym (getD-set-same touched l v 0 (omega (arith, T .long))) ∙ ap (λ (j : ℕ). getD (set touched l v) j 0) (sym r) ∙ s))
-      go k u s (inr r) = T .none k u r (sym (getD-set-other touched l k v 0 (λ y. omega arith)) ∙ s)
-
-  pub touched-all : (touched : List ℕ) (l n : ℕ) → Touched b marks l touched → n ≤ l → Touched b marks n touched
-  touched-all touched l n T h = record { long = T .long; none = λ k u z s. T .none k u (omega arith) s }
 
 -- ---- the marks after a round
 module _ (b : List ℕ) (x : Even b) where

@@ -11,6 +11,7 @@ pub use table::label_byte;
 pub use table::label_mask;
 pub use table::labels_from;
 pub use table::pair;
+pub use table::quad;
 pub use table::row_byte;
 pub use table::row_pair;
 pub use table::rows_from;

@@ -30,7 +30,7 @@ pub fn pair(table: &[u8], f: usize, k: usize) -> u16
 }
 
 // Four bytes of frame f from k on, the high one first.
-fn quad(table: &[u8], f: usize, k: usize) -> u32
+pub fn quad(table: &[u8], f: usize, k: usize) -> u32
     requires { ⌜ FRAME * f + k + 3 < length (now table) ⌝ }
     ensures { λ r. ⌜ r ≡ quadAt (now (table .entry)) f k ⌝ }
 {

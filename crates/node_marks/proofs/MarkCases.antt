@@ -18,7 +18,7 @@ use Rattle.lists.proofs.Tests.{no-both}
 use Rattle.lists.proofs.Searches.{lowest-none}
 use Rattle.lists.proofs.Ranges.{length-map-range, map-range-snoc}
 use Rattle.graph.specs.Reach.{marked, only, reach, joinedFrom}
-use Rattle.graph.specs.inner.Listed.{many, Listing, listing, enlist, enlistAll, Listed}
+use Rattle.graph.specs.inner.Listed.{many, Listing, listing, enlistAll, Listed}
 use Rattle.graph.proofs.Marking.{full-marked}
 use Rattle.graph.proofs.Lists.{listed-none}
 use Rattle.graph.proofs.Enlisted.{Enlisted, enlisted-all}
@@ -27,8 +27,9 @@ use Rattle.charts.specs.Chart.{Chart, kind, next0, next1, is}
 use Rattle.charts.specs.Check.{arcs, conditionArcs, onCircle}
 use Rattle.charts.specs.inner.Marks.{arcsBy, kindMarks}
 use Rattle.charts.proofs.Nodes.{outside, arcs-end, arcs-one, arcs-condition, arcs-function, two-arcs}
-use Rattle.node_marks.specs.inner.MarkContracts.{Blank, ListedRoom}
 use Rattle.charts.proofs.Meaning.{condition-arcs, no-condition-arcs}
+use Rattle.node_marks.specs.inner.MarkContracts.{sweptTo, Blank, ListedRoom}
+use Rattle.node_marks.proofs.Sweeps.{swept-same}
 
 -- ---- arcs
 module _ (c : Chart) (b : Bool) (v : ℕ) where
@@ -77,39 +78,48 @@ shape c b v = go b refl (ℕ-discrete (kind c v) 1) (ℕ-discrete (kind c v) 3) 
     go false t (no p) (no q) (yes r) = inr (inr (by-all c b v (λ z. no-both b z t) ∙ arcs-function c v r))
     go false t (no p) (no q) (no r) = inr (inl (by-all c b v (λ z. no-both b z t) ∙ arcs-one c v p q r))
 
-module _ (c : Chart) (b : Bool) (v n : ℕ) (e : n ≡ length (arcsBy c b v)) (s : Listing) where
+-- the arcs by their number
+module _ (c : Chart) (b : Bool) (v n : ℕ) (e : n ≡ length (arcsBy c b v)) where
   as-long : (us : List ℕ) → arcsBy c b v ≡ us → n ≡ length us
   as-long us q = e ∙ ap (λ (xs : List ℕ). length xs) q
 
-  pub marked-none : n ≡ 0 → s ≡ enlistAll s (arcsBy c b v)
-  unfolding enlistAll
-  marked-none z = go (shape c b v)
+  no-arc : n ≡ 0 → arcsBy c b v ≡ []
+  no-arc z = go (shape c b v)
     where
-      go : Shape c v (arcsBy c b v) → s ≡ enlistAll s (arcsBy c b v)
-      go (inl q) = sym (ap (λ (us : List ℕ). enlistAll s us) q)
+      go : Shape c v (arcsBy c b v) → arcsBy c b v ≡ []
+      go (inl q) = q
       go (inr (inl q)) = absurd (omega (arith, as-long (next0 c v ∷ []) q))
       go (inr (inr q)) = absurd (omega (arith, as-long (next0 c v ∷ next1 c v ∷ []) q))
 
-  module _ (some : n ≡ 0 → ⊥) (u : ℕ) (t : Listing) (eu : u ≡ next0 c v) (et : t ≡ enlist s u) where
-    pub marked-one : n ≡ 1 → t ≡ enlistAll s (arcsBy c b v)
-    unfolding enlistAll
-    marked-one z = go (shape c b v)
-      where
-        go : Shape c v (arcsBy c b v) → t ≡ enlistAll s (arcsBy c b v)
-        go (inl q) = absurd (some (as-long [] q))
-        go (inr (inl q)) = et ∙ ap (λ (u : ℕ). enlist s u) eu ∙ sym (ap (λ (us : List ℕ). enlistAll s us) q)
-        go (inr (inr q)) = absurd (omega (arith, as-long (next0 c v ∷ next1 c v ∷ []) q))
+  one-arc : n ≡ 1 → arcsBy c b v ≡ next0 c v ∷ []
+  one-arc z = go (shape c b v)
+    where
+      go : Shape c v (arcsBy c b v) → arcsBy c b v ≡ next0 c v ∷ []
+      go (inl q) = absurd (omega (arith, as-long [] q))
+      go (inr (inl q)) = q
+      go (inr (inr q)) = absurd (omega (arith, as-long (next0 c v ∷ next1 c v ∷ []) q))
 
-    pub marked-two : (n ≡ 1 → ⊥) → (w : ℕ) (o : Listing) → w ≡ next1 c v → o ≡ enlist t w → o ≡ enlistAll s (arcsBy c b v)
-    unfolding enlistAll
-    marked-two z w o ew eo = go (shape c b v)
-      where
-        go : Shape c v (arcsBy c b v) → o ≡ enlistAll s (arcsBy c b v)
-        go (inl q) = absurd (some (as-long [] q))
-        go (inr (inl q)) = absurd (z (as-long (next0 c v ∷ []) q))
-        go (inr (inr q)) =
-            eo ∙ ap (λ (x : Listing). enlist x w) (et ∙ ap (λ (u : ℕ). enlist s u) eu)
-            ∙ ap (λ (w : ℕ). enlist (enlist s (next0 c v)) w) ew ∙ sym (ap (λ (us : List ℕ). enlistAll s us) q)
+  both-arcs : (n ≡ 0 → ⊥) → (n ≡ 1 → ⊥) → arcsBy c b v ≡ next0 c v ∷ next1 c v ∷ []
+  both-arcs some more = go (shape c b v)
+    where
+      go : Shape c v (arcsBy c b v) → arcsBy c b v ≡ next0 c v ∷ next1 c v ∷ []
+      go (inl q) = absurd (some (as-long [] q))
+      go (inr (inl q)) = absurd (more (as-long (next0 c v ∷ []) q))
+      go (inr (inr q)) = q
+
+  -- a step for each node that they lead to, as it is marked or enlisted
+  module _ {S : Type 0} (all : List ℕ → S) where
+    pub steps-none : n ≡ 0 → all [] ≡ all (arcsBy c b v)
+    steps-none z = sym (ap all (no-arc z))
+
+    module _ (step : S → ℕ → S) (u : ℕ) (one : S) (eu : u ≡ next0 c v) (eo : one ≡ step (all []) u) where
+      pub steps-one : all (u ∷ []) ≡ step (all []) u → n ≡ 1 → one ≡ all (arcsBy c b v)
+      steps-one q z = let p : all (arcsBy c b v) ≡ all (next0 c v ∷ []) = ap all (one-arc z) in cc
+
+      pub steps-both : (n ≡ 0 → ⊥) → (n ≡ 1 → ⊥) → (w : ℕ) (two : S) → w ≡ next1 c v → two ≡ step one w
+          → all (u ∷ w ∷ []) ≡ step (step (all []) u) w → two ≡ all (arcsBy c b v)
+      steps-both some more w two ew et q =
+          let p : all (arcsBy c b v) ≡ all (next0 c v ∷ next1 c v ∷ []) = ap all (both-arcs some more) in cc
 
 -- ---- the marks of a kind, written one after the other over old marks
 module _ (c : Chart) (k : ℕ) (old : List Bool) where
@@ -152,12 +162,14 @@ pub spread-back : (c : Chart) (v : ℕ) (first joined : List Bool) → first ≡
     → joined ≡ reach (size c) (conditionArcs c) (size c) first → joined ≡ joinedFrom (size c) (conditionArcs c) (arcs c v)
 spread-back c v first joined marks spread = spread ∙ ap (λ (xs : List Bool). reach (size c) (conditionArcs c) (size c) xs) marks
 
--- ---- the marks of all Begins, spread, and the lowest node without one
-pub spread-apart : (c : Chart) (begins joined : List Bool) (r : ℕ) → begins ≡ kindMarks c 0
-    → joined ≡ reach (size c) (arcs c) (size c) begins → length joined ≡ size c → r ≡ lowest (λ v. not (marked joined v)) 0 (length joined)
+-- ---- the marks of all Begins, spread by a sweep and then all the way, and the lowest node without one
+pub spread-apart : (c : Chart) (begins swept joined : List Bool) (r : ℕ) → begins ≡ kindMarks c 0 → swept ≡ sweptTo c (size c) begins
+    → joined ≡ reach (size c) (arcs c) (size c) swept → length joined ≡ size c → r ≡ lowest (λ v. not (marked joined v)) 0 (length joined)
     → (joined ≡ reach (size c) (arcs c) (size c) (kindMarks c 0)) × (r ≡ lowest (λ v. not (marked joined v)) 0 (size c))
-spread-apart c begins joined r first spread long found = (
-  spread ∙ ap (λ (xs : List Bool). reach (size c) (arcs c) (size c) xs) first,
+spread-apart c begins swept joined r first sweep spread long found = (
+  spread
+      ∙ swept-same c begins swept (ap (λ (xs : List Bool). length xs) first ∙ length-map-range (is c 0) 0 (size c)) sweep
+      ∙ ap (λ (xs : List Bool). reach (size c) (arcs c) (size c) xs) first,
   found ∙ ap (λ (k : ℕ). lowest (λ v. not (marked joined v)) 0 k) long,
 )
 

@@ -8,12 +8,12 @@ ghost use mathlib.Core.Bool.{true};
 ghost use lib.ListN.{length, set};
 ghost use Rattle.lists.specs.Pick.{pick};
 ghost use Rattle.graph.specs.Reach.{marked, reach};
-ghost use Rattle.graph.specs.inner.Listed.{many, listing, enlistAll};
+ghost use Rattle.graph.specs.inner.Listed.{many, markAll, listing, enlistAll};
 ghost use Rattle.frames.specs.Sizes.{RECORD};
 ghost use Rattle.frames.specs.Frame.{size};
 ghost use Rattle.charts.specs.Check.{arcs};
 ghost use Rattle.charts.specs.inner.Marks.{arcsBy, kindMarks};
-ghost use Rattle.node_marks.specs.inner.MarkContracts.{markedBy, ListedRoom};
+ghost use Rattle.node_marks.specs.inner.MarkContracts.{sweptTo, ListedRoom};
 
 // How many arcs of node v count.
 fn arc_count(records: &[u8], conditions: bool, v: usize) -> usize
@@ -91,7 +91,7 @@ fn mark(marks: &mut [bool], u: usize)
 // The nodes that the arcs of node v lead to are marked.
 fn mark_next(records: &[u8], v: usize, marks: &mut [bool])
     requires { ⌜ v < size (now records) ⌝ }
-    ensures { λ _. ⌜ now (marks .exit) ≡ markedBy (now (marks .entry)) (arcs (now (records .entry)) v) ⌝ }
+    ensures { λ _. ⌜ now (marks .exit) ≡ markAll (arcs (now (records .entry)) v) (now (marks .entry)) ⌝ }
 {
     let arcs = arc_count(records, false, v);
     if arcs == 0 {
@@ -108,7 +108,7 @@ fn mark_next(records: &[u8], v: usize, marks: &mut [bool])
 fn mark_on(records: &[u8], v: usize, marks: &mut [bool])
     requires { ⌜ (v < size (now records)) × (length (now marks) ≡ size (now records)) ⌝ }
     ensures { λ _. ⌜ now (marks .exit) ≡ pick (marked (now (marks .entry)) v)
-        (markedBy (now (marks .entry)) (arcs (now (records .entry)) v)) (now (marks .entry)) ⌝ }
+        (markAll (arcs (now (records .entry)) v) (now (marks .entry))) (now (marks .entry)) ⌝ }
 {
     if !marks[v] {
         return;
@@ -117,12 +117,12 @@ fn mark_on(records: &[u8], v: usize, marks: &mut [bool])
 }
 
 // The arcs of each marked node are followed once, the lowest node first: a node that is marked on the way has its turn too, if it is a
-// higher one. In most charts all are marked then. What arcs join from the marks has not changed. In a line of nodes `join` takes each from
-// the list just after it was written there, and waits for it; here the next node is known.
+// higher one. Where to each node without a mark an arc leads from a lower one, all are marked then. What arcs join from the marks has not
+// changed. In a line of nodes `join` takes each from the list just after it was written there, and waits for it; here the next node is
+// known.
 pub fn sweep(records: &[u8], marks: &mut [bool])
     requires { ⌜ length (now marks) ≡ size (now records) ⌝ }
-    ensures { λ _. ⌜ reach (size (now (records .entry))) (arcs (now (records .entry))) (size (now (records .entry))) (now (marks .exit))
-        ≡ reach (size (now (records .entry))) (arcs (now (records .entry))) (size (now (records .entry))) (now (marks .entry)) ⌝ }
+    ensures { λ _. ⌜ now (marks .exit) ≡ sweptTo (now (records .entry)) (size (now (records .entry))) (now (marks .entry)) ⌝ }
 {
     let n = records.len() / RECORD;
     let mut v: usize = 0;

@@ -18,8 +18,7 @@ ghost use mathlib.Core.Path.{_≡_};
 ghost use Rattle.tables.specs.Table.{tableImage};
 ghost use Rattle.rows.specs.Rows.{nextOf};
 ghost use Rattle.state.specs.Bytes.{stateOf};
-ghost use Rattle.ticks.specs.inner.TickContracts.{Header, TopReturn, TopBack, beneath, GivesTickEnd};
-ghost use Rattle.ticks.specs.inner.TickContracts.{GivesTickMove};
+ghost use Rattle.ticks.specs.inner.TickContracts.{Header, TopReturn, TopBack, beneath, GivesTickMove};
 
 // Where the label beneath the top leads, or NO_LABEL where no row of it matches.
 fn next_beneath(table: &[u8], schemes: u8, last: u8, bytes: &[u8; STATE_BYTES], word: u16) -> u16

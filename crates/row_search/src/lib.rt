@@ -16,13 +16,13 @@ ghost use Rattle.image.specs.Layout.{NEXT, NO-BIT, NO-LABEL};
 ghost use Rattle.image.specs.Decode.{schemeCount};
 ghost use Rattle.tables.specs.Table.{tableImage};
 ghost use Rattle.rows.specs.Rows.{bestRow, leads, nextOf};
-ghost use Rattle.rows.specs.inner.Search.{swapped, matchingFrame, Chosen, Deciding};
+ghost use Rattle.rows.specs.inner.Search.{swap, matchingFrame, NO-FRAME, Chosen, Deciding};
 ghost use Rattle.row_search.specs.inner.Skipped.{Skipped};
 
 // The frame where its row matches, else none.
 fn one_row(table: &[u8], f: usize, word: u16, bit: u8) -> usize
     requires { ⌜ f < size (now table) ⌝ }
-    ensures { λ r. ⌜ r ≡ pick (matchingFrame (now (table .entry)) word bit f) f 131072 ⌝ }
+    ensures { λ r. ⌜ r ≡ pick (matchingFrame (now (table .entry)) word bit f) f NO-FRAME ⌝ }
 {
     if is_matching(table, f, swap(word), bit) {
         return f;
@@ -32,17 +32,17 @@ fn one_row(table: &[u8], f: usize, word: u16, bit: u8) -> usize
 
 // Rows that do not match are passed over, up to the first that does or to where fewer than two are left: two rows a turn, since most rows
 // of a long label do not match, and a turn costs about as much as a row.
-fn skip_rows(table: &[u8], from: usize, end: usize, turned: u16, bit: u8) -> usize
-    requires { ⌜ from ≤ 131072 ⌝ }
+fn skip_rows(table: &[u8], from: usize, end: usize, swapped: u16, bit: u8) -> usize
+    requires { ⌜ from ≤ NO-FRAME ⌝ }
     requires { ⌜ end ≤ size (now table) ⌝ }
-    ensures { λ r. ⌜ Skipped (now (table .entry)) (swapped turned) bit from end r ⌝ }
+    ensures { λ r. ⌜ Skipped (now (table .entry)) (swap swapped) bit from end r ⌝ }
 {
     let mut f = from;
     while f + 1 < end {
-        if is_matching(table, f, turned, bit) {
+        if is_matching(table, f, swapped, bit) {
             return f;
         }
-        if is_matching(table, f + 1, turned, bit) {
+        if is_matching(table, f + 1, swapped, bit) {
             return f + 1;
         }
         f += 2;
@@ -57,24 +57,24 @@ pub fn find_row(table: &[u8], schemes: u8, l: usize, word: u16, bit: u8) -> usiz
     requires { ⌜ schemes ≡ schemeCount (now table) ⌝ }
     ensures { λ r. ⌜ Chosen (now (table .entry)) l word bit r ⌝ }
 {
-    let turned = swap(word);
+    let swapped = swap(word);
     let end = end_of(table, schemes, l);
     let mut f = first_of(table, schemes, l);
     let mut found = NO_FRAME;
     while f < end {
-        if is_matching(table, f, turned, bit) {
+        if is_matching(table, f, swapped, bit) {
             if found < NO_FRAME {
                 return compare_rows(table, schemes, l, word, bit);
             }
             found = f;
         }
-        f = skip_rows(table, f + 1, end, turned, bit);
+        f = skip_rows(table, f + 1, end, swapped, bit);
     }
     found
 }
 
-// The same, for a tick: labels of one row and of two, which most are, are settled here, so that the search is called for others alone.
-// Which of two rows matches is asked by jumps: where it is foreseen, the next tick need not wait for it.
+// The same, for a tick: a label of one row, and one of two of which just one matches, are settled here; the search is called for all
+// others. Which of two rows matches is asked by branches: where they are predicted, the next tick need not wait for it.
 fn take_row(table: &[u8], schemes: u8, l: usize, word: u16, bit: u8) -> usize
     requires { ⌜ Deciding (now table) l bit ⌝ }
     requires { ⌜ schemes ≡ schemeCount (now table) ⌝ }
@@ -86,12 +86,12 @@ fn take_row(table: &[u8], schemes: u8, l: usize, word: u16, bit: u8) -> usize
         return one_row(table, first, word, bit);
     }
     if end == first + 2 {
-        let turned = swap(word);
-        if is_matching(table, first, turned, bit) {
-            if !is_matching(table, first + 1, turned, bit) {
+        let swapped = swap(word);
+        if is_matching(table, first, swapped, bit) {
+            if !is_matching(table, first + 1, swapped, bit) {
                 return first;
             }
-        } else if is_matching(table, first + 1, turned, bit) {
+        } else if is_matching(table, first + 1, swapped, bit) {
             return first + 1;
         }
     }
@@ -100,8 +100,8 @@ fn take_row(table: &[u8], schemes: u8, l: usize, word: u16, bit: u8) -> usize
 
 // Where the row in frame f leads, or NO_LABEL where that is none.
 fn next_in(table: &[u8], f: usize) -> u16
-    requires { ⌜ (f < 131072 → f < size (now table)) ⌝ }
-    ensures { λ r. ⌜ r ≡ pick (ltb f 131072) (field (now (table .entry)) f NEXT) NO-LABEL ⌝ }
+    requires { ⌜ (f < NO-FRAME → f < size (now table)) ⌝ }
+    ensures { λ r. ⌜ r ≡ pick (ltb f NO-FRAME) (field (now (table .entry)) f NEXT) NO-LABEL ⌝ }
 {
     if f < NO_FRAME {
         return byte(table, f, NEXT) as u16;
@@ -119,7 +119,7 @@ pub fn next_row(table: &[u8], schemes: u8, l: usize, word: u16, bit: u8) -> u16
     next_in(table, f)
 }
 
-// The same where no bit decides. It is compiled apart: what two callers share is too long for the compiler to take it into both.
+// The same where no bit decides.
 pub fn next_free(table: &[u8], schemes: u8, l: usize, word: u16) -> u16
     requires { ⌜ Deciding (now table) l NO-BIT ⌝ }
     requires { ⌜ schemes ≡ schemeCount (now table) ⌝ }

@@ -7,10 +7,10 @@ use lib.Bits.{bitAnd, and-block, and-lt}
 use lib.Dec.{eqb}
 use borrow.Author.Tests.{eq-eqb, ne-eqb}
 use Rattle.bits.specs.Word.{agrees}
-use Rattle.rows.specs.inner.Search.{swapped}
+use Rattle.rows.specs.inner.Search.{swap}
 
-pub swapped-twice : (w : ℕ) → w < 65536 → swapped (swapped w) ≡ w
-swapped-twice w h = omega arith
+pub swap-twice : (w : ℕ) → w < 65536 → swap (swap w) ≡ w
+swap-twice w h = omega arith
 
 -- two bytes each, compared byte by byte
 same-bytes : (p q u v : ℕ) → p < 256 → q < 256 → u < 256 → v < 256 → eqb (p * 256 + q) (u + v * 256) ≡ eqb (q * 256 + p) (u * 256 + v)
@@ -28,8 +28,8 @@ module _ (t x y u v : ℕ) (small : t < 65536) (hx : x < 256) (hy : y < 256) (hu
   abbrev low : ℕ
   low = t % 256
 
-  pub turned-agrees : eqb (bitAnd t (x + y * 256)) (u + v * 256) ≡ agrees (swapped t) (x * 256 + y) (u * 256 + v)
-  turned-agrees =
+  pub swapped-agrees : eqb (bitAnd t (x + y * 256)) (u + v * 256) ≡ agrees (swap t) (x * 256 + y) (u * 256 + v)
+  swapped-agrees =
       let e : t ≡ high * 256 + low = omega arith in
       let f : x + y * 256 ≡ y * 256 + x = omega arith in
       let p : bitAnd high y < 256 = and-lt 8 high y (omega arith) hy in

@@ -2,7 +2,6 @@
 use Prim.Native.Nat.{ℕ, zero, suc, _+_, _*_, _-_, _≤_, _<_}
 use mathlib.Core.Bool.{Bool, _&&_}
 use mathlib.Core.Path.{_≡_, refl, sym, _∙_, ap, ap₂}
-use mathlib.Core.Logic.{_⊎_, inl, inr}
 use mathlib.Core.List.{List, map}
 use native.Mathlib.Decide.{ℕ-discrete}
 use native.Mathlib.Nat.{add-zero}
@@ -13,7 +12,7 @@ use borrow.Author.Tests.{lt-ltb, le-ltb, ne-eqb}
 use Rattle.lists.specs.Numbers.{range}
 use Rattle.lists.specs.Sequences.{concatMap, All}
 use Rattle.lists.specs.Pick.{pick}
-use Rattle.lists.proofs.Tests.{split, yes-pick, no-pick}
+use Rattle.lists.proofs.Tests.{yes-pick, no-pick}
 use Rattle.lists.proofs.Ranges.{length-map-range, getD-map-range}
 use Rattle.lists.proofs.Joins.{all-every, all-map, all-concat, concat-cons}
 use Rattle.frames.specs.Frame.{size, field}
@@ -129,24 +128,15 @@ module _ (b : List ℕ) (l w bit : ℕ) where
         ∙ leads-moved (firstOn b l) (bestRow l w bit 0 (tableImage b .rows))
 
     -- and where it leads
-    next-found : (n : ℕ) → n ≡ field b f 7 → f < size b → n ≡ nextOf (leads (bestRow l w bit 0 (tableImage b .rows)))
+    pub next-found : (n : ℕ) → n ≡ field b f 7 → f < size b → n ≡ nextOf (leads (bestRow l w bit 0 (tableImage b .rows)))
     next-found n q h =
         q ∙ sym (ap (λ (y : Choice). nextOf (leads y)) (yes-pick (ltb f (size b)) (row f (rowOn b l f)) noChoice (lt-ltb f (size b) h)))
         ∙ ap nextOf found-leads
 
-    next-none : size b ≤ f → 256 ≡ nextOf (leads (bestRow l w bit 0 (tableImage b .rows)))
+    pub next-none : size b ≤ f → 256 ≡ nextOf (leads (bestRow l w bit 0 (tableImage b .rows)))
     next-none h =
         sym (ap (λ (y : Choice). nextOf (leads y)) (no-pick (ltb f (size b)) (row f (rowOn b l f)) noChoice (le-ltb f (size b) h)))
         ∙ ap nextOf found-leads
-
-    -- both at once, 131072 and more being the number of no frame
-    pub next-taken : (f < 131072 → f < size b) → (131072 ≤ f → size b ≤ f) → (n : ℕ) → n ≡ pick (ltb f 131072) (field b f 7) 256
-        → n ≡ nextOf (leads (bestRow l w bit 0 (tableImage b .rows)))
-    next-taken inside outside n q = go (split f 131072)
-      where
-        go : (f < 131072) ⊎ (131072 ≤ f) → n ≡ nextOf (leads (bestRow l w bit 0 (tableImage b .rows)))
-        go (inl h) = next-found n (q ∙ yes-pick (ltb f 131072) (field b f 7) 256 (lt-ltb f 131072 h)) (inside h)
-        go (inr h) = q ∙ no-pick (ltb f 131072) (field b f 7) 256 (le-ltb f 131072 h) ∙ next-none (outside h)
 
 -- ---- no row of a label that calls no function looks at the bit
 module _ (b : List ℕ) (l w p q : ℕ) (n : tableLabel b l .kind ≡ 2 → ⊥) where

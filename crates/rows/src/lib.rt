@@ -10,25 +10,25 @@ ghost use mathlib.Core.Path.{_≡_};
 ghost use Prim.Native.Nat.{_<_};
 ghost use Rattle.frames.specs.Frame.{size};
 ghost use Rattle.image.specs.Decode.{schemeCount};
-ghost use Rattle.rows.specs.inner.Search.{swapped, matchingFrame, BetterOf, Chosen, Deciding};
+ghost use Rattle.rows.specs.inner.Search.{swap, matchingFrame, BetterOf, Chosen, Deciding};
 
 // The number of no frame: whatever bytes its header has, a table has fewer.
 pub const NO_FRAME: usize = 131072;
 
-// The two bytes of a word in the other order. A row is compared with its bytes as they stand, which spares turning care mask and
-// values round at each row.
+// The two bytes of a word in the other order. A row is compared with its bytes as they stand, which spares swapping those of
+// care mask and values at each row.
 pub fn swap(word: u16) -> u16
-    ensures { λ r. ⌜ r ≡ swapped word ⌝ }
+    ensures { λ r. ⌜ r ≡ swap word ⌝ }
 {
     (word % 256) * 256 + word / 256
 }
 
 // Whether the row in frame f matches a word, given with its bytes swapped; bit 2 says that no bit decides.
-pub fn is_matching(table: &[u8], f: usize, turned: u16, bit: u8) -> bool
+pub fn is_matching(table: &[u8], f: usize, swapped: u16, bit: u8) -> bool
     requires { ⌜ f < size (now table) ⌝ }
-    ensures { λ r. ⌜ r ≡ matchingFrame (now (table .entry)) (swapped turned) bit f ⌝ }
+    ensures { λ r. ⌜ r ≡ matchingFrame (now (table .entry)) (swap swapped) bit f ⌝ }
 {
-    if turned & low_pair(table, f, CARE) != low_pair(table, f, VALUES) {
+    if swapped & low_pair(table, f, CARE) != low_pair(table, f, VALUES) {
         return false;
     }
     if bit == NO_BIT {
@@ -62,12 +62,12 @@ pub fn compare_rows(table: &[u8], schemes: u8, l: usize, word: u16, bit: u8) -> 
     requires { ⌜ schemes ≡ schemeCount (now table) ⌝ }
     ensures { λ r. ⌜ Chosen (now (table .entry)) l word bit r ⌝ }
 {
-    let turned = swap(word);
+    let swapped = swap(word);
     let end = end_of(table, schemes, l);
     let mut frame = first_of(table, schemes, l);
     let mut best = table.len() / FRAME;
     while frame < end {
-        if is_matching(table, frame, turned, bit) {
+        if is_matching(table, frame, swapped, bit) {
             best = better_frame(table, best, frame);
         }
         frame += 1;

@@ -1,5 +1,5 @@
 -- The loop of ticks, turn by turn.
-use mathlib.Core.Path.{_≡_, refl, sym, _∙_, ap, subst}
+use mathlib.Core.Path.{_≡_, refl, sym, _∙_, ap}
 use mathlib.Core.List.{List, [], _∷_, _++_, append-nil}
 use Prim.Native.Nat.{ℕ, zero, suc, _+_, _≤_, _<_}
 use native.Mathlib.Nat.{zero-add}
@@ -15,14 +15,12 @@ use Rattle.tables.specs.Table.{tableImage}
 use Rattle.state.specs.declared.State.{State}
 use Rattle.state.specs.Bytes.{stateOf}
 use Rattle.ticks.specs.declared.TickEnd.{TickEnd}
-use Rattle.ticks.specs.Tick.{MachineTick, finished, stopped, tick}
+use Rattle.ticks.specs.Tick.{topOf, MachineTick, finished, stopped, tick}
 use Rattle.runs.specs.Run.{MachineRun, then, ticks}
 use Rattle.ticks.specs.inner.TickContracts.{TickAsked, afterTick, endOfTick, GivesTickEnd}
 use Rattle.runs.specs.inner.RunContracts.{verdictOf, RunRoom, GivesRunEnd}
-use Rattle.ticks.specs.Tick.{topOf}
 use Rattle.ticks.proofs.Normal.{Normal, tick-normal}
-use Rattle.fitness.proofs.Depths.{deep-fine}
-use Rattle.ticks.proofs.TickCases.{KeptDepth, tick-deep}
+use Rattle.ticks.proofs.TickCases.{stands-on}
 
 -- ---- a tick by what the function that makes it answers
 module _ (b before : List ℕ) (w : ℕ) (r : TickEnd) (bytes : List ℕ) (q : GivesTickEnd b before w r bytes) where
@@ -47,11 +45,6 @@ module _ (b before : List ℕ) (w : ℕ) (r : TickEnd) (bytes : List ℕ) (q : G
       go : (x : MachineTick) → made ≡ x → made ≡ stopped (r .number)
       go (finished m k t) e = absurd (z (ap (λ (y : TickEnd). y .number) (q .step ∙ ap endOfTick e)))
       go (stopped k) e = e ∙ ap stopped (sym (ap (λ (y : TickEnd). y .number) (q .step ∙ ap endOfTick e)))
-
-  -- the next tick may be made
-  pub stands-on : TickAsked b (stateOf before) → r .number ≡ 0 → TickAsked b (stateOf bytes)
-  stands-on y z =
-      record { whole = y .whole; depth = deep-fine (stateOf bytes) (subst KeptDepth (went z) (tick-deep b (stateOf before) y w)) }
 
 -- ---- ticks over one word more
 module _ (i : Image) (s : State) (w : ℕ) (ws : List ℕ) where
@@ -162,7 +155,7 @@ module _ {b bytes₀ ws ms₀ ks₀ bytes ms ks : List ℕ} {l i : ℕ} (t : Run
         let on : MachineRun = ticks image (stateOf next) (drop (suc i) ws) in
         record {
           low = omega arith;
-          stands = stands-on b bytes (getD ws i 0) r next q (t .stands) z;
+          stands = stands-on q (t .stands);
           label = top;
           pastMasks = t .pastMasks ++ (r .mask ∷ []);
           pastCodes = t .pastCodes ++ (r .code ∷ []);

@@ -17,7 +17,7 @@ use Rattle.state.specs.State.{placeAt, numberAt, serverAt}
 use Rattle.state.specs.Changes.{withDepth, withPlace, withPlaces, withOpened, withBits, withServing, afterResult}
 use Rattle.state.specs.Bytes.{stateOf}
 use Rattle.state.proofs.RangeParts.{part-read, part-kept, part-set}
-use Rattle.state.proofs.ResultBytes.{held-bits, held-serving}
+use Rattle.state.proofs.ResultBytes.{held-bits}
 
 abbrev same : ℕ → ℕ
 same x = x
@@ -51,23 +51,22 @@ module _ (b : List ℕ) where
   unfolding stateOf
   bit-read k l = part-read truth false 34 16 b k l
 
-  pub binding-read : (k : ℕ) → k < 16 → getD b (50 + k) 0 ≡ getD (stateOf b .serving) k 0
+  binding-read : (k : ℕ) → k < 16 → getD b (50 + k) 0 ≡ getD (stateOf b .serving) k 0
   unfolding stateOf
   binding-read k l = part-read same 0 50 16 b k l
 
-  -- k stands for number h's place among the results and the schemes that serve
+  pub serving-read : (h : ℕ) → 1 ≤ h → h ≤ 16 → getD b (49 + h) 0 ≡ served (stateOf b .serving) h
+  serving-read h l m =
+      let e : 49 + h ≡ 50 + (h - 1) = omega arith in
+      ap (λ (j : ℕ). getD b j 0) e ∙ binding-read (h - 1) (omega arith)
+
+  -- k stands for number h's place among the results
   module _ (h k : ℕ) (place : k ≡ h - 1) where
     pub result-read : k < 16 → not (eqb (getD b (34 + k) 0) 0) ≡ resultOf h (stateOf b .bits)
     result-read l = bit-read k l ∙ ap (λ (j : ℕ). getD (stateOf b .bits) j false) place
 
     pub result-none : 16 ≤ k → false ≡ resultOf h (stateOf b .bits)
     result-none l = sym (List·getD-eq-default (stateOf b .bits) false (omega (arith, held-bits b)))
-
-    pub serving-read : k < 16 → getD b (50 + k) 0 ≡ served (stateOf b .serving) h
-    serving-read l = binding-read k l ∙ ap (λ (j : ℕ). getD (stateOf b .serving) j 0) place
-
-    pub serving-none : 16 ≤ k → 0 ≡ served (stateOf b .serving) h
-    serving-none l = sym (List·getD-eq-default (stateOf b .serving) 0 (omega (arith, held-serving b)))
 
 -- ---- what is written
 -- states with the same parts

@@ -67,9 +67,6 @@ held-sized b = record { places = refl; serving = refl; numbers = refl; servers =
 pub held-places : (b : List ℕ) → length (stateOf b .places) ≡ 32
 held-places b = held-sized b .places
 
-pub held-serving : (b : List ℕ) → length (stateOf b .serving) ≡ 16
-held-serving b = held-sized b .serving
-
 pub held-bits : (b : List ℕ) → length (stateOf b .bits) ≡ 16
 unfolding stateOf
 held-bits b = refl

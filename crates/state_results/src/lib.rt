@@ -14,7 +14,10 @@ ghost use Rattle.state.specs.Layout.{STATE-BYTES};
 ghost use Rattle.state.specs.Changes.{withServing, afterResult};
 ghost use Rattle.state.specs.Bytes.{stateOf, bytesOf};
 
-// Where number h stands among the results and the schemes that serve; 0 counts as 1.
+// Numbers begin at 1: the scheme that serves number h is h bytes after this one.
+const BEFORE_SERVING: usize = SERVING_FROM - 1;
+
+// Where number h stands among the results; 0 counts as 1.
 fn result_place(h: u8) -> usize
     ensures { λ r. ⌜ r ≡ h - 1 ⌝ }
 {
@@ -49,34 +52,23 @@ pub fn put_result(bytes: &mut [u8; STATE_BYTES], result: u8, h: u8)
     put_byte(bytes, RESULTS_FROM + k, (result == 2) as u8);
 }
 
-// The scheme that serves number h; for a number above 16 it counts as 0.
-pub fn serving_of(bytes: &[u8; STATE_BYTES], h: u8) -> u8
-    ensures { λ r. ⌜ r ≡ served (stateOf (now (bytes .entry)) .serving) h ⌝ }
-{
-    let k = result_place(h);
-    if SCHEMES <= k {
-        return 0;
-    }
-    bytes[SERVING_FROM + k]
-}
-
 // The scheme that serves number h of 1 to 16.
 pub fn serving_at(bytes: &[u8; STATE_BYTES], h: u8) -> u8
     requires { ⌜ 1 ≤ h ⌝ }
     requires { ⌜ h ≤ SCHEMES ⌝ }
     ensures { λ r. ⌜ r ≡ served (stateOf (now (bytes .entry)) .serving) h ⌝ }
 {
-    bytes[49 + (h as usize)]
+    bytes[BEFORE_SERVING + (h as usize)]
 }
 
-// Number h, up to 16, is served by that scheme.
+// Number h of 1 to 16 is served by that scheme.
 pub fn put_serving(bytes: &mut [u8; STATE_BYTES], h: usize, scheme: u8)
     requires { ⌜ 1 ≤ h ⌝ }
     requires { ⌜ h ≤ SCHEMES ⌝ }
     ensures { λ _. ⌜ stateOf (now (bytes .exit)) ≡ withServing (stateOf (now (bytes .entry)))
         (rebound h scheme (stateOf (now (bytes .entry)) .serving)) ⌝ }
 {
-    put_byte(bytes, 49 + h, scheme);
+    put_byte(bytes, BEFORE_SERVING + h, scheme);
 }
 
 // Each result byte as it is written: 0 or 1.

@@ -12,17 +12,16 @@ use Rattle.tables.specs.inner.Asked.{entryOf}
 use Rattle.tables.specs.inner.Labels.{asLabel}
 use Rattle.tables.specs.declared.Label as declared
 use Rattle.tables.proofs.TableReads.{counts-told, entry-at}
-use Rattle.rows.specs.Rows.{Choice, bestRow, Found, leads, nextOf}
+use Rattle.rows.specs.Rows.{Choice, bestRow, Found, missing, leads, nextOf}
 use Rattle.rows.proofs.TableRows.{any-row, next-small}
 use Rattle.state.specs.declared.State.{State}
 use Rattle.state.specs.State.{numberAt}
 use Rattle.state.specs.Changes.{withPlace, afterResult}
 use Rattle.state.specs.Bytes.{stateOf}
 use Rattle.ticks.specs.declared.TickEnd.{TickEnd}
-use Rattle.ticks.specs.Tick.{rowLeads, stopped, moved, topOf}
-use Rattle.ticks.specs.inner.TickContracts.{TopHome, TopNumbered, TopPlain, endOfTick, GivesTickEnd}
-use Rattle.ticks.proofs.TickCases.{steps-stopped, steps-ticked, tick-plain, tick-high, tick-home, moves-none, top-put}
-use Rattle.ticks.specs.inner.TickContracts.{GivesTickMove}
+use Rattle.ticks.specs.Tick.{topOf, rowLeads, stopped, moved}
+use Rattle.ticks.specs.inner.TickContracts.{TopHome, TopNumbered, TopPlain, endOfTick, GivesTickEnd, GivesTickMove}
+use Rattle.ticks.proofs.TickCases.{steps-stopped, steps-ticked, tick-plain, tick-high, tick-home, top-put}
 use Rattle.ticks.proofs.RowCases.{none-found, one-found}
 
 module _ (b before : List ℕ) (w : ℕ) where
@@ -35,12 +34,13 @@ module _ (b before : List ℕ) (w : ℕ) where
     home-steps k n bytes p low q e = record {
       steps = steps-ticked b before w 0 4 _ bytes (tick-home b s (y .stands) w (y .label))
           (e ∙ ap₂ (withPlace s) p (q ∙ sym (entry-at b (y .stands .whole .counts) 1 (counts-told b (y .stands .whole .counts) .first))));
-      label = λ _. top-put before bytes k n (ap (λ (u : State). u .places) e) (ap (λ (u : State). u .depth - 1) e ∙ sym p) low;
+      label = top-put before bytes k n (ap (λ (u : State). u .places) e) (ap (λ (u : State). u .depth - 1) e ∙ sym p) low;
     }
 
   pub high-stop : (y : TopNumbered b s) (l : ℕ) → l ≡ topOf s → lastLabel b < l → (r : TickEnd) → r ≡ endOfTick (stopped 18)
       → GivesTickMove b before w (record { step = r; label = l }) before
-  high-stop y l at h r e = moves-none b before w r e (rw e (steps-stopped b before w 18 (tick-high b s (y .stands) w (omega arith)))) l
+  high-stop y l at h r e =
+      record { steps = rw e (steps-stopped b before w 18 (tick-high b s (y .stands) w (omega arith))); label = at }
 
   -- l is the top, and n where the row that it takes leads, whatever the bit
   module _ (y : TopPlain b s) (l : ℕ) (at : l ≡ topOf s) (n : ℕ) (e : n ≡ nextOf (leads (bestRow l w 2 0 (tableImage b .rows)))) where
@@ -61,10 +61,11 @@ module _ (b before : List ℕ) (w : ℕ) where
     pub plain-stop : ((k : ℕ) → getD b k 0 < 256) → 256 ≤ n → (r : TickEnd) → r ≡ endOfTick (stopped 18)
         → GivesTickMove b before w (record { step = r; label = l }) before
     plain-stop bytes h r q =
-        moves-none b before w r q
-        (rw q
-        (steps-stopped b before w 18
-        (tick-plain b s (y .stands) w (y .kind) ∙ ap (moved _ 0 _ _) (none-found n row row-is (λ u p. next-small b bytes _ w _ u p) h)))) l
+        let none : row ≡ missing = none-found n row row-is (λ u p. next-small b bytes _ w _ u p) h in
+        record {
+          steps = rw q (steps-stopped b before w 18 (tick-plain b s (y .stands) w (y .kind) ∙ ap (moved _ 0 _ _) none));
+          label = at;
+        }
 
     -- z is what was read of the top, h its number
     pub plain-steps : n < 256 → (k : ℕ) → k ≡ s .depth - 1 → k < 32 → (z : declared.Label) → asLabel z ≡ tableLabel b l
@@ -82,6 +83,6 @@ module _ (b before : List ℕ) (w : ℕ) where
         (e₂ ∙ ap₂ (λ (u : State) (j : ℕ). withPlace u j n) (e₁ ∙ ap₂ (afterResult s) c called) r)) in
         record {
           steps = step;
-          label = λ _. top-put first bytes k n (ap (λ (u : State). u .places) e₂)
+          label = top-put first bytes k n (ap (λ (u : State). u .places) e₂)
               (ap (λ (u : State). u .depth - 1) e₂ ∙ ap (λ (u : State). u .depth - 1) e₁ ∙ sym r) deep;
         }

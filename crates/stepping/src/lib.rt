@@ -21,9 +21,8 @@ use ticks::no_row;
 ghost use mathlib.Core.Path.{_≡_};
 ghost use Rattle.image.specs.Decode.{schemeCount};
 ghost use Rattle.state.specs.Bytes.{stateOf};
-ghost use Rattle.ticks.specs.inner.TickContracts.{TickAsked, Header, TopNumbered, TopPlain, TopHome};
 ghost use Rattle.ticks.specs.Tick.{topOf};
-ghost use Rattle.ticks.specs.inner.TickContracts.{GivesTickMove};
+ghost use Rattle.ticks.specs.inner.TickContracts.{TickAsked, Header, TopNumbered, TopPlain, TopHome, GivesTickMove};
 
 // A plain tick: the top takes its row, which no bit decides.
 fn tick_plain(
@@ -98,7 +97,7 @@ fn tick_numbered(
     }
 }
 
-// A tick by the label l at the top. H and M, which say where labels stand, a run reads once for all its ticks.
+// A tick by the label l at the top. H, which says where labels stand, and M, the highest, a run reads once for all its ticks.
 pub fn tick_on(
     table: &[u8],
     schemes: u8,

@@ -1,13 +1,13 @@
 -- What the functions that read a label of a table hand back, by the bytes that they find.
 use Prim.Native.Nat.{ℕ, zero, suc, _+_, _*_, _-_, _≤_, _<_}
-use mathlib.Core.Path.{_≡_, refl, sym, _∙_, ap, ap₂}
+use mathlib.Core.Path.{_≡_, refl, sym, _∙_, ap}
 use mathlib.Core.List.{List}
 use native.Mathlib.Omega.{arith}
 use lib.Dec.{ltb}
 use borrow.Author.Tests.{lt-ltb, le-ltb}
 use Rattle.lists.specs.Pick.{pick}
 use Rattle.lists.proofs.Tests.{yes-pick, no-pick}
-use Rattle.frames.specs.Frame.{field, pairAt, quadAt}
+use Rattle.frames.specs.Frame.{field, quadAt}
 use Rattle.image.specs.Image.{Label, homeLabel, returnLabel}
 use Rattle.image.specs.Decode.{schemeCount, lastLabel, labelsFrom, labelIn}
 use Rattle.tables.specs.Table.{labelOn, tableLabel}
@@ -84,10 +84,8 @@ module _ (b : List ℕ) (n l : ℕ) (asked : Framed b n l) where
   pub field-framed : (k r : ℕ) → r ≡ field b (n + l + 1) k → r ≡ field b (labelsFrom b + l) k
   field-framed k r e = e ∙ ap (λ (f : ℕ). field b f k) frame-at
 
-  pub mask-framed : (u v : ℕ) → u ≡ pairAt b (n + l + 1) 6 → v ≡ pairAt b (n + l + 1) 8 → u * 65536 + v ≡ tableLabel b l .mask
-  mask-framed u v p q =
-      ap₂ (λ (x y : ℕ). x * 65536 + y) p q ∙ ap (λ (f : ℕ). quadAt b f 6) frame-at
-      ∙ sym (ap (λ (x : Label). x .mask) (label-numbered b l (asked .label)))
+  pub mask-framed : (r : ℕ) → r ≡ quadAt b (n + l + 1) 6 → r ≡ tableLabel b l .mask
+  mask-framed r e = e ∙ ap (λ (f : ℕ). quadAt b f 6) frame-at ∙ sym (ap (λ (x : Label). x .mask) (label-numbered b l (asked .label)))
 
 -- ---- entries
 module _ (b : List ℕ) (h e : ℕ) where

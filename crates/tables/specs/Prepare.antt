@@ -5,7 +5,7 @@ use mathlib.Core.List.{List}
 use lib.Dec.{leb}
 use lib.ListN.{set}
 use Rattle.lists.specs.Numbers.{lowest}
-use Rattle.frames.specs.Sizes.{FRAME, IMAGE-TEXT}
+use Rattle.frames.specs.Sizes.{FRAME}
 use Rattle.frames.specs.Frame.{size, field, contents}
 use Rattle.frames.specs.Answer.{BufferOutcome, bufferOn}
 use Rattle.image.specs.Layout.{FROM}

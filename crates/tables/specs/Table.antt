@@ -6,7 +6,6 @@ use lib.Dec.{ltb, eqb}
 use Rattle.lists.specs.Pick.{pick}
 use Rattle.lists.specs.Numbers.{range}
 use Rattle.lists.specs.Sequences.{concatMap}
-use Rattle.frames.specs.Sizes.{FRAME}
 use Rattle.frames.specs.Frame.{size, field, pairAt}
 use Rattle.image.specs.Layout.{CARE, VALUES, FUNCTION-BIT, NEXT, NO-BIT, PLAIN, FUNCTION-CALL}
 use Rattle.image.specs.Image.{Image, Label, Row, noLabel, homeLabel, returnLabel}

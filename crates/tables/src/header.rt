@@ -40,5 +40,5 @@ pub fn bad_table(table: &[u8]) -> bool
     if bad_handler(table) {
         return true;
     }
-    table.len() / FRAME < table_end(table)
+    table.len() < table_length(table)
 }

@@ -2,7 +2,7 @@
 use super::Label;
 use image::byte;
 use image::layout::*;
-use image::pair;
+use image::quad;
 ghost use mathlib.Core.Path.{_≡_};
 ghost use Prim.Native.Nat.{_+_, _≤_, _<_};
 ghost use Rattle.frames.specs.Sizes.{FRAME};
@@ -29,7 +29,7 @@ pub fn kind_read(table: &[u8], schemes: u8, l: usize) -> u8
 {
     let kind = field_of(table, schemes, l, TICK_KIND);
     if FUNCTION_CALL < kind {
-        return 0;
+        return PLAIN;
     }
     kind
 }
@@ -50,8 +50,7 @@ fn mask_read(table: &[u8], schemes: u8, l: usize) -> u32
     requires { ⌜ Framed (now table) schemes l ⌝ }
     ensures { λ r. ⌜ r ≡ tableLabel (now (table .entry)) l .mask ⌝ }
 {
-    let f = (schemes as usize) + l + 1;
-    (pair(table, f, LABEL_MASK) as u32) * 65536 + (pair(table, f, LABEL_MASK2) as u32)
+    quad(table, (schemes as usize) + l + 1, LABEL_MASK)
 }
 
 // A label of 2 to M, by its frame.

@@ -17,14 +17,14 @@ use Rattle.rows.specs.Rows.{Found, found, missing, nextOf}
 use Rattle.rows.specs.inner.Search.{Deciding}
 use Rattle.ticks.specs.inner.TickContracts.{bitOf}
 
--- ---- the bit that decides among the rows of label l, read as z
+-- ---- the bit that decides among the rows of label l, read as z, where the result of number h is looked at
 module _ (b : List ℕ) (l : ℕ) (z : declared.Label) (read : asLabel z ≡ tableLabel b l) (bs : Results)
-    (bit : ℕ) (e : bit ≡ bitOf (z .kind) (z .called) bs) where
-  pub bit-called : z .kind ≡ 2 → bit ≡ pick (resultOf (z .called) bs) 1 0
-  bit-called k = e ∙ yes-pick (eqb (z .kind) 2) (pick (resultOf (z .called) bs) 1 0) 2 (eq-eqb (z .kind) 2 k)
+    (h bit : ℕ) (e : bit ≡ bitOf (z .kind) h bs) where
+  pub bit-called : z .kind ≡ 2 → bit ≡ pick (resultOf h bs) 1 0
+  bit-called k = e ∙ yes-pick (eqb (z .kind) 2) (pick (resultOf h bs) 1 0) 2 (eq-eqb (z .kind) 2 k)
 
   bit-none : (z .kind ≡ 2 → ⊥) → bit ≡ 2
-  bit-none k = e ∙ no-pick (eqb (z .kind) 2) (pick (resultOf (z .called) bs) 1 0) 2 (ne-eqb (z .kind) 2 k)
+  bit-none k = e ∙ no-pick (eqb (z .kind) 2) (pick (resultOf h bs) 1 0) 2 (ne-eqb (z .kind) 2 k)
 
   pub bit-decides : NumberedLabel b l → Deciding b l bit
   bit-decides g = go (ℕ-discrete (z .kind) 2)
@@ -35,7 +35,7 @@ module _ (b : List ℕ) (l : ℕ) (z : declared.Label) (read : asLabel z ≡ tab
       go : Dec (z .kind ≡ 2) → Deciding b l bit
       go (yes k) = record {
         label = g;
-        none = λ m _. omega (arith, bit-called k, bit-low (resultOf (z .called) bs));
+        none = λ m _. omega (arith, bit-called k, bit-low (resultOf h bs));
         some = λ _. sym kind ∙ k;
       }
       go (no k) = record { label = g; none = λ _ m. k (kind ∙ m); some = λ m. absurd (m (bit-none k)) }

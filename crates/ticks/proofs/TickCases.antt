@@ -27,12 +27,10 @@ use Rattle.state.specs.Changes.{withPlace, withBits}
 use Rattle.state.specs.Bytes.{stateOf}
 use Rattle.state.proofs.ResultBytes.{held-places}
 use Rattle.ticks.specs.declared.TickEnd.{TickEnd}
-use Rattle.ticks.specs.Tick.{rowLeads, MachineTick, finished, stopped, moved, dropping, alone}
+use Rattle.ticks.specs.Tick.{topOf, rowLeads, MachineTick, finished, stopped, moved, dropping, alone}
 use Rattle.ticks.specs.Tick.{keepsFull, full, pushed, popped, tickBy, tick}
 use Rattle.ticks.specs.inner.TickContracts.{TickAsked, beneath, afterTick, endOfTick, GivesTickEnd}
-use Rattle.ticks.specs.Tick.{topOf}
-use Rattle.ticks.specs.inner.TickContracts.{GivesTickMove}
-use Rattle.fitness.proofs.Depths.{DeepState, deep-told}
+use Rattle.fitness.proofs.Depths.{DeepState, deep-told, deep-fine}
 
 -- ---- what is answered and left, by what the tick is
 module _ (b before : List ℕ) (w : ℕ) where
@@ -46,11 +44,6 @@ module _ (b before : List ℕ) (w : ℕ) where
       → GivesTickEnd b before w (record { number = 0; mask = m; code = k }) bytes
   steps-ticked m k t bytes e q =
       record { step = sym (ap endOfTick e); state = q ∙ sym (ap (afterTick (stateOf before)) e); kept = λ z. absurd (z refl) }
-
-  -- a tick that finds no row, whatever label is named
-  pub moves-none : (r : TickEnd) → r ≡ endOfTick (stopped 18) → GivesTickEnd b before w r before → (l : ℕ)
-      → GivesTickMove b before w (record { step = r; label = l }) before
-  moves-none r e q l = record { steps = q; label = λ z. absurd (omega (arith, sym z ∙ ap (λ (y : TickEnd). y .number) e)) }
 
 -- a label that was put in the place of the top is at the top
 pub top-put : (mid bytes : List ℕ) (k n : ℕ) → stateOf bytes .places ≡ set (stateOf mid .places) k n → stateOf bytes .depth - 1 ≡ k → k < 32
@@ -103,11 +96,6 @@ plain-decides {b = b} {l = l} e y k =
 pub two-up : {l m : ℕ} → l ≡ m → (Unit {0} × (l ≡ 0 → ⊥)) × (l ≡ 1 → ⊥) → 2 ≤ m
 two-up e others = let zero-not = others .0 .1 in let one-not = others .1 in omega (arith, zero-not, one-not)
 
--- ---- a finished tick leaves a depth of 1 to Σ
-abbrev pub KeptDepth : MachineTick → Type 0
-KeptDepth (finished m k t) = DeepState t
-KeptDepth (stopped n) = Unit {0}
-
 -- ---- the top of a state
 module _ (b : List ℕ) (s : State) (y : TickAsked b s) where
   abbrev i : Image
@@ -121,6 +109,10 @@ module _ (b : List ℕ) (s : State) (y : TickAsked b s) where
 
   deep : DeepState s
   deep = deep-told s (y .depth)
+
+  -- a tick, stopped or not, leaves a depth of 1 to Σ
+  abbrev KeptDepth : MachineTick → Type 0
+  KeptDepth x = DeepState (afterTick s x)
 
   is-return : l ≡ 1 → x ≡ returnLabel
   is-return e = ap (tableLabel b) e ∙ label-on b 1 (counts-told b (y .whole .counts) .two)
@@ -185,17 +177,17 @@ module _ (b : List ℕ) (s : State) (y : TickAsked b s) where
         → tick i s w ≡ finished 0 4 (withPlace (withBits s (s .bits)) (s .depth - 1) (entryAt i 1))
     tick-home e = tick-as homeLabel (is-home e)
 
-    -- ---- every finished tick leaves a depth of 1 to Σ
+    -- ---- every tick leaves a depth of 1 to Σ
     moved-deep : (m code : ℕ) (t : State) (k : ℕ) (f : Found) → DeepState t → KeptDepth (moved m code t k f)
     moved-deep m code t k (found u) h = record { some = h .some; most = h .most; small = h .small }
-    moved-deep m code t k missing h = tt
+    moved-deep m code t k missing h = deep
 
     full-deep : (m : ℕ) (bs : Results) → KeptDepth (full i s m bs)
     full-deep m bs = go (keepsFull i s)
       where
         go : (t : Bool) → KeptDepth (pick t (stopped 17)
             (finished m 96 (alone s (entryAt i (i .handler)) (i .handler) (cleared (i .handler) bs))))
-        go true = tt
+        go true = deep
         go false = record { some = omega arith; most = omega (arith, deep .some, deep .most); small = deep .small }
 
     pushed-deep : (m code h k : ℕ) (bs : Results) (t : Bool) → leb (s .size) (s .depth) ≡ t → KeptDepth (pushed i s m code h k bs t)
@@ -210,7 +202,7 @@ module _ (b : List ℕ) (s : State) (y : TickAsked b s) where
         moved-deep m 3 (dropping s bs) _ (rowLeads i bs (placeAt s (s .depth - 2)) w)
         (record { some = omega arith; most = omega (arith, deep .most); small = deep .small })
 
-    pub tick-deep : KeptDepth (tick i s w)
+    tick-deep : KeptDepth (tick i s w)
     tick-deep = go (x .kind) refl (label-values b l .kinds)
       where
         same : DeepState (withBits s bits)
@@ -228,3 +220,11 @@ module _ (b : List ℕ) (s : State) (y : TickAsked b s) where
             subst KeptDepth (sym (tick-home (label-values b l .four (omega arith))))
             (record { some = deep .some; most = deep .most; small = deep .small })
         go (suc (suc (suc (suc (suc k))))) e h = absurd (omega arith)
+
+-- after a tick, stopped or not, the next one may be made
+pub stands-on : {b before : List ℕ} {w : ℕ} {r : TickEnd} {bytes : List ℕ} → GivesTickEnd b before w r bytes → TickAsked b (stateOf before)
+    → TickAsked b (stateOf bytes)
+stands-on {b = b} {before = before} {w = w} {bytes = bytes} q y = record {
+  whole = y .whole;
+  depth = deep-fine (stateOf bytes) (subst DeepState (sym (q .state)) (tick-deep b (stateOf before) y w));
+}

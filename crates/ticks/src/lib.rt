@@ -17,7 +17,7 @@ pub struct TickEnd {
     pub code: u8,
 }
 
-// The same, and the label at the top after a tick that was not stopped: the next tick of a run need not read it again.
+// The same, and the label at the top after it: the next tick of a run need not read it again.
 pub struct TickMove {
     pub step: TickEnd,
     pub label: u8,

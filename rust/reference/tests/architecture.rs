@@ -13,7 +13,7 @@ fn file(path: &str) -> String {
 
 #[test]
 fn the_drawing_is_that_of_the_list() {
-    let drawn = drawing::drawn(&drawing::rooms(&file("crates.txt")));
+    let drawn = drawing::drawn(&drawing::areas(&file("crates.txt")));
     assert!(
         drawn == file("docs/pictures/crates.svg"),
         "crates.txt has changed: cargo run --release -p reference --example draw_crates"
@@ -21,27 +21,27 @@ fn the_drawing_is_that_of_the_list() {
 }
 
 #[test]
-fn the_architecture_has_every_crate_in_its_room() {
+fn the_architecture_has_every_crate_in_its_area() {
     let page = file("docs/ARCHITECTURE.md");
-    let (_, table) = page.split_once("| Room | Crates | Promise |").expect("the table is there");
+    let (_, table) = page.split_once("| Area | Crates | Promise |").expect("the table is there");
     let mut told: Vec<(String, Vec<String>)> = Vec::new();
     for row in table.lines().skip(2).take_while(|line| line.starts_with('|')) {
         let cells: Vec<&str> = row.split('|').map(str::trim).collect();
         if !cells[1].is_empty() {
             told.push((cells[1].to_owned(), Vec::new()));
         }
-        let (_, crates) = told.last_mut().expect("the first row names a room");
+        let (_, crates) = told.last_mut().expect("the first row names an area");
         crates.extend(cells[2].split(", ").map(str::to_owned));
     }
     let mut listed: Vec<(String, Vec<String>)> =
-        drawing::rooms(&file("crates.txt")).into_iter().map(|room| (room.name, room.crates)).collect();
-    // within a room crates that belong together share a row, so that their order may be another
+        drawing::areas(&file("crates.txt")).into_iter().map(|area| (area.name, area.crates)).collect();
+    // within an area crates that belong together share a row, so that their order may be another
     told.iter_mut().chain(&mut listed).for_each(|(_, crates)| crates.sort());
     assert_eq!(told, listed);
 }
 
 #[test]
-fn the_readme_names_every_room() {
+fn the_readme_names_every_area() {
     let page = file("README.md");
     let (_, layout) = page.split_once("## Layout").expect("the section is there");
     let named: Vec<&str> = layout
@@ -51,6 +51,6 @@ fn the_readme_names_every_room() {
         .lines()
         .filter_map(|line| line.strip_prefix("- **")?.split("**").next())
         .collect();
-    let listed: Vec<String> = drawing::rooms(&file("crates.txt")).into_iter().map(|room| room.name).collect();
+    let listed: Vec<String> = drawing::areas(&file("crates.txt")).into_iter().map(|area| area.name).collect();
     assert_eq!(named, listed);
 }

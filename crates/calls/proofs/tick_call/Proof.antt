@@ -6,8 +6,7 @@ use native.Mathlib.Omega.{arith}
 use Rattle.state.specs.declared.State.{State}
 use Rattle.state.specs.State.{numberAt}
 use Rattle.state.specs.Bytes.{stateOf}
-use Rattle.ticks.specs.Tick.{topOf}
-use Rattle.ticks.proofs.TickCases.{depth-some, depth-most, size-most, called-few, numbered-as}
+use Rattle.ticks.proofs.TickCases.{depth-some, depth-most, size-most, called-few, numbered-as, stands-on}
 use Rattle.calls.proofs.CallCases.{call-steps, full-moves}
 use Rattle.calls.proofs.tick_call.Statement.{statement}
 use Rattle.calls.proofs.tick_call.Tie as tie
@@ -47,16 +46,31 @@ tick-full-requires c κs =
     let asked = start size .pre in
     (record { calls = asked .0; full = omega (arith, size .size-of .ensures, depth-read size, c .before .if1 .taken) }, asked .1 .0)
 
+depth-of-requires-2 : tie.Need-depth-of-requires-2
+depth-of-requires-2 c κs = search needs
+
+cast-place-of : tie.Need-cast-place-of
+cast-place-of c = search needs
+
+-- the depth that a call at a full stack leaves
+left : (c : tie.After-depth-of2) → (1 ≤ c .depth-of2 .result) × (c .depth-of2 .result ≤ 32)
+left c =
+    let full = c .before .before in
+    let stands = stands-on (full .tick-full .ensures) (start (full .before .before .before) .pre .0 .stands) in
+    let is = c .depth-of2 .ensures in
+    (omega (arith, depth-some stands, is), omega (arith, depth-most stands, size-most stands, is))
+
+sub-place-of : tie.Need-sub-place-of
+sub-place-of c = left c .0
+
 place-of-requires : tie.Need-place-of-requires
-place-of-requires c κs = omega arith
+place-of-requires c κs = omega (arith, left c .0, left c .1)
 
 returns : tie.Need-returns
 returns c =
-    let full = c .before .before in
-    let size = full .before .before .before in
-    full-moves _ _ _
-    (record { calls = start size .pre .0; full = omega (arith, size .size-of .ensures, depth-read size, full .before .before .if1 .taken) })
-    (full .tick-full .result) _ (full .tick-full .ensures) _ (c .place-of .ensures)
+    let depth = c .before in
+    let full = depth .before .before in
+    full-moves _ _ _ (full .tick-full .result) _ (full .tick-full .ensures) _ (depth .depth-of2 .ensures) _ (c .place-of .ensures)
 
 cast-top : tie.Need-cast-top
 cast-top c = search needs
@@ -126,6 +140,9 @@ tick-call-spec =
     depth-of-requires
     size-of-requires
     tick-full-requires
+    depth-of-requires-2
+    cast-place-of
+    sub-place-of
     place-of-requires
     returns
     cast-top

@@ -8,6 +8,7 @@ use Rattle.lists.proofs.Tests.{not-true}
 use Rattle.class_rounds.proofs.GroupSteps.{Rounding, rounding-start, rounding-refined, rounding-room}
 use Rattle.class_rounds.proofs.GroupSteps.{rounding-on, rounding-rest, rounding-all}
 use Rattle.grouping.proofs.Marked.{ones-long}
+use Rattle.marked_parts.proofs.Labelled.{kept-length}
 use Rattle.class_rounds.proofs.group_in.Statement.{statement}
 use Rattle.class_rounds.proofs.group_in.Tie as tie
 
@@ -126,7 +127,7 @@ loop-again c =
     let marked = c .before .before .before .before .before .before .before .before .before .before .before in
     let refined = marked .before .before .before .before .before .before .before .before .before .before .before .before in
     rounding-on _ _ _ _ _ _ _ _ (turn refined .loop .inv) _ (refined .refine .ensures) (search needs) _ _ _
-    (marked .mark-parted .ensures .0) (marked .mark-parted .ensures .1) _
+    (marked .mark-parted .ensures .marked) (kept-length (marked .mark-parted .ensures .parts) ∙ turn refined .loop .inv .spare) _
     (c .before .before .put-bytes .ensures)
 
 same-length-6 : tie.Need-same-length-6 Inv-loop μ-loop

@@ -10,7 +10,7 @@ use Rattle.fill_counts.specs.declared.Tally.{Tally}
 use Rattle.fill_counts.specs.inner.TallyContracts.{tallyOf, allMeet}
 use Rattle.fill_counts.proofs.TallyTurns.{shareOf, tally-none, went-share, stood-share, left-few, words-few}
 use Rattle.fill_counts.proofs.TallyTurns.{Part, part-first, part-few, part-on, part-over}
-use Rattle.runs.proofs.TurnCases.{stands-on}
+use Rattle.ticks.proofs.TickCases.{stands-on}
 use borrow.Fn.Kinds.{In, Out}
 use borrow.Fn.PlainCycle.{Measures, is, falls, and}
 use Rattle.fill_lists.proofs.tally_all.Reads as reads
@@ -123,12 +123,11 @@ module _ (t : ℕ) where
 
   tally-all-requires : At lts.Need-tally-all-requires
   tally-all-requires c κs =
-      let finished = c .before in
-      let done = finished .before in
+      let done = c .before .before in
       let inv = turned done .loop .inv in (
         omega (arith, inv .whole, start done .pre .0),
         (
-          stands-on _ _ _ (done .tick-word .result) _ (done .tick-word .ensures) (inv .stands) (finished .if2 .taken),
+          stands-on (done .tick-word .ensures) (inv .stands),
           left-few _ _ _ (inv .whole) (inv .few) .0,
         ),
       )

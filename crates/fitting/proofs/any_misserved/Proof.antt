@@ -1,6 +1,7 @@
 -- `fitting::any_misserved` meets its contract: the first number that is served amiss ends the loop.
 use mathlib.Core.Path.{refl}
 use Prim.Native.Nat.{_-_}
+use native.Mathlib.Omega.{arith}
 use Rattle.tables.specs.Table.{tableImage}
 use Rattle.state.specs.declared.State.{State}
 use Rattle.state.specs.Bytes.{stateOf}
@@ -29,10 +30,10 @@ handler-of-requires : tie.Need-handler-of-requires Inv-loop μ-loop
 handler-of-requires c κs = search needs
 
 loop-holds : tie.Need-loop-holds Inv-loop μ-loop
-loop-holds c = refl
+loop-holds c = record { low = omega arith; same = refl }
 
-serving-of-requires : tie.Need-serving-of-requires Inv-loop μ-loop
-serving-of-requires c κs = search needs
+serving-at-requires : tie.Need-serving-at-requires Inv-loop μ-loop
+serving-at-requires c κs = search needs
 
 is-misserved-requires : tie.Need-is-misserved-requires Inv-loop μ-loop
 is-misserved-requires c κs = search needs
@@ -43,7 +44,7 @@ returns c =
     let turn = tested .before .before .before in
     let handler = read turn in
     served-found _ (state turn) _ _ _ _ (handler .before .scheme-count .ensures)
-    (handler .handler-of .ensures) (tested .before .serving-of .ensures)
+    (handler .handler-of .ensures) (tested .before .serving-at .ensures)
     _ (tested .is-misserved .ensures) (search needs) (turn .loop .inv) (c .if1 .taken)
 
 add-h : tie.Need-add-h Inv-loop μ-loop
@@ -58,7 +59,7 @@ loop-again c =
     let turn = tested .before .before .before in
     let handler = read turn in
     served-next _ (state turn) _ _ _ _ (handler .before .scheme-count .ensures)
-    (handler .handler-of .ensures) (tested .before .serving-of .ensures)
+    (handler .handler-of .ensures) (tested .before .serving-at .ensures)
     _ (tested .is-misserved .ensures) (search needs) (turn .loop .inv) (c .if1 .left)
 
 returns-2 : tie.Need-returns-2 Inv-loop μ-loop
@@ -76,7 +77,7 @@ any-misserved-spec =
     scheme-count-requires
     handler-of-requires
     loop-holds
-    serving-of-requires
+    serving-at-requires
     is-misserved-requires
     returns
     add-h

@@ -1,4 +1,4 @@
--- Marked nodes in a list: one listed as it is marked, and all of them, the lowest first.
+-- Nodes marked one after the other, and marked nodes in a list: one listed as it is marked, and all of them, the lowest first.
 use Prim.Native.Nat.{ℕ, _+_, _<_}
 use mathlib.Core.Path.{_≡_}
 use mathlib.Core.Bool.{Bool, true, not, _&&_}
@@ -13,6 +13,11 @@ use Rattle.graph.specs.Reach.{marked}
 -- how many are marked
 abbrev pub many : List Bool → ℕ
 many ms = count (marked ms) 0 (length ms)
+
+-- all of these are marked, where they are nodes
+unfoldable pub markAll : List ℕ → List Bool → List Bool
+markAll [] ms = ms
+markAll (u ∷ us) ms = markAll us (set ms u true)
 
 -- marks, a list of nodes, and how many of the list count
 pub record Listing : Type 0 where

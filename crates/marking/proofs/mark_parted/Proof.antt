@@ -1,7 +1,7 @@
--- `grouping::marking::mark_parted` meets its contract: by those of the four steps.
+-- `marking::mark_parted` meets its contract: by those of its two steps.
 use borrow.Author.Needs.{needs}
 use native.Mathlib.Omega.{arith}
-use Rattle.grouping.proofs.Marked.{next-marks}
+use Rattle.marking.proofs.Touches.{round-marked}
 use Rattle.marking.proofs.mark_parted.Statement.{statement}
 use Rattle.marking.proofs.mark_parted.Tie as tie
 
@@ -14,22 +14,9 @@ cast-n c = search needs
 add-n : tie.Need-add-n
 add-n c = search needs
 
-count-members-requires : tie.Need-count-members-requires
-count-members-requires c κs =
-    let last = c .before in
-    let known = last .before .before .before .before .before .before in
-    let given = known .before .pre .1 in
-    let refined = given .0 .0 in (
-      omega (arith, last .last-label .ensures, known .shared-slice-known .given 2),
-      given .0 .1
-          (refined .rounds) (refined .now) .long,
-      given .1 .1,
-    )
-
-keep-largest-requires : tie.Need-keep-largest-requires
-keep-largest-requires c κs =
-    let counted = c .before .before .before .before in
-    let last = counted .before .before in
+mark-parts-requires : tie.Need-mark-parts-requires
+mark-parts-requires c κs =
+    let last = c .before .before .before in
     let known = last .before .before .before .before .before .before in
     let given = known .before .pre .1 in
     let refined = given .0 .0 in (
@@ -38,22 +25,7 @@ keep-largest-requires c κs =
         refined .now .long,
         given .0 .1 (refined .rounds) (refined .now) .long,
       ),
-      (counted .count-members .ensures, given .1 .2),
-    )
-
-mark-requires : tie.Need-mark-requires
-mark-requires c κs =
-    let chosen = c .before .before .before .before in
-    let last = chosen .before .before .before .before .before .before .before in
-    let known = last .before .before .before .before .before .before in
-    let given = known .before .pre .1 in
-    let refined = given .0 .0 in (
-      (
-        omega (arith, last .last-label .ensures, known .shared-slice-known .given 2),
-        refined .now .long,
-        given .0 .1 (refined .rounds) (refined .now) .long,
-      ),
-      (chosen .keep-largest .ensures, given .1 .0),
+      given .1,
     )
 
 touch-requires : tie.Need-touch-requires
@@ -71,18 +43,13 @@ same-length-3 c = search needs
 returns : tie.Need-returns
 returns c =
     let noted = c .before .before in
-    let marked = noted .before .before .before .before .before in
-    let chosen = marked .before .before .before .before .before in
-    let last = chosen .before .before .before .before .before .before .before in
-    let start = last .before .before .before .before .before .before .before in
-    let refined = start .pre .1 .0 .0 in
-    let more = start .pre .1 .0 .1 in (
-      next-marks (start .args .table .now) (start .pre .0) (refined .rounds)
-          (start .args .classes .now) (refined .now) (start .args .next .now)
-          (more (refined .rounds) (refined .now)) _ (omega (arith, last .last-label .ensures))
-          _ _ (marked .mark .ensures) _ (noted .touch .ensures),
-      chosen .keep-largest .ensures,
-    )
+    let marked = noted .before .before .before .before .before .before .before .before .before in
+    let last = marked .before .before .before .before in
+    let known = last .before .before .before .before .before .before in
+    let given = known .before .pre in
+    round-marked _ (given .0) _ _ (given .1 .0 .0) (given .1 .0 .1) _ (omega (arith, last .last-label .ensures))
+    (omega (arith, last .last-label .ensures, known .shared-slice-known .given 2)) (given .1 .1 .0) (given .1 .1 .1)
+    (marked .mark-parts .ensures) _ (noted .touch .ensures)
 
 pub mark-parted-spec : {M : Type 1} → statement M
 mark-parted-spec =
@@ -91,9 +58,7 @@ mark-parted-spec =
     last-label-requires
     cast-n
     add-n
-    count-members-requires
-    keep-largest-requires
-    mark-requires
+    mark-parts-requires
     touch-requires
     same-length
     same-length-2

@@ -1,15 +1,14 @@
--- `grouping::marking::touch` meets its contract: it holds of the labels before l.
+-- `marking::touch` meets its contract: it holds of the labels before l.
 use borrow.Author.Needs.{needs}
 use mathlib.Core.Path.{sym, _∙_}
 use Prim.Native.Nat.{_-_, _+_, _≤_}
 use native.Mathlib.Omega.{arith}
-use Rattle.grouping.specs.inner.GroupingContracts.{Touched}
-use Rattle.grouping.proofs.Marked.{touched-start, touched-on, touched-all}
+use Rattle.marking.proofs.Touches.{Touching, touching-start, touching-turn, touching-all}
 use Rattle.marking.proofs.touch.Statement.{statement}
 use Rattle.marking.proofs.touch.Tie as tie
 
 abbrev Inv-loop : tie.InvT-loop
-Inv-loop table marks touched₀ schemes last l₀ touched l = (Touched table marks l touched) × (2 ≤ l)
+Inv-loop table marks touched₀ schemes last l₀ touched l = Touching table marks touched₀ touched l
 
 abbrev μ-loop : tie.MeasureT-loop
 μ-loop table marks touched₀ schemes last l₀ touched l = last + 1 - l
@@ -24,7 +23,7 @@ cast-last : tie.Need-cast-last Inv-loop μ-loop
 cast-last c = search needs
 
 loop-holds : tie.Need-loop-holds Inv-loop μ-loop
-loop-holds c = (touched-start _ _ _ (c .before .before .before .before .before .pre .1 .1), search needs)
+loop-holds c = touching-start _ _ _
 
 first-of-requires : tie.Need-first-of-requires Inv-loop μ-loop
 first-of-requires c κs = search needs
@@ -46,17 +45,17 @@ loop-less c = search needs
 
 loop-again : tie.Need-loop-again Inv-loop μ-loop
 loop-again c =
-    let turn = c .before .before .before .before in (
-      touched-on _ _ _ _ _ _ _ (turn .loop .inv .0) (search needs) (c .before .before .first-of .ensures)
-          (c .before .end-of .ensures) (c .touch-of .ensures),
-      search needs,
-    )
+    let turn = c .before .before .before .before in
+    let known = turn .before .before .before .before .before in
+    touching-turn _ _ _ (omega (arith, known .before .pre .1 .1, known .shared-slice-known .given 2)) _ _ _ _ _ (turn .loop .inv)
+    (omega (arith, turn .before .last-label .ensures, c .before .before .before .loop-test .taken)) (c .before .before .first-of .ensures) (c .before .end-of .ensures)
+    (c .touch-of .ensures)
 
 same-length : tie.Need-same-length Inv-loop μ-loop
-same-length c = c .before .loop .inv .0 .long ∙ sym (c .before .before .before .before .before .before .before .pre .1 .1)
+same-length c = c .before .loop .inv .values .size
 
 returns : tie.Need-returns Inv-loop μ-loop
-returns c = touched-all _ _ _ _ _ (c .before .loop .inv .0) (omega (arith, c .before .before .last-label .ensures, c .loop-test .left))
+returns c = touching-all _ _ _ _ _ (c .before .loop .inv) (omega (arith, c .before .before .last-label .ensures, c .loop-test .left))
 
 pub touch-spec : {M : Type 1} → statement M
 touch-spec =

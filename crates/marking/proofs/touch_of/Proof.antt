@@ -1,4 +1,4 @@
--- `grouping::marking::touch_of` meets its contract: the loop keeps what is left of the search.
+-- `marking::touch_of` meets its contract: the loop keeps what is left of the search.
 use borrow.Author.Needs.{needs}
 use mathlib.Core.Bool.{Bool}
 use mathlib.Core.Path.{refl, sym, _∙_, ap, _≡_}

@@ -1,11 +1,11 @@
 -- `node_marks::mark_next` meets its contract: by how many arcs the node has.
-use mathlib.Core.Path.{refl, sym, _∙_, ap}
+use Prim.Native.Nat.{ℕ}
+use mathlib.Core.Path.{refl}
 use mathlib.Core.Bool.{Bool, true, false}
-use mathlib.Core.List.{List, []}
+use mathlib.Core.List.{List}
 use lib.ListN.{set}
-use Rattle.graph.specs.inner.Listed.{Listing, listing, enlist}
-use Rattle.node_marks.proofs.MarkCases.{marked-none, marked-one, marked-two}
-use Rattle.node_marks.proofs.Sweeps.{enlist-marks}
+use Rattle.graph.specs.inner.Listed.{markAll}
+use Rattle.node_marks.proofs.MarkCases.{steps-none, steps-one, steps-both}
 use borrow.Author.Needs.{needs}
 use Rattle.node_marks.proofs.mark_next.Statement.{statement}
 use Rattle.node_marks.proofs.mark_next.Tie as tie
@@ -20,20 +20,23 @@ some c = c .before .before .before
 abbrev first : tie.Else2 → tie.After-mark
 first c = c .before .before .before
 
--- what is lent at first, with no list
-abbrev lent : tie.Start → Listing
-lent c = listing (c .args .marks .now) [] 0
+-- the marks at first, and these nodes marked besides; one more
+abbrev marking : tie.Start → List ℕ → List Bool
+marking c us = markAll us (c .args .marks .now)
+
+abbrev step : List Bool → ℕ → List Bool
+step ms u = set ms u true
 
 -- ---- the needs
 arc-count-requires : tie.Need-arc-count-requires
 arc-count-requires c κs = search needs
 
 returns : tie.Need-returns
+unfolding markAll
 returns c =
     let counted = c .before in
     let a = start counted .args in
-    ap (λ (s : Listing). s .marks)
-    (marked-none (a .records .now) false (a .v) _ (counted .arc-count .ensures) (lent (start counted)) (c .if1 .taken))
+    steps-none (a .records .now) false (a .v) _ (counted .arc-count .ensures) (marking (start counted)) (c .if1 .taken)
 
 field-requires : tie.Need-field-requires
 field-requires c κs = search needs
@@ -48,15 +51,13 @@ same-length : tie.Need-same-length
 same-length c = search needs
 
 returns-2 : tie.Need-returns-2
+unfolding markAll
 returns-2 c =
     let one = c .before .before .before in
     let counted = some one .before in
     let a = start counted .args in
-    let s = lent (start counted) in
-    let u = one .before .field .result in
-    one .mark .ensures ∙ sym (enlist-marks s u)
-    ∙ ap (λ (t : Listing). t .marks) (marked-one (a .records .now) false (a .v) _ (counted .arc-count .ensures) s (some one .if1 .left)
-    u (enlist s u) (one .before .field .ensures) refl (c .if2 .taken))
+    steps-one (a .records .now) false (a .v) _ (counted .arc-count .ensures) (marking (start counted)) step
+    _ _ (one .before .field .ensures) (one .mark .ensures) refl (c .if2 .taken)
 
 field-requires-2 : tie.Need-field-requires-2
 field-requires-2 c κs = search needs
@@ -71,21 +72,16 @@ same-length-2 : tie.Need-same-length-2
 same-length-2 c = search needs
 
 returns-3 : tie.Need-returns-3
+unfolding markAll
 returns-3 c =
     let two = c .before .before in
     let another = two .before .before .before in
     let one = first another in
     let counted = some one .before in
     let a = start counted .args in
-    let s = lent (start counted) in
-    let u = one .before .field .result in
-    let w = two .before .field2 .result in
-    two .mark2 .ensures
-    ∙ ap (λ (xs : List Bool). set xs w true) (one .mark .ensures ∙ sym (enlist-marks s u))
-    ∙ sym (enlist-marks (enlist s u) w)
-    ∙ ap (λ (t : Listing). t .marks) (marked-two (a .records .now) false (a .v) _ (counted .arc-count .ensures) s (some one .if1 .left)
-    u (enlist s u) (one .before .field .ensures) refl (another .if2 .left)
-    w (enlist (enlist s u) w) (two .before .field2 .ensures) refl)
+    steps-both (a .records .now) false (a .v) _ (counted .arc-count .ensures) (marking (start counted)) step
+    _ _ (one .before .field .ensures) (one .mark .ensures) (some one .if1 .left) (another .if2 .left)
+    _ _ (two .before .field2 .ensures) (two .mark2 .ensures) refl
 
 pub mark-next-spec : {M : Type 1} → statement M
 mark-next-spec =

@@ -1,16 +1,13 @@
--- `node_marks::sweep` meets its contract: what each node adds is joined from the first marks.
+-- `node_marks::sweep` meets its contract: one turn for each node.
 use Prim.Native.Nat.{_-_}
-use mathlib.Core.Path.{sym, _∙_}
-use Rattle.graph.proofs.Marking.{Joining, joining-first, joining-same}
-use Rattle.frames.specs.Frame.{size}
-use Rattle.charts.specs.Check.{arcs}
-use Rattle.node_marks.proofs.Sweeps.{swept-more}
+use mathlib.Core.Path.{_∙_}
+use Rattle.node_marks.proofs.Sweeps.{Sweeping, sweeping-none, sweeping-turn, sweeping-all}
 use borrow.Author.Needs.{needs}
 use Rattle.node_marks.proofs.sweep.Statement.{statement}
 use Rattle.node_marks.proofs.sweep.Tie as tie
 
 abbrev Inv-loop : tie.InvT-loop
-Inv-loop records marks₀ n v₀ marks v = Joining (size records) (arcs records) marks₀ marks
+Inv-loop records marks₀ n v₀ marks v = Sweeping records marks₀ marks v
 
 abbrev μ-loop : tie.MeasureT-loop
 μ-loop records marks₀ n v₀ marks v = n - v
@@ -21,10 +18,10 @@ start c = c .before .before .before
 
 -- ---- the needs
 loop-holds : tie.Need-loop-holds Inv-loop μ-loop
-loop-holds c = let begun = c .before .before in joining-first _ _ _ (begun .pre)
+loop-holds c = sweeping-none _ _
 
 mark-on-requires : tie.Need-mark-on-requires Inv-loop μ-loop
-mark-on-requires c κs = (search needs, c .before .before .loop .inv .long)
+mark-on-requires c κs = let turn = c .before .before in (search needs, turn .loop .inv .long ∙ start turn .pre)
 
 add-v : tie.Need-add-v Inv-loop μ-loop
 add-v c = search needs
@@ -36,14 +33,13 @@ loop-again : tie.Need-loop-again Inv-loop μ-loop
 loop-again c =
     let on = c .before .before in
     let here = on .before .before .before in
-    let begun = start here in
-    swept-more (begun .args .records .now) _ (here .loop .marks) _ (here .loop .v) (begun .pre) (here .loop .inv) (on .mark-on .ensures)
+    sweeping-turn _ _ _ _ _ (here .loop .inv) (search needs) (on .mark-on .kept .1 .1 .0) (on .mark-on .ensures)
 
 same-length : tie.Need-same-length Inv-loop μ-loop
-same-length c = c .before .loop .inv .long ∙ sym (start (c .before) .pre)
+same-length c = c .before .loop .inv .long
 
 returns : tie.Need-returns Inv-loop μ-loop
-returns c = joining-same _ _ _ (start (c .before) .pre) _ (c .before .loop .inv)
+returns c = sweeping-all _ _ _ _ (c .before .loop .inv) (search needs)
 
 pub sweep-spec : {M : Type 1} → statement M
 sweep-spec =

@@ -1,17 +1,21 @@
--- What the functions that mark nodes ask of their callers: lists with room for all nodes, and marks for all of them.
-use Prim.Native.Nat.{ℕ, _≤_}
+-- The marks that a sweep leaves, and what functions that mark nodes ask of their callers: marks for all nodes, lists with room for all.
+use Prim.Native.Nat.{ℕ, zero, suc, _≤_}
 use mathlib.Core.Path.{_≡_}
 use mathlib.Core.Bool.{Bool, false}
-use mathlib.Core.List.{List, []}
+use mathlib.Core.List.{List}
 use lib.ListN.{length, replicate}
-use Rattle.graph.specs.inner.Listed.{listing, enlistAll, Listed}
+use Rattle.lists.specs.Pick.{pick}
+use Rattle.graph.specs.Reach.{marked}
+use Rattle.graph.specs.inner.Listed.{markAll, Listed}
 use Rattle.frames.specs.Sizes.{NODES}
 use Rattle.frames.specs.Frame.{size}
 use Rattle.charts.specs.Chart.{Chart}
+use Rattle.charts.specs.Check.{arcs}
 
--- marks, and these nodes marked besides, as they are when they are enlisted
-abbrev pub markedBy : List Bool → List ℕ → List Bool
-markedBy ms us = enlistAll (listing ms [] 0) us .marks
+-- the marks after the arcs of nodes 0 to n - 1 were followed, each node's where it was marked by then
+unfoldable pub sweptTo : Chart → ℕ → List Bool → List Bool
+sweptTo c zero ms = ms
+sweptTo c (suc v) ms = let now = sweptTo c v ms in pick (marked now v) (markAll (arcs c v) now) now
 
 -- as many nodes as a byte can number, and a list with room for all
 pub record NodeRoom (c : Chart) (list : List ℕ) : Type 0 where

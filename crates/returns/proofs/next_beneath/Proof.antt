@@ -78,7 +78,7 @@ next-row-requires : tie.Need-next-row-requires
 next-row-requires c κs =
     let other = c .before .before in
     let d = depth (place other) in (
-      bit-decides _ _ _ (c .before .label-read .ensures) (state d .bits) _ (c .bit-of .ensures) (numbered other),
+      bit-decides _ _ _ (c .before .label-read .ensures) (state d .bits) _ _ (c .bit-of .ensures) (numbered other),
       start d .pre .1 .schemes,
     )
 

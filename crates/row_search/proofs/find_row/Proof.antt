@@ -12,10 +12,10 @@ use Rattle.row_search.proofs.find_row.Statement.{statement}
 use Rattle.row_search.proofs.find_row.Tie as tie
 
 abbrev Inv-loop : tie.InvT-loop
-Inv-loop table schemes l word bit turned end f₀ found₀ f found = PassedRows table l word bit f₀ end f found
+Inv-loop table schemes l word bit swapped end f₀ found₀ f found = PassedRows table l word bit f₀ end f found
 
 abbrev μ-loop : tie.MeasureT-loop
-μ-loop table schemes l word bit turned end f₀ found₀ f found = end - f
+μ-loop table schemes l word bit swapped end f₀ found₀ f found = end - f
 
 swap-requires : tie.Need-swap-requires Inv-loop μ-loop
 swap-requires c κs = tt
@@ -59,7 +59,7 @@ skip-rows-requires c κs =
     (omega (arith, inside test, test .before .loop .inv .table), end-within _ _ _ whole (ended .end-of .ensures))
 
 loop-less : tie.Need-loop-less Inv-loop μ-loop
-loop-less c = omega (arith, c .skip-rows .ensures .on, c .before .before .before .loop-test .taken)
+loop-less c = omega (arith, c .skip-rows .ensures .passed .on, c .before .before .before .loop-test .taken)
 
 -- with the row that was looked at, before others are passed over
 looked : (c : tie.Joined1 Inv-loop μ-loop)

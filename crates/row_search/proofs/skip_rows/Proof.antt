@@ -1,18 +1,20 @@
--- `row_search::skip_rows` meets its contract: none of the rows passed so far matches.
+-- `row_search::skip_rows` meets its contract: none of the rows passed so far matches, and before two that are left it stops
+-- only at one that does.
 use borrow.Author.Needs.{needs}
 use Prim.Native.Nat.{_+_, _-_, _≤_}
+use mathlib.Core.Path.{sym, _∙_}
 use native.Mathlib.Omega.{arith}
-use Rattle.rows.specs.inner.Search.{swapped}
-use Rattle.row_search.specs.inner.Skipped.{Skipped}
+use Rattle.rows.specs.inner.Search.{swap}
+use Rattle.row_search.specs.inner.Skipped.{Unmatched}
 use Rattle.row_search.proofs.PassCases.{skip-start, skip-one, skip-two}
 use Rattle.row_search.proofs.skip_rows.Statement.{statement}
 use Rattle.row_search.proofs.skip_rows.Tie as tie
 
 abbrev Inv-loop : tie.InvT-loop
-Inv-loop table from end turned bit f₀ f = Skipped table (swapped turned) bit from end f × (f ≤ from + end)
+Inv-loop table from end swapped bit f₀ f = Unmatched table (swap swapped) bit from end f × (f ≤ from + end)
 
 abbrev μ-loop : tie.MeasureT-loop
-μ-loop table from end turned bit f₀ f = end - f
+μ-loop table from end swapped bit f₀ f = end - f
 
 loop-holds : tie.Need-loop-holds Inv-loop μ-loop
 loop-holds c = (skip-start _ _ _ _ _, omega arith)
@@ -24,7 +26,10 @@ is-matching-requires : tie.Need-is-matching-requires Inv-loop μ-loop
 is-matching-requires c κs = search needs
 
 returns : tie.Need-returns Inv-loop μ-loop
-returns c = c .before .before .before .loop .inv .0
+returns c = record {
+  passed = c .before .before .before .loop .inv .0;
+  stopped = λ _. sym (c .before .is-matching .ensures) ∙ c .if1 .taken;
+}
 
 add-is-matching : tie.Need-add-is-matching Inv-loop μ-loop
 add-is-matching c = search needs
@@ -39,8 +44,11 @@ returns-2 : tie.Need-returns-2 Inv-loop μ-loop
 returns-2 c =
     let former = c .before .before in
     let loop = former .before .before .before in
-    skip-one _ _ _ _ _ _ (loop .loop .inv .0) _ (former .before .is-matching .ensures) (former .if1 .left)
-    (omega (arith, former .before .before .loop-test .taken))
+    record {
+      passed = skip-one _ _ _ _ _ _ (loop .loop .inv .0) _ (former .before .is-matching .ensures) (former .if1 .left)
+          (omega (arith, former .before .before .loop-test .taken));
+      stopped = λ _. sym (c .before .is-matching2 .ensures) ∙ c .if2 .taken;
+    }
 
 add-f : tie.Need-add-f Inv-loop μ-loop
 add-f c = search needs
@@ -53,12 +61,12 @@ loop-again c =
     let former = c .before .before in
     let test = former .before .before in (
       skip-two _ _ _ _ _ _ (test .before .loop .inv .0) _ _ (former .before .is-matching .ensures) (c .before .is-matching2 .ensures)
-          (former .if1 .left) (c .if2 .left) (test .loop-test .taken),
+          (former .if1 .left) (c .if2 .left) (omega (arith, test .loop-test .taken)),
       omega (arith, test .loop-test .taken),
     )
 
 returns-3 : tie.Need-returns-3 Inv-loop μ-loop
-returns-3 c = c .before .loop .inv .0
+returns-3 c = record { passed = c .before .loop .inv .0; stopped = λ h. absurd (omega (arith, c .loop-test .left)) }
 
 pub skip-rows-spec : {M : Type 1} → statement M
 skip-rows-spec =

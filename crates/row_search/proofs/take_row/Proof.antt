@@ -30,13 +30,9 @@ returns : tie.Need-returns
 returns c =
     let ended = c .before .before in
     let first = ended .before in
-    let known = first .before in
-    let start = known .before in
+    let start = first .before .before in
     one-found (start .args .table .now) (start .args .l) (start .args .word) (start .args .bit)
-    _ _ (start .pre .0) (first .first-of .ensures)
-    (ended .end-of .ensures) (c .before .if1 .taken)
-    (omega (arith, end-within _ _ _ (start .pre .0 .label .whole) (ended .end-of .ensures), c .before .if1 .taken))
-    (few-frames _ (start .pre .0 .label .whole) (λ k. omega (arith, known .shared-slice-known .given k))) _ (c .one-row .ensures)
+    _ _ (start .pre .0) (first .first-of .ensures) (ended .end-of .ensures) (c .before .if1 .taken) _ (c .one-row .ensures)
 
 add-if2 : tie.Need-add-if2
 add-if2 c =
@@ -63,14 +59,14 @@ returns-2 : tie.Need-returns-2
 returns-2 c =
     let later = c .before in
     let former = later .before .before in
-    let turned = former .before in
-    let two = turned .before in
+    let swapped = former .before in
+    let two = swapped .before in
     let ended = two .before .before in
     let first = ended .before in
     let known = first .before in
     let start = known .before in
     first-of-two (start .args .table .now) (start .args .l) (start .args .word) (start .args .bit) _ _ (start .pre .0)
-    _ (turned .swap .ensures) (search needs)
+    _ (swapped .swap .ensures) (search needs)
     (few-frames _ (start .pre .0 .label .whole) (λ k. omega (arith, known .shared-slice-known .given k)))
     (first .first-of .ensures) (ended .end-of .ensures) (two .if2 .taken)
     (end-within _ _ _ (start .pre .0 .label .whole) (ended .end-of .ensures))
@@ -90,14 +86,14 @@ returns-3 : tie.Need-returns-3
 returns-3 c =
     let later = c .before in
     let former = later .before .before in
-    let turned = former .before in
-    let two = turned .before in
+    let swapped = former .before in
+    let two = swapped .before in
     let ended = two .before .before in
     let first = ended .before in
     let known = first .before in
     let start = known .before in
     second-of-two (start .args .table .now) (start .args .l) (start .args .word) (start .args .bit) _ _ (start .pre .0)
-    _ (turned .swap .ensures) (search needs)
+    _ (swapped .swap .ensures) (search needs)
     (few-frames _ (start .pre .0 .label .whole) (λ k. omega (arith, known .shared-slice-known .given k)))
     (first .first-of .ensures) (ended .end-of .ensures) (two .if2 .taken)
     (end-within _ _ _ (start .pre .0 .label .whole) (ended .end-of .ensures))

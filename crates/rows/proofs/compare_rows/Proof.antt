@@ -4,16 +4,16 @@ use Prim.Native.Nat.{_+_, _-_}
 use mathlib.Core.Path.{sym, subst}
 use mathlib.Core.Logic.{⊎-elim}
 use native.Mathlib.Omega.{arith}
-use Rattle.rows.proofs.SearchCases.{end-within, few-frames, compared-some, compared-none, Searched}
+use Rattle.rows.proofs.SearchCases.{end-within, compared-some, compared-none, Searched}
 use Rattle.rows.proofs.SearchCases.{search-start, search-over, search-other, search-own}
 use Rattle.rows.proofs.compare_rows.Statement.{statement}
 use Rattle.rows.proofs.compare_rows.Tie as tie
 
 abbrev Inv-loop : tie.InvT-loop
-Inv-loop table schemes l word bit turned end frame₀ best₀ frame best = Searched table l word bit frame₀ end frame best
+Inv-loop table schemes l word bit swapped end frame₀ best₀ frame best = Searched table l word bit frame₀ end frame best
 
 abbrev μ-loop : tie.MeasureT-loop
-μ-loop table schemes l word bit turned end frame₀ best₀ frame best = end - frame
+μ-loop table schemes l word bit swapped end frame₀ best₀ frame best = end - frame
 
 swap-requires : tie.Need-swap-requires Inv-loop μ-loop
 swap-requires c κs = tt
@@ -73,10 +73,8 @@ returns c =
     let loop = c .before .before in
     let first = loop .before in
     let ended = first .before in
-    let known = ended .before .before in
-    let start = known .before in
-    let small = few-frames _ (start .pre .0 .label .whole) (λ k. omega (arith, known .shared-slice-known .given k)) in
-    compared-some (start .args .table .now) (start .args .l) (start .args .word) (start .args .bit) _ small
+    let start = ended .before .before .before in
+    compared-some (start .args .table .now) (start .args .l) (start .args .word) (start .args .bit) _
     (search-over (start .args .table .now) (start .args .l) (start .args .word) (start .args .bit) _ _ _ _ (loop .loop .inv)
     (c .before .loop-test .left) (first .first-of .ensures) (ended .end-of .ensures)) (c .if2 .taken)
 
@@ -85,10 +83,8 @@ returns-2 c =
     let loop = c .before .before in
     let first = loop .before in
     let ended = first .before in
-    let known = ended .before .before in
-    let start = known .before in
-    let small = few-frames _ (start .pre .0 .label .whole) (λ k. omega (arith, known .shared-slice-known .given k)) in
-    compared-none (start .args .table .now) (start .args .l) (start .args .word) (start .args .bit) _ small
+    let start = ended .before .before .before in
+    compared-none (start .args .table .now) (start .args .l) (start .args .word) (start .args .bit) _
     (search-over (start .args .table .now) (start .args .l) (start .args .word) (start .args .bit) _ _ _ _ (loop .loop .inv)
     (c .before .loop-test .left) (first .first-of .ensures) (ended .end-of .ensures)) (c .if2 .left)
 

@@ -14,14 +14,14 @@ low-pair-requires-2 c κs = search needs
 returns : tie.Need-returns
 returns c =
     let known = c .before .before .before in
-    matching-not (known .before .args .table .now) (known .before .args .turned) (known .before .args .bit) _ (search needs)
+    matching-not (known .before .args .table .now) (known .before .args .swapped) (known .before .args .bit) _ (search needs)
     (λ k. omega (arith, known .shared-slice-known .given k)) _ _
     (c .before .before .low-pair .ensures) (c .before .low-pair2 .ensures) (c .if1 .taken)
 
 returns-2 : tie.Need-returns-2
 returns-2 c =
     let known = c .before .before .before .before in
-    matching-free (known .before .args .table .now) (known .before .args .turned) (known .before .args .bit) _ (search needs)
+    matching-free (known .before .args .table .now) (known .before .args .swapped) (known .before .args .bit) _ (search needs)
     (λ k. omega (arith, known .shared-slice-known .given k)) _ _
     (c .before .before .before .low-pair .ensures) (c .before .before .low-pair2 .ensures) (c .before .if1 .left) (c .if2 .taken)
 
@@ -32,7 +32,7 @@ returns-3 : tie.Need-returns-3
 returns-3 c =
     let test = c .before .before in
     let known = test .before .before .before .before in
-    matching-any (known .before .args .table .now) (known .before .args .turned) (known .before .args .bit) _ (search needs)
+    matching-any (known .before .args .table .now) (known .before .args .swapped) (known .before .args .bit) _ (search needs)
     (λ k. omega (arith, known .shared-slice-known .given k)) _ _
     (test .before .before .before .low-pair .ensures) (test .before .before .low-pair2 .ensures) (test .before .if1 .left) (test .if2 .left)
     _ (c .before .byte .ensures) (c .if3 .taken)
@@ -41,7 +41,7 @@ returns-4 : tie.Need-returns-4
 returns-4 c =
     let test = c .before .before in
     let known = test .before .before .before .before in
-    matching-bit (known .before .args .table .now) (known .before .args .turned) (known .before .args .bit) _ (search needs)
+    matching-bit (known .before .args .table .now) (known .before .args .swapped) (known .before .args .bit) _ (search needs)
     (λ k. omega (arith, known .shared-slice-known .given k)) _ _
     (test .before .before .before .low-pair .ensures) (test .before .before .low-pair2 .ensures) (test .before .if1 .left) (test .if2 .left)
     _ (c .before .byte .ensures) (c .if3 .left)

@@ -13,8 +13,8 @@ use Rattle.tables.specs.inner.Labels.{NumberedLabel}
 use Rattle.rows.specs.Rows.{Choice, row, noChoice, better, bestRow}
 
 -- a word of two bytes with its bytes in the other order
-abbrev pub swapped : ℕ → ℕ
-swapped w = w % 256 * 256 + w / 256
+abbrev pub swap : ℕ → ℕ
+swap w = w % 256 * 256 + w / 256
 
 -- the row in frame f matches, whatever label it leaves; bit 2 says that no bit decides
 abbrev pub matchingFrame : List ℕ → ℕ → ℕ → ℕ → Bool
@@ -29,11 +29,18 @@ foundAt b l f = pick (ltb f (size b)) (row f (rowOn b l f)) noChoice
 abbrev pub BetterOf : List ℕ → ℕ → ℕ → ℕ → Type 0
 BetterOf b best f r = (l : ℕ) → foundAt b l r ≡ better (foundAt b l best) (row f (rowOn b l f))
 
--- r is the frame of the row that label l takes; where none matches it is 131072 or more, and past the table
-pub record Chosen (b : List ℕ) (l w bit r : ℕ) : Type 0 where
-  pub taken : foundAt b l r ≡ bestRow l w bit (firstOn b l) (rowsOn b l)
-  pub inside : r < 131072 → r < size b
-  pub outside : 131072 ≤ r → size b ≤ r
+-- the number of no frame: whatever bytes its header has, a table has fewer
+abbrev pub NO-FRAME : ℕ
+NO-FRAME = 131072
+
+-- the frame of the row chosen, which its number is
+abbrev pub chosenFrame : Choice → ℕ
+chosenFrame (row f r) = f
+chosenFrame noChoice = NO-FRAME
+
+-- r is the frame of the row that label l takes, or NO-FRAME where none matches
+abbrev pub Chosen : List ℕ → ℕ → ℕ → ℕ → ℕ → Type 0
+Chosen b l w bit r = r ≡ chosenFrame (bestRow l w bit (firstOn b l) (rowsOn b l))
 
 -- a label that has rows of its own, and a bit that decides among them where it calls a function and nowhere else
 pub record Deciding (b : List ℕ) (l bit : ℕ) : Type 0 where

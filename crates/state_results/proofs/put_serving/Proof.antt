@@ -1,4 +1,4 @@
--- `state_results::put_serving` meets its contract: number h is byte 49 + h.
+-- `state_results::put_serving` meets its contract: number h stands h bytes after `BEFORE_SERVING`.
 use mathlib.Core.Path.{ap, _∙_}
 use Rattle.state.specs.Bytes.{stateOf}
 use Rattle.state.proofs.ByteParts.{serving-set}

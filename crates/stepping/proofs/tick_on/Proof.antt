@@ -1,7 +1,5 @@
 -- `stepping::tick_on` meets its contract: home, a return, or a label of 2 up.
-use borrow.Author.Needs.{needs}
 use mathlib.Core.Path.{sym, _∙_}
-use Rattle.ticks.specs.Tick.{topOf}
 use Rattle.ticks.proofs.TickCases.{two-up}
 use Rattle.stepping.proofs.tick_on.Statement.{statement}
 use Rattle.stepping.proofs.tick_on.Tie as tie

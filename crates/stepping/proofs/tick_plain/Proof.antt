@@ -5,7 +5,6 @@ use Prim.Native.Nat.{ℕ, _-_, _<_}
 use native.Mathlib.Omega.{arith}
 use Rattle.state.specs.State.{numberAt}
 use Rattle.state.specs.Bytes.{stateOf}
-use Rattle.ticks.specs.Tick.{topOf}
 use Rattle.ticks.proofs.TickCases.{depth-some, depth-most, size-most, numbered-as, plain-decides}
 use Rattle.stepping.proofs.StepCases.{plain-stop, plain-steps}
 use Rattle.stepping.proofs.tick_plain.Statement.{statement}

@@ -1,9 +1,11 @@
 -- `table_causes::cause_at` meets its contract: the row that the search finds among the label's frames, or none.
-use mathlib.Core.Path.{refl}
+use mathlib.Core.Path.{_≡_, refl}
 use native.Mathlib.Omega.{arith}
 use Rattle.results.specs.Results.{Results}
-use Rattle.rows.specs.inner.Search.{Deciding}
-use Rattle.rows.proofs.SearchCases.{end-within}
+use Rattle.tables.specs.Table.{firstOn, rowsOn}
+use Rattle.rows.specs.Rows.{bestRow}
+use Rattle.rows.specs.inner.Search.{foundAt, Deciding}
+use Rattle.rows.proofs.SearchCases.{end-within, chosen-found}
 use Rattle.state.specs.Bytes.{stateOf}
 use Rattle.ticks.proofs.RowCases.{bit-decides}
 use Rattle.table_causes.proofs.TableConditions.{rows-kept}
@@ -20,7 +22,14 @@ abbrev bits : tie.After-bit-of → Results
 bits c = stateOf (start c .args .bytes .now) .bits
 
 decides : (c : tie.After-bit-of) → Deciding (start c .args .table .now) (start c .args .l) (c .bit-of .result)
-decides c = bit-decides _ _ _ (c .before .label-read .ensures) (bits c) _ (c .bit-of .ensures) (start c .pre .label)
+decides c = bit-decides _ _ _ (c .before .label-read .ensures) (bits c) _ _ (c .bit-of .ensures) (start c .pre .label)
+
+found : (c : tie.After-find-row) → let asked = start (c .before) .args in let b = asked .table .now in
+    foundAt b (asked .l) (c .find-row .result)
+    ≡ bestRow (asked .l) (asked .word) (c .before .bit-of .result) (firstOn b (asked .l)) (rowsOn b (asked .l))
+found c =
+    let known = c .before .before .before .before in
+    chosen-found _ _ _ _ (known .before .pre .label) (λ k. omega (arith, known .shared-slice-known .given k)) _ (c .find-row .ensures)
 
 numbered : (c : tie.Else1) → let asked = start (c .before .before) in
     RowNumbers (asked .args .table .now) (asked .args .l) (asked .args .word)
@@ -28,7 +37,7 @@ numbered : (c : tie.Else1) → let asked = start (c .before .before) in
 numbered c =
     let read = c .before .before in
     numbers _ _ _ (start read .pre) (bits read) _ (read .before .label-read .ensures) _
-    (read .bit-of .ensures) _ (c .before .find-row .ensures .taken)
+    (read .bit-of .ensures) _ (found (c .before))
     (omega (arith, c .if1 .left))
 
 -- ---- the needs
@@ -52,10 +61,10 @@ untold-requires c κs = search needs
 
 returns : tie.Need-returns
 returns c =
-    let found = c .before .before .before in
-    let read = found .before in
+    let row = c .before .before .before in
+    let read = row .before in
     none-told _ _ _ (start read .pre) (bits read) _ (read .before .label-read .ensures) _
-    (read .bit-of .ensures) _ (found .find-row .ensures .taken)
+    (read .bit-of .ensures) _ (found row)
     (omega (arith, c .before .before .if1 .taken)) _ (c .before .refused .ensures) _ (c .untold .ensures)
 
 first-of-requires : tie.Need-first-of-requires
@@ -97,10 +106,10 @@ returns-2 : tie.Need-returns-2
 returns-2 c =
     let joined = c .before in
     let first = joined .before .before .before in
-    let found = first .before .before in
-    let read = found .before in
+    let row = first .before .before in
+    let read = row .before in
     row-told _ _ _ (start read .pre) (bits read) _ (read .before .label-read .ensures) _
-    (read .bit-of .ensures) _ (found .find-row .ensures .taken)
+    (read .bit-of .ensures) _ (found row)
     (omega (arith, first .before .if1 .left)) _ _ _ _ _ _ (first .first-of .ensures)
     (joined .before .before .end-of .ensures) (joined .before .pair .ensures)
     (decides read) (joined .against-rows .ensures) (c .rows-from .ensures) refl

@@ -93,7 +93,7 @@ pub record GivesTickEnd (b before : List ℕ) (w : ℕ) (r : TickEnd) (bytes : L
   pub state : stateOf bytes ≡ afterTick (stateOf before) (tick (tableImage b) (stateOf before) w)
   pub kept : (r .number ≡ 0 → ⊥) → bytes ≡ before
 
--- the same, and the label at the top after a tick that was not stopped
+-- the same, and the label at the top after it
 pub record GivesTickMove (b before : List ℕ) (w : ℕ) (r : TickMove) (bytes : List ℕ) : Type 0 where
   pub steps : GivesTickEnd b before w (r .step) bytes
-  pub label : r .step .number ≡ 0 → r .label ≡ topOf (stateOf bytes)
+  pub label : r .label ≡ topOf (stateOf bytes)

@@ -9,5 +9,5 @@ mod drawing;
 fn main() -> io::Result<()> {
     let root = Path::new(env!("CARGO_MANIFEST_DIR")).join("../..");
     let list = fs::read_to_string(root.join("crates.txt"))?;
-    fs::write(root.join("docs/pictures/crates.svg"), drawing::drawn(&drawing::rooms(&list)))
+    fs::write(root.join("docs/pictures/crates.svg"), drawing::drawn(&drawing::areas(&list)))
 }

@@ -52,8 +52,8 @@ returns c =
     let first = begins over in
     let records = start first .args .records .now in
     let full : many (over .sweep .last .1 .0) ≡ length (over .sweep .last .1 .0) = sym (got .list-marked .ensures .1) ∙ c .if1 .taken in
-    spread-apart records _ _ _ (first .mark-kind .ensures)
-    (full-reach _ full (size records) (arcs records) (long over) ∙ over .sweep .ensures) (long over)
+    spread-apart records _ _ _ _ (first .mark-kind .ensures) (over .sweep .ensures)
+    (full-reach _ full (size records) (arcs records) (long over)) (long over)
     (c .if1 .taken ∙ all-marked (over .sweep .last .1 .0) full)
 
 join-requires : tie.Need-join-requires
@@ -76,7 +76,7 @@ returns-2 c =
     let join = after .join in
     let over = swept (listed after) in
     let first = begins over in
-    spread-apart (start first .args .records .now) _ _ _ (first .mark-kind .ensures) (join .ensures .0 ∙ over .sweep .ensures)
+    spread-apart (start first .args .records .now) _ _ _ _ (first .mark-kind .ensures) (over .sweep .ensures) (join .ensures .0)
     (join .kept .1 .1 .0 ∙ long over) (c .if2 .taken ∙ all-marked (join .last .1 .1 .0) (sym (join .ensures .1) ∙ c .if2 .taken))
 
 lowest-unmarked-requires : tie.Need-lowest-unmarked-requires
@@ -94,7 +94,7 @@ returns-3 c =
     let join = after .join in
     let over = swept (listed after) in
     let first = begins over in
-    spread-apart (start first .args .records .now) _ _ _ (first .mark-kind .ensures) (join .ensures .0 ∙ over .sweep .ensures)
+    spread-apart (start first .args .records .now) _ _ _ _ (first .mark-kind .ensures) (over .sweep .ensures) (join .ensures .0)
     (join .kept .1 .1 .0 ∙ long over) (c .lowest-unmarked .ensures)
 
 pub lowest-apart-spec : {M : Type 1} → statement M

@@ -61,6 +61,9 @@ loop-again c =
     digits-turn _ _ _ _ _ _ _ (search needs) (turn put .loop .inv) (search needs) (small put)
     (put .put-byte .kept .0) (put .put-byte .ensures)
 
+mul-put-sum : tie.Need-mul-put-sum Inv-loop μ-loop
+mul-put-sum c = search needs
+
 add-put-sum : tie.Need-add-put-sum Inv-loop μ-loop
 add-put-sum c = search needs
 
@@ -104,6 +107,7 @@ put-frame-spec =
     add-k
     loop-less
     loop-again
+    mul-put-sum
     add-put-sum
     sub-put-sum
     cast-put-sum

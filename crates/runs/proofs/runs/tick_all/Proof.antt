@@ -105,7 +105,7 @@ loop-again : At tie.Need-loop-again
 loop-again c =
     let done = c .before .before in
     turn-on (turned done .loop .inv) (begun done .pre .room) (search needs) (done .tick-on .result .step) _
-    (done .tick-on .ensures .steps) (c .if1 .left) _ (done .tick-on .ensures .label (c .if1 .left))
+    (done .tick-on .ensures .steps) (c .if1 .left) _ (done .tick-on .ensures .label)
 
 same-length-3 : At tie.Need-same-length-3
 same-length-3 c = c .before .loop .inv .sizeMasks

@@ -1,4 +1,4 @@
--- `tables::header::bad_table` meets its contract: no header, bad counts, a bad handler, or too few frames.
+-- `tables::header::bad_table` meets its contract: no header, bad counts, a bad handler, or too few bytes.
 use mathlib.Core.Path.{sym, _∙_}
 use Rattle.tables.proofs.HeaderCases.{header-short, header-counts, header-handler, header-frames}
 use borrow.Author.Needs.{needs}
@@ -22,15 +22,15 @@ returns-3 c =
     header-handler (c .before .before .before .before .before .before .args .table .now)
     (sym (c .before .bad-handler .ensures) ∙ c .if3 .taken)
 
-table-end-requires : tie.Need-table-end-requires
-table-end-requires c κs = search needs
+table-length-requires : tie.Need-table-length-requires
+table-length-requires c κs = search needs
 
 returns-4 : tie.Need-returns-4
 returns-4 c =
     let handler = c .before .before in
     let counts = handler .before .before in
     header-frames (counts .before .before .before .args .table .now) (sym (counts .bad-counts .ensures) ∙ handler .before .if2 .left)
-    (sym (handler .bad-handler .ensures) ∙ c .before .if3 .left) _ (c .table-end .ensures)
+    (sym (handler .bad-handler .ensures) ∙ c .before .if3 .left) _ (c .table-length .ensures)
 
 pub bad-table-spec : {M : Type 1} → statement M
 bad-table-spec =
@@ -41,5 +41,5 @@ bad-table-spec =
     returns-2
     bad-handler-requires
     returns-3
-    table-end-requires
+    table-length-requires
     returns-4)

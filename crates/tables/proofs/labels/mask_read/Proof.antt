@@ -1,46 +1,20 @@
--- `tables::labels::mask_read` meets its contract: the four bytes of the mask as they stand, the high one first.
+-- `tables::labels::mask_read` meets its contract: H says where the frame stands.
 use Rattle.tables.proofs.LabelCases.{mask-framed}
 use borrow.Author.Needs.{needs}
 use Rattle.tables.proofs.labels.mask_read.Statement.{statement}
 use Rattle.tables.proofs.labels.mask_read.Tie as tie
 
-add-f : tie.Need-add-f
-add-f c = search needs
+add-quad : tie.Need-add-quad
+add-quad c = search needs
 
-add-f-2 : tie.Need-add-f-2
-add-f-2 c = search needs
+add-quad-2 : tie.Need-add-quad-2
+add-quad-2 c = search needs
 
-pair-requires : tie.Need-pair-requires
-pair-requires c κs = search needs
-
-cast-result : tie.Need-cast-result
-cast-result c = search needs
-
-mul-result : tie.Need-mul-result
-mul-result c = search needs
-
-pair-requires-2 : tie.Need-pair-requires-2
-pair-requires-2 c κs = search needs
-
-cast-result-2 : tie.Need-cast-result-2
-cast-result-2 c = search needs
-
-add-result : tie.Need-add-result
-add-result c = search needs
+quad-requires : tie.Need-quad-requires
+quad-requires c κs = search needs
 
 returns : tie.Need-returns
-returns c = mask-framed _ _ _ (c .before .before .before .pre) _ _ (c .before .pair .ensures) (c .pair2 .ensures)
+returns c = mask-framed _ _ _ (c .before .before .pre) _ (c .quad .ensures)
 
 pub mask-read-spec : {M : Type 1} → statement M
-mask-read-spec =
-    tie.close
-    (tie.spec
-    add-f
-    add-f-2
-    pair-requires
-    cast-result
-    mul-result
-    pair-requires-2
-    cast-result-2
-    add-result
-    returns)
+mask-read-spec = tie.close (tie.spec add-quad add-quad-2 quad-requires returns)

@@ -1,8 +1,8 @@
-//! Where rooms stand: each in a layer above all that it stands on. An arc that passes a layer bends in it.
+//! Where areas stand: each in a layer above all that it stands on. An arc that passes a layer bends in it.
 
-use super::rooms::Room;
+use super::areas::Area;
 
-/// The width of a room, what is left free around the picture, and the least distance within a layer.
+/// The width of an area, what is left free around the picture, and the least distance within a layer.
 pub const WIDTH: i32 = 190;
 pub const MARGIN: i32 = 12;
 const GAP: i32 = 26;
@@ -10,14 +10,14 @@ const GAP: i32 = 26;
 const ROUNDS: usize = 40;
 const LAST: usize = 3;
 
-/// A room or, where there is none, the bend of an arc; `x` is its middle.
+/// An area or, where there is none, the bend of an arc; `x` is its middle.
 pub struct Spot {
-    pub room: Option<usize>,
+    pub area: Option<usize>,
     pub layer: usize,
     pub x: i32,
 }
 
-/// The first spots are the rooms, in their order; an arc is the spots on its way, from the upper room to the lower.
+/// The first spots are the areas, in their order; an arc is the spots on its way, from the upper area to the lower.
 pub struct Layout {
     pub spots: Vec<Spot>,
     pub arcs: Vec<Vec<usize>>,
@@ -25,15 +25,15 @@ pub struct Layout {
 }
 
 impl Layout {
-    pub fn new(rooms: &[Room]) -> Layout {
+    pub fn new(areas: &[Area]) -> Layout {
         let mut layout = Layout { spots: Vec::new(), arcs: Vec::new(), layers: 0 };
-        for (at, room) in rooms.iter().enumerate() {
-            let layer = room.below.iter().map(|below| layout.spots[*below].layer + 1).max().unwrap_or(0);
+        for (at, area) in areas.iter().enumerate() {
+            let layer = area.below.iter().map(|below| layout.spots[*below].layer + 1).max().unwrap_or(0);
             layout.layers = layout.layers.max(layer + 1);
-            layout.spots.push(Spot { room: Some(at), layer, x: 0 });
+            layout.spots.push(Spot { area: Some(at), layer, x: 0 });
         }
-        for (at, room) in rooms.iter().enumerate() {
-            for below in &room.below {
+        for (at, area) in areas.iter().enumerate() {
+            for below in &area.below {
                 layout.add_arc(at, *below);
             }
         }
@@ -45,7 +45,7 @@ impl Layout {
         let mut way = vec![upper];
         for layer in (self.spots[lower].layer + 1..self.spots[upper].layer).rev() {
             way.push(self.spots.len());
-            self.spots.push(Spot { room: None, layer, x: 0 });
+            self.spots.push(Spot { area: None, layer, x: 0 });
         }
         way.push(lower);
         self.arcs.push(way);
@@ -109,6 +109,6 @@ impl Layout {
 
 impl Spot {
     pub fn width(&self) -> i32 {
-        self.room.map_or(0, |_| WIDTH)
+        self.area.map_or(0, |_| WIDTH)
     }
 }

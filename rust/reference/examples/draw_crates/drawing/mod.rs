@@ -1,8 +1,8 @@
-//! crates.txt as a picture: rooms as boxes with their crates inside, each above all that it stands on.
+//! crates.txt as a picture: areas as boxes with their crates inside, each above all that it stands on.
 
+mod areas;
 mod layout;
 mod picture;
-mod rooms;
 
+pub use areas::areas;
 pub use picture::drawn;
-pub use rooms::rooms;

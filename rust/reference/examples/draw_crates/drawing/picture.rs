@@ -1,14 +1,14 @@
 //! The picture of a layout as SVG.
 
+use super::areas::Area;
 use super::layout::{Layout, Spot, MARGIN, WIDTH};
-use super::rooms::Room;
 
-/// The height of a line of text, and the room for arcs between two layers.
+/// The height of a line of text, and the area for arcs between two layers.
 const LINE: i32 = 15;
 const BETWEEN: i32 = 44;
-/// Characters in a line of a room.
+/// Characters in a line of an area.
 const CHARACTERS: usize = 28;
-/// How far apart arcs meet the edge of a room, and how long the head of an arc is.
+/// How far apart arcs meet the edge of an area, and how long the head of an arc is.
 const DOORS: i32 = 22;
 const HEAD: i32 = 7;
 
@@ -16,7 +16,7 @@ const STYLE: &str = "<style>
 rect { fill: #f6f4ee; stroke: #555 }
 rect.page { fill: white; stroke: none }
 text { font: 11px sans-serif; text-anchor: middle }
-text.room { font-weight: bold; font-size: 12px }
+text.area { font-weight: bold; font-size: 12px }
 path { fill: none; stroke: #777 }
 marker path { fill: #777 }
 </style>
@@ -26,16 +26,16 @@ marker path { fill: #777 }
 <rect class=\"page\" width=\"100%\" height=\"100%\"/>
 ";
 
-/// Where a layer stands: all its rooms have the same top.
+/// Where a layer stands: all its areas have the same top.
 struct Band {
     top: i32,
     bottom: i32,
 }
 
-/// The names of a room's crates, in lines.
-fn lines(room: &Room) -> Vec<String> {
+/// The names of an area's crates, in lines.
+fn lines(area: &Area) -> Vec<String> {
     let mut lines: Vec<String> = Vec::new();
-    for name in &room.crates {
+    for name in &area.crates {
         match lines.last_mut() {
             Some(line) if line.len() + 2 + name.len() <= CHARACTERS => *line += &format!(", {name}"),
             _ => lines.push(name.clone()),
@@ -46,17 +46,17 @@ fn lines(room: &Room) -> Vec<String> {
     lines
 }
 
-fn height(room: &Room) -> i32 {
-    LINE * (lines(room).len() as i32 + 1) + 10
+fn height(area: &Area) -> i32 {
+    LINE * (lines(area).len() as i32 + 1) + 10
 }
 
 /// The bands of all layers, the lowest layer first and at the foot.
-fn bands(rooms: &[Room], layout: &Layout) -> Vec<Band> {
+fn bands(areas: &[Area], layout: &Layout) -> Vec<Band> {
     let mut top = MARGIN;
     let mut bands = Vec::new();
     for layer in (0..layout.layers).rev() {
-        let here = layout.spots.iter().filter(|spot| spot.layer == layer).filter_map(|spot| spot.room);
-        let bottom = top + here.map(|room| height(&rooms[room])).max().unwrap_or(0);
+        let here = layout.spots.iter().filter(|spot| spot.layer == layer).filter_map(|spot| spot.area);
+        let bottom = top + here.map(|area| height(&areas[area])).max().unwrap_or(0);
         bands.push(Band { top, bottom });
         top = bottom + BETWEEN;
     }
@@ -64,20 +64,20 @@ fn bands(rooms: &[Room], layout: &Layout) -> Vec<Band> {
     bands
 }
 
-fn boxed(room: &Room, x: i32, top: i32) -> String {
-    let (left, tall, head) = (x - WIDTH / 2, height(room), top + LINE);
+fn boxed(area: &Area, x: i32, top: i32) -> String {
+    let (left, tall, head) = (x - WIDTH / 2, height(area), top + LINE);
     let mut text = format!(
         "<rect x=\"{left}\" y=\"{top}\" width=\"{WIDTH}\" height=\"{tall}\" rx=\"5\"/>\n\
-         <text x=\"{x}\" y=\"{head}\" class=\"room\">{}</text>\n",
-        room.name
+         <text x=\"{x}\" y=\"{head}\" class=\"area\">{}</text>\n",
+        area.name
     );
-    for (y, line) in (head + LINE..).step_by(LINE as usize).zip(lines(room)) {
+    for (y, line) in (head + LINE..).step_by(LINE as usize).zip(lines(area)) {
         text += &format!("<text x=\"{x}\" y=\"{y}\">{line}</text>\n");
     }
     text
 }
 
-/// Where an arc meets the room at its first spot: the arcs of one edge stand in the order of the spots that come next.
+/// Where an arc meets the area at its first spot: the arcs of one edge stand in the order of the spots that come next.
 fn door(layout: &Layout, ways: &[Vec<usize>], way: &[usize]) -> i32 {
     let mut next: Vec<(i32, usize)> = ways
         .iter()
@@ -89,7 +89,7 @@ fn door(layout: &Layout, ways: &[Vec<usize>], way: &[usize]) -> i32 {
     layout.spots[way[0]].x + (2 * place - next.len() as i32 + 1) * DOORS / 2
 }
 
-/// An arc from the lower edge of a room down to the upper edge of another, from one x to another.
+/// An arc from the lower edge of an area down to the upper edge of another, from one x to another.
 fn arc(layout: &Layout, bands: &[Band], way: &[usize], from: i32, to: i32) -> String {
     let mut x = from;
     let mut path = String::new();
@@ -108,10 +108,10 @@ fn arc(layout: &Layout, bands: &[Band], way: &[usize], from: i32, to: i32) -> St
     )
 }
 
-/// Each room with its crates, above the arcs that lead down to the rooms that it stands on directly.
-pub fn drawn(rooms: &[Room]) -> String {
-    let layout = Layout::new(rooms);
-    let bands = bands(rooms, &layout);
+/// Each area with its crates, above the arcs that lead down to the areas that it stands on directly.
+pub fn drawn(areas: &[Area]) -> String {
+    let layout = Layout::new(areas);
+    let bands = bands(areas, &layout);
     let upward: Vec<Vec<usize>> = layout.arcs.iter().map(|way| way.iter().rev().copied().collect()).collect();
     let wide = layout.spots.iter().map(|spot| spot.x + spot.width() / 2).max().unwrap_or(0) + MARGIN;
     let tall = bands.first().map_or(0, |band| band.bottom) + MARGIN;
@@ -123,8 +123,8 @@ pub fn drawn(rooms: &[Room]) -> String {
         picture += &arc(&layout, &bands, way, door(&layout, &layout.arcs, way), door(&layout, &upward, back));
     }
     for spot in &layout.spots {
-        if let Some(room) = spot.room {
-            picture += &boxed(&rooms[room], spot.x, bands[spot.layer].top);
+        if let Some(area) = spot.area {
+            picture += &boxed(&areas[area], spot.x, bands[spot.layer].top);
         }
     }
     picture + "</svg>\n"
