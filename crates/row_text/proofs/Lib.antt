@@ -1,1 +1,1 @@
-pub mod RowPuts
+pub mod NodePuts

@@ -1,1 +1,1 @@
-pub mod RowBytes
+pub mod NodeBytes

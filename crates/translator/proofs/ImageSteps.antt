@@ -29,7 +29,8 @@ use Rattle.image.specs.Image.{Row, entryFrame, labelFrame, rowFrame, imageFrame
 use Rattle.chart_labels.specs.Labels.{numbered, label, entry, homeLabel, returnLabel, stopLabel, numberedNodes}
 use Rattle.chart_rows.specs.Rows.{rows}
 use Rattle.translator.specs.Table.{table}
-use Rattle.row_text.specs.inner.RowBytes.{rowsBytes, nodeRowsBytes}
+use Rattle.path_text.specs.inner.RowBytes.{rowsBytes}
+use Rattle.row_text.specs.inner.NodeBytes.{nodeRowsBytes}
 use Rattle.translator.specs.inner.ImageBytes.{framesBytes, tableBytes, sizeRefusal, imageOutcome}
 use Rattle.chart_rows.specs.inner.NodeRows.{nodeRows}
 use Rattle.label_text.specs.inner.LabelBytes.{headerBytes, entryBytes, fixedBytes, nodeLabelBytes, upTo, Put}
@@ -38,7 +39,7 @@ use Rattle.translator.proofs.LabelLaws.{length-labels, length-entries}
 use Rattle.translator.proofs.ImageBytes.{bytes-length, image-length}
 use Rattle.chart_labels.proofs.LabelSteps.{label-own}
 use Rattle.chart_rows.proofs.RowSteps.{below-all}
-use Rattle.row_text.proofs.RowPuts.{rows-append}
+use Rattle.path_text.proofs.RowPuts.{rows-append}
 
 -- ---- entries
 entries-from : (c : Chart) (i n : ℕ)

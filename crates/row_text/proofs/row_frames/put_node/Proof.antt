@@ -5,12 +5,13 @@ use lib.ListN.{getD}
 use Rattle.frames.specs.Frame.{size}
 use Rattle.chart_labels.specs.Labels.{label}
 use Rattle.chart_rows.specs.Rows.{rowsOf}
-use Rattle.row_text.specs.inner.RowBytes.{rowsBytes, nodeRowsBytes}
+use Rattle.path_text.specs.inner.RowBytes.{rowsBytes}
+use Rattle.row_text.specs.inner.NodeBytes.{nodeRowsBytes}
 use Rattle.chart_rows.specs.inner.NodeRows.{pathsFrom, sides, nodeRows}
 use Rattle.chart_rows.proofs.NumberLaws.{small-number}
 use Rattle.chart_rows.proofs.RowSteps.{no-rows, own-rows, own-mask, other-entered, function-kind}
 use Rattle.label_text.proofs.Puts.{nothing-put, room-as, done-as}
-use Rattle.row_text.proofs.RowPuts.{node-none, node-function, node-condition, node-other}
+use Rattle.row_text.proofs.NodePuts.{node-none, node-function, node-condition, node-other}
 use native.Mathlib.Omega.{arith}
 use borrow.Author.Needs.{needs}
 use Rattle.row_text.proofs.row_frames.put_node.Statement.{statement}

@@ -1,6 +1,6 @@
 -- `row_text::put_rows`: the rows of the nodes before v stand in the buffer.
 use Prim.Native.Nat.{_-_}
-use Rattle.row_text.specs.inner.RowBytes.{nodeRowsBytes}
+use Rattle.row_text.specs.inner.NodeBytes.{nodeRowsBytes}
 use Rattle.label_text.proofs.Puts.{Appended, appended-start, appended-room, appended-on, appended-put}
 use borrow.Author.Needs.{needs}
 use Rattle.row_text.proofs.row_frames.put_rows.Statement.{statement}

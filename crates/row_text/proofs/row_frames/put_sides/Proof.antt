@@ -3,11 +3,11 @@ use mathlib.Core.Path.{refl}
 use lib.ListN.{getD}
 use Rattle.frames.specs.Frame.{size}
 use Rattle.chart_labels.specs.Labels.{label}
-use Rattle.row_text.specs.inner.RowBytes.{rowsBytes}
+use Rattle.path_text.specs.inner.RowBytes.{rowsBytes}
 use Rattle.chart_rows.specs.inner.NodeRows.{pathsFrom, sides}
 use Rattle.chart_rows.proofs.RowSteps.{side-entered0, side-entered1}
 use Rattle.label_text.proofs.Puts.{Parted, both-first, both-second, both-done}
-use Rattle.row_text.proofs.RowPuts.{sides-text}
+use Rattle.row_text.proofs.NodePuts.{sides-text}
 use borrow.Author.Needs.{needs}
 use Rattle.row_text.proofs.row_frames.put_sides.Statement.{statement}
 use Rattle.row_text.proofs.row_frames.put_sides.Tie as tie

@@ -1,13 +1,13 @@
--- `row_text::put_paths`: a stop is one row, and the paths on from another node are walked.
+-- `path_text::put_paths`: a stop is one row, and the paths on from another node are walked.
 use mathlib.Core.Bool.{true}
 use mathlib.Core.Path.{_≡_}
 use Rattle.walk.specs.Stops.{stops}
 use Rattle.chart_rows.proofs.NumberLaws.{high-stops}
 use Rattle.chart_rows.proofs.Settled.{Settled}
-use Rattle.row_text.proofs.RowPuts.{leaf-room, leaf-done, at-end}
+use Rattle.path_text.proofs.RowPuts.{leaf-room, leaf-done, at-end}
 use borrow.Author.Needs.{needs}
-use Rattle.row_text.proofs.row_frames.put_paths.Statement.{statement}
-use Rattle.row_text.proofs.row_frames.put_paths.Tie as tie
+use Rattle.path_text.proofs.put_paths.Statement.{statement}
+use Rattle.path_text.proofs.put_paths.Tie as tie
 
 -- ---- the stage where the node is a stop
 abbrev start : tie.Then1 → tie.Start

@@ -1,4 +1,4 @@
--- `row_text::put_forks`: in the loop the rows before the path stand in the buffer. The measure is the node's rank, which falls to a 0
+-- `path_text::put_forks`: in the loop the rows before the path stand in the buffer. The measure is the node's rank, which falls to a 0
 -- side and along a 1 side.
 use mathlib.Core.Bool.{true}
 use mathlib.Core.Path.{_≡_, refl, _∙_}
@@ -6,27 +6,27 @@ use lib.ListN.{length, getD}
 use Rattle.frames.specs.Frame.{size}
 use Rattle.charts.proofs.Rank.{rank}
 use Rattle.walk.specs.Stops.{stops}
-use Rattle.row_text.specs.inner.RowBytes.{rowsBytes}
+use Rattle.path_text.specs.inner.RowBytes.{rowsBytes}
 use Rattle.chart_rows.specs.inner.NodeRows.{pathsFrom, testedNumber}
 use Rattle.chart_rows.proofs.NumberLaws.{high-stops, low-goes, low-number}
 use Rattle.chart_rows.proofs.Settled.{Settled, is-settled}
 use Rattle.chart_rows.proofs.PathCases.{New, Fork, new-small, fork}
-use Rattle.row_text.proofs.RowPuts.{leaf-room, leaf-done, at-end, PutAlong, walked-start, walked-room}
-use Rattle.row_text.proofs.RowPuts.{walked-long, walked-done, low-room, walked-on}
+use Rattle.path_text.proofs.RowPuts.{leaf-room, leaf-done, at-end, PutAlong, walked-start, walked-room}
+use Rattle.path_text.proofs.RowPuts.{walked-long, walked-done, low-room, walked-on}
 use borrow.Author.Needs.{needs}
 use native.Mathlib.Omega.{arith}
 use Prim.Native.Nat.{ℕ, _+_, _≤_, _<_}
 use borrow.Fn.Kinds.{In, Out}
 use borrow.Fn.PlainCycle.{Measures, is, falls, and}
-use Rattle.row_text.proofs.row_frames.put_forks.Reads as reads
-use Rattle.row_text.proofs.row_frames.put_forks.Kinds as kinds
-use Rattle.row_text.proofs.row_frames.+put_forks.Lts-put_forks as lts
+use Rattle.path_text.proofs.put_forks.Reads as reads
+use Rattle.path_text.proofs.put_forks.Kinds as kinds
+use Rattle.path_text.proofs.+put_forks.Lts-put_forks as lts
 use Rattle.bits.proofs.with_bit.Reads as with-bit-reads
 use Rattle.charts.proofs.field.Reads as field-reads
 use Rattle.chart_rows.proofs.settle.Reads as settle-reads
-use Rattle.row_text.proofs.row_frames.put_row.Reads as put-row-reads
-use Rattle.row_text.proofs.row_frames.+put_forks.{statement}
-use Rattle.row_text.proofs.row_frames.+put_forks.Tie.{close}
+use Rattle.path_text.proofs.put_row.Reads as put-row-reads
+use Rattle.path_text.proofs.+put_forks.{statement}
+use Rattle.path_text.proofs.+put_forks.Tie.{close}
 
 abbrev measure : Measures 3 kinds.ps ℕ
 measure κs a = rank (a .0 .now) (a .1 .1 .0)
