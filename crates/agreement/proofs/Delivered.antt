@@ -16,6 +16,8 @@ pub calls-chain : (image : List ℕ) (s : State) (given : List CallInput) (hande
     → handed ≡ callOutputs run rebind image s given
 unfolding callOutputs
 calls-chain image s [] [] none = refl
+calls-chain image s [] (d ∷ handed) x = elim x [ ]
+calls-chain image s (g ∷ rest) [] x = elim x [ ]
 calls-chain image s (g ∷ rest) (d ∷ handed) (more {after = after} c cs) =
     let like : Like image s g d after = call-like image s c in
     ap₂ (λ (x : CallOutput) (l : List CallOutput). x ∷ l) like.handed-is

@@ -30,6 +30,8 @@ pub calls-chain : (image bytes : List ℕ) (given : List CallInput) (handed : Li
     → handed ≡ map callOutputC (callOutputs run rebind image (state_of bytes) given)
 unfolding callOutputs
 calls-chain image bytes [] [] none = refl
+calls-chain image bytes [] (d ∷ handed) x = elim x [ ]
+calls-chain image bytes (g ∷ rest) [] x = elim x [ ]
 calls-chain image bytes (g ∷ rest) (d ∷ handed) (more {after = after} c cs) =
     let like : LikeC image bytes g d after = call-like image bytes c in
     ap₂ (λ (x : CallOutputC) (l : List CallOutputC). x ∷ l) like.handed-is

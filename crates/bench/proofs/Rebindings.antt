@@ -45,10 +45,11 @@ module _ (image : List ℕ) (run run' : Runner) (rebind rebind' : Rebinder) wher
   chain-alike e d s [] = refl
   chain-alike e d s (toRun a ∷ rest) =
       ap (λ (r : RunOutcome). byRun (outputOf r) ∷ callOutputs run rebind image r.state rest) (e s a.words a.masks a.codes)
-      ∙ ap (λ (l : List CallOutput). byRun (outputOf (run' image s a.words a.masks a.codes)) ∷ l) (chain-alike e d _ rest)
+      ∙ ap (λ (l : List CallOutput). byRun (outputOf (run' image s a.words a.masks a.codes)) ∷ l)
+      (chain-alike e d (run' image s a.words a.masks a.codes).state rest)
   chain-alike e d s (toRebind h k ∷ rest) =
       ap (λ (r : StateOutcome). byRebinding r.reply ∷ callOutputs run rebind image r.state rest) (d s h k)
-      ∙ ap (λ (l : List CallOutput). byRebinding (rebind' image s h k).reply ∷ l) (chain-alike e d _ rest)
+      ∙ ap (λ (l : List CallOutput). byRebinding (rebind' image s h k).reply ∷ l) (chain-alike e d (rebind' image s h k).state rest)
 
 pub chain-image : {image : List ℕ} {i : Image} → Holds image i → (s : State) (given : List CallInput)
     → callOutputs run rebind image s given ≡ callOutputs (λ t. runImage i) (λ t. rebindImage i) image s given

@@ -1,1 +1,2 @@
 // Which scheme serves each scheme number.
+#![tactic(auto)]

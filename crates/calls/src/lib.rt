@@ -1,4 +1,6 @@
 // The tick of a call, in place: there is a free place, or the stack is full.
+#![tactic(auto)]
+
 ghost use Rattle.std.specs.Prelude.{◌≡◌};
 ghost use Rattle.image.specs.Decode.{schemeCount};
 ghost use Rattle.tables.specs.Table.{tableImage, tableLabel};

@@ -15,7 +15,7 @@ use Rattle.image.specs.Decode.{decoded}
 use Rattle.image.specs.inner.Sound.{SoundImage}
 use Rattle.image.proofs.Accepted.{image-sound}
 use Rattle.rows.specs.Rows.{Choice, row, noChoice, found, leads}
-use Rattle.rows.proofs.BestRows.{row_number, best-is}
+use Rattle.rows.proofs.BestRows.{best-is}
 use Rattle.state.specs.declared.State.{State}
 use Rattle.state.specs.State.{label_at}
 use Rattle.fitness.proofs.Fitness.{Fits, unfits}

@@ -1,4 +1,6 @@
 // What sends a tick on: the report of it, and the conditions that keep the other rows of a label from matching.
+#![tactic(auto)]
+
 use frames::Answer;
 
 mod conditions;

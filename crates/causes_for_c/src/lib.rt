@@ -1,4 +1,6 @@
 // The calls from C that tell what made a tick go on, and what a tick code stands for.
+#![tactic(auto)]
+
 ghost use Rattle.causes_for_c.specs.Calls.{causeFor, GivesCauseC};
 ghost use Rattle.causes_for_c.specs.Meant.{Meant};
 

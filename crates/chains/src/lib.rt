@@ -1,4 +1,6 @@
 // Calls between schemes: the longest chain of calls from scheme 1, and circles of calls.
+#![tactic(auto)]
+
 mod calls;
 mod chain;
 

@@ -1,4 +1,6 @@
 // What refusals 6 and 7 try of each node: where its arcs lead, and which scheme it calls.
+#![tactic(auto)]
+
 mod arcs;
 
 pub use arcs::lowest_arc_and_call;

@@ -2,6 +2,8 @@
 // capitals, then one edit of it after the other.
 // Each call prints a frame: 00 for the reader and 01 for the writer, the number or 00, the index, the count, and how many bytes of
 // the lent buffer changed, which the first two calls leave out.
+#![tactic(auto)]
+
 use edits::{patch, report};
 
 // How many bytes of a buffer are not 170, which no record and no character here is.

@@ -1,4 +1,6 @@
 // The number of schemes, and what refusal 5 counts, with 4 in the same pass: the Begins and the Ends of each scheme.
+#![tactic(auto)]
+
 mod counts;
 mod schemes;
 

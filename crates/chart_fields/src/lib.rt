@@ -1,4 +1,6 @@
 // What refusal 4 tries of one node.
+#![tactic(auto)]
+
 mod fields;
 
 pub use fields::bad_field;

@@ -1,4 +1,6 @@
 // Labels: which nodes of an accepted chart take a tick, and the label of each node.
+#![tactic(auto)]
+
 mod labels;
 mod nodes;
 

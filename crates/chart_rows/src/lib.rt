@@ -1,4 +1,6 @@
 // Rows: the paths on from a node through conditions that take no tick, and how many rows a chart has.
+#![tactic(auto)]
+
 mod numbers;
 mod paths;
 mod rows;

@@ -1,4 +1,6 @@
 // The chart reader and the chart writer: a chart's text to its node records and back.
+#![tactic(auto)]
+
 mod entry;
 mod in_place;
 

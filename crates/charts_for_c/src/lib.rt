@@ -1,4 +1,6 @@
 // The calls from C on charts: read, written, fetched by number, and how many places one needs.
+#![tactic(auto)]
+
 ghost use Rattle.charts.specs.Entry.{readChart, writeChart};
 ghost use Rattle.little_charts.specs.Little.{littleChart};
 ghost use Rattle.places.specs.Entry.{placesNeeded};

@@ -1,4 +1,6 @@
 // Whether a round changed a class.
+#![tactic(auto)]
+
 ghost use Rattle.std.specs.Prelude.{◌≡◌, ◌≤◌, length};
 ghost use Rattle.lists.specs.Numbers.{any};
 ghost use Rattle.grouping.specs.inner.GroupingContracts.{classDiffers};

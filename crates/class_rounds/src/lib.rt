@@ -1,4 +1,6 @@
 // The rounds of the grouping, over buffers that are lent: classes and marks before each, and an end where nothing changes.
+#![tactic(auto)]
+
 ghost use Rattle.std.specs.Prelude.{◌≡◌, length, replicate};
 ghost use Rattle.frames.specs.Sizes.{LABELS};
 ghost use Rattle.tables.specs.Table.{tableImage};

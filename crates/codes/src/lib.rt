@@ -1,4 +1,6 @@
 // Tick codes: which code a tick has, and what a code stands for.
+#![tactic(auto)]
+
 ghost use Rattle.std.specs.Prelude.{◌≡◌, ◌≤◌};
 ghost use Rattle.frames.specs.Sizes.{SCHEMES};
 ghost use Rattle.image.specs.Layout.{tickKind};

@@ -1,4 +1,6 @@
 // The entry point to how often the stack fills: all lists of words, counted by how they run from a fresh state.
+#![tactic(auto)]
+
 ghost use Rattle.std.specs.Prelude.{false, ◌≡◌, ◌*◌, ◌≤◌};
 ghost use Rattle.tables.specs.Table.{tableImage};
 ghost use Rattle.tables.specs.inner.Asked.{Whole};

@@ -1,4 +1,6 @@
 // Characters and digits, each found from the other by arithmetic.
+#![tactic(auto)]
+
 ghost use Rattle.std.specs.Prelude.{◌≡◌, ◌+◌, ◌*◌, ◌/◌, ◌%◌, ◌<◌};
 ghost use Rattle.digits.specs.Digit.{numeralOf, letterOf, digitOf, charOf};
 

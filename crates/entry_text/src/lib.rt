@@ -1,4 +1,6 @@
 // The header of an image and its entries, written as frames of ten bytes.
+#![tactic(auto)]
+
 ghost use Rattle.std.specs.Prelude.{◌≡◌, ◌+◌, ◌*◌, ◌≤◌, length};
 ghost use Rattle.lists.specs.Sequences.{written};
 ghost use Rattle.frames.specs.Sizes.{FRAME, ROWS};

@@ -1,4 +1,6 @@
 // The entry point to what made a tick go on, over an image and the bytes of a state, or a state by value.
+#![tactic(auto)]
+
 ghost use Rattle.state.specs.Bytes.{state_of};
 ghost use Rattle.cause.specs.Cause.{explain, GivesCause};
 

@@ -1,5 +1,7 @@
 // The entry points for C, as the header has them: a slice is a pointer and a length, a reference is a pointer, and a state is 130 bytes.
 // `at` and `made` are the header's index and count. Each is the call of its subject's crate, under the name that C links.
+#![tactic(auto)]
+
 ghost use Rattle.frames.specs.Answer.{judged};
 ghost use Rattle.charts.specs.Entry.{readChart, writeChart};
 ghost use Rattle.image.specs.Check.{imageVerdict};

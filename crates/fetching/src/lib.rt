@@ -1,4 +1,6 @@
 // The entry point to the little charts: one of them as text, by its frame count and its number.
+#![tactic(auto)]
+
 ghost use Rattle.frames.specs.Frame.{size};
 ghost use Rattle.frames.specs.Answer.{GivesBuffer};
 ghost use Rattle.little_charts.specs.Little.{littleChart};

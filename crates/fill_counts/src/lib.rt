@@ -1,4 +1,6 @@
 // How runs end, in tallies: of lists that all end alike, of two tallies together, and of one list of words on a prepared table.
+#![tactic(auto)]
+
 ghost use Rattle.std.specs.Prelude.{◌≡◌, ◌^◌, ◌≤◌};
 ghost use Rattle.lists.specs.Pick.{pick};
 ghost use Rattle.tables.specs.Table.{tableImage};

@@ -1,4 +1,6 @@
 // How the runs of all lists of words end, counted on a prepared table: lists that share a beginning share its ticks.
+#![tactic(auto)]
+
 ghost use Rattle.std.specs.Prelude.{◌≡◌, ◌*◌, ◌≤◌};
 ghost use Rattle.tables.specs.Table.{tableImage};
 ghost use Rattle.state.specs.Bytes.{state_of};

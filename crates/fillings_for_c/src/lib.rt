@@ -1,4 +1,6 @@
 // The call from C that counts how often the stack fills.
+#![tactic(auto)]
+
 ghost use Rattle.fillings.specs.Counts.{countFillings};
 ghost use Rattle.fillings_for_c.specs.Calls.{GivesFillingsC};
 

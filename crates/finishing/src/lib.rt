@@ -1,4 +1,6 @@
 // Conditions on no circle, by a depth-first search: one is finished once no arc of it leads to an unfinished one.
+#![tactic(auto)]
+
 ghost use Rattle.std.specs.Prelude.{◌≡◌, ◌<◌};
 ghost use Rattle.frames.specs.Frame.{size};
 ghost use Rattle.charts.specs.inner.Finished.{nextUnfinished, Finished};

@@ -1,4 +1,6 @@
 // The classes before the first round: labels that hold the same.
+#![tactic(auto)]
+
 ghost use Rattle.std.specs.Prelude.{◌≡◌, ◌<◌, length};
 ghost use Rattle.lists.specs.Numbers.{lowest};
 ghost use Rattle.tables.specs.inner.Asked.{Whole};

@@ -1,4 +1,6 @@
 // Whether the open places of a state fit, from the bottom up.
+#![tactic(auto)]
+
 ghost use Rattle.std.specs.Prelude.{◌≡◌, ◌||◌};
 ghost use Rattle.lists.specs.Numbers.{any};
 ghost use Rattle.image.specs.Decode.{handlerIn};

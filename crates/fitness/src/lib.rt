@@ -1,4 +1,6 @@
 // Whether the numbers of one place, or of one number that is served, fit.
+#![tactic(auto)]
+
 ghost use Rattle.std.specs.Prelude.{◌≡◌, ◌&&◌, ◌||◌, not, eqb};
 ghost use Rattle.fitness.specs.inner.FitnessContracts.{astray, own, miscalled, misserved};
 ghost use Rattle.image.specs.Layout.{OPERATION-CALL, FUNCTION-CALL};

@@ -1,4 +1,6 @@
 // Whether a state, kept as 130 bytes, fits the image that a prepared table holds: refusal 15.
+#![tactic(auto)]
+
 ghost use Rattle.std.specs.Prelude.{◌≡◌, ◌-◌, ◌≤◌, ◌<◌, leb};
 ghost use Rattle.std.specs.Int.Bits.{bit_or};
 ghost use Rattle.lists.specs.Pick.{pick};

@@ -1,4 +1,6 @@
 // One frame of a text, read: its characters and its sum looked at, and its ten bytes stored in a lent buffer.
+#![tactic(auto)]
+
 ghost use Rattle.std.specs.Prelude.{◌≡◌, map, ◌+◌, ◌≤◌, ◌<◌, length};
 ghost use Rattle.lists.specs.Numbers.{range};
 ghost use Rattle.frames.specs.Sizes.{DIGITS, BYTES};

@@ -1,4 +1,6 @@
 // Text of frames, 22 hexadecimal characters and a line feed each: its length, and how it is written; the answer that entry points give.
+#![tactic(auto)]
+
 mod check;
 pub mod codes;
 pub mod refusals;
@@ -11,7 +13,7 @@ pub use check::bad_length;
 pub use write::{put_bytes, put_frame, put_text, ten_at};
 
 // What an entry point answers: the count that it made, or a refusal's number and frame index with the ticks finished before it.
-#[derive(Drop)]
+#[derive(Clone, Copy)]
 pub enum Answer {
     Done(usize),
     Refused {

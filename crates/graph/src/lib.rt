@@ -1,4 +1,6 @@
 // Marks on numbered nodes and how they spread over arcs.
+#![tactic(auto)]
+
 ghost use Rattle.std.specs.Prelude.{◌≡◌, not, ◌≤◌, length};
 ghost use Rattle.lists.specs.Numbers.{lowest};
 ghost use Rattle.lists.specs.Sequences.{over};

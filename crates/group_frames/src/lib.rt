@@ -1,4 +1,6 @@
 // One frame of the smaller image, written with the numbers of groups.
+#![tactic(auto)]
+
 ghost use Rattle.std.specs.Prelude.{◌≡◌, ◌+◌, ◌-◌, ◌≤◌, ◌<◌, length};
 ghost use Rattle.lists.specs.Sequences.{written};
 ghost use Rattle.frames.specs.Sizes.{LINE, LABELS, ROWS};

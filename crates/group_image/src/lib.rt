@@ -1,4 +1,6 @@
 // The smaller image of labels that are grouped: written where there is room for all of it.
+#![tactic(auto)]
+
 ghost use Rattle.std.specs.Prelude.{◌≡◌, length};
 ghost use Rattle.frames.specs.Sizes.{LABELS};
 ghost use Rattle.frames.specs.Verdict.{fine};

@@ -1,4 +1,6 @@
 // The numbers of the groups, in the order of their lowest members, and how many rows are kept.
+#![tactic(auto)]
+
 ghost use Rattle.std.specs.Prelude.{◌≡◌, ◌-◌, ◌≤◌, ◌<◌, length, get_or};
 ghost use Rattle.lists.specs.Pick.{pick};
 ghost use Rattle.lists.specs.Numbers.{count};

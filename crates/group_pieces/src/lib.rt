@@ -1,4 +1,6 @@
 // One label or row of the given image, written as a frame of the smaller one where it is kept.
+#![tactic(auto)]
+
 ghost use Rattle.std.specs.Prelude.{◌+◌, ◌≤◌, ◌<◌, length};
 ghost use Rattle.frames.specs.Frame.{size};
 ghost use Rattle.image.specs.Decode.{labels_from, rows_from};

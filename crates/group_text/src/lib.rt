@@ -1,4 +1,6 @@
 // The smaller image, written frame by frame of the given one.
+#![tactic(auto)]
+
 ghost use Rattle.std.specs.Prelude.{◌≡◌, ◌+◌, ◌≤◌, ◌<◌, length};
 ghost use Rattle.lists.specs.Sequences.{written};
 ghost use Rattle.frames.specs.Sizes.{LABELS, ROWS};

@@ -1,1 +1,2 @@
 // Labels that act alike, in groups: definitions and laws alone.
+#![tactic(auto)]

@@ -3,7 +3,7 @@ use Prim.Native.Nat.{ℕ, ◌≤◌}
 use mathlib.Core.List.{List}
 use native.Mathlib.Omega.{arith}
 use Rattle.frames.specs.Frame.{size, contents}
-use Rattle.frames.specs.Verdict.{next, when, atLowest}
+use Rattle.frames.specs.Verdict.{when, atLowest}
 use Rattle.frames.specs.Check.{textVerdict}
 use Rattle.frames.proofs.Refuses.{RefusesWith, next-refuses, when-refuses, lowest-refuses, text-refuses}
 use Rattle.image.specs.Check.{badHeader, stray, badContent, tableVerdict, imageVerdict}

@@ -1,4 +1,6 @@
 // The image: entries, labels and rows as frames, and what stands in a decoded table.
+#![tactic(auto)]
+
 mod counts;
 pub mod layout;
 mod table;

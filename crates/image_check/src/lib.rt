@@ -1,4 +1,6 @@
 // The image check: refusals 1 to 3 and 11 to 13 of an image's text.
+#![tactic(auto)]
+
 mod check;
 mod positions;
 mod read;

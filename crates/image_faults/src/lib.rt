@@ -1,4 +1,6 @@
 // Refusals 12 and 13 together, in one pass: entries, then labels, then rows.
+#![tactic(auto)]
+
 ghost use Rattle.std.specs.Prelude.{◌≡◌, ◌-◌, ◌≤◌};
 ghost use Rattle.lists.specs.Numbers.{lowest};
 ghost use Rattle.frames.specs.Frame.{size};

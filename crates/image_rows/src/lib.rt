@@ -1,4 +1,6 @@
 // The entry point to the rows of each label of an image.
+#![tactic(auto)]
+
 ghost use Rattle.listing.specs.Listing.{list, GivesListing};
 
 use frames::Answer;

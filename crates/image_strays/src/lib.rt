@@ -1,4 +1,6 @@
 // Refusal 12: the kind and the number of one frame, and the order of rows.
+#![tactic(auto)]
+
 ghost use Rattle.std.specs.Prelude.{◌≡◌, ◌+◌, ◌<◌};
 ghost use Rattle.frames.specs.Frame.{size};
 ghost use Rattle.image.specs.Decode.{labels_from, rows_from};

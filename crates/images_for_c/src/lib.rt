@@ -1,4 +1,6 @@
 // The calls from C on images: checked, listed and prepared.
+#![tactic(auto)]
+
 ghost use Rattle.frames.specs.Answer.{judged};
 ghost use Rattle.image.specs.Check.{imageVerdict};
 ghost use Rattle.listing.specs.Listing.{list};

@@ -1,4 +1,6 @@
 // The labels of a table joined: 23, the grouping, and the smaller image of its groups.
+#![tactic(auto)]
+
 ghost use Rattle.std.specs.Prelude.{◌≡◌, false, length};
 ghost use Rattle.frames.specs.Sizes.{LABELS};
 ghost use Rattle.frames.specs.Refusals.{UNEVEN};

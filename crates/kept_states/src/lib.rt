@@ -1,4 +1,6 @@
 // A tick on a state behind a reference, for a caller that keeps the state.
+#![tactic(auto)]
+
 ghost use Rattle.runs.specs.TickOutcome.{imageTick, GivesTick};
 
 use runs::TickReport;

@@ -16,7 +16,7 @@ use Rattle.frames.specs.Frame.{size, quad}
 use Rattle.charts.specs.Chart.{Chart, kind, scheme, argument, next0, result, mask, begin}
 use Rattle.walk.specs.Stops.{stops, start}
 use Rattle.walk.proofs.Facts.{Facts}
-use Rattle.image.specs.Image.{entryFrame, labelFrame, labelWith}
+use Rattle.image.specs.Image.{entryFrame, labelFrame}
 use Rattle.chart_labels.specs.Labels.{numbered, label, entry, stopLabel}
 use Rattle.chart_labels.specs.inner.ChartContracts.{Labelled, OfKind, AtNode}
 use Rattle.label_text.specs.inner.LabelContracts.{OfScheme}

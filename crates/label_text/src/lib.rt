@@ -1,4 +1,6 @@
 // The labels of an image, written as frames of ten bytes.
+#![tactic(auto)]
+
 mod label_frames;
 
 pub use label_frames::{put_fixed, put_labels};

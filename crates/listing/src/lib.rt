@@ -1,4 +1,6 @@
 // The rows of each label of a prepared table: the number of the first and how many there are, read off the frames at which a tick looks.
+#![tactic(auto)]
+
 ghost use Rattle.std.specs.Prelude.{◌≡◌, ◌<◌, length};
 ghost use Rattle.lists.specs.Sequences.{over};
 ghost use Rattle.image.specs.Decode.{lastLabel};

@@ -1,1 +1,2 @@
 // All the little charts: definitions and laws, no function.
+#![tactic(auto)]

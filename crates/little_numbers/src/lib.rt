@@ -1,4 +1,6 @@
 // Node records by number, and the numbers that are tried at a place.
+#![tactic(auto)]
+
 ghost use Rattle.std.specs.Prelude.{◌≡◌, ◌+◌, ◌*◌, ◌≤◌, ◌<◌, length};
 ghost use Rattle.frames.specs.Sizes.{RECORD};
 ghost use Rattle.frames.specs.Frame.{size};

@@ -1,1 +1,2 @@
 // The search for little charts.
+#![tactic(auto)]

@@ -1,4 +1,6 @@
 // A little chart sought by its number: node records are tried place by place, and the charts that are found are counted down.
+#![tactic(auto)]
+
 ghost use Rattle.std.specs.Prelude.{◌≡◌, ◌*◌, ◌-◌, ◌≤◌, ◌<◌, take};
 ghost use Rattle.frames.specs.Sizes.{RECORD};
 ghost use Rattle.frames.specs.Frame.{size};

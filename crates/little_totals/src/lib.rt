@@ -1,1 +1,2 @@
 // How many little charts there are; no function.
+#![tactic(auto)]

@@ -1,4 +1,6 @@
 // Four spindles whose states are 520 bytes: one call, live on a prepared table.
+#![tactic(auto)]
+
 ghost use Rattle.spindles.specs.Spindles.{liveSpin};
 ghost use Rattle.spindle_parts.specs.FourStates.{statesOf};
 ghost use Rattle.spindle_bytes.specs.Bytes.{GivesSpinOn};

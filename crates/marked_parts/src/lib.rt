@@ -1,5 +1,7 @@
 // Marks of the labels whose class was parted in a round. Of the parts of a class all labels but those of the largest part are marked,
 // so that each time that a label is marked its class is at most half as large as before.
+#![tactic(auto)]
+
 ghost use Rattle.std.specs.Prelude.{◌≡◌, ◌≤◌, ◌<◌, length};
 ghost use Rattle.frames.specs.Sizes.{LABELS};
 ghost use Rattle.marked_parts.specs.inner.Parts.{memberCount, countMembers, largerPart, keepLargest, markOf, markOthers, PartsMarked};

@@ -1,4 +1,6 @@
 // Which rows the next round need look at: those of labels with a row to a label that the round before marked.
+#![tactic(auto)]
+
 ghost use Rattle.std.specs.Prelude.{◌≡◌, ◌≤◌, length};
 ghost use Rattle.frames.specs.Sizes.{LABELS};
 ghost use Rattle.frames.specs.Frame.{size};

@@ -1,4 +1,6 @@
 // The entry point to the image with one label a group.
+#![tactic(auto)]
+
 ghost use Rattle.frames.specs.Answer.{GivesBuffer};
 ghost use Rattle.minimising.specs.Entry.{minimise};
 

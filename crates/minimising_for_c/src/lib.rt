@@ -1,4 +1,6 @@
 // The call from C that joins the labels of an image.
+#![tactic(auto)]
+
 ghost use Rattle.minimising.specs.Entry.{minimise};
 ghost use Rattle.telling.specs.AnswersForC.{GivesBufferC};
 

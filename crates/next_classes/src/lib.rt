@@ -1,4 +1,6 @@
 // The classes one round later: for each label the lowest one of its next class.
+#![tactic(auto)]
+
 ghost use Rattle.std.specs.Prelude.{◌≡◌, ◌≤◌, ◌<◌, length, get_or};
 ghost use Rattle.frames.specs.Sizes.{LABELS};
 ghost use Rattle.image.specs.Decode.{schemeCount};

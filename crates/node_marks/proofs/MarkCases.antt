@@ -19,8 +19,8 @@ use Rattle.lists.proofs.Searches.{lowest-none}
 use Rattle.lists.proofs.Ranges.{length-map-range, map-range-snoc}
 use Rattle.graph.specs.Reach.{marked, only, reach, joinedFrom}
 use Rattle.graph.specs.inner.Listed.{many, Listing, listing, enlistAll, Listed}
-use Rattle.graph.proofs.Marking.{full-marked}
-use Rattle.graph.proofs.Lists.{listed-none}
+use Rattle.graph.proofs.Marking.{full-marked, Joining}
+use Rattle.graph.proofs.Lists.{listed-none, list-few, Followed}
 use Rattle.graph.proofs.Enlisted.{Enlisted, enlisted-all}
 use Rattle.frames.specs.Frame.{size}
 use Rattle.charts.specs.Chart.{Chart, kind, next0, next1, is}
@@ -204,3 +204,18 @@ module _ (c : Chart) (marks : List Bool) (list : List ℕ) (blank : Blank c mark
 pub lent-enlisted : (c : Chart) (marks : List Bool) (list : List ℕ) (k : ℕ) → ListedRoom c marks list k → (us : List ℕ) (t : Listing)
     → t ≡ enlistAll (listing marks list k) us → Enlisted (listing marks list k) us t
 lent-enlisted c marks list k lent us t e = enlisted-all us (listing marks list k) t (omega (arith, lent.long, lent.room)) lent.listed e
+
+-- ---- a turn of `join`'s loop: the first i of the list are followed
+pub record Turn (c : Chart) (b : Bool) (marks₀ : List Bool) (list₀ : List ℕ) (marks : List Bool) (list : List ℕ) (end i : ℕ) : Type 0 where
+  pub inside : i ≤ end
+  pub same : length list ≡ length list₀
+  pub joining : Joining (size c) (arcsBy c b) marks₀ marks
+  pub listed : Listed marks list end
+  pub followed : Followed (size c) (arcsBy c b) marks list i
+
+module _ (c : Chart) (b : Bool) (marks₀ : List Bool) (list₀ : List ℕ) (marks : List Bool) (list : List ℕ) (end i : ℕ) where
+  pub turn-few : Turn c b marks₀ list₀ marks list end i → end ≤ size c
+  turn-few t = omega (arith, list-few marks list end t.listed, t.joining.long)
+
+  pub turn-lent : {k : ℕ} → ListedRoom c marks₀ list₀ k → Turn c b marks₀ list₀ marks list end i → ListedRoom c marks list end
+  turn-lent r t = record { long = t.joining.long; room = omega (arith, t.same, r.room); listed = t.listed }

@@ -1,4 +1,6 @@
 // Marks on the nodes of a chart, spread over all arcs or over the arcs of conditions alone.
+#![tactic(auto)]
+
 ghost use Rattle.std.specs.Prelude.{◌≡◌, ◌+◌, ◌*◌, ◌≤◌, ◌<◌, true, length, set};
 ghost use Rattle.lists.specs.Pick.{pick};
 ghost use Rattle.graph.specs.Reach.{marked, reach};

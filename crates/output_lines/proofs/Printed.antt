@@ -4,7 +4,7 @@ use mathlib.Core.Path.{◌≡◌, refl, ◌∙◌, ap, subst}
 use mathlib.Core.List.{List}
 use native.Mathlib.Omega.{arith}
 use lib.ListN.{length, take, drop, get_or, length-append, length-take}
-use Rattle.lists.specs.Sequences.{concatMap, over, written}
+use Rattle.lists.specs.Sequences.{concatMap, written}
 use Rattle.lists.proofs.Joins.{concat-places, length-concat, all-every}
 use Rattle.lists.proofs.Fills.{Pieces, pieces-turn, pieces-all}
 use Rattle.frames.specs.Frame.{frameText}

@@ -1,4 +1,6 @@
 // Lines put into a lent buffer.
+#![tactic(auto)]
+
 ghost use Rattle.std.specs.Prelude.{◌≡◌, ◌+◌, ◌*◌, ◌≤◌, length};
 ghost use Rattle.lists.specs.Sequences.{concatMap, written};
 ghost use Rattle.frames.specs.Sizes.{LINE};

@@ -1,4 +1,6 @@
 // Whether rows of two labels part them: they match one word and bit and lead to different classes.
+#![tactic(auto)]
+
 ghost use Rattle.std.specs.Prelude.{◌&&◌, ◌≡◌, ◌≤◌, ◌<◌, length, get_or};
 ghost use Rattle.frames.specs.Sizes.{LABELS};
 ghost use Rattle.frames.specs.Frame.{size, field};

@@ -1,4 +1,6 @@
 // The rows of the paths on from a node, written as frames of ten bytes. Functions return the offset after what they wrote.
+#![tactic(auto)]
+
 ghost use Rattle.std.specs.Prelude.{◌+◌, ◌≤◌, length};
 ghost use Rattle.frames.specs.Sizes.{FRAME};
 ghost use Rattle.frames.specs.Frame.{size};

@@ -1,4 +1,6 @@
 // How many places a chart needs: the longest chain of calls from scheme 1.
+#![tactic(auto)]
+
 mod entry;
 
 pub use entry::places_needed;

@@ -1,4 +1,6 @@
 // An image prepared once for all its ticks: checked, decoded, and where the rows of each label end noted in its frame.
+#![tactic(auto)]
+
 ghost use Rattle.std.specs.Prelude.{◌≡◌, ◌≤◌, ◌-◌, length};
 ghost use Rattle.frames.specs.Sizes.{TABLE};
 ghost use Rattle.frames.specs.Answer.{GivesBuffer};

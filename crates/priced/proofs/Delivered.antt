@@ -29,11 +29,15 @@ pub calls-chain : (image : List ℕ) (s : State) (given : List PricedInput) (han
     → handed ≡ madeOutputs image s given
 unfolding pricedOutputs
 calls-chain image s [] [] none = refl
+calls-chain image s [] (d ∷ handed) x = elim x [ ]
+calls-chain image s (unpriced g ∷ rest) [] x = elim x [ ]
 calls-chain image s (unpriced g ∷ rest) (byUnpriced d ∷ handed) (unpricedCall {after = after} c cs) =
     let like : Like image s g d after = call-like image s c in
     ap₂ (λ (x : PricedOutput) (l : List PricedOutput). x ∷ l) (ap byUnpriced like.handed-is)
     (calls-chain image after rest handed cs ∙ ap (λ (z : State). madeOutputs image z rest) like.state-is)
     ∙ sym (chain-asked image s g rest)
+calls-chain image s (unpriced g ∷ rest) (byPricedRun _ _ ∷ handed) x = elim x [ ]
+calls-chain image s (toPricedRun list a ∷ rest) [] x = elim x [ ]
 calls-chain image s (toPricedRun list a ∷ rest) (d ∷ handed) (pricedCall {r = r} c cs) =
     ap₂ (λ (x : PricedOutput) (l : List PricedOutput). x ∷ l)
     (λ j. byPricedRun (record { reply = c.answered j; masks = c.masks j; codes = c.codes j }) (c.price j))

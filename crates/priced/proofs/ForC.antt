@@ -22,11 +22,16 @@ pub calls-chain : (image bytes : List ℕ) (given : List PricedInput) (handed : 
     → handed ≡ map pricedOutputC (madeOutputs image (state_of bytes) given)
 unfolding pricedOutputs
 calls-chain image bytes [] [] none = refl
+calls-chain image bytes [] (d ∷ handed) x = elim x [ ]
+calls-chain image bytes (unpriced g ∷ rest) [] x = elim x [ ]
 calls-chain image bytes (unpriced g ∷ rest) (byUnpricedC d ∷ handed) (unpricedCall {after = after} c cs) =
     let like : LikeC image bytes g d after = call-like image bytes c in
     ap₂ (λ (x : PricedOutputC) (l : List PricedOutputC). x ∷ l) (ap byUnpricedC like.handed-is)
     (calls-chain image after rest handed cs ∙ ap (λ (s : State). map pricedOutputC (madeOutputs image s rest)) like.state-is)
     ∙ sym (ap (map pricedOutputC) (chain-asked image (state_of bytes) g rest))
+calls-chain image bytes (unpriced g ∷ rest) (byPricedRunC t cents ∷ handed) x = elim x [ ]
+calls-chain image bytes (toPricedRun list a ∷ rest) [] x = elim x [ ]
+calls-chain image bytes (toPricedRun list a ∷ rest) (byUnpricedC d ∷ handed) x = elim x [ ]
 calls-chain image bytes (toPricedRun list a ∷ rest) (byPricedRunC t cents ∷ handed) (pricedCall {after = after} c cs) =
     ap₂ (λ (x : PricedOutputC) (l : List PricedOutputC). x ∷ l)
     (λ j. byPricedRunC (record {

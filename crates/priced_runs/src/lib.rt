@@ -1,4 +1,6 @@
 // A run with a price: all that a run does, of at most 65,536 words, and what its finished ticks cost by a price list.
+#![tactic(auto)]
+
 ghost use Rattle.std.specs.Prelude.{◌≡◌};
 ghost use Rattle.frames.specs.Answer.{reply, replyCount, judged};
 ghost use Rattle.state.specs.Bytes.{state_of};

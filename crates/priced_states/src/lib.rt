@@ -1,4 +1,6 @@
 // A run with a price, on a state by value.
+#![tactic(auto)]
+
 ghost use Rattle.priced_runs.specs.PricedRun.{pricedRun, GivesPricedRun};
 
 use frames::Answer;

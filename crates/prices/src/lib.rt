@@ -1,4 +1,6 @@
 // What the ticks of a run cost by a price list: a sum over the set bits of their masks, and the price of all of them in cents.
+#![tactic(auto)]
+
 ghost use Rattle.std.specs.Prelude.{◌≡◌, ◌≤◌, length};
 ghost use Rattle.prices.specs.Prices.{tickPrice, hundredths, price};
 

@@ -1,4 +1,6 @@
 // The call from C that runs and tells the price.
+#![tactic(auto)]
+
 ghost use Rattle.prices_for_c.specs.Calls.{pricedRunFor, GivesPricedRunC};
 
 use priced_runs::priced_run_bytes;

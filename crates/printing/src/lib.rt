@@ -1,4 +1,6 @@
 // What the programs print: the frame that tells a refusal, and the line of a tick's code.
+#![tactic(auto)]
+
 ghost use Rattle.std.specs.Prelude.{◌≡◌};
 ghost use Rattle.printing.specs.Lines.{codeLine, refusalLine};
 

@@ -1,4 +1,6 @@
 // A text read in one pass: refusals 1 to 3, and the bytes of its frames, ten of each, into a lent buffer.
+#![tactic(auto)]
+
 ghost use Rattle.std.specs.Prelude.{◌≡◌, ◌*◌, ◌≤◌, length};
 ghost use Rattle.frames.specs.Sizes.{LINE, FRAME};
 ghost use Rattle.frames.specs.Frame.{frameCount};

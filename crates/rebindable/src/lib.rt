@@ -1,4 +1,6 @@
 // Whether a number may be served by a scheme from then on: refusal 22.
+#![tactic(auto)]
+
 ghost use Rattle.std.specs.Prelude.{◌≡◌};
 ghost use Rattle.bindings.specs.Binding.{badRebinding};
 ghost use Rattle.image.specs.Decode.{handlerIn, schemeCount};

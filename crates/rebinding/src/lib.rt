@@ -1,4 +1,6 @@
 // A rebinding between ticks, on an image and live on a prepared table: a number is served by another scheme from then on.
+#![tactic(auto)]
+
 mod by_value;
 mod in_place;
 

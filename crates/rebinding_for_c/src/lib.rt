@@ -1,4 +1,6 @@
 // The calls from C that have a number served by another scheme, on an image and live on a prepared table.
+#![tactic(auto)]
+
 ghost use Rattle.rebinding_for_c.specs.Calls.{rebindFor, liveRebindFor, GivesRebindingC};
 
 use rebinding::{live_rebind_bytes, rebind_bytes};

@@ -1,4 +1,6 @@
 // The grouping with fewest groups: for each label the lowest one of its class.
+#![tactic(auto)]
+
 ghost use Rattle.std.specs.Prelude.{◌≡◌, length};
 ghost use Rattle.frames.specs.Sizes.{LABELS};
 ghost use Rattle.tables.specs.Table.{tableImage};

@@ -1,1 +1,2 @@
 // The result bits, one for each scheme number.
+#![tactic(auto)]

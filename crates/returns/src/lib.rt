@@ -1,4 +1,6 @@
 // The tick of a return, in place.
+#![tactic(auto)]
+
 ghost use Rattle.std.specs.Prelude.{◌≡◌};
 ghost use Rattle.tables.specs.Table.{tableImage};
 ghost use Rattle.rows.specs.Rows.{next_of};

@@ -1,4 +1,6 @@
 // An upper bound on the rows of a chart: no more paths go on from a node than the numbers that they may test have values.
+#![tactic(auto)]
+
 ghost use Rattle.std.specs.Prelude.{ℕ, ◌^◌, ◌≤◌, length};
 ghost use Rattle.chart_rows.specs.Rows.{rows};
 ghost use Rattle.chart_rows.specs.inner.PathContracts.{Noted, NotedAt, Entered, FewPaths, Masked};

@@ -1,4 +1,6 @@
 // Where the rows of a label stand in a prepared table.
+#![tactic(auto)]
+
 ghost use Rattle.std.specs.Prelude.{◌≡◌, ◌+◌, ◌*◌, ◌<◌};
 ghost use Rattle.frames.specs.Sizes.{FRAME};
 ghost use Rattle.frames.specs.Frame.{size, field};

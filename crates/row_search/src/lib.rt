@@ -1,4 +1,6 @@
 // The row of a prepared table that a label takes, found by the word and a result bit, and where it leads.
+#![tactic(auto)]
+
 ghost use Rattle.std.specs.Prelude.{◌≡◌, ◌≤◌, ◌<◌, ltb};
 ghost use Rattle.lists.specs.Pick.{pick};
 ghost use Rattle.frames.specs.Frame.{size, field};

@@ -1,4 +1,6 @@
 // Which row a label takes: whether a row of a prepared table matches a word and a result bit, and the best of several that do.
+#![tactic(auto)]
+
 ghost use Rattle.std.specs.Prelude.{◌≡◌, ◌<◌};
 ghost use Rattle.frames.specs.Frame.{size};
 ghost use Rattle.image.specs.Decode.{schemeCount};

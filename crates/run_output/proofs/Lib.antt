@@ -1,3 +1,4 @@
 pub mod Runs
 pub mod Limits
 pub mod Capitals
+mod Handed

@@ -1,4 +1,6 @@
 // Ticks over the words of a run, on a prepared table and the bytes of a state.
+#![tactic(auto)]
+
 use frames::Answer;
 
 mod runs;

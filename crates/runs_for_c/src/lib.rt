@@ -1,4 +1,6 @@
 // The calls from C that make a state, run and tick, on an image and live on a prepared table; a state is 130 bytes.
+#![tactic(auto)]
+
 ghost use Rattle.state.specs.State.{freshState};
 ghost use Rattle.runs_for_c.specs.Calls.{GivesStateC, runFor, liveRunFor, GivesRunC, tickFor, liveTickFor, GivesTickC};
 

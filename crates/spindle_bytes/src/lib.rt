@@ -1,4 +1,6 @@
 // Four spindles whose states are 520 bytes: one call on an image.
+#![tactic(auto)]
+
 ghost use Rattle.spindles.specs.Spindles.{spin};
 ghost use Rattle.spindle_parts.specs.FourStates.{statesOf};
 ghost use Rattle.spindle_bytes.specs.Bytes.{GivesSpinOn};

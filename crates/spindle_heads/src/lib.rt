@@ -1,4 +1,6 @@
 // A head that is refused before any state is looked at: by an image, and by a prepared table.
+#![tactic(auto)]
+
 ghost use Rattle.frames.specs.Refusals.{BAD-HEADER};
 ghost use Rattle.frames.specs.Verdict.{when};
 ghost use Rattle.image.specs.Check.{imageVerdict};

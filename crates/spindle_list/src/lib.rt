@@ -1,4 +1,6 @@
 // Four spindles whose states stand in one list: a call ticks one and leaves the others as they are.
+#![tactic(auto)]
+
 ghost use Rattle.spindles.specs.Spindles.{spin, liveSpin, GivesSpin};
 
 use spindle_heads::{live_refuse_head, refuse_head};

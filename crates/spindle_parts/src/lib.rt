@@ -1,4 +1,6 @@
 // Four states in 520 bytes: how many there are, their depths, and the bytes of one.
+#![tactic(auto)]
+
 ghost use Rattle.std.specs.Prelude.{◌≡◌, ◌<◌, length};
 ghost use Rattle.spindles.specs.Layout.{SPINDLES, HEAD-BYTES};
 ghost use Rattle.spindle_parts.specs.FourStates.{part_of, depthsIn};

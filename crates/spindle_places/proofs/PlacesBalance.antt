@@ -2,7 +2,7 @@
 -- not pass 64.
 use Prim.Native.Nat.{ℕ, zero, suc, ◌+◌, ◌-◌, ◌≤◌, ◌<◌}
 use mathlib.Core.Bool.{Bool, true, false, ◌&&◌, not}
-use mathlib.Core.Path.{◌≡◌, refl, sym, ◌∙◌, ap, subst}
+use mathlib.Core.Path.{◌≡◌, refl, sym, ◌∙◌, subst}
 use mathlib.Core.Logic.{◌⊎◌, inl, inr}
 use mathlib.Core.List.{List, [], ◌∷◌}
 use lib.Dec.{leb, ltb, eqb}
@@ -21,14 +21,14 @@ use Rattle.image.specs.Check.{imageVerdict}
 use Rattle.image.specs.inner.Sound.{SoundImage}
 use Rattle.image.proofs.Accepted.{image-sound}
 use Rattle.state.specs.declared.State.{State}
-use Rattle.state.specs.State.{noState, fresh, placeAt, Sized}
+use Rattle.state.specs.State.{noState, placeAt, Sized}
 use Rattle.state.proofs.ResultBytes.{fresh-sized}
 use Rattle.fitness.proofs.Fitness.{Fits, unfits}
-use Rattle.ticks.specs.Tick.{MachineTick, finished, stopped, tick}
+use Rattle.ticks.specs.Tick.{finished}
 use Rattle.ticks.proofs.Keeps.{Keeps, tick-keeps}
 use Rattle.rebinding.specs.Rebind.{rebinding, rebindVerdict, rebindOn, rebind}
 use Rattle.rebinding.proofs.Keeps.{rebinding-sized}
-use Rattle.spindles.specs.Spindles.{stateAt, depths, headVerdict, noneLeft, SpinOutcome}
+use Rattle.spindles.specs.Spindles.{stateAt, depths, noneLeft, SpinOutcome}
 use Rattle.spindles.proofs.OneCall.{Comes, turnsBack, on, comes, spin-by}
 use Rattle.spindles.proofs.Others.{Tried, tried}
 use Rattle.spindle_places.specs.Calls.{Head, newHead, SpindleCall, spins, rebinds, spinOn, headAfter, headAfterAll}

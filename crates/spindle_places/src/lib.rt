@@ -1,1 +1,2 @@
 // What holds over every list of calls of four spindles: laws alone.
+#![tactic(auto)]

@@ -1,1 +1,2 @@
 // Each spindle makes the ticks of its own walk: laws alone.
+#![tactic(auto)]

@@ -1,4 +1,6 @@
 // Four spindles that share 64 places: what a call reports, and the tests that it makes before a tick.
+#![tactic(auto)]
+
 pub mod layout;
 
 ghost use Rattle.std.specs.Prelude.{◌≡◌};

@@ -1,4 +1,6 @@
 // The calls from C on four spindles, whose states are 520 bytes, on an image and live on a prepared table.
+#![tactic(auto)]
+
 ghost use Rattle.spindles_for_c.specs.Calls.{spinFor, liveSpinFor, GivesSpinC};
 
 use live_spindle_bytes::live_spin_bytes;

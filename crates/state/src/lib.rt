@@ -1,4 +1,6 @@
 // The state of the stack machine, a fresh one, and what its 130 bytes stand for.
+#![tactic(auto)]
+
 ghost use Rattle.std.specs.Prelude.{◌≡◌, ◌<◌, length, set};
 
 use crate::layout::PLACES;
@@ -13,7 +15,7 @@ pub use fresh::bad_size;
 // Places (the paper's word for the entries of the stack) hold labels, the bottom first, up to the depth, and 0 above it; beside each
 // stand the number that its scheme was called by and the scheme that served it. Number h's result bit and the scheme that serves h stand
 // at h - 1.
-#[derive(Drop)]
+#[derive(Clone, Copy)]
 pub struct State {
     pub size: u8,
     pub depth: u8,

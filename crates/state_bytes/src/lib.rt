@@ -1,4 +1,6 @@
 // A state as the 130 bytes by which C keeps it: taken apart and put together.
+#![tactic(auto)]
+
 ghost use Rattle.std.specs.Prelude.{◌≡◌, map, ◌+◌, ◌≤◌, length, get_or};
 ghost use Rattle.lists.specs.Numbers.{range};
 ghost use Rattle.lists.specs.Sequences.{written};

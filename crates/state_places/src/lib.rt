@@ -1,4 +1,6 @@
 // Size, depth and places of a state that is kept as 130 bytes, read and changed in place.
+#![tactic(auto)]
+
 ghost use Rattle.std.specs.Prelude.{◌≡◌, ◌<◌};
 ghost use Rattle.state.specs.Layout.{PLACES};
 ghost use Rattle.state.specs.State.{noPlaces, placeAt, number_at, serverAt};

@@ -1,4 +1,6 @@
 // The results, and the schemes that serve, of a state that is kept as 130 bytes, read and changed in place.
+#![tactic(auto)]
+
 ghost use Rattle.std.specs.Prelude.{◌≡◌, ◌-◌, ◌≤◌, length};
 ghost use Rattle.results.specs.Results.{result_of};
 ghost use Rattle.bindings.specs.Binding.{served, rebound};

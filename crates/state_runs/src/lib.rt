@@ -1,4 +1,6 @@
 // Runs and ticks that take a state and hand one back.
+#![tactic(auto)]
+
 ghost use Rattle.runs.specs.Run.{run, GivesRun};
 ghost use Rattle.runs.specs.TickOutcome.{imageTick, GivesTick};
 ghost use Rattle.machine.specs.Live.{liveRun, liveTick};

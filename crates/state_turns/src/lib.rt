@@ -1,4 +1,6 @@
 // The turn of one spindle by value: it takes the spindle's state and hands one back, with the four depths.
+#![tactic(auto)]
+
 ghost use Rattle.std.specs.Prelude.{◌≡◌, ◌+◌, ◌≤◌};
 ghost use Rattle.frames.specs.Refusals.{BAD-HEADER};
 ghost use Rattle.frames.specs.Verdict.{when};

@@ -1,4 +1,6 @@
 // One tick on a prepared table and the bytes of a state, in place, by the label at the top.
+#![tactic(auto)]
+
 ghost use Rattle.std.specs.Prelude.{◌≡◌};
 ghost use Rattle.image.specs.Decode.{schemeCount};
 ghost use Rattle.state.specs.Bytes.{state_of};

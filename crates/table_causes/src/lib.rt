@@ -1,4 +1,6 @@
 // A cause on a prepared table: the label whose row a tick takes, the row, the conditions that decide it and the bit.
+#![tactic(auto)]
+
 ghost use Rattle.std.specs.Prelude.{◌≡◌, ◌-◌};
 ghost use Rattle.tables.specs.Table.{tableImage};
 ghost use Rattle.tables.specs.inner.Asked.{Whole};

@@ -1,4 +1,6 @@
 // A run and a tick on a prepared table: 15 and 16 are tried, then the ticks are made.
+#![tactic(auto)]
+
 ghost use Rattle.std.specs.Prelude.{◌≡◌, [], ◌∷◌};
 ghost use Rattle.tables.specs.inner.Asked.{Whole};
 ghost use Rattle.state.specs.Bytes.{state_of};

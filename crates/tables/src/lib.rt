@@ -1,4 +1,5 @@
 // Tables prepared for ticks: what such a table holds, and its header, entries and labels as they are read.
+#![tactic(auto)]
 
 mod header;
 mod labels;
@@ -9,7 +10,7 @@ pub use labels::{
 };
 
 // A label as the machine reads it.
-#[derive(Drop)]
+#[derive(Clone, Copy)]
 pub struct Label {
     pub kind: u8,
     pub called: u8,

@@ -1,4 +1,6 @@
 // An answer as the three numbers that C gets, and a tick's report as these with its mask and its code.
+#![tactic(auto)]
+
 ghost use Rattle.frames.specs.Answer.{reply};
 ghost use Rattle.telling.specs.AnswersForC.{GivesReplyC, GivesTickReportC};
 

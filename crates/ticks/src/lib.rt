@@ -1,4 +1,6 @@
 // One tick of the stack machine: what it does, what holds of it, and what its functions share.
+#![tactic(auto)]
+
 ghost use Rattle.std.specs.Prelude.{◌≡◌};
 ghost use Rattle.frames.specs.Refusals.{NO-ROW};
 ghost use Rattle.state.specs.Bytes.{state_of};

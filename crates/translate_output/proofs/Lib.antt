@@ -1,3 +1,4 @@
 pub mod Translations
 pub mod Limits
 pub mod Capitals
+mod Handed

@@ -1,4 +1,6 @@
 // The translator: a chart's text to the text of its image.
+#![tactic(auto)]
+
 ghost use Rattle.std.specs.Prelude.{◌≡◌};
 ghost use Rattle.frames.specs.Answer.{GivesBuffer};
 ghost use Rattle.charts.specs.Chart.{schemes};

@@ -1,4 +1,6 @@
 // The call from C that translates a chart.
+#![tactic(auto)]
+
 ghost use Rattle.translator.specs.Entry.{translate};
 ghost use Rattle.telling.specs.AnswersForC.{GivesBufferC};
 

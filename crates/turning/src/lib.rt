@@ -1,5 +1,7 @@
 // The turn of one spindle on the bytes of its state, on an image and live on a prepared table: its tick, unless the head is refused or a
 // call finds no place.
+#![tactic(auto)]
+
 ghost use Rattle.std.specs.Prelude.{◌≤◌};
 ghost use Rattle.frames.specs.Refusals.{BAD-HEADER};
 ghost use Rattle.frames.specs.Verdict.{when};

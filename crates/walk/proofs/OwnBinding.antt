@@ -22,6 +22,9 @@ use Rattle.walk.proofs.Facts.{StopOf, Facts}
 use Rattle.walk.proofs.FactsHold.{facts}
 use Rattle.walk.proofs.Views.{View, a-plain, a_call, a-function, a-home, a_back, a-begin, a-condition, view}
 use Rattle.walk.proofs.Trace.{Serves, drop-handler, stop-as, home-stop, arc-to, function_to, begin-to}
+use Rattle.walk.specs.Walk.{oneTick}
+use Rattle.frames.specs.Codes.{HOME-CODE, PLAIN-CODE}
+use Rattle.charts.specs.Chart.{mask}
 
 -- ---- each number is served by its own scheme
 pub served-own : (h : ℕ) → 1 ≤ h → h ≤ 16 → served ownBinding h ≡ h
@@ -76,7 +79,7 @@ module _ (c : Chart) where
           let h : ℕ = a.called in
           let y : OpenScheme = openedBy c ownBinding x a in
           let e : Results = cleared h b in
-          alike-after _ (alike-resume x a s (subst
+          alike-after (oneTick x a.mask a.code) (alike-resume x a s (subst
           (λ (k : ℕ). Alike (go (atStop y (start c k)) (own ws) e) (free (unswapped.open_at c (suc x.opened) (start c h)) ws e))
           (sym (served-own h (omega arith) (omega (arith, facts.most))))
           (alike-on y (start c h) ws e (facts.starts h (omega arith) l.1))))
@@ -90,7 +93,7 @@ module _ (c : Chart) where
 
         alike-act : {s : Stop} → View c v s
             → Alike (act go c d x (record { word = w; binding = ownBinding }) (own ws) b s) (unswapped.act free c d x w ws b s)
-        alike-act (a-plain e a) = alike-after _ (alike-on x _ ws _ (here (arc-to c facts v w g.inside (λ p. omega arith))))
+        alike-act (a-plain e a) = alike-after (oneTick x (mask c v) PLAIN-CODE) (alike-on x _ ws _ (here (arc-to c facts v w g.inside (λ p. omega arith))))
         alike-act (a_call e a) =
             alike-call x _ ws _ (λ y z. here (arc-to c facts v y g.inside (λ p. omega arith)))
             (facts.calls v g.inside e a) (d x.opened) (handled x.opened)
@@ -98,10 +101,10 @@ module _ (c : Chart) where
             alike-call x _ ws b (λ y z. here (function_to c facts v y (result_of (argument c v) z) g.inside e))
             (facts.functions v g.inside e) (d x.opened) (handled x.opened)
         alike-act (a-home e s) =
-            alike-after _ (alike-on x _ ws b (here (stop-as c (sym s) (facts.starts 1 (omega arith) facts.first))))
+            alike-after (oneTick x 0 HOME-CODE) (alike-on x _ ws b (here (stop-as c (sym s) (facts.starts 1 (omega arith) facts.first))))
         alike-act (a_back e s) = both-ended _ w ws b
-        alike-act (a-begin e) = alike-after _ (alike-on x _ ws b (here (begin-to c facts v w g.inside e g.stopping)))
-        alike-act (a-condition e) = alike-after _ (alike-on x _ ws b (here (facts.tests v w g.inside e)))
+        alike-act (a-begin e) = alike-after (oneTick x 0 PLAIN-CODE) (alike-on x _ ws b (here (begin-to c facts v w g.inside e g.stopping)))
+        alike-act (a-condition e) = alike-after (oneTick x 0 PLAIN-CODE) (alike-on x _ ws b (here (facts.tests v w g.inside e)))
 
     alike-perform : (k : ℕ) → Performs (perform k c d) (unswapped.perform k c d)
     unfolding perform unswapped.perform

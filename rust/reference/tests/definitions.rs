@@ -19,7 +19,7 @@ fn texts(folder: PathBuf, endings: &[&str]) -> BTreeMap<String, String> {
     for entry in fs::read_dir(&folder).into_iter().flatten() {
         let path = entry.expect("an entry").path();
         let stem = path.file_stem().expect("a name").to_string_lossy().into_owned();
-        if path.is_dir() {
+        if path.is_dir() && stem != "out" {
             let inside = texts(path, endings).into_iter();
             found.extend(inside.map(|(name, text)| (format!("{stem}/{name}"), text)));
         } else if path.extension().is_some_and(|ending| endings.iter().any(|one| ending == *one)) {
@@ -58,12 +58,10 @@ struct Import {
 
 fn imports(text: &str) -> Vec<Import> {
     let import = |line: &str| {
-        let (_, rest) = line.split_once("use Rattle·")?;
+        let (_, rest) = line.split_once("use Rattle.")?;
         let (path, names) = rest.split_once(".{").unwrap_or((rest.split([' ', ';']).next()?, ""));
-        let mut parts: Vec<&str> = path.split('.').collect();
-        parts[0] = parts[0].split('·').next()?;
         let names = names.split([',', '}', ';']).map(|name| name.trim().to_owned());
-        Some(Import { file: parts.join("/"), names: names.filter(|name| !name.is_empty()).collect() })
+        Some(Import { file: path.replace('.', "/"), names: names.filter(|name| !name.is_empty()).collect() })
     };
     text.lines().filter_map(import).collect()
 }
@@ -71,7 +69,7 @@ fn imports(text: &str) -> Vec<Import> {
 /// The spec file that an import names, if it is one: not a proof, nor a type that the code declares.
 fn spec(import: &Import) -> Option<String> {
     let (name, file) = import.file.split_once("/specs/")?;
-    (!file.starts_with("declared/")).then(|| format!("{name}/{file}"))
+    (name != "std" && !file.starts_with("declared/")).then(|| format!("{name}/{file}"))
 }
 
 /// The contract of a function: its head, up to the line that opens its body.
@@ -187,7 +185,7 @@ fn the_list_of_what_to_believe_is_whole_and_each_file_comes_after_what_it_import
 fn names(text: &str, name: &str) -> bool {
     let inside = |c: char| c.is_alphanumeric() || c == '_' || c == ':';
     let path = format!("{name}::");
-    text.contains(&format!("use Rattle·{name}."))
+    text.contains(&format!("use Rattle.{name}."))
         || text.match_indices(&path).any(|(at, _)| !text[..at].ends_with(inside))
 }
 

@@ -1,5 +1,5 @@
 -- What the search for a row among the frames of a table asks and promises.
-use Rattle.std.specs.Prelude.{ℕ, ◌+◌, ◌*◌, ◌/◌, ◌%◌, ◌≤◌, ◌<◌, Bool, ◌&&◌, ◌||◌, ◌≡◌, List, ltb, eqb}
+use Rattle.std.specs.Prelude.{ℕ, ◌+◌, ◌*◌, ◌/◌, ◌%◌, Bool, ◌&&◌, ◌||◌, ◌≡◌, List, ltb, eqb}
 use Rattle.lists.specs.Pick.{pick}
 use Rattle.bits.specs.Word.{agrees}
 use Rattle.frames.specs.Frame.{size, field, pair_at}

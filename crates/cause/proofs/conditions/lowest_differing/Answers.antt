@@ -1,0 +1,23 @@
+use native.Mathlib.Omega.{arith}
+use Rattle.cause.proofs.ConditionCases.{passed-turn}
+use mathlib.Core.Path.{refl, sym}
+use Rattle.lists.specs.Numbers.{lowest}
+use Rattle.lists.proofs.Tests.{yes-pick, no-pick}
+use Rattle.std.proofs.Common.{rules}
+use Rattle.cause.proofs.conditions.lowest_differing.Goals as goal
+
+pub loop-i-init : goal.loop-i-init
+unfolding lowest
+loop-i-init c = record { inside = omega arith; lowest = refl }
+
+pub loop-i-preserved-then-differs : goal.loop-i-preserved-then-differs
+loop-i-preserved-then-differs c =
+    let loop = c.loop-i in
+    passed-turn _ _ _ loop.low loop.i loop.invariant (search rules) _ c.differs.ensures _
+    (sym (yes-pick _ _ _ c.if-differs.true))
+
+pub loop-i-preserved : goal.loop-i-preserved
+loop-i-preserved c =
+    let loop = c.loop-i in
+    passed-turn _ _ _ loop.low loop.i loop.invariant (search rules) _ c.differs.ensures _
+    (sym (no-pick _ _ _ c.if-differs.false))

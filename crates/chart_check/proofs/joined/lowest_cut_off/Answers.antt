@@ -1,0 +1,8 @@
+-- `chart_check::joined::lowest_cut_off` meets its contract: the marks of all Begins serve every scheme.
+use mathlib.Core.Path.{◌∙◌}
+use Rattle.chart_check.proofs.CutOff.{lowest-apart}
+use Rattle.chart_check.proofs.joined.lowest_cut_off.Goals as goal
+
+pub returns : goal.returns
+returns c =
+    c.lowest_apart.ensures.1 ∙ lowest-apart c.args.records.now c.requires.marks_len.1 _ c.lowest_apart.ensures.0

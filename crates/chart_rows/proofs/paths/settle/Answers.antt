@@ -1,0 +1,59 @@
+-- `chart_rows::settle`: each turn passes one condition, and the rank falls.
+use mathlib.Core.Bool.{true}
+use mathlib.Core.Path.{◌≡◌}
+use Prim.Native.Nat.{◌+◌}
+use lib.ListN.{get_or}
+use Rattle.charts.specs.Chart.{taken}
+use Rattle.chart_labels.specs.inner.ChartContracts.{Ready}
+use Rattle.chart_rows.specs.inner.NodeRows.{testedNumber, known}
+use Rattle.chart_rows.proofs.NumberLaws.{number-most, bit-known, bit-unknown, side-taken}
+use Rattle.chart_rows.proofs.Settled.{passing-start, passing-on, passing-done, known-goes, known-falls}
+use native.Mathlib.Omega.{arith}
+use Rattle.chart_rows.proofs.paths.settle.Goals as goal
+
+pub loop-side-init : goal.loop-side-init
+loop-side-init c = passing-start _ _ _ _ c.requires.entered
+
+pub bit_at-requires : goal.bit_at-requires
+bit_at-requires c = record {
+  node_in_bounds = omega (arith, c.loop-side.invariant.entered.inside, c.requires.noted.long, c.requires.noted.chart.ready.few);
+  node_bound = number-most _ c.requires.noted.chart.ready _ _ c.loop-side.invariant.entered
+      (c.requires.noted.numbers _ c.loop-side.invariant.entered.inside);
+}
+
+pub bit_at-side-requires : goal.bit_at-side-requires
+bit_at-side-requires c = record {
+  node_in_bounds = omega (arith, c.loop-side.invariant.entered.inside, c.requires.noted.long, c.requires.noted.chart.ready.few);
+  node_bound = number-most _ c.requires.noted.chart.ready _ _ c.loop-side.invariant.entered
+      (c.requires.noted.numbers _ c.loop-side.invariant.entered.inside);
+}
+
+pub field-at-requires : goal.field-at-requires
+field-at-requires c =
+    let ready : Ready c.args.records.now = c.requires.noted.chart.ready in
+    omega (arith, c.loop-side.invariant.entered.inside, ready.whole, c.bit_at-side.ensures)
+
+pub loop-side-smaller : goal.loop-side-smaller
+loop-side-smaller c =
+    let noted : let a = c.args in get_or a.notes.now (256 + c.loop-side.at) 0 ≡ testedNumber a.records.now c.loop-side.at = c.requires.noted.numbers _ c.loop-side.invariant.entered.inside in
+    let ready : Ready c.args.records.now = c.requires.noted.chart.ready in
+    let met : let a = c.args in known a.records.now a.care c.loop-side.at ≡ true = bit-known _ ready _ _ c.loop-side.invariant.entered noted c.args.care _ (omega (arith, c.ranges.care)) c.bit_at.ensures c.loop-side-test.true in
+    let side : let a = c.args in c.field-at.result ≡ taken a.records.now a.values c.loop-side.at = side-taken _ ready _ _ c.loop-side.invariant.entered noted (known-goes _ _ _ c.loop-side.invariant.entered met) _ _ _ c.bit_at-side.ensures c.field-at.ensures in
+    known-falls _ _ _ c.loop-side.invariant.entered met ready _ _ side
+
+pub loop-side-preserved : goal.loop-side-preserved
+loop-side-preserved c =
+    let noted : let a = c.args in get_or a.notes.now (256 + c.loop-side.at) 0 ≡ testedNumber a.records.now c.loop-side.at = c.requires.noted.numbers _ c.loop-side.invariant.entered.inside in
+    let ready : Ready c.args.records.now = c.requires.noted.chart.ready in
+    let met : let a = c.args in known a.records.now a.care c.loop-side.at ≡ true = bit-known _ ready _ _ c.loop-side.invariant.entered noted c.args.care _ (omega (arith, c.ranges.care)) c.bit_at.ensures c.loop-side-test.true in
+    let side : let a = c.args in c.field-at.result ≡ taken a.records.now a.values c.loop-side.at = side-taken _ ready _ _ c.loop-side.invariant.entered noted (known-goes _ _ _ c.loop-side.invariant.entered met) _ _ _ c.bit_at-side.ensures c.field-at.ensures in
+    passing-on _ _ _ _ _ c.loop-side.invariant ready met _ side
+
+pub returns : goal.returns
+returns c =
+    let noted : let a = c.args in get_or a.notes.now (256 + c.loop-side.at) 0 ≡ testedNumber a.records.now c.loop-side.at = c.requires.noted.numbers _ c.loop-side.invariant.entered.inside in
+    let ready : Ready c.args.records.now = c.requires.noted.chart.ready in
+    passing-done _ _ _ _ _ c.loop-side.invariant
+    (bit-unknown _ ready _ _ c.loop-side.invariant.entered noted c.args.care
+    _ (omega (arith, c.ranges.care))
+    c.bit_at.ensures c.loop-side-test.false)

@@ -1,0 +1,13 @@
+-- `covering::rows_end` meets its contract: the loop keeps what is left of the search.
+use mathlib.Core.Path.{◌≡◌}
+use Prim.Native.Nat.{◌-◌, ◌≤◌}
+use Rattle.lists.specs.Numbers.{lowest}
+use Rattle.covering.specs.inner.CoveringContracts.{isOther}
+use Rattle.covering.proofs.rows_end.Given as goal
+
+abbrev pub invariant-loop-g : goal.invariant-loop-g
+invariant-loop-g l =
+    (l.g ≤ l.end) × (lowest (isOther l.table l.label) l.g (l.end - l.g) ≡ lowest (isOther l.table l.label) l.f (l.end - l.f))
+
+abbrev pub decreases-loop-g : goal.decreases-loop-g
+decreases-loop-g l = l.end - l.g

@@ -1,0 +1,10 @@
+-- `frame_reading::read_digits` meets its contract: what is known of the characters passed is known of all.
+use Prim.Native.Nat.{◌-◌}
+use Rattle.frame_reading.proofs.ReadFrame.{Taken}
+use Rattle.frame_reading.proofs.read_digits.Given as goal
+
+abbrev pub invariant-loop-i : goal.invariant-loop-i
+invariant-loop-i l = Taken l.text l.from l.digits l.form l.i
+
+abbrev pub decreases-loop-i : goal.decreases-loop-i
+decreases-loop-i l = 16 - l.i

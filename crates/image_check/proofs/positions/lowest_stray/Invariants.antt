@@ -1,0 +1,12 @@
+-- `image_check::positions::lowest_stray` meets its contract: the loop keeps what is left to search.
+use Prim.Native.Nat.{◌-◌}
+use Rattle.lists.specs.Numbers.{lowest}
+use Rattle.lists.proofs.Searches.{Searching}
+use Rattle.image.specs.Check.{stray}
+use Rattle.image_check.proofs.positions.lowest_stray.Given as goal
+
+abbrev pub invariant-loop-f : goal.invariant-loop-f
+invariant-loop-f l = Searching (stray l.table) l.n l.f (lowest (stray l.table) 0 l.n)
+
+abbrev pub decreases-loop-f : goal.decreases-loop-f
+decreases-loop-f l = l.n - l.f

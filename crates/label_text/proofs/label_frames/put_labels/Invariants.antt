@@ -1,0 +1,11 @@
+-- `label_text::put_labels`: the labels of the nodes before v stand in the buffer.
+use Prim.Native.Nat.{◌-◌}
+use Rattle.label_text.specs.inner.LabelBytes.{nodeLabelBytes}
+use Rattle.label_text.proofs.Puts.{Appended}
+use Rattle.label_text.proofs.label_frames.put_labels.Given as goal
+
+abbrev pub invariant-loop-v : goal.invariant-loop-v
+invariant-loop-v l = Appended (nodeLabelBytes l.records) l.initial.out l.out l.at l.place l.n l.v
+
+abbrev pub decreases-loop-v : goal.decreases-loop-v
+decreases-loop-v l = l.n - l.v

@@ -1,5 +1,0 @@
-pub mod Means
-pub mod Lowered
-pub mod Promises
-pub mod Walk
-pub mod Meets

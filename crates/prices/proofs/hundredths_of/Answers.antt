@@ -1,0 +1,31 @@
+use Prim.Native.Nat.{◌+◌}
+use native.Mathlib.Omega.{arith}
+use Rattle.prices.proofs.Sums.{SummedTicks, summed-none, summed-more, summed-fits, summed-all}
+use Rattle.std.proofs.Common.{rules}
+use Rattle.prices.proofs.hundredths_of.Goals as goal
+
+pub loop-i-init : goal.loop-i-init
+loop-i-init c = summed-none _ _
+
+pub overflow_add-total : goal.overflow_add-total
+overflow_add-total c =
+    let onward : (let turn = c.loop-i in SummedTicks c.args.prices.now c.args.masks.now (turn.total + c.tick_price-total.result) (turn.i + 1)) = summed-more _ _ _ _ c.loop-i.invariant (search rules) _ c.tick_price-total.ensures in
+    let known = c.shared_slice_known-1 in
+    omega (
+      arith,
+      summed-fits _ _ _ _ onward (λ k. omega (arith, known.given k))
+          c.requires.1,
+    )
+
+pub loop-i-preserved : goal.loop-i-preserved
+loop-i-preserved c =
+    let onward : (let turn = c.loop-i in SummedTicks c.args.prices.now c.args.masks.now (turn.total + c.tick_price-total.result) (turn.i + 1)) = summed-more _ _ _ _ c.loop-i.invariant (search rules) _ c.tick_price-total.ensures in
+    onward
+
+pub returns : goal.returns
+returns c =
+    let loop = c.loop-i in
+    let known = c.shared_slice_known-1 in (
+      summed-all _ _ _ _ loop.invariant (search rules),
+      summed-fits _ _ _ _ loop.invariant (λ k. omega (arith, known.given k)) c.requires.1,
+    )

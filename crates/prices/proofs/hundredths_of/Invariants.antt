@@ -1,0 +1,11 @@
+-- `prices::hundredths_of` meets its contract: the prices of the ticks before i.
+use Prim.Native.Nat.{◌-◌}
+use lib.ListN.{length}
+use Rattle.prices.proofs.Sums.{SummedTicks}
+use Rattle.prices.proofs.hundredths_of.Given as goal
+
+abbrev pub invariant-loop-i : goal.invariant-loop-i
+invariant-loop-i l = SummedTicks l.prices l.masks l.total l.i
+
+abbrev pub decreases-loop-i : goal.decreases-loop-i
+decreases-loop-i l = length l.masks - l.i

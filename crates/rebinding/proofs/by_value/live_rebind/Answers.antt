@@ -1,0 +1,14 @@
+-- `rebinding::by_value::live_rebind` meets its contract: the rebinding in place on the bytes of the state, read back.
+use mathlib.Core.Path.{◌≡◌}
+use lib.ListN.{length}
+use Rattle.state.specs.State.{Sized}
+use Rattle.rebinding.proofs.EntryCases.{live-rebind-value}
+use Rattle.std.proofs.Common.{rules}
+use Rattle.rebinding.proofs.by_value.live_rebind.Goals as goal
+
+pub returns : goal.returns
+returns c =
+    let whole : Sized c.args.state = record { places = search rules; serving = search rules; numbers = search rules; servers = search rules } in
+    let all-bits : length c.args.state.bits ≡ 16 = search rules in
+    live-rebind-value _ whole all-bits _ c.bytes_of-bytes.ensures _ _ _ _ _ _ c.state_of-after.ensures
+    c.live_rebind_bytes-answer.ensures

@@ -1,0 +1,47 @@
+-- `translator::put_table`: entries, labels 0 and 1, the other labels, rows, each where the one before ends; then the header.
+use mathlib.Core.Path.{◌≡◌, ◌∙◌}
+use lib.ListN.{length}
+use Rattle.chart_labels.proofs.ReadyLaws.{ready-facts}
+use Rattle.chart_labels.proofs.LabelSteps.{few-numbered}
+use Rattle.translator.proofs.ImageSteps.{labels-long, rows_long, rows-put, table-put}
+use native.Mathlib.Omega.{arith}
+use Rattle.translator.proofs.table.put_table.Goals as goal
+
+pub put_labels-requires : goal.put_labels-requires
+put_labels-requires c =
+    let long : length c.put_fixed.new.out ≡ length c.args.out.now = c.put_fixed.auto.out ∙ c.put_entries.auto.out in
+    let pre = c.requires in record {
+      charted = pre.noted.chart;
+      records_in_bounds = omega (arith, labels-long c.args.records.now, pre.sizes.owned, pre.room, long);
+    }
+
+pub put_rows-end-requires : goal.put_rows-end-requires
+put_rows-end-requires c =
+    let long : length c.put_fixed.new.out ≡ length c.args.out.now = c.put_fixed.auto.out ∙ c.put_entries.auto.out in
+    let pre = c.requires in record {
+      noted = pre.noted;
+      records_in_bounds = omega (arith, rows_long c.args.records.now, pre.room, long, c.put_labels.auto.out);
+    }
+
+pub overflow_cast-own : goal.overflow_cast-own
+overflow_cast-own c =
+    let pre = c.requires in
+    let ready = pre.noted.chart.ready in
+    omega (arith, few-numbered _ (ready-facts ready), ready.few, pre.sizes.owned)
+
+pub put_header-requires : goal.put_header-requires
+put_header-requires c =
+    let long : length c.put_fixed.new.out ≡ length c.args.out.now = c.put_fixed.auto.out ∙ c.put_entries.auto.out in
+    let longer : length c.put_rows-end.new.out ≡ length c.args.out.now = c.put_rows-end.auto.out ∙ c.put_labels.auto.out ∙ long in
+    let pre = c.requires in record {
+      in_bounds = omega (arith, longer, pre.room);
+      rows_bound = omega (arith, rows-put _ _ _ _ pre.sizes _ _ c.put_rows-end.ensures.ends, pre.few);
+    }
+
+pub returns : goal.returns
+returns c =
+    let pre = c.requires in
+    table-put _ _ _ _ pre.sizes _ _ _ _ _ _ _ _ _ pre.room (rows-put _ _ _ _ pre.sizes _ _ c.put_rows-end.ensures.ends)
+    c.handler_scheme-handler.ensures
+    c.put_entries.ensures c.put_fixed.ensures c.put_labels.ensures
+    c.put_rows-end.ensures c.put_header.ensures
