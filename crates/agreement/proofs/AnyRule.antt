@@ -7,10 +7,10 @@ use native.Mathlib.Omega.{arith}
 use lib.Dec.{leb}
 use lib.ListN.{length, get_or}
 use borrow.Author.Tests.{leb-false}
-use Rattle.lists.proofs.Tests.{no_both}
+use Rattle.words.proofs.lists.Tests.{no_both}
 use Rattle.results.specs.Results.{Results, result_of, withResult}
-use Rattle.frames.specs.Answer.{success}
-use Rattle.frames.specs.Frame.{contents}
+use Rattle.text.specs.frames.Answer.{success}
+use Rattle.text.specs.frames.Frame.{contents}
 use Rattle.image.specs.Image.{Image, Label, Row, no_row}
 use Rattle.image.specs.inner.Sound.{SoundImage}
 use Rattle.image.specs.Layout.{tickKind}

@@ -2,9 +2,9 @@
 use Prim.Native.Nat.{ℕ}
 use mathlib.Core.Path.{◌≡◌, ap₂}
 use mathlib.Core.List.{List, map}
-use Rattle.digits.specs.Digit.{capital}
-use Rattle.frames.specs.Verdict.{Verdict}
-use Rattle.frames.proofs.Capitals.{capitals-alike}
+use Rattle.text.specs.digits.Digit.{capital}
+use Rattle.text.specs.frames.Verdict.{Verdict}
+use Rattle.text.proofs.frames.Capitals.{capitals-alike}
 use Rattle.image.specs.Check.{imageVerdict}
 use Rattle.state.specs.declared.State.{State}
 use Rattle.runs.specs.TickOutcome.{TickOutcome, imageTick}
@@ -12,12 +12,12 @@ use Rattle.spindles.specs.Spindles.{stateAt, headVerdict, spunOn, spin}
 use Rattle.charts.proofs.Alike as chart
 use Rattle.image.proofs.Alike as image
 use Rattle.tables.proofs.Alike as table
-use Rattle.listing.proofs.Alike as listing
+use Rattle.rows.proofs.listing.Alike as listing
 use Rattle.minimising.proofs.Letters as minimising
 use Rattle.translator.proofs.Alike as translation
 use Rattle.places.proofs.Alike as needed
 use Rattle.cause.proofs.Alike as cause
-use Rattle.priced_runs.proofs.Alike as pricing
+use Rattle.prices.proofs.priced_runs.Alike as pricing
 use Rattle.rebinding.proofs.Alike as rebinding
 use Rattle.runs.proofs.Alike as running
 use Rattle.fillings.proofs.Alike as filling

@@ -7,7 +7,7 @@ use lib.Bits.{bit_and}
 use lib.Dec.{eqb}
 use lib.ListN.{take}
 use Rattle.results.specs.Results.{result_of}
-use Rattle.frames.specs.Answer.{success}
+use Rattle.text.specs.frames.Answer.{success}
 use Rattle.image.specs.Image.{Image, Row, nthRow}
 use Rattle.translator.specs.Entry.{translate}
 use Rattle.rows.specs.Rows.{isCandidate, row}

@@ -7,7 +7,7 @@ use borrow.Fn.World.{ArgsD, ResD}
 use Prim.Native.Nat.{ℕ}
 use mathlib.Core.Path.{◌≡◌, sym, ◌∙◌, subst}
 use mathlib.Core.List.{List}
-use Rattle.frames.specs.Answer.{success, replyCount, reply}
+use Rattle.text.specs.frames.Answer.{success, replyCount, reply}
 use Rattle.state.specs.declared.State.{State}
 use Rattle.state.specs.State.{Sized}
 use Rattle.state.specs.Bytes.{state_of}
@@ -15,8 +15,8 @@ use Rattle.state.proofs.ResultBytes.{held-sized}
 use Rattle.cause.specs.Cause.{Cause, explain, GivesCause}
 use Rattle.cause.specs.Laws.{Explains}
 use Rattle.cause.proofs.Answers.{answered}
-use Rattle.explaining.specs.contracts.cause_of as cause-of
-use Rattle.explaining.proofs.cause_of.Reads as cause-of-reads
+use Rattle.cause.specs.contracts.explaining.cause_of as cause-of
+use Rattle.cause.proofs.explaining.cause_of.Reads as cause-of-reads
 use Rattle.fairleadow.specs.Calls.{GivesCauseC, causeFor}
 use Rattle.fairleadow.specs.contracts.fairleadow_cause as c-cause
 use Rattle.fairleadow.proofs.fairleadow_cause.Reads as c-cause-reads

@@ -6,13 +6,13 @@ use mathlib.Core.List.{List, [], ◌∷◌, map}
 use lib.Dec.{ltb}
 use lib.ListN.{length, take, replicate}
 use native.Mathlib.Omega.{arith}
-use Rattle.lists.specs.Pick.{pick}
-use Rattle.lists.specs.Sequences.{over}
+use Rattle.words.specs.lists.Pick.{pick}
+use Rattle.words.specs.lists.Sequences.{over}
 use Rattle.results.specs.Results.{noResults}
 use Rattle.bindings.specs.Binding.{Binding, ownBinding, rebound, badRebinding}
-use Rattle.frames.specs.Frame.{contents}
-use Rattle.frames.specs.Verdict.{fine, refused, next, when}
-use Rattle.frames.specs.Answer.{Reply, success, refusal, replied}
+use Rattle.text.specs.frames.Frame.{contents}
+use Rattle.text.specs.frames.Verdict.{fine, refused, next, when}
+use Rattle.text.specs.frames.Answer.{Reply, success, refusal, replied}
 use Rattle.charts.specs.Chart.{Chart, handler, end}
 use Rattle.walk.specs.Walk.{Signal, signals, Tick, walk}
 use Rattle.walk.proofs.Facts.{Facts}

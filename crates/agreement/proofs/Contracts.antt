@@ -5,48 +5,48 @@ use contract.Lifetimes.{Lfts}
 use denote.Triple.Clauses.{AtExit}
 use borrow.Fn.World.{ArgsD, ResD}
 use mathlib.Core.Path.{◌≡◌}
-use Rattle.frames.specs.Answer.{reply, GivesBuffer}
+use Rattle.text.specs.frames.Answer.{reply, GivesBuffer}
 use Rattle.translator.specs.Entry.{translate}
 use Rattle.places.specs.Entry.{placesNeeded}
-use Rattle.translating.specs.contracts.translate as translating-translate
-use Rattle.translating.proofs.translate.Reads as translating-translate-reads
+use Rattle.translator.specs.contracts.translating.translate as translating-translate
+use Rattle.translator.proofs.translating.translate.Reads as translating-translate-reads
 use Rattle.tables.specs.Prepare.{prepare}
-use Rattle.preparing.specs.contracts.prepare as tables-prepare
-use Rattle.preparing.proofs.prepare.Reads as tables-prepare-reads
+use Rattle.tables.specs.contracts.preparing.prepare as tables-prepare
+use Rattle.tables.proofs.preparing.prepare.Reads as tables-prepare-reads
 use Rattle.minimising.specs.Entry.{minimise}
 use Rattle.minimising.specs.contracts.minimise as minimising-minimise
 use Rattle.minimising.proofs.minimise.Reads as minimising-minimise-reads
 use Rattle.little_charts.specs.Little.{littleChart}
-use Rattle.fetching.specs.contracts.little_chart as fetching-little-chart
-use Rattle.fetching.proofs.little_chart.Reads as fetching-little-chart-reads
+use Rattle.little_fetch.specs.contracts.fetching.little_chart as fetching-little-chart
+use Rattle.little_fetch.proofs.fetching.little_chart.Reads as fetching-little-chart-reads
 use Rattle.state.specs.State.{freshState, GivesState}
 use Rattle.runs.specs.Run.{run, GivesRun}
 use Rattle.runs.specs.TickOutcome.{imageTick, GivesTick}
-use Rattle.machine.specs.Live.{liveRun, liveTick}
+use Rattle.runs.specs.machine.Live.{liveRun, liveTick}
 use Rattle.state.specs.contracts.State.fresh as state-fresh
 use Rattle.state.proofs.State.fresh.Reads as state-fresh-reads
-use Rattle.state_runs.specs.contracts.run as machine-run
-use Rattle.state_runs.proofs.run.Reads as machine-run-reads
-use Rattle.state_runs.specs.contracts.tick_image as machine-tick
-use Rattle.state_runs.proofs.tick_image.Reads as machine-tick-reads
-use Rattle.state_runs.specs.contracts.live_run as machine-live-run
-use Rattle.state_runs.proofs.live_run.Reads as machine-live-run-reads
-use Rattle.state_runs.specs.contracts.live_tick as machine-live-tick
-use Rattle.state_runs.proofs.live_tick.Reads as machine-live-tick-reads
-use Rattle.priced_runs.specs.PricedRun.{pricedRun, GivesPricedRun}
-use Rattle.priced_states.specs.contracts.priced_run as priced-run
-use Rattle.priced_states.proofs.priced_run.Reads as priced-run-reads
+use Rattle.runs.specs.contracts.state_runs.run as machine-run
+use Rattle.runs.proofs.state_runs.run.Reads as machine-run-reads
+use Rattle.runs.specs.contracts.state_runs.tick_image as machine-tick
+use Rattle.runs.proofs.state_runs.tick_image.Reads as machine-tick-reads
+use Rattle.runs.specs.contracts.state_runs.live_run as machine-live-run
+use Rattle.runs.proofs.state_runs.live_run.Reads as machine-live-run-reads
+use Rattle.runs.specs.contracts.state_runs.live_tick as machine-live-tick
+use Rattle.runs.proofs.state_runs.live_tick.Reads as machine-live-tick-reads
+use Rattle.prices.specs.priced_runs.PricedRun.{pricedRun, GivesPricedRun}
+use Rattle.prices.specs.contracts.priced_states.priced_run as priced-run
+use Rattle.prices.proofs.priced_states.priced_run.Reads as priced-run-reads
 use Rattle.rebinding.specs.Rebind.{rebind, liveRebind}
 use Rattle.rebinding.specs.contracts.rebind as rebinding-rebind
 use Rattle.rebinding.proofs.rebind.Reads as rebinding-rebind-reads
 use Rattle.rebinding.specs.contracts.live_rebind as rebinding-live-rebind
 use Rattle.rebinding.proofs.live_rebind.Reads as rebinding-live-rebind-reads
 use Rattle.fillings.specs.Counts.{countFillings}
-use Rattle.counting.specs.CountingContracts.{GivesFillings}
-use Rattle.counting.specs.contracts.count_fillings as counting-count-fillings
-use Rattle.counting.proofs.count_fillings.Reads as counting-count-fillings-reads
+use Rattle.fillings.specs.counting.CountingContracts.{GivesFillings}
+use Rattle.fillings.specs.contracts.counting.count_fillings as counting-count-fillings
+use Rattle.fillings.proofs.counting.count_fillings.Reads as counting-count-fillings-reads
 use Rattle.state.specs.Bytes.{state_of}
-use Rattle.telling.specs.AnswersForC.{GivesReplyC}
+use Rattle.fairleadow.specs.telling.AnswersForC.{GivesReplyC}
 use Rattle.fairleadow.specs.Calls.{GivesBufferC, GivesStateC, runFor, GivesRunC, pricedRunFor}
 use Rattle.fairleadow.specs.Calls.{GivesPricedRunC, tickFor, GivesTickC, rebindFor, GivesRebindingC}
 use Rattle.fairleadow.specs.Calls.{spinFor, liveSpinFor, GivesSpinC, GivesFillingsC}
@@ -85,8 +85,8 @@ use Rattle.fairleadow.proofs.fairleadow_live_spin.Reads as c-live-spin-reads
 use Rattle.fairleadow.specs.contracts.fairleadow_count_fillings as c-count-fillings
 use Rattle.fairleadow.proofs.fairleadow_count_fillings.Reads as c-count-fillings-reads
 
--- ---- translating::translate, preparing::prepare, minimising::minimise, fetching::little_chart, state::State::fresh, of state_runs run,
--- tick_image, live_run and live_tick, priced_states::priced_run, of rebinding rebind and live_rebind, and counting::count_fillings
+-- ---- translator::translating::translate, tables::preparing::prepare, minimising::minimise, little_fetch::fetching::little_chart, state::State::fresh, of state_runs run,
+-- tick_image, live_run and live_tick, prices::priced_states::priced_run, of rebinding rebind and live_rebind, and fillings::counting::count_fillings
 pub translate-lends : (κs : Lfts 2) (a : ArgsD translating-translate.signature κs) (r : ResD translating-translate.signature κs)
     (s : AtExit translating-translate.ended κs)
     → translating-translate-reads.Learnt κs a r s → GivesBuffer (translate a.0.now a.1.0.now) r s.1.0.now

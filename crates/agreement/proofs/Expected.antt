@@ -8,10 +8,10 @@ use lib.ListN.{length, take, drop}
 use lib.Seq.{drop-append-add}
 use native.Mathlib.Omega.{arith}
 use borrow.Author.Tests.{lt-ltb, ltb-true}
-use Rattle.lists.specs.Pick.{pick}
-use Rattle.lists.specs.Sequences.{over}
-use Rattle.lists.proofs.Tests.{and_no, same-ltb}
-use Rattle.frames.specs.Answer.{success, refusal}
+use Rattle.words.specs.lists.Pick.{pick}
+use Rattle.words.specs.lists.Sequences.{over}
+use Rattle.words.proofs.lists.Tests.{and_no, same-ltb}
+use Rattle.text.specs.frames.Answer.{success, refusal}
 use Rattle.charts.specs.Chart.{Chart}
 use Rattle.walk.specs.Walk.{Tick}
 use Rattle.agreement.specs.Agreement.{RunInput, RunOutput, CallInput, toRun, toRebind, CallOutput, byRun}

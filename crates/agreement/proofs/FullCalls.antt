@@ -7,8 +7,8 @@ use lib.Dec.{leb, eqb}
 use lib.ListN.{length}
 use native.Mathlib.Omega.{arith}
 use borrow.Author.Tests.{le-leb, ne_eqb}
-use Rattle.lists.specs.Pick.{pick}
-use Rattle.frames.specs.Frame.{size}
+use Rattle.words.specs.lists.Pick.{pick}
+use Rattle.text.specs.frames.Frame.{size}
 use Rattle.charts.specs.Chart.{Chart, argument, handler}
 use Rattle.walk.specs.Stops.{Stop, stop_at}
 use Rattle.walk.specs.Walk.{drops}

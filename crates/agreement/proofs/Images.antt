@@ -2,8 +2,8 @@
 use Prim.Native.Nat.{ℕ}
 use mathlib.Core.Path.{◌≡◌, ap₂}
 use mathlib.Core.List.{List}
-use Rattle.frames.specs.Frame.{contents}
-use Rattle.frames.specs.Verdict.{Verdict, fine, next, when}
+use Rattle.text.specs.frames.Frame.{contents}
+use Rattle.text.specs.frames.Verdict.{Verdict, fine, next, when}
 use Rattle.walk.proofs.Facts.{Facts}
 use Rattle.image.specs.Image.{Image, imageText}
 use Rattle.image.specs.Decode.{decoded}

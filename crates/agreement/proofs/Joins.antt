@@ -8,7 +8,7 @@ use lib.ListN.{length, take, length-map}
 use lib.Seq.{take-append-le, length-take-le}
 use native.Mathlib.Omega.{arith}
 use borrow.Author.Tests.{lt-ltb, le-ltb, ltb-true, ltb-false}
-use Rattle.lists.specs.Pick.{pick}
+use Rattle.words.specs.lists.Pick.{pick}
 use Rattle.bindings.specs.Binding.{Binding}
 use Rattle.charts.specs.Chart.{Chart}
 use Rattle.walk.specs.Walk.{Signal, signals, Tick}

@@ -7,12 +7,12 @@ use borrow.Fn.World.{ArgsD, ResD}
 use Prim.Native.Nat.{ℕ}
 use mathlib.Core.Path.{◌≡◌, sym, ◌∙◌, ap, subst}
 use mathlib.Core.List.{List}
-use Rattle.frames.specs.Answer.{success, reply}
-use Rattle.listing.specs.Listing.{list, GivesListing}
-use Rattle.listing.specs.Exact.{Held}
-use Rattle.listing.proofs.Answers.{held}
-use Rattle.image_rows.specs.contracts.list_rows as list-rows
-use Rattle.image_rows.proofs.list_rows.Reads as list-rows-reads
+use Rattle.text.specs.frames.Answer.{success, reply}
+use Rattle.rows.specs.listing.Listing.{list, GivesListing}
+use Rattle.rows.specs.listing.Exact.{Held}
+use Rattle.rows.proofs.listing.Answers.{held}
+use Rattle.rows.specs.contracts.image_rows.list_rows as list-rows
+use Rattle.rows.proofs.image_rows.list_rows.Reads as list-rows-reads
 use Rattle.fairleadow.specs.Calls.{GivesListingC}
 use Rattle.fairleadow.specs.contracts.fairleadow_list_rows as c-list-rows
 use Rattle.fairleadow.proofs.fairleadow_list_rows.Reads as c-list-rows-reads

@@ -7,25 +7,25 @@ use mathlib.Core.List.{List}
 use native.Mathlib.Omega.{arith}
 use lib.Dec.{leb, ltb}
 use lib.ListN.{length}
-use Rattle.lists.specs.Pick.{pick}
-use Rattle.lists.specs.Sequences.{over}
-use Rattle.frames.specs.Frame.{contents}
-use Rattle.frames.specs.Verdict.{Verdict, fine, refused, next, when}
-use Rattle.frames.specs.Answer.{success, refusal, replyNumber, replyCount, BufferOutcome, bufferOn}
-use Rattle.frames.proofs.Refuses.{RefusesWith, next-refuses, when-refuses}
+use Rattle.words.specs.lists.Pick.{pick}
+use Rattle.words.specs.lists.Sequences.{over}
+use Rattle.text.specs.frames.Frame.{contents}
+use Rattle.text.specs.frames.Verdict.{Verdict, fine, refused, next, when}
+use Rattle.text.specs.frames.Answer.{success, refusal, replyNumber, replyCount, BufferOutcome, bufferOn}
+use Rattle.text.proofs.frames.Refuses.{RefusesWith, next-refuses, when-refuses}
 use Rattle.image.specs.Image.{Image, Row, imageText}
 use Rattle.image.specs.Decode.{lastLabel, decoded}
 use Rattle.image.specs.Check.{imageVerdict}
 use Rattle.image.proofs.Refuses.{Early, early-image}
 use Rattle.tables.specs.Prepare.{noted, prepare}
 use Rattle.covering.specs.Matched.{uneven}
-use Rattle.group_numbers.specs.Smaller.{smaller}
+use Rattle.minimising.specs.group_numbers.Smaller.{smaller}
 use Rattle.minimising.specs.Entry.{minimiseVerdict, minimise}
 use Rattle.little_charts.specs.Little.{littleCharts, littleText, littleVerdict, littleChart}
 use Rattle.translator.specs.Table.{table}
 use Rattle.translator.specs.Entry.{translateVerdict, translate}
 use Rattle.translator.proofs.Refuses.{OfChart, translate-refuses}
-use Rattle.listing.specs.Listing.{listingOn, noRoomFor, list}
+use Rattle.rows.specs.listing.Listing.{listingOn, noRoomFor, list}
 use Rattle.results.specs.Results.{Results}
 use Rattle.rows.specs.Rows.{Choice, row, noChoice}
 use Rattle.state.specs.declared.State.{State}

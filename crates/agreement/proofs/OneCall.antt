@@ -4,7 +4,7 @@ use Prim.Native.Nat.{ℕ, ◌≤◌}
 use mathlib.Core.Path.{◌≡◌, refl, sym, ◌∙◌, ap, subst}
 use mathlib.Core.List.{List, [], ◌∷◌}
 use lib.ListN.{take}
-use Rattle.frames.specs.Answer.{reply, success}
+use Rattle.text.specs.frames.Answer.{reply, success}
 use Rattle.tables.specs.Prepare.{prepare}
 use Rattle.tables.proofs.PreparedImage as tables
 use Rattle.state.specs.declared.State.{State}
@@ -15,9 +15,9 @@ use Rattle.runs.specs.Run.{RunOutcome, run, GivesRun}
 use Rattle.runs.specs.TickOutcome.{TickOutcome, imageTick, GivesTick}
 use Rattle.rebinding.specs.Rebind.{rebind, liveRebind}
 use Rattle.rebinding.proofs.Live.{live-rebind-is}
-use Rattle.machine.specs.Live.{liveRun, liveTick}
-use Rattle.machine.proofs.OneTick.{ranOne, run-advance}
-use Rattle.machine.proofs.Live.{PreparedTable, live-run-is, live-tick-is}
+use Rattle.runs.specs.machine.Live.{liveRun, liveTick}
+use Rattle.runs.proofs.machine.OneTick.{ranOne, run-advance}
+use Rattle.runs.proofs.machine.Live.{PreparedTable, live-run-is, live-tick-is}
 use Rattle.agreement.specs.Agreement.{RunInput, outputOf, CallInput, toRun, toRebind, CallOutput, byRun, byRebinding, callOutputs}
 use Rattle.agreement.specs.Calls.{TableOf, prepared, outputOfRun, outputOfRebinding, one_word, outputOfTick}
 use Rattle.agreement.specs.Calls.{Call, runCall, runCallLive, tickCall, tickCallLive, rebindCall, rebindCallLive}

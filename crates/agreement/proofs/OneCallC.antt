@@ -7,12 +7,12 @@ use native.Mathlib.Omega.{arith}
 use lib.Dec.{eqb}
 use lib.ListN.{take}
 use borrow.Author.Tests.{ne_eqb}
-use Rattle.lists.specs.Pick.{pick}
-use Rattle.lists.proofs.Tests.{no-pick}
-use Rattle.frames.specs.Frame.{contents}
-use Rattle.frames.specs.Verdict.{Verdict, fine, refused, next}
-use Rattle.frames.specs.Answer.{refusal, success, replyNumber}
-use Rattle.frames.proofs.Refuses.{RefusesWith, next-refuses, when-refuses}
+use Rattle.words.specs.lists.Pick.{pick}
+use Rattle.words.proofs.lists.Tests.{no-pick}
+use Rattle.text.specs.frames.Frame.{contents}
+use Rattle.text.specs.frames.Verdict.{Verdict, fine, refused, next}
+use Rattle.text.specs.frames.Answer.{refusal, success, replyNumber}
+use Rattle.text.proofs.frames.Refuses.{RefusesWith, next-refuses, when-refuses}
 use Rattle.image.specs.Decode.{decoded}
 use Rattle.image.specs.Check.{imageVerdict}
 use Rattle.state.specs.declared.State.{State}
@@ -24,9 +24,9 @@ use Rattle.runs.specs.Run.{RunOutcome, runVerdict, run}
 use Rattle.runs.specs.TickOutcome.{TickOutcome, imageTick}
 use Rattle.runs.specs.InPlace.{bytesAfter, ifTicked}
 use Rattle.ticks.proofs.Normal.{Normal, tick-normal}
-use Rattle.machine.proofs.Held.{run-held, tick-held}
-use Rattle.machine.proofs.OneTick as one
-use Rattle.machine.proofs.Live.{PreparedTable, live-run-is, live-tick-is}
+use Rattle.runs.proofs.machine.Held.{run-held, tick-held}
+use Rattle.runs.proofs.machine.OneTick as one
+use Rattle.runs.proofs.machine.Live.{PreparedTable, live-run-is, live-tick-is}
 use Rattle.rebinding.specs.Rebind.{rebindVerdict, rebind}
 use Rattle.rebinding.proofs.Held.{rebinding-held}
 use Rattle.fairleadow.specs.Calls.{GivesRunC, tickFor, GivesTickC, rebindFor, GivesRebindingC}

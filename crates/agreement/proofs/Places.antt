@@ -9,7 +9,7 @@ use Rattle.results.specs.Results.{Results}
 use Rattle.bindings.specs.Binding.{Binding}
 use Rattle.charts.specs.Chart.{Chart}
 use Rattle.walk.proofs.Trace.{Open, WalkPosition}
-use Rattle.chart_labels.specs.Labels.{label}
+use Rattle.chart_rows.specs.chart_labels.Labels.{label}
 use Rattle.state.specs.declared.State.{State}
 
 -- f of the callers, in front of what is given

@@ -4,13 +4,13 @@ use mathlib.Core.Bool.{Bool, true, false}
 use mathlib.Core.Path.{◌≡◌, refl, sym, ap, ◌∙◌}
 use mathlib.Core.List.{List, [], ◌∷◌, ◌++◌, map, map-append}
 use lib.ListN.{length, take}
-use Rattle.lists.specs.Pick.{pick}
-use Rattle.lists.specs.Sequences.{concatMap}
+use Rattle.words.specs.lists.Pick.{pick}
+use Rattle.words.specs.lists.Sequences.{concatMap}
 use Rattle.bindings.specs.Binding.{Binding, ownBinding}
-use Rattle.frames.specs.Frame.{contents}
-use Rattle.frames.specs.Verdict.{fine}
-use Rattle.frames.specs.Answer.{reply, success, BufferOutcome, GivesBuffer}
-use Rattle.frames.specs.declared.Answer.{Answer}
+use Rattle.text.specs.frames.Frame.{contents}
+use Rattle.text.specs.frames.Verdict.{fine}
+use Rattle.text.specs.frames.Answer.{reply, success, BufferOutcome, GivesBuffer}
+use Rattle.text.specs.declared.frames.Answer.{Answer}
 use Rattle.charts.specs.Chart.{Chart}
 use Rattle.charts.specs.Entry.{readVerdict}
 use Rattle.walk.specs.Walk.{Signal, signals, Tick, walk}

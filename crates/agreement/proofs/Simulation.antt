@@ -8,9 +8,9 @@ use lib.Dec.{leb, eqb}
 use lib.ListN.{length, set}
 use native.Mathlib.Omega.{arith}
 use borrow.Author.Tests.{eqb-true, eqb-false, eq-eqb, ne_eqb, le-leb, lt-leb, leb-true, leb-false}
-use Rattle.lists.specs.Pick.{pick}
-use Rattle.lists.proofs.Tests.{and_no, and_r, and-true, or_true_r, or-none, yes-pick, no-pick}
-use Rattle.frames.specs.Frame.{size}
+use Rattle.words.specs.lists.Pick.{pick}
+use Rattle.words.proofs.lists.Tests.{and_no, and_r, and-true, or_true_r, or-none, yes-pick, no-pick}
+use Rattle.text.specs.frames.Frame.{size}
 use Rattle.results.specs.Results.{Results, result_of, withResult, cleared}
 use Rattle.bindings.specs.Binding.{Binding, served}
 use Rattle.charts.specs.Chart.{Chart, kind, scheme, argument, next0, mask, handler, schemes, end}
@@ -23,8 +23,8 @@ use Rattle.walk.proofs.Trace.{positionReturned, positionCalled, movedBy, tickAt,
 use Rattle.walk.proofs.Trace.{Serves, Caller, Under, Good, drop-handler, view_of}
 use Rattle.image.specs.Layout.{tickKind}
 use Rattle.image.specs.Image.{Image, Label}
-use Rattle.chart_labels.specs.Labels.{numbered, label}
-use Rattle.chart_labels.proofs.LabelKinds.{label-owner}
+use Rattle.chart_rows.specs.chart_labels.Labels.{numbered, label}
+use Rattle.chart_rows.proofs.chart_labels.LabelKinds.{label-owner}
 use Rattle.chart_rows.specs.Rows.{rows}
 use Rattle.translator.specs.Table.{table}
 use Rattle.state.specs.declared.State.{State}

@@ -6,14 +6,14 @@ use lib.ListN.{length}
 use lib.Dec.{eqb}
 use native.Mathlib.Omega.{arith}
 use borrow.Author.Tests.{eqb-true, eqb-false, ne_eqb}
-use Rattle.lists.specs.Pick.{pick}
-use Rattle.lists.specs.Numbers.{count}
+use Rattle.words.specs.lists.Pick.{pick}
+use Rattle.words.specs.lists.Numbers.{count}
 use Rattle.charts.specs.Chart.{Chart, kind, scheme, argument}
 use Rattle.walk.specs.Stops.{stops, Stop, plain, call, function, test, home, back}
 use Rattle.walk.proofs.Facts.{StopOf}
 use Rattle.walk.proofs.Views.{View, a-plain, a_call, a-function, a-home, a_back, a-begin, a-condition}
 use Rattle.image.specs.Image.{Label}
-use Rattle.chart_labels.specs.Labels.{numbered, label, stopLabel, homeLabel, returnLabel}
+use Rattle.chart_rows.specs.chart_labels.Labels.{numbered, label, stopLabel, homeLabel, returnLabel}
 use Rattle.translator.specs.Table.{table}
 use Rattle.state.specs.State.{label_at}
 use Rattle.agreement.proofs.TableFacts.{TableFacts}

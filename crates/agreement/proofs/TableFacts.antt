@@ -3,11 +3,11 @@ use Prim.Native.Nat.{ℕ, ◌≤◌, ◌<◌}
 use mathlib.Core.Bool.{Bool, true}
 use mathlib.Core.Path.{◌≡◌}
 use lib.ListN.{length}
-use Rattle.lists.specs.Pick.{pick}
-use Rattle.frames.specs.Frame.{size}
+use Rattle.words.specs.lists.Pick.{pick}
+use Rattle.text.specs.frames.Frame.{size}
 use Rattle.charts.specs.Chart.{Chart, kind, next0, next1, schemes}
 use Rattle.walk.specs.Stops.{stops, byArc, by_word}
-use Rattle.chart_labels.specs.Labels.{numbered, label, entry, homeLabel, returnLabel, stopLabel}
+use Rattle.chart_rows.specs.chart_labels.Labels.{numbered, label, entry, homeLabel, returnLabel, stopLabel}
 use Rattle.chart_rows.specs.Rows.{rows}
 use Rattle.translator.specs.Table.{table}
 use Rattle.state.specs.State.{label_at, entry_at}

@@ -5,17 +5,17 @@ use mathlib.Core.List.{List, [], ◌∷◌}
 use Prim.Native.Nat.{ℕ, suc, ◌-◌}
 use native.Mathlib.Omega.{arith}
 use lib.ListN.{length, drop, get_or, length-map}
-use Rattle.lists.specs.Sequences.{filter}
-use Rattle.lists.proofs.Filters.{none_passes}
-use Rattle.frames.specs.Frame.{contents}
-use Rattle.frames.specs.Verdict.{fine}
+use Rattle.words.specs.lists.Sequences.{filter}
+use Rattle.words.proofs.lists.Filters.{none_passes}
+use Rattle.text.specs.frames.Frame.{contents}
+use Rattle.text.specs.frames.Verdict.{fine}
 use Rattle.charts.specs.Chart.{Chart}
 use Rattle.charts.specs.Entry.{readVerdict}
 use Rattle.charts.proofs.Accepted.{SoundChart, accepted}
 use Rattle.walk.proofs.Facts.{Facts}
 use Rattle.walk.proofs.FactsHold.{facts}
 use Rattle.image.specs.Image.{Row, no_row}
-use Rattle.chart_labels.specs.Labels.{entry}
+use Rattle.chart_rows.specs.chart_labels.Labels.{entry}
 use Rattle.translator.proofs.LabelLaws.{label-low, label_inside, label-holds, labels_apart, label-home, label-return}
 use Rattle.translator.proofs.LabelLaws.{labels-two, labels-few, entry-holds}
 use Rattle.translator.proofs.Matching.{matchingRow, targets, targets-none, targets-own, targets-other}

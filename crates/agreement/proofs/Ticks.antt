@@ -7,12 +7,12 @@ use lib.Dec.{leb, ltb, eqb, leb-suc-suc}
 use lib.ListN.{length, take}
 use native.Mathlib.Omega.{arith}
 use borrow.Author.Tests.{eqb-false, ne_eqb, lt-ltb, le-leb}
-use Rattle.lists.specs.Pick.{pick}
-use Rattle.lists.proofs.Tests.{and-true, and-false}
+use Rattle.words.specs.lists.Pick.{pick}
+use Rattle.words.proofs.lists.Tests.{and-true, and-false}
 use Rattle.results.specs.Results.{Results}
 use Rattle.bindings.specs.Binding.{Binding}
-use Rattle.frames.specs.Frame.{size}
-use Rattle.frames.specs.Verdict.{Verdict, fine, refused}
+use Rattle.text.specs.frames.Frame.{size}
+use Rattle.text.specs.frames.Verdict.{Verdict, fine, refused}
 use Rattle.charts.specs.Chart.{Chart, argument}
 use Rattle.walk.specs.Stops.{Stop}
 use Rattle.walk.specs.Walk.{Signal, signals, Tick}

@@ -1,12 +1,12 @@
 -- Demand 3: what a whole list of runs and rebindings hands back, against what the walk of the joined words gives.
 use Rattle.std.specs.Prelude.{ℕ, suc, ◌+◌, ◌-◌, ◌≤◌, min, Bool, true, false, ◌&&◌, not, ◌≡◌, List, [], ◌∷◌, ◌++◌, map, leb, ltb, eqb, length, take, drop}
-use Rattle.lists.specs.Pick.{pick}
-use Rattle.lists.specs.Sequences.{over}
+use Rattle.words.specs.lists.Pick.{pick}
+use Rattle.words.specs.lists.Sequences.{over}
 use Rattle.bindings.specs.Binding.{Binding, ownBinding, rebound, badRebinding}
-use Rattle.frames.specs.Codes.{OPERATION-CALL-CODE}
-use Rattle.frames.specs.Refusals.{NO-ROOM, FULL, BAD-REBINDING}
-use Rattle.frames.specs.Frame.{contents}
-use Rattle.frames.specs.Answer.{Reply, success, refusal, BufferOutcome}
+use Rattle.text.specs.frames.Codes.{OPERATION-CALL-CODE}
+use Rattle.text.specs.frames.Refusals.{NO-ROOM, FULL, BAD-REBINDING}
+use Rattle.text.specs.frames.Frame.{contents}
+use Rattle.text.specs.frames.Answer.{Reply, success, refusal, BufferOutcome}
 use Rattle.charts.specs.Chart.{Chart, schemes, handler}
 use Rattle.walk.specs.Walk.{Signal, signals, Tick, isDrop, walk}
 use Rattle.translator.specs.Entry.{translate}

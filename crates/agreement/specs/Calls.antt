@@ -2,9 +2,9 @@
 -- text or on a table that prepare made of it. Each call is known by its contract alone, which is the record that the function's `ensures`
 -- cites.
 use Rattle.std.specs.Prelude.{ℕ, ◌≤◌, ◌≡◌, List, [], ◌∷◌, take}
-use Rattle.frames.specs.Frame.{contents}
-use Rattle.frames.specs.Answer.{reply, success, GivesBuffer}
-use Rattle.frames.specs.declared.Answer.{Answer}
+use Rattle.text.specs.frames.Frame.{contents}
+use Rattle.text.specs.frames.Answer.{reply, success, GivesBuffer}
+use Rattle.text.specs.declared.frames.Answer.{Answer}
 use Rattle.translator.specs.Entry.{translate}
 use Rattle.tables.specs.Prepare.{prepare}
 use Rattle.state.specs.Layout.{PLACES}
@@ -15,7 +15,7 @@ use Rattle.runs.specs.declared.TickReport.{TickReport}
 use Rattle.runs.specs.Run.{run, GivesRun}
 use Rattle.runs.specs.TickOutcome.{imageTick, GivesTick}
 use Rattle.rebinding.specs.Rebind.{rebind, liveRebind}
-use Rattle.machine.specs.Live.{liveRun, liveTick}
+use Rattle.runs.specs.machine.Live.{liveRun, liveTick}
 use Rattle.agreement.specs.Agreement.{RunInput, RunOutput, CallInput, toRun, toRebind, CallOutput, byRun, byRebinding, walkOutputs}
 
 -- a table of the image, as live calls are handed it: prepare succeeded with n bytes, and these are the first n or more of its buffer

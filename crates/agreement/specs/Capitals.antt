@@ -2,18 +2,18 @@
 -- capitals.
 -- No text is left out, be it refused or longer than any that is accepted.
 use Rattle.std.specs.Prelude.{ℕ, ◌≡◌, List, map}
-use Rattle.digits.specs.Digit.{capital}
+use Rattle.text.specs.digits.Digit.{capital}
 use Rattle.charts.specs.Entry.{readChart}
 use Rattle.image.specs.Check.{imageVerdict}
 use Rattle.tables.specs.Prepare.{prepare}
-use Rattle.listing.specs.Listing.{list}
+use Rattle.rows.specs.listing.Listing.{list}
 use Rattle.minimising.specs.Entry.{minimise}
 use Rattle.translator.specs.Entry.{translate}
 use Rattle.places.specs.Entry.{placesNeeded}
 use Rattle.state.specs.declared.State.{State}
 use Rattle.cause.specs.Cause.{explain}
 use Rattle.rebinding.specs.Rebind.{rebind}
-use Rattle.priced_runs.specs.PricedRun.{pricedRun}
+use Rattle.prices.specs.priced_runs.PricedRun.{pricedRun}
 use Rattle.runs.specs.Run.{run}
 use Rattle.runs.specs.TickOutcome.{imageTick}
 use Rattle.spindles.specs.Spindles.{spin}

@@ -3,15 +3,15 @@
 -- Each call is known by its contract alone, which is the record that the function's `ensures` cites, and is given the bytes that the call
 -- before it left.
 use Rattle.std.specs.Prelude.{ℕ, ◌≤◌, ◌≡◌, List, [], ◌∷◌, map, take}
-use Rattle.frames.specs.Frame.{contents}
-use Rattle.frames.specs.Answer.{replyNumber, replyIndex, replyCount}
+use Rattle.text.specs.frames.Frame.{contents}
+use Rattle.text.specs.frames.Answer.{replyNumber, replyIndex, replyCount}
 use Rattle.translator.specs.Entry.{translate}
 use Rattle.tables.specs.Prepare.{prepare}
 use Rattle.state.specs.Layout.{PLACES}
 use Rattle.state.specs.State.{freshState}
 use Rattle.state.specs.Bytes.{state_of}
 use Rattle.rebinding.specs.Rebind.{liveRebind}
-use Rattle.machine.specs.Live.{liveRun, liveTick}
+use Rattle.runs.specs.machine.Live.{liveRun, liveTick}
 use Rattle.fairleadow.specs.Calls.{GivesBufferC, GivesStateC, runFor, GivesRunC, tickFor, GivesTickC, rebindFor, GivesRebindingC}
 use Rattle.agreement.specs.Agreement.{RunInput, RunOutput, CallInput, toRun, toRebind, CallOutput, walkOutputs}
 use Rattle.agreement.specs.Agreement as agreed

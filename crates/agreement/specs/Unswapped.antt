@@ -1,10 +1,10 @@
 -- Demand 3 with no rebinding in the list, over the walk of words alone:
 -- what it said before there were rebindings. Only the laws of runs alone speak of it.
 use Rattle.std.specs.Prelude.{ℕ, ◌+◌, ◌≤◌, true, false, ◌≡◌, List, [], ◌∷◌, length, take}
-use Rattle.lists.specs.Pick.{pick}
-use Rattle.lists.specs.Sequences.{concatMap}
-use Rattle.frames.specs.Frame.{contents}
-use Rattle.frames.specs.Answer.{success}
+use Rattle.words.specs.lists.Pick.{pick}
+use Rattle.words.specs.lists.Sequences.{concatMap}
+use Rattle.text.specs.frames.Frame.{contents}
+use Rattle.text.specs.frames.Answer.{success}
 use Rattle.charts.specs.Chart.{Chart}
 use Rattle.walk.specs.Walk.{Tick}
 use Rattle.walk.specs.Unswapped.{walk}

@@ -4,8 +4,8 @@ use mathlib.Core.List.{List, []}
 use Prim.Native.Nat.{ℕ, ◌≤◌}
 use native.Mathlib.Omega.{arith}
 use lib.ListN.{replicate}
-use Rattle.frames.specs.Verdict.{fine}
-use Rattle.frames.specs.Answer.{refusal, BufferOutcome}
+use Rattle.text.specs.frames.Verdict.{fine}
+use Rattle.text.specs.frames.Answer.{refusal, BufferOutcome}
 use Rattle.translator.specs.Entry.{translate}
 use Rattle.state.specs.State.{fresh}
 use Rattle.ticks.specs.Tick.{tick}

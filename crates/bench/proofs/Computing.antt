@@ -1,10 +1,10 @@
 -- What a computation has to open, under one name each: to unfold the name is to unfold every definition on its line.
-use Rattle.lists.specs.Numbers.{lowest, any, count, sum, highest}
-use Rattle.lists.specs.Sequences.{some, filter, concatMap, mapFrom}
-use Rattle.graph.specs.Reach.{reach}
-use Rattle.digits.specs.Digit.{digitOf, charOf}
-use Rattle.frames.specs.Frame.{contents, total, frameText, text_of}
-use Rattle.frames.specs.Check.{badForm, badSum, textVerdict}
+use Rattle.words.specs.lists.Numbers.{lowest, any, count, sum, highest}
+use Rattle.words.specs.lists.Sequences.{some, filter, concatMap, mapFrom}
+use Rattle.words.specs.graph.Reach.{reach}
+use Rattle.text.specs.digits.Digit.{digitOf, charOf}
+use Rattle.text.specs.frames.Frame.{contents, total, frameText, text_of}
+use Rattle.text.specs.frames.Check.{badForm, badSum, textVerdict}
 use Rattle.charts.specs.Chart.{handler, node_of}
 use Rattle.charts.specs.Check.{badField, chartVerdict}
 use Rattle.charts.specs.Entry.{readVerdict, readChart, writeVerdict}
@@ -13,11 +13,11 @@ use Rattle.walk.specs.Walk.{perform, walkFrom, walk}
 use Rattle.image.specs.Image.{imageFrames, imageText}
 use Rattle.image.specs.Decode.{decoded}
 use Rattle.image.specs.Check.{badHeader, position_of, stray, badContent, tableVerdict, imageVerdict}
-use Rattle.chart_labels.specs.Labels.{label}
+use Rattle.chart_rows.specs.chart_labels.Labels.{label}
 use Rattle.chart_rows.specs.Rows.{paths, rows_of, rows}
 use Rattle.translator.specs.Table.{table}
 use Rattle.translator.specs.Entry.{translateVerdict, translate}
-use Rattle.chains.specs.Calls.{calls, circular, endsOf, places}
+use Rattle.places.specs.chains.Calls.{calls, circular, endsOf, places}
 use Rattle.places.specs.Entry.{placesVerdict, placesNeeded}
 use Rattle.state.specs.State.{freshState}
 use Rattle.fitness.specs.Fitness.{unfit}

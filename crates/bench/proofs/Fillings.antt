@@ -1,6 +1,6 @@
 -- The cases of how often the stack fills hold, computed.
 use mathlib.Core.Path.{refl}
-use Rattle.lists.specs.Numbers.{count}
+use Rattle.words.specs.lists.Numbers.{count}
 use Rattle.fillings.specs.Counts.{words_of, meeting, countVerdict, countFillings}
 use Rattle.bench.specs.Bench.{imageP}
 use Rattle.bench.specs.Handler.{imageHandler}

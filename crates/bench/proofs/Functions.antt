@@ -5,8 +5,8 @@ use mathlib.Core.Bool.{true, false}
 use mathlib.Core.List.{List, [], ◌∷◌, ◌++◌}
 use Prim.Native.Nat.{ℕ}
 use lib.ListN.{take}
-use Rattle.frames.specs.Frame.{contents}
-use Rattle.frames.specs.Verdict.{fine}
+use Rattle.text.specs.frames.Frame.{contents}
+use Rattle.text.specs.frames.Verdict.{fine}
 use Rattle.charts.specs.Chart.{next0}
 use Rattle.charts.specs.Entry.{readVerdict}
 use Rattle.walk.specs.Stops.{byArc}
@@ -14,7 +14,7 @@ use Rattle.bindings.specs.Binding.{ownBinding}
 use Rattle.walk.specs.Walk.{signals, Tick, walk}
 use Rattle.walk.specs.Functions.{walkWritesOne, WalkUnwritten, ZeroArc}
 use Rattle.walk.proofs.Functions.{zero-arc}
-use Rattle.lists.specs.Sequences.{some}
+use Rattle.words.specs.lists.Sequences.{some}
 use Rattle.image.specs.Decode.{decoded}
 use Rattle.state.specs.State.{fresh, Sized}
 use Rattle.fitness.specs.Fitness.{unfit}

@@ -4,7 +4,7 @@ use mathlib.Core.Bool.{false}
 use mathlib.Core.List.{List, [], ◌∷◌}
 use Prim.Native.Nat.{ℕ, ◌≤◌}
 use native.Mathlib.Omega.{arith}
-use Rattle.frames.specs.Verdict.{fine}
+use Rattle.text.specs.frames.Verdict.{fine}
 use Rattle.state.specs.State.{fresh}
 use Rattle.runs.specs.Run.{RunOutcome, ticks, runOn}
 use Rattle.agreement.proofs.Images.{runImage, run-image}

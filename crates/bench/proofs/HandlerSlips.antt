@@ -8,9 +8,9 @@ use Prim.Native.Nat.{ℕ, suc, ◌-◌}
 use native.Mathlib.Omega.{arith}
 use lib.Dec.{leb, eqb}
 use lib.ListN.{take, set}
-use Rattle.lists.specs.Pick.{pick}
+use Rattle.words.specs.lists.Pick.{pick}
 use Rattle.results.specs.Results.{Results, result_of, withResult, cleared}
-use Rattle.frames.specs.Answer.{replyNumber}
+use Rattle.text.specs.frames.Answer.{replyNumber}
 use Rattle.image.specs.Image.{Image, Label}
 use Rattle.translator.specs.Entry.{translate}
 use Rattle.state.specs.declared.State.{State}

@@ -6,11 +6,11 @@ use Prim.Native.Nat.{ℕ, ◌≤◌, ◌<◌}
 use native.Mathlib.Omega.{arith}
 use lib.Dec.{leb, eqb}
 use lib.ListN.{length, take, get_or, replicate}
-use Rattle.lists.specs.Pick.{pick}
-use Rattle.lists.specs.Sequences.{over}
-use Rattle.frames.specs.Verdict.{fine}
-use Rattle.frames.specs.Answer.{Reply, success, refusal, BufferOutcome, bufferOn, replyNumber, replyCount}
-use Rattle.frames.proofs.Lent.{Success, lent-told, front}
+use Rattle.words.specs.lists.Pick.{pick}
+use Rattle.words.specs.lists.Sequences.{over}
+use Rattle.text.specs.frames.Verdict.{fine}
+use Rattle.text.specs.frames.Answer.{Reply, success, refusal, BufferOutcome, bufferOn, replyNumber, replyCount}
+use Rattle.text.proofs.frames.Lent.{Success, lent-told, front}
 use Rattle.charts.specs.Entry.{readVerdict}
 use Rattle.translator.specs.Entry.{translateVerdict, translate}
 use Rattle.state.specs.declared.State.{State}

@@ -4,9 +4,9 @@ use mathlib.Core.List.{List, [], ◌∷◌}
 use Prim.Native.Nat.{ℕ, ◌/◌, ◌≤◌}
 use native.Mathlib.Omega.{arith}
 use lib.ListN.{length, take, replicate, length-replicate}
-use Rattle.frames.specs.Frame.{contents}
-use Rattle.frames.specs.Answer.{success, refusal, BufferOutcome}
-use Rattle.frames.proofs.Lent.{lent_fits, filledWith, front}
+use Rattle.text.specs.frames.Frame.{contents}
+use Rattle.text.specs.frames.Answer.{success, refusal, BufferOutcome}
+use Rattle.text.proofs.frames.Lent.{lent_fits, filledWith, front}
 use Rattle.bindings.specs.Binding.{ownBinding}
 use Rattle.walk.specs.Walk.{Tick, walk}
 use Rattle.image.specs.Image.{Image}

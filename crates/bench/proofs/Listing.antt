@@ -1,7 +1,7 @@
 -- The cases of the listing hold, computed.
 use mathlib.Core.Path.{refl}
-use Rattle.lists.specs.Numbers.{tabulate, lowest, count}
-use Rattle.listing.specs.Listing.{firstRows, rowCounts, list}
+use Rattle.words.specs.lists.Numbers.{tabulate, lowest, count}
+use Rattle.rows.specs.listing.Listing.{firstRows, rowCounts, list}
 use Rattle.bench.specs.Bench.{imageP}
 use Rattle.bench.specs.Listing.{ListingCases, imageRowless}
 use Rattle.bench.proofs.Computing.{checking}

@@ -6,16 +6,16 @@ use mathlib.Core.List.{List, [], ◌∷◌, ◌++◌, map}
 use native.Mathlib.Omega.{arith}
 use lib.Dec.{leb, ltb}
 use lib.ListN.{length, get_or, replicate}
-use Rattle.frames.specs.Frame.{text_of}
-use Rattle.frames.specs.Verdict.{when}
-use Rattle.frames.specs.Answer.{BufferOutcome, bufferOn}
+use Rattle.text.specs.frames.Frame.{text_of}
+use Rattle.text.specs.frames.Verdict.{when}
+use Rattle.text.specs.frames.Answer.{BufferOutcome, bufferOn}
 use Rattle.charts.specs.Chart.{Chart}
 use Rattle.little_charts.specs.Little.{beginNode, endNode, operationNode, conditionNode, littleCharts}
 use Rattle.little_charts.specs.Little.{littleText, littleVerdict, littleChart}
-use Rattle.little_search.specs.inner.Search.{nodeAt, barredNode, searched}
-use Rattle.little_search.proofs.Same.{search-lists}
-use Rattle.little_totals.specs.inner.Samples.{Samples, samples}
-use Rattle.little_totals.proofs.Totals.{four, samples-four, total-four}
+use Rattle.little_charts.specs.little_search.inner.Search.{nodeAt, barredNode, searched}
+use Rattle.little_charts.proofs.little_search.Same.{search-lists}
+use Rattle.little_charts.specs.little_totals.inner.Samples.{Samples, samples}
+use Rattle.little_charts.proofs.little_totals.Totals.{four, samples-four, total-four}
 use Rattle.bench.specs.Little.{LittleCases, textsTwo, textsThree, firstFour, middleFour, lastFour}
 use Rattle.bench.proofs.Computing.{charting}
 

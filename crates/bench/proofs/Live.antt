@@ -2,7 +2,7 @@
 use mathlib.Core.Path.{◌≡◌, refl, sym, ◌∙◌}
 use Rattle.tables.specs.Prepare.{notedTo, prepare}
 use Rattle.tables.specs.Table.{tableImage}
-use Rattle.machine.specs.Live.{liveVerdict, liveRun, liveTick}
+use Rattle.runs.specs.machine.Live.{liveVerdict, liveRun, liveTick}
 use Rattle.bench.specs.Bench.{imageP}
 use Rattle.bench.specs.Live.{LiveCases, bytesP}
 use Rattle.bench.proofs.Tables.{tableP, of-P}

@@ -5,11 +5,11 @@ use mathlib.Core.Path.{◌≡◌, refl, sym, ◌∙◌, ap}
 use mathlib.Core.List.{List}
 use lib.Count.{ones, ones_in}
 use lib.ListN.{replicate}
-use Rattle.lists.specs.Numbers.{tabulate, lowest, count}
-use Rattle.lists.specs.Sequences.{filter, mapFrom}
-use Rattle.frames.specs.Frame.{contents}
-use Rattle.frames.specs.Verdict.{Verdict, fine, next, when}
-use Rattle.frames.specs.Answer.{BufferOutcome, bufferOn}
+use Rattle.words.specs.lists.Numbers.{tabulate, lowest, count}
+use Rattle.words.specs.lists.Sequences.{filter, mapFrom}
+use Rattle.text.specs.frames.Frame.{contents}
+use Rattle.text.specs.frames.Verdict.{Verdict, fine, next, when}
+use Rattle.text.specs.frames.Answer.{BufferOutcome, bufferOn}
 use Rattle.image.specs.Image.{imageFrames, imageText}
 use Rattle.image.specs.Decode.{decoded}
 use Rattle.image.specs.Check.{imageVerdict}
@@ -18,7 +18,7 @@ use Rattle.covering.specs.Matched.{uneven}
 use Rattle.covering.specs.inner.Sizes.{overlaps, covered, unevenBySizes}
 use Rattle.covering.proofs.Covered.{sizes-decide}
 use Rattle.grouping.specs.Classes.{parted, classes, grouping}
-use Rattle.group_numbers.specs.Smaller.{joinedLabels, smaller}
+use Rattle.minimising.specs.group_numbers.Smaller.{joinedLabels, smaller}
 use Rattle.minimising.specs.Entry.{minimiseVerdict, minimise}
 use Rattle.bench.specs.Bench.{imageP}
 use Rattle.bench.specs.Listing.{imageRowless}

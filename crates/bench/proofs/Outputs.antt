@@ -1,8 +1,8 @@
 -- What the two programs print on these charts and images, computed.
 use mathlib.Core.Path.{refl}
-use Rattle.printing.specs.Lines.{refusalLine, codeLine}
-use Rattle.translate_output.specs.TranslateProgram.{translateOutput}
-use Rattle.run_output.specs.RunProgram.{runOutput}
+use Rattle.output.specs.printing.Lines.{refusalLine, codeLine}
+use Rattle.output.specs.translate_output.TranslateProgram.{translateOutput}
+use Rattle.output.specs.run_output.RunProgram.{runOutput}
 use Rattle.bench.specs.Bench.{chartP, imageP, chartCircle}
 use Rattle.bench.specs.Outputs.{PrintedCases, chartEndless, chartDropped, chartHeld}
 use Rattle.bench.proofs.Computing.{translating, running}

@@ -6,7 +6,7 @@ use Prim.Native.Nat.{ℕ}
 use native.Mathlib.Omega.{arith}
 use lib.Count.{ones, ones_in}
 use Rattle.results.specs.Results.{noResults}
-use Rattle.frames.specs.Verdict.{fine}
+use Rattle.text.specs.frames.Verdict.{fine}
 use Rattle.image.specs.Image.{Image}
 use Rattle.state.specs.State.{fresh}
 use Rattle.rows.specs.Rows.{bestRow}

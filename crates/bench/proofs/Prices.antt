@@ -1,8 +1,8 @@
 -- The cases of prices hold, computed.
 use mathlib.Core.Path.{refl}
-use Rattle.lists.specs.Numbers.{sum}
+use Rattle.words.specs.lists.Numbers.{sum}
 use Rattle.prices.specs.Prices.{tickPrice, hundredths}
-use Rattle.priced_runs.specs.PricedRun.{pricedVerdict, pricedRun}
+use Rattle.prices.specs.priced_runs.PricedRun.{pricedVerdict, pricedRun}
 use Rattle.bench.specs.Bench.{imageP, benchWords}
 use Rattle.bench.specs.Handler.{imageHandler, dropWords}
 use Rattle.bench.specs.Prices.{PriceCases}

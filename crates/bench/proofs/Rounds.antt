@@ -7,14 +7,14 @@ use native.Mathlib.Omega.{arith}
 use borrow.Author.Tests.{le-ltb, lt-leb}
 use lib.Bits.{and_zero_r}
 use lib.ListN.{length, get_or, replicate, length-replicate, length-map, drop_of_length-le}
-use Rattle.lists.specs.Numbers.{range}
-use Rattle.lists.specs.Sequences.{over}
-use Rattle.lists.proofs.Ranges.{length-map-range}
+use Rattle.words.specs.lists.Numbers.{range}
+use Rattle.words.specs.lists.Sequences.{over}
+use Rattle.words.proofs.lists.Ranges.{length-map-range}
 use Rattle.results.specs.Results.{noResults}
 use Rattle.bindings.specs.Binding.{ownBinding}
-use Rattle.frames.specs.Frame.{contents}
-use Rattle.frames.specs.Verdict.{fine, next, when}
-use Rattle.frames.specs.Answer.{success}
+use Rattle.text.specs.frames.Frame.{contents}
+use Rattle.text.specs.frames.Verdict.{fine, next, when}
+use Rattle.text.specs.frames.Answer.{success}
 use Rattle.walk.specs.Walk.{Signal, OpenScheme, oneTick, spent, after, perform, drops, carriedOn, walkFrom, walk}
 use Rattle.image.specs.Image.{Image}
 use Rattle.image.specs.inner.Sound.{SoundImage}

@@ -9,8 +9,8 @@ use native.Mathlib.Omega.{arith}
 use lib.Count.{ones, ones_in}
 use lib.Dec.{leb, ltb, eqb}
 use lib.ListN.{length, get_or}
-use Rattle.lists.specs.Pick.{pick}
-use Rattle.frames.specs.Answer.{success}
+use Rattle.words.specs.lists.Pick.{pick}
+use Rattle.text.specs.frames.Answer.{success}
 use Rattle.image.specs.Image.{Image, Row, no_row}
 use Rattle.translator.specs.Entry.{translate}
 use Rattle.rows.specs.Rows.{isCandidate, Choice, row, noChoice}

@@ -7,11 +7,11 @@ use Prim.Native.Nat.{ℕ, zero, suc, ◌-◌}
 use native.Mathlib.Omega.{arith}
 use lib.Dec.{leb, eqb}
 use lib.ListN.{get_or, set, replicate}
-use Rattle.lists.specs.Pick.{pick}
-use Rattle.bits.specs.Word.{bit}
+use Rattle.words.specs.lists.Pick.{pick}
+use Rattle.words.specs.bits.Word.{bit}
 use Rattle.results.specs.Results.{result_of, withResult}
-use Rattle.frames.specs.Frame.{contents}
-use Rattle.frames.specs.Answer.{BufferOutcome, bufferOn, replyCount}
+use Rattle.text.specs.frames.Frame.{contents}
+use Rattle.text.specs.frames.Answer.{BufferOutcome, bufferOn, replyCount}
 use Rattle.image.specs.Image.{Image, Label, Row, imageText}
 use Rattle.translator.specs.Table.{table}
 use Rattle.translator.specs.Entry.{translateVerdict, translate}

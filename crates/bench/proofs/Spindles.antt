@@ -1,7 +1,7 @@
 -- The cases of four spindles hold, computed.
 use mathlib.Core.Path.{refl}
 use Rattle.runs.specs.TickOutcome.{imageTick}
-use Rattle.machine.specs.Live.{liveVerdict, liveRun, liveTick}
+use Rattle.runs.specs.machine.Live.{liveVerdict, liveRun, liveTick}
 use Rattle.spindles.specs.Spindles.{depths, spin, liveSpin}
 use Rattle.bench.specs.Bench.{imageP}
 use Rattle.bench.specs.Handler.{imageHandler}

@@ -3,8 +3,8 @@ use mathlib.Core.Path.{◌≡◌, refl, ◌∙◌, ap, sym}
 use mathlib.Core.List.{List, [], ◌∷◌}
 use Prim.Native.Nat.{ℕ}
 use lib.ListN.{replicate}
-use Rattle.frames.specs.Frame.{contents}
-use Rattle.frames.specs.Answer.{success, refusal}
+use Rattle.text.specs.frames.Frame.{contents}
+use Rattle.text.specs.frames.Answer.{success, refusal}
 use Rattle.walk.specs.Walk.{Tick}
 use Rattle.state.specs.declared.State.{State}
 use Rattle.state.specs.State.{fresh, freshState}

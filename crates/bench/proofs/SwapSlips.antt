@@ -6,13 +6,13 @@ use Prim.Native.Nat.{ℕ, ◌+◌, ◌-◌, ◌*◌, ◌/◌, ◌%◌, ◌≤◌
 use native.Mathlib.Omega.{arith}
 use lib.Dec.{ltb, eqb}
 use lib.ListN.{length, get_or, set, replicate}
-use Rattle.lists.specs.Pick.{pick}
-use Rattle.lists.specs.Numbers.{range}
-use Rattle.lists.specs.Sequences.{some}
+use Rattle.words.specs.lists.Pick.{pick}
+use Rattle.words.specs.lists.Numbers.{range}
+use Rattle.words.specs.lists.Sequences.{some}
 use Rattle.results.specs.Results.{result_of, withResult, cleared}
 use Rattle.bindings.specs.Binding.{served, rebound}
-use Rattle.frames.specs.Frame.{contents}
-use Rattle.frames.specs.Answer.{success, replyNumber}
+use Rattle.text.specs.frames.Frame.{contents}
+use Rattle.text.specs.frames.Answer.{success, replyNumber}
 use Rattle.image.specs.Layout.{tickKind}
 use Rattle.image.specs.Image.{Image}
 use Rattle.image.specs.Decode.{decoded}

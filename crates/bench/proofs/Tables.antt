@@ -2,13 +2,13 @@
 use mathlib.Core.Path.{◌≡◌, refl}
 use mathlib.Core.List.{List, [], ◌∷◌}
 use Prim.Native.Nat.{ℕ}
-use Rattle.frames.specs.Frame.{contents}
-use Rattle.frames.specs.Verdict.{fine}
-use Rattle.frames.specs.Answer.{bufferOn}
+use Rattle.text.specs.frames.Frame.{contents}
+use Rattle.text.specs.frames.Verdict.{fine}
+use Rattle.text.specs.frames.Answer.{bufferOn}
 use Rattle.image.specs.Image.{Image, Label, labelWith, row}
 use Rattle.image.specs.Decode.{decoded}
 use Rattle.image.specs.Check.{imageVerdict}
-use Rattle.chart_labels.specs.Labels.{homeLabel, returnLabel}
+use Rattle.chart_rows.specs.chart_labels.Labels.{homeLabel, returnLabel}
 use Rattle.translator.specs.Entry.{translate}
 use Rattle.bench.specs.Bench.{lines, chartP, imageP, chartHome, chartFunction, chartBore, chartAgain}
 use Rattle.bench.specs.Handler.{chartHandler, imageHandler}

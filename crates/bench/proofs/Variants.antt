@@ -3,8 +3,8 @@ use mathlib.Core.Path.{◌≡◌, refl, ◌∙◌, ap, ap₂, sym}
 use mathlib.Core.List.{List, [], ◌∷◌}
 use Prim.Native.Nat.{ℕ, ◌-◌}
 use lib.ListN.{get_or}
-use Rattle.frames.specs.Verdict.{Verdict, fine, next}
-use Rattle.frames.specs.Frame.{contents}
+use Rattle.text.specs.frames.Verdict.{Verdict, fine, next}
+use Rattle.text.specs.frames.Frame.{contents}
 use Rattle.image.specs.Image.{Image}
 use Rattle.image.specs.Decode.{decoded}
 use Rattle.state.specs.declared.State.{State}

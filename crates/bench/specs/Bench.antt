@@ -3,11 +3,11 @@
 use Rattle.std.specs.Prelude.{ℕ, ◌-◌, ◌%◌, ◌≤◌, true, false, ◌≡◌, List, [], ◌∷◌, ◌++◌, map, length, get_or, take, replicate}
 use Prim.Native.Char.{code}
 use Prim.Native.String.{String, [] as none, ◌∷◌ as more}
-use Rattle.frames.specs.Verdict.{fine}
-use Rattle.frames.specs.Answer.{success, refusal, bufferOn}
-use Rattle.lists.specs.Numbers.{range}
-use Rattle.lists.specs.Sequences.{concatMap}
-use Rattle.frames.specs.Frame.{contents}
+use Rattle.text.specs.frames.Verdict.{fine}
+use Rattle.text.specs.frames.Answer.{success, refusal, bufferOn}
+use Rattle.words.specs.lists.Numbers.{range}
+use Rattle.words.specs.lists.Sequences.{concatMap}
+use Rattle.text.specs.frames.Frame.{contents}
 use Rattle.results.specs.Results.{noResults}
 use Rattle.walk.specs.Walk.{Signal, Tick, walk}
 use Rattle.translator.specs.Entry.{translate}

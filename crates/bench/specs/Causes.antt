@@ -1,8 +1,8 @@
 -- Cases of what made a tick go on: on the image of chart P, on the same with scheme 2 as the handler, and on one whose last row is
 -- missing; on a patched image; and on one with five rows after a function.
 use Rattle.std.specs.Prelude.{ℕ, Bool, true, false, ◌≡◌, List, [], ◌∷◌, set, take}
-use Rattle.frames.specs.Frame.{contents, text_of}
-use Rattle.frames.specs.Answer.{success, refusal}
+use Rattle.text.specs.frames.Frame.{contents, text_of}
+use Rattle.text.specs.frames.Answer.{success, refusal}
 use Rattle.state.specs.declared.State.{State}
 use Rattle.state.specs.Changes.{with_bits}
 use Rattle.cause.specs.Cause.{CauseOutcome, noCause, explain}

@@ -1,7 +1,7 @@
 -- Cases of how often the stack fills: the bench sheet's image and one that lacks a row, a drop that stops nothing, lists without words
 -- and words without conditions, and each bound of 28.
 use Rattle.std.specs.Prelude.{ℕ, ◌≡◌, List, [], ◌∷◌}
-use Rattle.frames.specs.Answer.{replyNumber}
+use Rattle.text.specs.frames.Answer.{replyNumber}
 use Rattle.fillings.specs.Counts.{FillingsOutcome, countFillings}
 use Rattle.bench.specs.Bench.{lines, imageP}
 use Rattle.bench.specs.Handler.{imageHandler}

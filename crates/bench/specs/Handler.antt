@@ -1,9 +1,9 @@
 -- A chart with a handler: its image, walks and runs on it that drop the open schemes, and states with the handler at the bottom.
 use Rattle.std.specs.Prelude.{ℕ, Bool, true, false, ◌≡◌, List, [], ◌∷◌, map, replicate, take, set}
 use Rattle.bindings.specs.Binding.{ownBinding}
-use Rattle.frames.specs.Verdict.{fine, refused}
-use Rattle.frames.specs.Answer.{Reply, success, refusal, bufferOn}
-use Rattle.frames.specs.Frame.{contents, text_of}
+use Rattle.text.specs.frames.Verdict.{fine, refused}
+use Rattle.text.specs.frames.Answer.{Reply, success, refusal, bufferOn}
+use Rattle.text.specs.frames.Frame.{contents, text_of}
 use Rattle.walk.specs.Walk.{signals, Tick, walk}
 use Rattle.image.specs.Check.{imageVerdict}
 use Rattle.translator.specs.Entry.{translate}

@@ -1,7 +1,7 @@
 -- Cases of the listing: of the image of chart P, and of an image that no chart gives, with a label without rows between two others.
 use Rattle.std.specs.Prelude.{ℕ, ◌≡◌, List, [], ◌∷◌, replicate}
-use Rattle.frames.specs.Answer.{success, refusal}
-use Rattle.listing.specs.Listing.{ListingOutcome, list}
+use Rattle.text.specs.frames.Answer.{success, refusal}
+use Rattle.rows.specs.listing.Listing.{ListingOutcome, list}
 use Rattle.bench.specs.Bench.{lines, imageP}
 use Rattle.bench.specs.RefusalCases.{changedImage}
 

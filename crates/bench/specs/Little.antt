@@ -1,8 +1,8 @@
 -- Cases of the little charts: both of two frames, all of three, some of four, and what 24 and 16 refuse.
 use Rattle.std.specs.Prelude.{ℕ, ◌≡◌, List, [], ◌∷◌, map, get_or, replicate}
-use Rattle.frames.specs.Frame.{text_of}
-use Rattle.frames.specs.Verdict.{fine}
-use Rattle.frames.specs.Answer.{bufferOn}
+use Rattle.text.specs.frames.Frame.{text_of}
+use Rattle.text.specs.frames.Verdict.{fine}
+use Rattle.text.specs.frames.Answer.{bufferOn}
 use Rattle.little_charts.specs.Little.{littleCharts, littleText, littleChart}
 use Rattle.bench.specs.Bench.{lines}
 use Rattle.bench.specs.Minimise.{keptSmaller}

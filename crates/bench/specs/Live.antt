@@ -1,13 +1,13 @@
 -- Cases of prepared tables and of live ticks: on the table of chart P, on that table with a handler, and damaged.
 use Rattle.std.specs.Prelude.{ℕ, ◌+◌, ◌*◌, ◌≡◌, List, [], ◌∷◌, ◌++◌, replicate, set, take}
-use Rattle.frames.specs.Frame.{contents}
-use Rattle.frames.specs.Answer.{success, refusal}
+use Rattle.text.specs.frames.Frame.{contents}
+use Rattle.text.specs.frames.Answer.{success, refusal}
 use Rattle.image.specs.Decode.{decoded}
 use Rattle.tables.specs.Prepare.{prepare}
 use Rattle.tables.specs.Table.{tableImage}
 use Rattle.state.specs.declared.State.{State}
 use Rattle.runs.specs.TickOutcome.{TickOutcome}
-use Rattle.machine.specs.Live.{liveTick}
+use Rattle.runs.specs.machine.Live.{liveTick}
 use Rattle.bench.specs.Bench.{imageP}
 use Rattle.bench.specs.RefusalCases.{stateWithLabels, handlingState, changedImage}
 

@@ -1,8 +1,8 @@
 -- Cases of the image with one label a group: of the image of chart P, whose labels all act differently, of two branches that end
 -- alike, and of images that 23 refuses.
 use Rattle.std.specs.Prelude.{ℕ, ◌≡◌, List, [], ◌∷◌, replicate}
-use Rattle.frames.specs.Verdict.{fine}
-use Rattle.frames.specs.Answer.{BufferOutcome, refusal, bufferOn}
+use Rattle.text.specs.frames.Verdict.{fine}
+use Rattle.text.specs.frames.Answer.{BufferOutcome, refusal, bufferOn}
 use Rattle.minimising.specs.Entry.{minimise}
 use Rattle.bench.specs.Bench.{lines, imageP}
 use Rattle.bench.specs.RefusalCases.{changedImage}

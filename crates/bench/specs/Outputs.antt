@@ -1,10 +1,10 @@
 -- What the two programs print, on charts and images small enough to be computed.
 use Rattle.std.specs.Prelude.{ℕ, ◌≡◌, List, [], ◌∷◌, ◌++◌, replicate}
-use Rattle.lists.specs.Sequences.{concatMap}
-use Rattle.frames.specs.Frame.{text_of}
-use Rattle.printing.specs.Lines.{refusalLine}
-use Rattle.translate_output.specs.TranslateProgram.{translateOutput}
-use Rattle.run_output.specs.RunProgram.{runOutput}
+use Rattle.words.specs.lists.Sequences.{concatMap}
+use Rattle.text.specs.frames.Frame.{text_of}
+use Rattle.output.specs.printing.Lines.{refusalLine}
+use Rattle.output.specs.translate_output.TranslateProgram.{translateOutput}
+use Rattle.output.specs.run_output.RunProgram.{runOutput}
 use Rattle.bench.specs.Bench.{lines, chartP, imageP, chartCircle}
 use Rattle.bench.specs.RefusalCases.{markedFirst}
 

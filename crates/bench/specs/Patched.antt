@@ -2,9 +2,9 @@
 -- a special row among its general ones, and then one more with as many conditions and one for either answer of a function.
 use Rattle.std.specs.Prelude.{ℕ, ◌≡◌, List, [], ◌∷◌}
 use Rattle.results.specs.Results.{noResults}
-use Rattle.frames.specs.Frame.{contents}
-use Rattle.frames.specs.Verdict.{fine}
-use Rattle.frames.specs.Answer.{bufferOn}
+use Rattle.text.specs.frames.Frame.{contents}
+use Rattle.text.specs.frames.Verdict.{fine}
+use Rattle.text.specs.frames.Answer.{bufferOn}
 use Rattle.image.specs.Check.{imageVerdict}
 use Rattle.image.specs.Decode.{decoded}
 use Rattle.translator.specs.Entry.{translate}

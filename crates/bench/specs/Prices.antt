@@ -1,10 +1,10 @@
 -- Prices by hand: halves go upward once for all ticks, the first price is that of bit 0, and priced runs on the images of chart P and of
 -- the chart with a handler, whole, ended by 17, with a drop, and refused.
 use Rattle.std.specs.Prelude.{ℕ, ◌≡◌, List, [], ◌∷◌, ◌++◌, replicate}
-use Rattle.frames.specs.Answer.{replyNumber, replyCount}
+use Rattle.text.specs.frames.Answer.{replyNumber, replyCount}
 use Rattle.state.specs.State.{fresh}
 use Rattle.prices.specs.Prices.{price}
-use Rattle.priced_runs.specs.PricedRun.{PricedOutcome, pricedRun}
+use Rattle.prices.specs.priced_runs.PricedRun.{PricedOutcome, pricedRun}
 use Rattle.bench.specs.Bench.{imageP, benchWords}
 use Rattle.bench.specs.Handler.{imageHandler, dropWords}
 

@@ -1,11 +1,11 @@
 -- One small chart, image or state, made by hand, for each refusal 1 to 20; those of 21 stand in Causes, those of 22 in Swap.
 use Rattle.std.specs.Prelude.{ℕ, ◌+◌, ◌*◌, false, ◌≡◌, List, [], ◌∷◌, ◌++◌, length, replicate, set, take}
-use Rattle.lists.specs.Numbers.{range}
-use Rattle.lists.specs.Sequences.{concatMap}
+use Rattle.words.specs.lists.Numbers.{range}
+use Rattle.words.specs.lists.Sequences.{concatMap}
 use Rattle.bindings.specs.Binding.{ownBinding}
-use Rattle.frames.specs.Verdict.{fine, refused}
-use Rattle.frames.specs.Answer.{success, refusal}
-use Rattle.frames.specs.Frame.{quad, contents, text_of}
+use Rattle.text.specs.frames.Verdict.{fine, refused}
+use Rattle.text.specs.frames.Answer.{success, refusal}
+use Rattle.text.specs.frames.Frame.{quad, contents, text_of}
 use Rattle.charts.specs.Chart.{Chart}
 use Rattle.charts.specs.Entry.{readVerdict, readChart, writeVerdict}
 use Rattle.chart_rows.specs.Rows.{rows}

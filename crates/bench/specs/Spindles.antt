@@ -2,7 +2,7 @@
 use Rattle.std.specs.Prelude.{ℕ, ◌-◌, ◌≡◌, List, [], ◌∷◌, ◌++◌, map, replicate, set, take}
 use Rattle.results.specs.Results.{noResults}
 use Rattle.bindings.specs.Binding.{ownBinding}
-use Rattle.frames.specs.Answer.{replyNumber}
+use Rattle.text.specs.frames.Answer.{replyNumber}
 use Rattle.state.specs.declared.State.{State}
 use Rattle.state.specs.State.{noState}
 use Rattle.state.specs.Changes.{withDepth}

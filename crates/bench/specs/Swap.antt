@@ -2,11 +2,11 @@
 -- rebindings between runs, what an open scheme and the next call make of them, results and codes by the number called, and a drop;
 -- refusal 22, and the grounds of 15 that speak of numbers and of what serves them.
 use Rattle.std.specs.Prelude.{ℕ, ◌-◌, Bool, true, false, ◌≡◌, List, [], ◌∷◌, ◌++◌, length, replicate, set}
-use Rattle.lists.specs.Numbers.{range}
+use Rattle.words.specs.lists.Numbers.{range}
 use Rattle.bindings.specs.Binding.{ownBinding, rebound}
-use Rattle.frames.specs.Frame.{contents}
-use Rattle.frames.specs.Verdict.{fine}
-use Rattle.frames.specs.Answer.{Reply, success, refusal, bufferOn}
+use Rattle.text.specs.frames.Frame.{contents}
+use Rattle.text.specs.frames.Verdict.{fine}
+use Rattle.text.specs.frames.Answer.{Reply, success, refusal, bufferOn}
 use Rattle.walk.specs.Walk.{Tick, walk}
 use Rattle.translator.specs.Entry.{translate}
 use Rattle.state.specs.declared.State.{State}

@@ -1,6 +1,6 @@
 -- Bindings: the scheme that serves each scheme number. Walk and machine go by them alike.
 use Rattle.std.specs.Prelude.{ℕ, ◌-◌, Bool, ◌||◌, List, ltb, eqb, get_or, set}
-use Rattle.lists.specs.Numbers.{range}
+use Rattle.words.specs.lists.Numbers.{range}
 
 -- the scheme that serves number h stands at h - 1; number 1 is never called
 abbrev pub Binding : Type 0

@@ -9,12 +9,12 @@ use lib.Bits.{bit_and, bit_or, or_zero_l}
 use lib.Dec.{eqb}
 use lib.ListN.{get_or}
 use borrow.Author.Tests.{eq-eqb, ne_eqb}
-use Rattle.lists.specs.Pick.{pick}
-use Rattle.lists.specs.Numbers.{lowest}
-use Rattle.lists.proofs.Searches.{lowest-below}
-use Rattle.lists.proofs.Tests.{split}
-use Rattle.bits.specs.Word.{bit, agrees}
-use Rattle.frames.specs.Frame.{field, pair_at}
+use Rattle.words.specs.lists.Pick.{pick}
+use Rattle.words.specs.lists.Numbers.{lowest}
+use Rattle.words.proofs.lists.Searches.{lowest-below}
+use Rattle.words.proofs.lists.Tests.{split}
+use Rattle.words.specs.bits.Word.{bit, agrees}
+use Rattle.text.specs.frames.Frame.{field, pair_at}
 use Rattle.cause.specs.Cause.{differs}
 use Rattle.cause.specs.inner.CauseContracts.{RowAsked, lets, againstIn, againstFrom}
 use Rattle.cause.proofs.Masks.{low-differs}

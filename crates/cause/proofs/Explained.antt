@@ -7,9 +7,9 @@ use mathlib.Core.List.{List}
 use native.Mathlib.Omega.{arith}
 use lib.Bits.{bit_and, bit_or}
 use lib.Dec.{eqb}
-use Rattle.lists.specs.Pick.{pick}
-use Rattle.bits.specs.Word.{bit}
-use Rattle.frames.specs.Frame.{contents}
+use Rattle.words.specs.lists.Pick.{pick}
+use Rattle.words.specs.bits.Word.{bit}
+use Rattle.text.specs.frames.Frame.{contents}
 use Rattle.image.specs.Image.{Image, Row, nthRow}
 use Rattle.image.specs.Decode.{decoded}
 use Rattle.image.specs.inner.Sound.{SoundImage}

@@ -13,13 +13,13 @@ use lib.Dec.{eqb}
 use lib.ListN.{length, get_or}
 use lib.Pow.{pow_mono}
 use borrow.Author.Tests.{eq-eqb, ne_eqb, eqb-true, eqb-false}
-use Rattle.lists.specs.Pick.{pick}
-use Rattle.lists.specs.Numbers.{lowest}
-use Rattle.lists.proofs.Tests.{no_both, split, cases, and_l, and_r, and-true, and_no, not-true, not-false, and-false}
-use Rattle.lists.proofs.Searches.{lowest-hit, lowest-past}
-use Rattle.bits.specs.Word.{bit, agrees}
-use Rattle.bits.proofs.BitLaws.{bit-and, bit-or, same_bits, bit-pow-same, bit-cases, Mask, agree-match, clash-match}
-use Rattle.bits.proofs.MaskLaws.{within-lacks}
+use Rattle.words.specs.lists.Pick.{pick}
+use Rattle.words.specs.lists.Numbers.{lowest}
+use Rattle.words.proofs.lists.Tests.{no_both, split, cases, and_l, and_r, and-true, and_no, not-true, not-false, and-false}
+use Rattle.words.proofs.lists.Searches.{lowest-hit, lowest-past}
+use Rattle.words.specs.bits.Word.{bit, agrees}
+use Rattle.words.proofs.bits.BitLaws.{bit-and, bit-or, same_bits, bit-pow-same, bit-cases, Mask, agree-match, clash-match}
+use Rattle.words.proofs.bits.MaskLaws.{within-lacks}
 use Rattle.image.specs.Image.{Image, Row, no_row, nthRow}
 use Rattle.image.specs.inner.Sound.{SoundRow, SoundImage}
 use Rattle.rows.specs.Rows.{matches, isCandidate, row, bestRow}

@@ -1,14 +1,14 @@
 -- What sends a tick on: the row that it takes, the conditions that decide it, and the result bit; refusals 21 and 18.
 use Rattle.std.specs.Prelude.{ℕ, ◌-◌, ◌^◌, Bool, ◌&&◌, ◌||◌, not, ◌≡◌, List, [], ◌∷◌, leb, eqb}
 use Rattle.std.specs.Int.Bits.{bit_or}
-use Rattle.lists.specs.Pick.{pick}
-use Rattle.lists.specs.Numbers.{lowest}
-use Rattle.bits.specs.Word.{bit, agrees}
+use Rattle.words.specs.lists.Pick.{pick}
+use Rattle.words.specs.lists.Numbers.{lowest}
+use Rattle.words.specs.bits.Word.{bit, agrees}
 use Rattle.results.specs.Results.{Results}
-use Rattle.frames.specs.Refusals.{UNFIT, NO-ROW, ROWLESS}
-use Rattle.frames.specs.Frame.{contents}
-use Rattle.frames.specs.Verdict.{Verdict, fine, refused, next, when}
-use Rattle.frames.specs.Answer.{Reply, success, refusal, reply}
+use Rattle.text.specs.frames.Refusals.{UNFIT, NO-ROW, ROWLESS}
+use Rattle.text.specs.frames.Frame.{contents}
+use Rattle.text.specs.frames.Verdict.{Verdict, fine, refused, next, when}
+use Rattle.text.specs.frames.Answer.{Reply, success, refusal, reply}
 use Rattle.image.specs.Layout.{TickKind, plain, operationCall, functionCall, return, home, tickKind}
 use Rattle.image.specs.Layout.{NO-BIT, FUNCTION-CALL}
 use Rattle.image.specs.Image.{Image, Row}

@@ -1,10 +1,10 @@
 -- What a cause says of the tick that it explains: on every accepted image and from every state that fits it.
 use Rattle.std.specs.Prelude.{ℕ, true, false, ◌≡◌, ◌↔◌, ◌⊎◌, List}
 use Rattle.std.specs.Int.Bits.{bit_and}
-use Rattle.bits.specs.Word.{bit}
-use Rattle.frames.specs.Refusals.{NO-ROW, ROWLESS}
-use Rattle.frames.specs.Frame.{contents}
-use Rattle.frames.specs.Verdict.{fine}
+use Rattle.words.specs.bits.Word.{bit}
+use Rattle.text.specs.frames.Refusals.{NO-ROW, ROWLESS}
+use Rattle.text.specs.frames.Frame.{contents}
+use Rattle.text.specs.frames.Verdict.{fine}
 use Rattle.image.specs.Image.{Image, Row, nthRow}
 use Rattle.image.specs.Decode.{decoded}
 use Rattle.image.specs.Check.{imageVerdict}

@@ -1,12 +1,12 @@
 // The conditions that keep the other rows of a label from matching.
 ghost use Rattle.std.specs.Prelude.{◌≡◌, ◌-◌, ◌<◌};
-ghost use Rattle.lists.specs.Numbers.{lowest};
+ghost use Rattle.words.specs.lists.Numbers.{lowest};
 ghost use Rattle.cause.specs.Cause.{differs};
 ghost use Rattle.cause.specs.inner.CauseContracts.{RowAsked, RowsAsked, lets, againstIn, againstFrom};
 
-use bits::{bit, with_bit};
 use image::layout::*;
 use image::{byte, pair};
+use words::bits::{bit, with_bit};
 
 // Whether condition i is in the care mask and has another value in the word.
 fn differs(word: u16, care: u16, values: u16, i: u8) -> bool

@@ -1,9 +1,11 @@
 // What sends a tick on: the report of it, and the conditions that keep the other rows of a label from matching.
 #![tactic(auto)]
 
-use frames::Answer;
+use text::frames::Answer;
 
 mod conditions;
+pub mod explaining;
+pub mod table_causes;
 
 pub use conditions::against_rows;
 

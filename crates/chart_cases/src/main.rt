@@ -66,7 +66,7 @@ fn record_case(records: [u8; 70], edits: &[u8]) {
     patch(&mut edited, edits);
     write(&edited);
     let mut text = [0u8; 161];
-    frames::put_text(&mut text, 0, &edited);
+    text::frames::put_text(&mut text, 0, &edited);
     read(&text);
 }
 

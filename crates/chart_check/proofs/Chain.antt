@@ -2,13 +2,13 @@
 use mathlib.Core.Path.{◌≡◌, refl, sym, ◌∙◌, ap}
 use mathlib.Core.Bool.{Bool}
 use Prim.Native.Nat.{ℕ, ◌≤◌, ◌<◌}
-use Rattle.lists.specs.Numbers.{lowest, any}
-use Rattle.frames.specs.Frame.{size}
-use Rattle.frames.specs.Verdict.{Verdict, refused, next, when, atLowest}
-use Rattle.frames.specs.Answer.{reply, judged}
-use Rattle.frames.specs.declared.Answer.{Answer}
-use Rattle.frames.specs.declared.Answer.TheVariants.{Refused}
-use Rattle.frames.proofs.Chains.{lowest-refused, lowest-fine, next-refused, next-on}
+use Rattle.words.specs.lists.Numbers.{lowest, any}
+use Rattle.text.specs.frames.Frame.{size}
+use Rattle.text.specs.frames.Verdict.{Verdict, refused, next, when, atLowest}
+use Rattle.text.specs.frames.Answer.{reply, judged}
+use Rattle.text.specs.declared.frames.Answer.{Answer}
+use Rattle.text.specs.declared.frames.Answer.TheVariants.{Refused}
+use Rattle.text.proofs.frames.Chains.{lowest-refused, lowest-fine, next-refused, next-on}
 use Rattle.charts.specs.Chart.{Chart, schemes}
 use Rattle.charts.specs.Check.{badField, badScheme, badMarks, badArc, badCall, cutOff, chartVerdict}
 use Rattle.chart_check.specs.inner.CheckContracts.{joinedVerdict}

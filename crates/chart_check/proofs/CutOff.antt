@@ -10,14 +10,14 @@ use native.Mathlib.Omega.{arith}
 use lib.Dec.{eqb}
 use lib.ListN.{length}
 use borrow.Author.Tests.{eqb-true, eq-eqb}
-use Rattle.lists.specs.Numbers.{lowest, count}
-use Rattle.lists.proofs.Tests.{no_both, and_l, and-true, not-false, cases}
-use Rattle.lists.proofs.Searches.{lowest-hit, lowest-past, lowest-alike, any_false, highest-ge, some-both}
-use Rattle.lists.proofs.Counts.{count-lowest, count-one}
-use Rattle.lists.proofs.Ranges.{length-map-range, getD-map-range}
-use Rattle.graph.specs.Reach.{member, marked, reach, joinedFrom}
-use Rattle.graph.proofs.Closure.{Closed, marked-below, reach-grow, reach-least, reach-closed, joined-first, joined-closed, joined-least}
-use Rattle.frames.specs.Frame.{size}
+use Rattle.words.specs.lists.Numbers.{lowest, count}
+use Rattle.words.proofs.lists.Tests.{no_both, and_l, and-true, not-false, cases}
+use Rattle.words.proofs.lists.Searches.{lowest-hit, lowest-past, lowest-alike, any_false, highest-ge, some-both}
+use Rattle.words.proofs.lists.Counts.{count-lowest, count-one}
+use Rattle.words.proofs.lists.Ranges.{length-map-range, getD-map-range}
+use Rattle.words.specs.graph.Reach.{member, marked, reach, joinedFrom}
+use Rattle.words.proofs.graph.Closure.{Closed, marked-below, reach-grow, reach-least, reach-closed, joined-first, joined-closed, joined-least}
+use Rattle.text.specs.frames.Frame.{size}
 use Rattle.charts.specs.Chart.{Chart, scheme, is, is_of, schemes, node_of, begin}
 use Rattle.charts.specs.Check.{badField, badScheme, arcs, badTarget, badArc, cutOff}
 use Rattle.charts.specs.inner.Marks.{kindMarks}

@@ -1,17 +1,17 @@
 // Refusals 4 to 9 of node records, each before the next, with 19 after 5.
 ghost use Rattle.std.specs.Prelude.{◌≡◌, ◌*◌, ◌≤◌, length};
-ghost use Rattle.frames.specs.Sizes.{RECORD, NODES};
-ghost use Rattle.frames.specs.Frame.{size};
-ghost use Rattle.frames.specs.Answer.{reply, judged};
+ghost use Rattle.text.specs.frames.Sizes.{RECORD, NODES};
+ghost use Rattle.text.specs.frames.Frame.{size};
+ghost use Rattle.text.specs.frames.Answer.{reply, judged};
 ghost use Rattle.charts.specs.Check.{chartVerdict};
 
+use crate::chart_arcs::lowest_arc_and_call;
+use crate::chart_counts::check_fields;
+use crate::chart_handler::bad_marks;
 use crate::joined::check_joined;
-use chart_arcs::lowest_arc_and_call;
-use chart_counts::check_fields;
-use chart_handler::bad_marks;
-use frames::refusals::*;
-use frames::sizes::RECORD;
-use frames::{Answer, refused};
+use text::frames::refusals::*;
+use text::frames::sizes::RECORD;
+use text::frames::{Answer, refused};
 
 pub fn check_chart(records: &[u8]) -> Answer
     requires { (length records.now ≡ RECORD * size records.now) × (size records.now ≤ NODES) }

@@ -1,21 +1,21 @@
 // Refusal 9, nodes that no arcs join from the Begin of their scheme; 8 and 9 in turn.
 ghost use Rattle.std.specs.Prelude.{◌≡◌, not, length};
-ghost use Rattle.lists.specs.Numbers.{lowest};
-ghost use Rattle.graph.specs.Reach.{marked, reach};
-ghost use Rattle.frames.specs.Frame.{size};
-ghost use Rattle.frames.specs.Answer.{reply, judged};
+ghost use Rattle.words.specs.lists.Numbers.{lowest};
+ghost use Rattle.words.specs.graph.Reach.{marked, reach};
+ghost use Rattle.text.specs.frames.Frame.{size};
+ghost use Rattle.text.specs.frames.Answer.{reply, judged};
 ghost use Rattle.charts.specs.Layout.{BEGIN};
 ghost use Rattle.charts.specs.Check.{arcs, cutOff};
 ghost use Rattle.charts.specs.inner.Marks.{kindMarks};
-ghost use Rattle.node_marks.specs.inner.MarkContracts.{NodeRoom};
+ghost use Rattle.chart_check.specs.node_marks.inner.MarkContracts.{NodeRoom};
 ghost use Rattle.chart_check.specs.inner.CheckContracts.{Passed4To6, joinedVerdict};
 
+use crate::circles::lowest_circle;
+use crate::node_marks::{join, mark_kind, sweep};
 use charts::layout::BEGIN;
-use circles::lowest_circle;
-use frames::refusals::{CIRCLE, CUT_OFF};
-use frames::sizes::{NODES, RECORD};
-use frames::{Answer, refused};
-use node_marks::{join, mark_kind, sweep};
+use text::frames::refusals::{CIRCLE, CUT_OFF};
+use text::frames::sizes::{NODES, RECORD};
+use text::frames::{Answer, refused};
 
 // The nodes that arcs join from some Begin are marked; the lowest other one, or the number of nodes. It is looked for only where not all
 // are marked.
@@ -28,7 +28,7 @@ fn lowest_apart(records: &[u8], marks: &mut [bool], list: &mut [u8]) -> usize
 {
     mark_kind(records, BEGIN, marks);
     sweep(records, marks);
-    let count = graph::list_marked(marks, list);
+    let count = words::graph::list_marked(marks, list);
     if count == marks.len() {
         return count;
     }
@@ -36,7 +36,7 @@ fn lowest_apart(records: &[u8], marks: &mut [bool], list: &mut [u8]) -> usize
     if joined == marks.len() {
         return joined;
     }
-    graph::lowest_unmarked(marks)
+    words::graph::lowest_unmarked(marks)
 }
 
 // The lowest node that 9 refuses, or the number of nodes. Arcs stay within a scheme, so the marks of all Begins serve every scheme.

@@ -11,16 +11,16 @@ use lib.Dec.{eqb}
 use lib.ListN.{length, get_or, set, length-set}
 use lib.Seq.{get_or-set_same, get_or-set_other}
 use borrow.Author.Tests.{eqb-true, eq-eqb, ne_eqb}
-use Rattle.lists.proofs.Tests.{no_both, and_l, and-true, yes-pick, no-pick, cases, and_no}
-use Rattle.bits.specs.Word.{bit}
-use Rattle.frames.specs.Frame.{size, field}
+use Rattle.words.proofs.lists.Tests.{no_both, and_l, and-true, yes-pick, no-pick, cases, and_no}
+use Rattle.words.specs.bits.Word.{bit}
+use Rattle.text.specs.frames.Frame.{size, field}
 use Rattle.charts.specs.Chart.{Chart, kind, argument, is, taken}
 use Rattle.walk.specs.Stops.{stops}
 use Rattle.walk.proofs.Follow.{goes_on, takes-0, takes-1}
-use Rattle.chart_labels.specs.Labels.{numbered, label}
-use Rattle.chart_labels.specs.inner.ChartContracts.{Ready, Charted, OfKind}
-use Rattle.chart_labels.proofs.ReadyLaws.{ready-facts}
-use Rattle.chart_labels.proofs.LabelSteps.{own-label, no-own-label}
+use Rattle.chart_rows.specs.chart_labels.Labels.{numbered, label}
+use Rattle.chart_rows.specs.chart_labels.inner.ChartContracts.{Ready, Charted, OfKind}
+use Rattle.chart_rows.proofs.chart_labels.ReadyLaws.{ready-facts}
+use Rattle.chart_rows.proofs.chart_labels.LabelSteps.{own-label, no-own-label}
 use Rattle.chart_rows.specs.inner.NodeRows.{testedNumber, known}
 use Rattle.chart_rows.specs.inner.PathContracts.{Noted, Entered}
 

@@ -9,20 +9,20 @@ use lib.Bits.{bit_and, bit_or}
 use lib.Dec.{eqb}
 use lib.ListN.{length, length-append}
 use borrow.Author.Tests.{eqb-false}
-use Rattle.lists.proofs.Tests.{and-false}
-use Rattle.bits.specs.Word.{bit}
-use Rattle.bits.proofs.BitLaws.{add-is-or}
-use Rattle.bits.proofs.MaskLaws.{more-within-0, more-within-1, within-lacks}
-use Rattle.frames.specs.Frame.{size}
+use Rattle.words.proofs.lists.Tests.{and-false}
+use Rattle.words.specs.bits.Word.{bit}
+use Rattle.words.proofs.bits.BitLaws.{add-is-or}
+use Rattle.words.proofs.bits.MaskLaws.{more-within-0, more-within-1, within-lacks}
+use Rattle.text.specs.frames.Frame.{size}
 use Rattle.charts.specs.Chart.{Chart, kind, argument, next0, next1}
 use Rattle.charts.proofs.Rank.{rank, rank-falls0, rank-falls1}
 use Rattle.walk.specs.Stops.{stops}
 use Rattle.image.specs.Image.{Row}
 use Rattle.walk.proofs.Follow.{goes_on}
-use Rattle.chart_labels.specs.inner.ChartContracts.{Ready}
+use Rattle.chart_rows.specs.chart_labels.inner.ChartContracts.{Ready}
 use Rattle.chart_rows.specs.inner.PathContracts.{Entered}
 use Rattle.chart_rows.specs.inner.NodeRows.{pathsFrom}
-use Rattle.chart_labels.proofs.ReadyLaws.{ready-sound}
+use Rattle.chart_rows.proofs.chart_labels.ReadyLaws.{ready-sound}
 use Rattle.chart_rows.proofs.NumberLaws.{small-number}
 use Rattle.chart_rows.proofs.PathSteps.{pathRow, entered0, entered1, at-stop, at_new}
 use Rattle.chart_rows.proofs.Settled.{Settled}

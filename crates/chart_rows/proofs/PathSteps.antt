@@ -7,19 +7,19 @@ use Prim.Native.Nat.{ℕ, zero, suc, ◌+◌, ◌^◌, ◌≤◌, ◌<◌}
 use native.Mathlib.Decide.{ℕ_discrete}
 use native.Mathlib.Omega.{arith}
 use borrow.Author.Tests.{eq-eqb, ne_eqb}
-use Rattle.bits.specs.Word.{bit}
-use Rattle.frames.specs.Frame.{size}
+use Rattle.words.specs.bits.Word.{bit}
+use Rattle.text.specs.frames.Frame.{size}
 use Rattle.charts.specs.Chart.{Chart, kind, argument, next0, next1, taken}
 use Rattle.charts.proofs.Rank.{rank, rank-le, rank-some, rank-falls0, rank-falls1}
 use Rattle.walk.specs.Stops.{stops}
 use Rattle.walk.proofs.Follow.{goes_on, taken-by, taken-falls}
 use Rattle.image.specs.Image.{Row}
-use Rattle.chart_labels.specs.Labels.{label}
+use Rattle.chart_rows.specs.chart_labels.Labels.{label}
 use Rattle.chart_rows.specs.Rows.{paths}
-use Rattle.chart_labels.specs.inner.ChartContracts.{Ready}
+use Rattle.chart_rows.specs.chart_labels.inner.ChartContracts.{Ready}
 use Rattle.chart_rows.specs.inner.PathContracts.{Entered}
 use Rattle.chart_rows.specs.inner.NodeRows.{pathsFrom}
-use Rattle.chart_labels.proofs.ReadyLaws.{ready-sound, ready-facts}
+use Rattle.chart_rows.proofs.chart_labels.ReadyLaws.{ready-sound, ready-facts}
 
 abbrev pub pathRow : Chart → ℕ → ℕ → ℕ → ℕ → ℕ → Row
 pathRow c l f care values v = record { from = l; care = care; values = values; bit = f; next = label c v }

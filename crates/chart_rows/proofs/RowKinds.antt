@@ -3,10 +3,10 @@ use Prim.Native.Nat.{ℕ, zero, suc, ◌^◌}
 use mathlib.Core.Path.{◌≡◌, refl, ap, ◌∙◌}
 use mathlib.Core.List.{◌++◌}
 use native.Mathlib.Nat.{zero-add}
-use Rattle.frames.specs.Frame.{size}
+use Rattle.text.specs.frames.Frame.{size}
 use Rattle.charts.specs.Layout.{kind_of}
 use Rattle.charts.specs.Chart.{Chart, kind, argument, next0, next1}
-use Rattle.chart_labels.specs.Labels.{label}
+use Rattle.chart_rows.specs.chart_labels.Labels.{label}
 use Rattle.chart_rows.specs.Rows.{rowsAs, rows_of}
 use Rattle.chart_rows.specs.inner.NodeRows.{pathsFrom}
 

@@ -9,23 +9,23 @@ use native.Mathlib.Omega.{arith}
 use lib.Bits.{bit_or}
 use lib.ListN.{length, get_or, length-append}
 use borrow.Author.Tests.{eqb-false}
-use Rattle.lists.specs.Pick.{pick}
-use Rattle.lists.specs.Numbers.{range}
-use Rattle.lists.specs.Sequences.{concatMap, filter}
-use Rattle.lists.proofs.Tests.{and_r, not-true, yes-pick, no-pick}
-use Rattle.lists.proofs.Ranges.{filter-yes, filter-no}
-use Rattle.lists.proofs.Joins.{concat-cons, concat-range-snoc}
-use Rattle.bits.proofs.BitLaws.{add-is-or, bit-none}
-use Rattle.frames.specs.Frame.{size}
+use Rattle.words.specs.lists.Pick.{pick}
+use Rattle.words.specs.lists.Numbers.{range}
+use Rattle.words.specs.lists.Sequences.{concatMap, filter}
+use Rattle.words.proofs.lists.Tests.{and_r, not-true, yes-pick, no-pick}
+use Rattle.words.proofs.lists.Ranges.{filter-yes, filter-no}
+use Rattle.words.proofs.lists.Joins.{concat-cons, concat-range-snoc}
+use Rattle.words.proofs.bits.BitLaws.{add-is-or, bit-none}
+use Rattle.text.specs.frames.Frame.{size}
 use Rattle.charts.specs.Chart.{Chart, kind, argument, next0, next1, is}
 use Rattle.walk.specs.Stops.{stops}
 use Rattle.image.specs.Image.{Row}
-use Rattle.chart_labels.specs.Labels.{numbered, label}
+use Rattle.chart_rows.specs.chart_labels.Labels.{numbered, label}
 use Rattle.chart_rows.specs.Rows.{rows_of, rows}
 use Rattle.chart_rows.specs.inner.PathContracts.{NotedAt, Entered, SidesAt}
 use Rattle.chart_rows.specs.inner.NodeRows.{pathsFrom, sides, nodeRows}
-use Rattle.chart_labels.proofs.ReadyLaws.{ready-facts}
-use Rattle.chart_labels.proofs.LabelSteps.{own-label, no-own-label}
+use Rattle.chart_rows.proofs.chart_labels.ReadyLaws.{ready-facts}
+use Rattle.chart_rows.proofs.chart_labels.LabelSteps.{own-label, no-own-label}
 use Rattle.chart_rows.proofs.RowKinds.{function-rows, condition-rows, plain_rows}
 use Rattle.chart_rows.proofs.PathSteps.{entered0, entered1}
 

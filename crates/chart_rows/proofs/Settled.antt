@@ -6,15 +6,15 @@ use Prim.Native.Nat.{ℕ, zero, suc, ◌≤◌, ◌<◌}
 use native.Mathlib.Omega.{arith}
 use lib.Dec.{eqb}
 use borrow.Author.Tests.{eqb-true}
-use Rattle.lists.proofs.Tests.{and_l, and_r, not-true}
-use Rattle.bits.specs.Word.{bit}
-use Rattle.frames.specs.Frame.{size}
+use Rattle.words.proofs.lists.Tests.{and_l, and_r, not-true}
+use Rattle.words.specs.bits.Word.{bit}
+use Rattle.text.specs.frames.Frame.{size}
 use Rattle.charts.specs.Chart.{Chart, kind, argument, taken}
 use Rattle.charts.proofs.Rank.{rank, rank-le, rank-some}
 use Rattle.walk.specs.Stops.{stops}
 use Rattle.walk.proofs.Follow.{goes_on, taken-falls}
-use Rattle.chart_labels.proofs.ReadyLaws.{ready-sound}
-use Rattle.chart_labels.specs.inner.ChartContracts.{Ready}
+use Rattle.chart_rows.proofs.chart_labels.ReadyLaws.{ready-sound}
+use Rattle.chart_rows.specs.chart_labels.inner.ChartContracts.{Ready}
 use Rattle.chart_rows.specs.inner.PathContracts.{Entered}
 use Rattle.chart_rows.specs.inner.NodeRows.{pathsFrom, known, settledNode}
 use Rattle.chart_rows.proofs.PathSteps.{entered-taken, at-known}

@@ -1,14 +1,14 @@
 -- The rows of a chart's labels: one for each path through conditions that take no tick.
 use Rattle.std.specs.Prelude.{ℕ, zero, suc, ◌+◌, ◌^◌, true, false, List, [], ◌∷◌, ◌++◌, eqb}
-use Rattle.lists.specs.Sequences.{concatMap}
-use Rattle.bits.specs.Word.{bit}
-use Rattle.frames.specs.Frame.{size}
+use Rattle.words.specs.lists.Sequences.{concatMap}
+use Rattle.words.specs.bits.Word.{bit}
+use Rattle.text.specs.frames.Frame.{size}
 use Rattle.charts.specs.Layout.{Kind, Begin, End, Operation, Condition, Function, Unknown, kind_of}
 use Rattle.charts.specs.Chart.{Chart, kind, argument, next0, next1, taken}
 use Rattle.walk.specs.Stops.{stops}
 use Rattle.image.specs.Layout.{NO-BIT}
 use Rattle.image.specs.Image.{Row}
-use Rattle.chart_labels.specs.Labels.{label, numberedNodes}
+use Rattle.chart_rows.specs.chart_labels.Labels.{label, numberedNodes}
 
 -- a path so far: the label that it left, the bits of the word that it tested as a care mask, their values, and the function bit or NO-BIT
 pub record Path : Type 0 where

@@ -1,17 +1,17 @@
 // Notes on the nodes: their labels, and the numbers of the conditions that paths test.
 ghost use Rattle.std.specs.Prelude.{◌≡◌, ◌*◌, ◌≤◌, length};
-ghost use Rattle.lists.specs.Numbers.{count};
-ghost use Rattle.frames.specs.Sizes.{NODES};
-ghost use Rattle.frames.specs.Frame.{size};
-ghost use Rattle.chart_labels.specs.Labels.{numbered, label};
-ghost use Rattle.chart_labels.specs.inner.ChartContracts.{Ready, Charted, Inner};
+ghost use Rattle.words.specs.lists.Numbers.{count};
+ghost use Rattle.text.specs.frames.Sizes.{NODES};
+ghost use Rattle.text.specs.frames.Frame.{size};
+ghost use Rattle.chart_rows.specs.chart_labels.Labels.{numbered, label};
+ghost use Rattle.chart_rows.specs.chart_labels.inner.ChartContracts.{Ready, Charted, Inner};
 ghost use Rattle.chart_rows.specs.inner.PathContracts.{Noted};
 ghost use Rattle.chart_rows.specs.inner.NodeRows.{testedNumber};
 
-use chart_labels::label_nodes;
+use crate::chart_labels::label_nodes;
 use charts::field;
 use charts::layout::{ARGUMENT, CONDITION, KIND};
-use frames::sizes::{NODES, RECORD};
+use text::frames::sizes::{NODES, RECORD};
 
 // The number of the condition that a path tests at a node. A condition with a label of its own ends a path.
 fn number_of(records: &[u8], v: usize, own: u8) -> u8

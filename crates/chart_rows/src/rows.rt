@@ -5,10 +5,10 @@ ghost use Rattle.chart_rows.specs.inner.PathContracts.{Noted, NotedAt, SidesAt};
 ghost use Rattle.chart_rows.specs.inner.NodeRows.{sides, nodeRows};
 
 use crate::paths::count_paths;
-use bits::with_bit;
 use charts::field;
 use charts::layout::*;
-use frames::sizes::RECORD;
+use text::frames::sizes::RECORD;
+use words::bits::with_bit;
 
 // How many paths go on from the two arcs of a node.
 fn count_sides(records: &[u8], notes: &[u8], v: usize, care: u16, values: u16, most: usize) -> usize

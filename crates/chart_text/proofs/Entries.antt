@@ -5,20 +5,20 @@ use mathlib.Core.List.{List}
 use Prim.Native.Nat.{ℕ, zero, suc, ◌*◌, ◌/◌, ◌≤◌, ◌<◌}
 use native.Mathlib.Omega.{arith}
 use lib.ListN.{length, take}
-use Rattle.lists.specs.Sequences.{over, written}
-use Rattle.lists.proofs.Written.{written-front}
-use Rattle.frames.specs.Frame.{contents, frameCount, size, text_of}
-use Rattle.frames.specs.Verdict.{Verdict, fine, when}
-use Rattle.frames.specs.Check.{badLength, textVerdict}
-use Rattle.frames.specs.inner.Read.{readInto}
-use Rattle.frames.specs.Answer.{refusal, reply, GivesBuffer, judged}
-use Rattle.frames.specs.declared.Answer.{Answer}
-use Rattle.frames.specs.declared.Answer.TheVariants.{Done, Refused}
-use Rattle.frames.proofs.Chains.{when-holds, when-fails, next-refused, next-on, done-fine, refused-verdict}
-use Rattle.frames.proofs.Contents.{Length, length-told, text-told, any-contents-length}
-use Rattle.frames.proofs.Reading.{read-fine}
-use Rattle.frames.proofs.Lent.{lent-refused, lent-short, lent-done, front}
-use Rattle.frames.proofs.TextLoops.{length-text}
+use Rattle.words.specs.lists.Sequences.{over, written}
+use Rattle.words.proofs.lists.Written.{written-front}
+use Rattle.text.specs.frames.Frame.{contents, frameCount, size, text_of}
+use Rattle.text.specs.frames.Verdict.{Verdict, fine, when}
+use Rattle.text.specs.frames.Check.{badLength, textVerdict}
+use Rattle.text.specs.frames.inner.Read.{readInto}
+use Rattle.text.specs.frames.Answer.{refusal, reply, GivesBuffer, judged}
+use Rattle.text.specs.declared.frames.Answer.{Answer}
+use Rattle.text.specs.declared.frames.Answer.TheVariants.{Done, Refused}
+use Rattle.text.proofs.frames.Chains.{when-holds, when-fails, next-refused, next-on, done-fine, refused-verdict}
+use Rattle.text.proofs.frames.Contents.{Length, length-told, text-told, any-contents-length}
+use Rattle.text.proofs.frames.Reading.{read-fine}
+use Rattle.text.proofs.frames.Lent.{lent-refused, lent-short, lent-done, front}
+use Rattle.text.proofs.frames.TextLoops.{length-text}
 use Rattle.charts.specs.Chart.{Chart}
 use Rattle.charts.specs.Check.{chartVerdict}
 use Rattle.charts.specs.Entry.{readVerdict, readChart, writeVerdict, writeChart}

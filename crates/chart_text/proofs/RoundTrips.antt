@@ -6,15 +6,15 @@ use mathlib.Core.Path.{◌≡◌, ◌∙◌, ap, ap₂}
 use mathlib.Core.List.{List, map}
 use native.Mathlib.Omega.{arith}
 use lib.ListN.{length, get_or, take, length-map}
-use Rattle.digits.specs.Digit.{capital}
-use Rattle.frames.specs.Frame.{contents, frameCount, size, text_of}
-use Rattle.frames.specs.Verdict.{Verdict, fine, next, when}
-use Rattle.frames.specs.Check.{badLength, textVerdict}
-use Rattle.frames.specs.Answer.{success, bufferOn}
-use Rattle.frames.proofs.Verdicts.{next-rest}
-use Rattle.frames.proofs.Texts.{length-good}
-use Rattle.frames.proofs.Contents.{any-contents-length, textOf-fine, textOf-contents, textOf-capitals, text-back}
-use Rattle.frames.proofs.Lent.{filledWith, lent_fits, Success, lent-told, front}
+use Rattle.text.specs.digits.Digit.{capital}
+use Rattle.text.specs.frames.Frame.{contents, frameCount, size, text_of}
+use Rattle.text.specs.frames.Verdict.{Verdict, fine, next, when}
+use Rattle.text.specs.frames.Check.{badLength, textVerdict}
+use Rattle.text.specs.frames.Answer.{success, bufferOn}
+use Rattle.text.proofs.frames.Verdicts.{next-rest}
+use Rattle.text.proofs.frames.Texts.{length-good}
+use Rattle.text.proofs.frames.Contents.{any-contents-length, textOf-fine, textOf-contents, textOf-capitals, text-back}
+use Rattle.text.proofs.frames.Lent.{filledWith, lent_fits, Success, lent-told, front}
 use Rattle.charts.specs.Chart.{Chart}
 use Rattle.charts.specs.Check.{chartVerdict}
 use Rattle.charts.specs.Entry.{readVerdict, readChart, writeVerdict, writeChart}

@@ -5,14 +5,14 @@ use Prim.Native.Nat.{ℕ, suc, ◌+◌, ◌*◌, ◌-◌, ◌≤◌, ◌<◌}
 use native.Mathlib.Omega.{arith}
 use lib.ListN.{length, get_or, take, drop, length-take, get_or-append}
 use lib.Seq.{drop-drop, get_or-take}
-use Rattle.lists.specs.Numbers.{range}
-use Rattle.lists.specs.Sequences.{concatMap, written}
-use Rattle.lists.proofs.Ranges.{length-range, map-count, getD-range, getD-map-range}
-use Rattle.lists.proofs.Joins.{concat-cons, concat-map, concat-places, length-concat-range}
-use Rattle.lists.proofs.Written.{written_none, written-drop, written-front, written-before}
-use Rattle.frames.specs.Frame.{size, field, tenAt, frameText, text_of}
-use Rattle.frames.proofs.FrameLoops.{length-frame}
-use Rattle.frames.proofs.TextLoops.{frame_of, length-text}
+use Rattle.words.specs.lists.Numbers.{range}
+use Rattle.words.specs.lists.Sequences.{concatMap, written}
+use Rattle.words.proofs.lists.Ranges.{length-range, map-count, getD-range, getD-map-range}
+use Rattle.words.proofs.lists.Joins.{concat-cons, concat-map, concat-places, length-concat-range}
+use Rattle.words.proofs.lists.Written.{written_none, written-drop, written-front, written-before}
+use Rattle.text.specs.frames.Frame.{size, field, tenAt, frameText, text_of}
+use Rattle.text.proofs.frames.FrameLoops.{length-frame}
+use Rattle.text.proofs.frames.TextLoops.{frame_of, length-text}
 
 -- ---- the loop
 written-kept : (out vs : List ℕ) (at k : ℕ) → k < at → at ≤ length out → get_or (written out at vs) k 0 ≡ get_or out k 0

@@ -1,12 +1,12 @@
 // The chart reader and the chart writer. Nothing is written before every refusal is settled.
-ghost use Rattle.frames.specs.Answer.{GivesBuffer};
+ghost use Rattle.text.specs.frames.Answer.{GivesBuffer};
 ghost use Rattle.charts.specs.Entry.{readChart, writeChart};
 
 use chart_check::check_chart;
-use frames::refusals::{BAD_LENGTH, NO_ROOM};
-use frames::sizes::*;
-use frames::{Answer, bad_length, put_bytes, put_text, refused};
-use reading::read_text;
+use text::frames::refusals::{BAD_LENGTH, NO_ROOM};
+use text::frames::sizes::*;
+use text::frames::{Answer, bad_length, put_bytes, put_text, refused};
+use text::reading::read_text;
 
 // A chart's text to its node records, ten bytes each: refusals 1 to 9, 19 after 5, and 16, else the number of records.
 pub fn read_chart(text: &[u8], out: &mut [u8]) -> Answer

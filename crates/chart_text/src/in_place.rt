@@ -1,13 +1,13 @@
 // Frames made into text where they stand, as the translator needs it: their bytes at the front of a buffer, ten of each, give way to their
 // characters.
 ghost use Rattle.std.specs.Prelude.{◌≡◌, ◌+◌, ◌*◌, ◌≤◌, length};
-ghost use Rattle.lists.specs.Numbers.{range};
-ghost use Rattle.lists.specs.Sequences.{concatMap, written};
-ghost use Rattle.frames.specs.Sizes.{LINE};
-ghost use Rattle.frames.specs.Frame.{tenAt, frameText};
+ghost use Rattle.words.specs.lists.Numbers.{range};
+ghost use Rattle.words.specs.lists.Sequences.{concatMap, written};
+ghost use Rattle.text.specs.frames.Sizes.{LINE};
+ghost use Rattle.text.specs.frames.Frame.{tenAt, frameText};
 
-use frames::sizes::LINE;
-use frames::{put_frame, ten_at};
+use text::frames::sizes::LINE;
+use text::frames::{put_frame, ten_at};
 
 // Frame f as text in its place.
 fn spread_frame(out: &mut [u8], f: usize)

@@ -5,13 +5,13 @@ use mathlib.Core.List.{List}
 use Prim.Native.Nat.{ℕ, ◌*◌, ◌%◌, ◌≤◌, ◌<◌}
 use native.Mathlib.Omega.{arith}
 use lib.ListN.{length, get_or}
-use Rattle.lists.specs.Numbers.{any}
-use Rattle.lists.proofs.Searches.{any_false}
-use Rattle.frames.specs.Frame.{contents, frameCount, size}
-use Rattle.frames.specs.Verdict.{Verdict, fine, next, when, atLowest}
-use Rattle.frames.specs.Check.{badLength, textVerdict}
-use Rattle.frames.proofs.Verdicts.{next-first, next-rest, when-fine, at-lowest-fine}
-use Rattle.frames.proofs.Contents.{Length, length-told, Clean, text-told, any-contents-length, contents-bytes}
+use Rattle.words.specs.lists.Numbers.{any}
+use Rattle.words.proofs.lists.Searches.{any_false}
+use Rattle.text.specs.frames.Frame.{contents, frameCount, size}
+use Rattle.text.specs.frames.Verdict.{Verdict, fine, next, when, atLowest}
+use Rattle.text.specs.frames.Check.{badLength, textVerdict}
+use Rattle.text.proofs.frames.Verdicts.{next-first, next-rest, when-fine, at-lowest-fine}
+use Rattle.text.proofs.frames.Contents.{Length, length-told, Clean, text-told, any-contents-length, contents-bytes}
 use Rattle.charts.specs.Chart.{Chart, schemes}
 use Rattle.charts.specs.Check.{badField, badScheme, badMarks, badArc, badCall, onCircle, cutOff, chartVerdict}
 use Rattle.charts.specs.Entry.{readVerdict, writeVerdict}

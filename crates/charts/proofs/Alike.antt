@@ -2,9 +2,9 @@
 use Prim.Native.Nat.{ℕ}
 use mathlib.Core.Path.{◌≡◌, ap₂}
 use mathlib.Core.List.{List}
-use Rattle.frames.specs.Verdict.{Verdict, next}
-use Rattle.frames.specs.Answer.{bufferOn}
-use Rattle.frames.proofs.Capitals.{ReadAlike}
+use Rattle.text.specs.frames.Verdict.{Verdict, next}
+use Rattle.text.specs.frames.Answer.{bufferOn}
+use Rattle.text.proofs.frames.Capitals.{ReadAlike}
 use Rattle.charts.specs.Check.{chartVerdict}
 use Rattle.charts.specs.Entry.{readVerdict, readChart}
 

@@ -6,13 +6,13 @@ use mathlib.Core.List.{[], ◌∷◌}
 use Prim.Native.Nat.{ℕ, ◌<◌}
 use lib.Dec.{eqb}
 use borrow.Author.Tests.{eqb-true, eq-eqb}
-use Rattle.lists.proofs.Tests.{no_both, or_cases, and_l, and_r, and-true, not-false, yes-pick, no-pick, cases}
-use Rattle.lists.proofs.Searches.{some-cons}
-use Rattle.lists.specs.Sequences.{some}
-use Rattle.graph.specs.Reach.{member, marked, joinedFrom}
-use Rattle.graph.proofs.Closure.{joined-below}
-use Rattle.graph.proofs.Paths.{Arc, Path, PathFrom, joined-path, path-joined}
-use Rattle.frames.specs.Frame.{size}
+use Rattle.words.proofs.lists.Tests.{no_both, or_cases, and_l, and_r, and-true, not-false, yes-pick, no-pick, cases}
+use Rattle.words.proofs.lists.Searches.{some-cons}
+use Rattle.words.specs.lists.Sequences.{some}
+use Rattle.words.specs.graph.Reach.{member, marked, joinedFrom}
+use Rattle.words.proofs.graph.Closure.{joined-below}
+use Rattle.words.proofs.graph.Paths.{Arc, Path, PathFrom, joined-path, path-joined}
+use Rattle.text.specs.frames.Frame.{size}
 use Rattle.charts.specs.Chart.{Chart, kind, scheme, is, begin}
 use Rattle.charts.specs.Check.{arcs, conditionArcs, onCircle, cutOff}
 use Rattle.charts.proofs.Nodes.{member-first}

@@ -8,13 +8,13 @@ use native.Mathlib.Decide.{dec_le, ℕ_discrete}
 use native.Mathlib.Omega.{arith}
 use lib.Dec.{leb, ltb, eqb}
 use borrow.Author.Tests.{ltb-false, leb-false, eqb-true, eqb-false, eq-eqb}
-use Rattle.lists.specs.Pick.{pick}
-use Rattle.lists.specs.Numbers.{lowest, any, count}
-use Rattle.lists.proofs.Tests.{no_both, or_l, or_r, or-true-l, or_true_r, and_l, and_r, and-true, not-false, yes-pick}
-use Rattle.lists.proofs.Searches.{lowest-hit, highest-ge, highest-le, highest-of, any_false, some-cons, some-both}
-use Rattle.lists.proofs.Counts.{count-lowest, count-one}
-use Rattle.graph.specs.Reach.{member}
-use Rattle.frames.specs.Frame.{size}
+use Rattle.words.specs.lists.Pick.{pick}
+use Rattle.words.specs.lists.Numbers.{lowest, any, count}
+use Rattle.words.proofs.lists.Tests.{no_both, or_l, or_r, or-true-l, or_true_r, and_l, and_r, and-true, not-false, yes-pick}
+use Rattle.words.proofs.lists.Searches.{lowest-hit, highest-ge, highest-le, highest-of, any_false, some-cons, some-both}
+use Rattle.words.proofs.lists.Counts.{count-lowest, count-one}
+use Rattle.words.specs.graph.Reach.{member}
+use Rattle.text.specs.frames.Frame.{size}
 use Rattle.charts.specs.Chart.{Chart, kind, scheme, argument, next0, next1, result, is, is_of}
 use Rattle.charts.specs.Chart.{marksHandler, handlerAt, handler, schemes, node_of, begin, end}
 use Rattle.charts.specs.Layout.{kind_of}

@@ -5,9 +5,9 @@ use mathlib.Core.List.{List}
 use Prim.Native.Nat.{ℕ, ◌≤◌, ◌<◌}
 use native.Mathlib.Omega.{arith}
 use borrow.Author.Tests.{eq-eqb}
-use Rattle.lists.proofs.Tests.{and-false}
-use Rattle.graph.specs.Reach.{member, marked, joinedFrom}
-use Rattle.frames.specs.Frame.{size}
+use Rattle.words.proofs.lists.Tests.{and-false}
+use Rattle.words.specs.graph.Reach.{member, marked, joinedFrom}
+use Rattle.text.specs.frames.Frame.{size}
 use Rattle.charts.specs.Chart.{Chart, kind, next0, next1, is}
 use Rattle.charts.specs.Check.{arcs, conditionArcs}
 use Rattle.charts.proofs.Accepted.{SoundChart}
@@ -15,20 +15,20 @@ use Rattle.charts.proofs.Nodes.{arc-end, in-arcs0, in-arcs1}
 use Rattle.charts.proofs.Meaning.{condition-arcs}
 
 abbrev pub rank : Chart → ℕ → ℕ
-rank c v = Rattle.graph.proofs.Rank.rank (size c) (conditionArcs c) v
+rank c v = Rattle.words.proofs.graph.Rank.rank (size c) (conditionArcs c) v
 
 pub rank-le : (c : Chart) (v : ℕ) → rank c v ≤ size c
-rank-le c v = Rattle.graph.proofs.Rank.rank-le (size c) (conditionArcs c) v
+rank-le c v = Rattle.words.proofs.graph.Rank.rank-le (size c) (conditionArcs c) v
 
 pub rank-some : (c : Chart) (v : ℕ) → v < size c → 1 ≤ rank c v
-rank-some c v l = Rattle.graph.proofs.Rank.rank-some (size c) (conditionArcs c) v l
+rank-some c v l = Rattle.words.proofs.graph.Rank.rank-some (size c) (conditionArcs c) v l
 
 module _ (c : Chart) (a : SoundChart c) (v : ℕ) (l : v < size c) (k : kind c v ≡ 3) where
   pub rank_falls : (u : ℕ) → member u (arcs c v) ≡ true → rank c u < rank c v
   rank_falls u s =
       let i : is c 3 v ≡ true = eq-eqb (kind c v) 3 k in
       let e : conditionArcs c v ≡ arcs c v = condition-arcs c v i in
-      Rattle.graph.proofs.Rank.rank_falls (size c) (conditionArcs c) v u l (arc-end c a v u l s).inside (ap (member u) e ∙ s)
+      Rattle.words.proofs.graph.Rank.rank_falls (size c) (conditionArcs c) v u l (arc-end c a v u l s).inside (ap (member u) e ∙ s)
       (ap (λ (us : List ℕ). marked (joinedFrom (size c) (conditionArcs c) us) v) e
       ∙ and-false (is c 3 v) (marked (joinedFrom (size c) (conditionArcs c) (arcs c v)) v) (a.noCircle v l) i)
 

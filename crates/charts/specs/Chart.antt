@@ -1,9 +1,9 @@
 -- A chart (the paper's word for a hierarchical graph scheme) as its node records, ten bytes a node.
 use Rattle.std.specs.Prelude.{ℕ, Bool, ◌&&◌, List, eqb}
-use Rattle.lists.specs.Pick.{pick}
-use Rattle.lists.specs.Numbers.{lowest, highest}
-use Rattle.bits.specs.Word.{bit}
-use Rattle.frames.specs.Frame.{size, field, quadAt}
+use Rattle.words.specs.lists.Pick.{pick}
+use Rattle.words.specs.lists.Numbers.{lowest, highest}
+use Rattle.words.specs.bits.Word.{bit}
+use Rattle.text.specs.frames.Frame.{size, field, quadAt}
 use Rattle.charts.specs.Layout.{BEGIN, END, KIND, SCHEME, ARGUMENT, NEXT0, NEXT1, RESULT, MASK}
 
 abbrev pub Chart : Type 0

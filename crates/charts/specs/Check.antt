@@ -1,13 +1,13 @@
 -- Why a chart is refused: refusals 4 to 9 and 19.
 use Rattle.std.specs.Prelude.{ℕ, ◌-◌, Bool, true, false, ◌&&◌, ◌||◌, not, List, [], ◌∷◌, leb, ltb, eqb}
-use Rattle.lists.specs.Pick.{pick}
-use Rattle.lists.specs.Numbers.{any, count}
-use Rattle.lists.specs.Sequences.{some}
-use Rattle.graph.specs.Reach.{marked, joinedFrom}
-use Rattle.frames.specs.Sizes.{RECORD, SCHEMES}
-use Rattle.frames.specs.Refusals.{BAD-FIELD, BAD-SCHEME, BAD-ARC, BAD-CALL, CIRCLE, CUT-OFF, BAD-MARKS}
-use Rattle.frames.specs.Frame.{size, field}
-use Rattle.frames.specs.Verdict.{Verdict, next, when, atLowest}
+use Rattle.words.specs.lists.Pick.{pick}
+use Rattle.words.specs.lists.Numbers.{any, count}
+use Rattle.words.specs.lists.Sequences.{some}
+use Rattle.words.specs.graph.Reach.{marked, joinedFrom}
+use Rattle.text.specs.frames.Sizes.{RECORD, SCHEMES}
+use Rattle.text.specs.frames.Refusals.{BAD-FIELD, BAD-SCHEME, BAD-ARC, BAD-CALL, CIRCLE, CUT-OFF, BAD-MARKS}
+use Rattle.text.specs.frames.Frame.{size, field}
+use Rattle.text.specs.frames.Verdict.{Verdict, next, when, atLowest}
 use Rattle.charts.specs.Layout.{BEGIN, END, CONDITION, ARGUMENT, NEXT1, RESULT}
 use Rattle.charts.specs.Layout.{Kind, Begin, End, Operation, Condition, Function, Unknown, kind_of}
 use Rattle.charts.specs.Chart.{Chart, kind, scheme, argument, next0, next1, result, is, is_of, marksHandler, handlerAt, schemes, begin}

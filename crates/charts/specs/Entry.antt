@@ -1,11 +1,11 @@
 -- The chart reader and the chart writer: what they answer and what the lent buffer then holds.
 use Rattle.std.specs.Prelude.{ℕ, List, length}
-use Rattle.frames.specs.Sizes.{RECORD, CHART-TEXT, RECORDS}
-use Rattle.frames.specs.Refusals.{BAD-LENGTH}
-use Rattle.frames.specs.Frame.{contents, text_of}
-use Rattle.frames.specs.Verdict.{Verdict, next, when}
-use Rattle.frames.specs.Check.{badLength, textVerdict}
-use Rattle.frames.specs.Answer.{BufferOutcome, bufferOn}
+use Rattle.text.specs.frames.Sizes.{RECORD, CHART-TEXT, RECORDS}
+use Rattle.text.specs.frames.Refusals.{BAD-LENGTH}
+use Rattle.text.specs.frames.Frame.{contents, text_of}
+use Rattle.text.specs.frames.Verdict.{Verdict, next, when}
+use Rattle.text.specs.frames.Check.{badLength, textVerdict}
+use Rattle.text.specs.frames.Answer.{BufferOutcome, bufferOn}
 use Rattle.charts.specs.Chart.{Chart}
 use Rattle.charts.specs.Check.{chartVerdict}
 

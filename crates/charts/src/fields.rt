@@ -1,9 +1,9 @@
 // The fields of node records.
 ghost use Rattle.std.specs.Prelude.{◌≡◌, ◌+◌, ◌*◌, ◌<◌, length};
-ghost use Rattle.frames.specs.Sizes.{RECORD};
-ghost use Rattle.frames.specs.Frame.{field};
+ghost use Rattle.text.specs.frames.Sizes.{RECORD};
+ghost use Rattle.text.specs.frames.Frame.{field};
 
-use frames::sizes::RECORD;
+use text::frames::sizes::RECORD;
 
 // Byte k of node v.
 pub fn field(records: &[u8], v: usize, k: usize) -> u8

@@ -9,8 +9,8 @@ use lib.Count.{ones, ones-le}
 use lib.Dec.{eqb}
 use lib.Pow.{pow_mono}
 use borrow.Author.Tests.{eq-eqb, ne_eqb}
-use Rattle.lists.specs.Pick.{pick}
-use Rattle.frames.specs.Frame.{field, pair_at}
+use Rattle.words.specs.lists.Pick.{pick}
+use Rattle.text.specs.frames.Frame.{field, pair_at}
 use Rattle.image.specs.Decode.{rowInFrame}
 use Rattle.image.specs.Image.{Row}
 use Rattle.covering.specs.Matched.{together}

@@ -8,17 +8,17 @@ use lib.Count.{ones}
 use lib.Dec.{eqb}
 use lib.ListN.{length, get_or}
 use borrow.Author.Tests.{eqb-true, eq-eqb}
-use Rattle.lists.specs.Pick.{pick}
-use Rattle.lists.specs.Numbers.{any, count, sum}
-use Rattle.lists.specs.Sequences.{filter, All}
-use Rattle.lists.proofs.Tests.{no_both, and_l, and_r, and-true, or_l, or_r, or-none, not-false, bit-low}
-use Rattle.lists.proofs.Searches.{sum-shift, any_false, any_none}
-use Rattle.lists.proofs.Counts.{count-alike, count_none}
-use Rattle.lists.proofs.Ranges.{filter-yes, filter-no}
-use Rattle.lists.proofs.Filters.{filter_none, one_passes, few-pass}
-use Rattle.lists.proofs.Sums.{sum-suc, sum-none, sum-zero, sum_ones, sum-full, sum-add}
-use Rattle.lists.proofs.Joins.{all-places}
-use Rattle.bits.specs.Word.{agrees}
+use Rattle.words.specs.lists.Pick.{pick}
+use Rattle.words.specs.lists.Numbers.{any, count, sum}
+use Rattle.words.specs.lists.Sequences.{filter, All}
+use Rattle.words.proofs.lists.Tests.{no_both, and_l, and_r, and-true, or_l, or_r, or-none, not-false, bit-low}
+use Rattle.words.proofs.lists.Searches.{sum-shift, any_false, any_none}
+use Rattle.words.proofs.lists.Counts.{count-alike, count_none}
+use Rattle.words.proofs.lists.Ranges.{filter-yes, filter-no}
+use Rattle.words.proofs.lists.Filters.{filter_none, one_passes, few-pass}
+use Rattle.words.proofs.lists.Sums.{sum-suc, sum-none, sum-zero, sum_ones, sum-full, sum-add}
+use Rattle.words.proofs.lists.Joins.{all-places}
+use Rattle.words.specs.bits.Word.{agrees}
 use Rattle.image.specs.Image.{Image, Row, no_row, nthRow}
 use Rattle.image.specs.inner.Sound.{SoundRow, SoundImage}
 use Rattle.rows.specs.Rows.{matches, isCandidate}

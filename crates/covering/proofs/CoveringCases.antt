@@ -4,7 +4,7 @@ use mathlib.Core.Bool.{true, false}
 use mathlib.Core.Path.{◌≡◌, refl}
 use mathlib.Core.List.{List, [], ◌∷◌}
 use lib.Count.{ones, ones_in}
-use Rattle.lists.specs.Numbers.{any, sum}
+use Rattle.words.specs.lists.Numbers.{any, sum}
 use Rattle.image.specs.Image.{Image, Label, Row, row}
 use Rattle.covering.specs.inner.Sizes.{overlaps, covered, unevenBySizes}
 

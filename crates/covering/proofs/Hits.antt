@@ -7,13 +7,13 @@ use native.Mathlib.Omega.{arith}
 use lib.Dec.{eqb}
 use lib.ListN.{length, get_or}
 use borrow.Author.Tests.{eqb-true, eq-eqb}
-use Rattle.lists.specs.Pick.{pick}
-use Rattle.lists.specs.Sequences.{filter, All}
-use Rattle.lists.proofs.Tests.{not-false, bit-low}
-use Rattle.lists.proofs.Searches.{any_false, any_none}
-use Rattle.lists.proofs.Ranges.{filter-yes, filter-no}
-use Rattle.lists.proofs.Filters.{filter_none, one_passes}
-use Rattle.lists.proofs.Joins.{all-places}
+use Rattle.words.specs.lists.Pick.{pick}
+use Rattle.words.specs.lists.Sequences.{filter, All}
+use Rattle.words.proofs.lists.Tests.{not-false, bit-low}
+use Rattle.words.proofs.lists.Searches.{any_false, any_none}
+use Rattle.words.proofs.lists.Ranges.{filter-yes, filter-no}
+use Rattle.words.proofs.lists.Filters.{filter_none, one_passes}
+use Rattle.words.proofs.lists.Joins.{all-places}
 use Rattle.image.specs.Image.{Image, Row, no_row}
 use Rattle.image.specs.inner.Sound.{SoundImage}
 use Rattle.rows.specs.Rows.{isCandidate, row, noChoice, better, bestRow, found, leads}

@@ -8,12 +8,12 @@ use lib.Count.{ones}
 use lib.Dec.{eqb}
 use lib.ListN.{length}
 use borrow.Author.Tests.{eqb-true, eq-eqb, ne_eqb}
-use Rattle.lists.specs.Pick.{pick}
-use Rattle.lists.specs.Numbers.{sum}
-use Rattle.lists.proofs.Tests.{no_both, or_l, or_r, or-none, not-false}
-use Rattle.lists.proofs.Searches.{any_false, any_none}
-use Rattle.lists.proofs.Sums.{sum_same, sum-zero, sum-split, sum-move}
-use Rattle.frames.specs.Frame.{size, field}
+use Rattle.words.specs.lists.Pick.{pick}
+use Rattle.words.specs.lists.Numbers.{sum}
+use Rattle.words.proofs.lists.Tests.{no_both, or_l, or_r, or-none, not-false}
+use Rattle.words.proofs.lists.Searches.{any_false, any_none}
+use Rattle.words.proofs.lists.Sums.{sum_same, sum-zero, sum-split, sum-move}
+use Rattle.text.specs.frames.Frame.{size, field}
 use Rattle.image.specs.Image.{Image, Row, nthRow}
 use Rattle.image.specs.Decode.{rows_from, decoded, rowInFrame}
 use Rattle.image.proofs.Accepted.{row_read, rows-count}

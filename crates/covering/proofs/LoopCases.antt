@@ -9,10 +9,10 @@ use native.Mathlib.Omega.{arith}
 use lib.ListN.{length}
 use borrow.Author.Tests.{eqb-true, eq-eqb}
 use lib.Dec.{eqb}
-use Rattle.lists.specs.Numbers.{any, lowest}
-use Rattle.lists.proofs.Tests.{no_both, not-false, not-true, split}
-use Rattle.lists.proofs.Searches.{any_here, any-on, any-over, lowest-hit, lowest-above, lowest-most, lowest-before}
-use Rattle.frames.specs.Frame.{size, field}
+use Rattle.words.specs.lists.Numbers.{any, lowest}
+use Rattle.words.proofs.lists.Tests.{no_both, not-false, not-true, split}
+use Rattle.words.proofs.lists.Searches.{any_here, any-on, any-over, lowest-hit, lowest-above, lowest-most, lowest-before}
+use Rattle.text.specs.frames.Frame.{size, field}
 use Rattle.image.specs.Decode.{lastLabel, rowCount, rows_from, decoded}
 use Rattle.image.proofs.Accepted.{labels-count, rows-count}
 use Rattle.image.proofs.Rising.{rises-on}

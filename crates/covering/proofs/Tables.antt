@@ -4,9 +4,9 @@ use mathlib.Core.Path.{◌≡◌, sym, ◌∙◌, ap, ap₂, subst}
 use mathlib.Core.List.{List, map}
 use native.Mathlib.Omega.{arith}
 use lib.ListN.{get_or}
-use Rattle.lists.specs.Numbers.{range}
-use Rattle.frames.specs.Frame.{field, pair_at, contents}
-use Rattle.frames.specs.Verdict.{fine}
+use Rattle.words.specs.lists.Numbers.{range}
+use Rattle.text.specs.frames.Frame.{field, pair_at, contents}
+use Rattle.text.specs.frames.Verdict.{fine}
 use Rattle.image.specs.Image.{Row}
 use Rattle.image.specs.Decode.{schemeCount, lastLabel, rowCount, rows_from, handlerIn, entryIn, labelIn, row_in, decoded}
 use Rattle.image.specs.Check.{tableVerdict}

@@ -8,10 +8,10 @@ use native.Mathlib.Omega.{arith}
 use lib.Bits.{bit_and, bit_or, and_le_l, and_le_r, and_mod, or_lt}
 use lib.Dec.{eqb}
 use borrow.Author.Tests.{eqb-true, eq-eqb, ne_eqb}
-use Rattle.lists.specs.Pick.{pick}
-use Rattle.lists.proofs.Tests.{no_both, and_l, and_r, and-true, or_cases, or-true-l, or_true_r}
-use Rattle.bits.specs.Word.{bit, agrees}
-use Rattle.bits.proofs.BitLaws.{bit-and, bit-or, same_bits}
+use Rattle.words.specs.lists.Pick.{pick}
+use Rattle.words.proofs.lists.Tests.{no_both, and_l, and_r, and-true, or_cases, or-true-l, or_true_r}
+use Rattle.words.specs.bits.Word.{bit, agrees}
+use Rattle.words.proofs.bits.BitLaws.{bit-and, bit-or, same_bits}
 use Rattle.image.specs.Image.{Image, Row}
 use Rattle.image.specs.inner.Sound.{SoundRow}
 use Rattle.rows.specs.Rows.{matches}

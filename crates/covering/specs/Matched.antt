@@ -1,9 +1,9 @@
 -- Refusal 23: a label from 2 up whose rows leave some word out, with one of the two bits, or match it more than once.
 use Rattle.std.specs.Prelude.{ℕ, ◌-◌, Bool, ◌&&◌, ◌||◌, not, eqb, length}
 use Rattle.std.specs.Int.Bits.{bit_and}
-use Rattle.lists.specs.Numbers.{any}
-use Rattle.lists.specs.Sequences.{filter}
-use Rattle.frames.specs.Sizes.{WORDS}
+use Rattle.words.specs.lists.Numbers.{any}
+use Rattle.words.specs.lists.Sequences.{filter}
+use Rattle.text.specs.frames.Sizes.{WORDS}
 use Rattle.image.specs.Layout.{NO-BIT}
 use Rattle.image.specs.Image.{Image, Row}
 use Rattle.rows.specs.Rows.{isCandidate}

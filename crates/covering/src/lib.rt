@@ -3,18 +3,18 @@
 #![tactic(auto)]
 
 ghost use Rattle.std.specs.Prelude.{◌≡◌, ◌||◌, ◌-◌, ◌≤◌, ◌<◌, eqb};
-ghost use Rattle.lists.specs.Numbers.{lowest};
-ghost use Rattle.frames.specs.Sizes.{ROWS};
-ghost use Rattle.frames.specs.Frame.{size};
+ghost use Rattle.words.specs.lists.Numbers.{lowest};
+ghost use Rattle.text.specs.frames.Sizes.{ROWS};
+ghost use Rattle.text.specs.frames.Frame.{size};
 ghost use Rattle.image.specs.Layout.{NO-BIT};
 ghost use Rattle.image.specs.Decode.{decoded, rowInFrame};
 ghost use Rattle.covering.specs.Matched.{together, uneven};
 ghost use Rattle.covering.specs.inner.CoveringContracts.{SoundTable, rowWith, togetherSome, togetherAny};
 ghost use Rattle.covering.specs.inner.CoveringContracts.{wordsWith, words_in, unevenRows, isOther};
 
-use frames::sizes::FRAME;
 use image::layout::*;
 use image::{byte, pair, rows_from};
+use text::frames::sizes::FRAME;
 
 // Whether some word and bit match the row in frame g and one with this care mask, these values and this function bit.
 fn meets(table: &[u8], g: usize, care: u16, values: u16, bit: u8) -> bool

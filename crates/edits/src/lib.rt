@@ -5,7 +5,7 @@
 ghost use Rattle.std.specs.Prelude.{◌≡◌};
 ghost use Rattle.edits.specs.inner.Patch.{patched};
 
-use frames::Answer;
+use text::frames::Answer;
 
 // Pairs of a place and the byte that is put there.
 pub fn patch(bytes: &mut [u8], edits: &[u8])
@@ -35,7 +35,7 @@ fn print(entry: u8, number: u8, index: usize, count: usize, bytes: usize) {
         0,
     ];
     let mut line = [0u8; 23];
-    frames::put_frame(&mut line, 0, &ten);
+    text::frames::put_frame(&mut line, 0, &ten);
     io::write_all(1, &line);
 }
 

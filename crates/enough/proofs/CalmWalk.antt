@@ -9,8 +9,8 @@ use lib.Dec.{eqb}
 use lib.ListN.{length}
 use native.Mathlib.Omega.{arith}
 use borrow.Author.Tests.{ne_eqb}
-use Rattle.lists.specs.Sequences.{All}
-use Rattle.lists.proofs.Tests.{no_both, and_no}
+use Rattle.words.specs.lists.Sequences.{All}
+use Rattle.words.proofs.lists.Tests.{no_both, and_no}
 use Rattle.results.specs.Results.{Results, noResults}
 use Rattle.bindings.specs.Binding.{ownBinding, served}
 use Rattle.charts.specs.Chart.{Chart, kind, argument, handler, schemes}
@@ -23,10 +23,10 @@ use Rattle.walk.proofs.Trace.{Serves, Caller, Under, Good, view_of, moves, home-
 use Rattle.walk.proofs.OwnBinding.{served-own, own-serves}
 use Rattle.walk.proofs.Drops.{isCallStop, drop-exactly}
 use Rattle.walk.proofs.Recursion.{walk-trace}
-use Rattle.chains.specs.Calls.{holdsCall, circular, places}
-use Rattle.chains.specs.Chains.{Calls, Chain, first, on}
-use Rattle.chains.proofs.CallLaws.{holds-function, holds-operation}
-use Rattle.chains.proofs.Longest.{no_longer}
+use Rattle.places.specs.chains.Calls.{holdsCall, circular, places}
+use Rattle.places.specs.chains.Chains.{Calls, Chain, first, on}
+use Rattle.places.proofs.chains.CallLaws.{holds-function, holds-operation}
+use Rattle.places.proofs.chains.Longest.{no_longer}
 use Rattle.agreement.specs.Agreement.{isFullCall, bound}
 use Rattle.agreement.proofs.Bounds.{bound-go}
 use Rattle.agreement.proofs.FullCalls.{full-exactly}

@@ -3,16 +3,16 @@ use Prim.Native.Nat.{ℕ, ◌≤◌}
 use mathlib.Core.Path.{◌≡◌, refl, sym, ◌∙◌, ap, ap₂, subst}
 use mathlib.Core.List.{List, [], ◌∷◌, map}
 use native.Mathlib.Omega.{arith}
-use Rattle.lists.specs.Sequences.{All}
+use Rattle.words.specs.lists.Sequences.{All}
 use Rattle.bindings.specs.Binding.{ownBinding}
-use Rattle.frames.specs.Frame.{contents}
-use Rattle.frames.specs.Verdict.{Verdict, fine, refused}
-use Rattle.frames.specs.Answer.{Reply, success, replyNumber, replyCount, judged}
-use Rattle.frames.proofs.Refuses.{RefusesWith, next-refuses, when-refuses}
+use Rattle.text.specs.frames.Frame.{contents}
+use Rattle.text.specs.frames.Verdict.{Verdict, fine, refused}
+use Rattle.text.specs.frames.Answer.{Reply, success, replyNumber, replyCount, judged}
+use Rattle.text.proofs.frames.Refuses.{RefusesWith, next-refuses, when-refuses}
 use Rattle.charts.specs.Chart.{Chart}
 use Rattle.walk.specs.Walk.{Signal, Tick, walk}
 use Rattle.translator.specs.Entry.{translateVerdict}
-use Rattle.chains.specs.Calls.{circular, places}
+use Rattle.places.specs.chains.Calls.{circular, places}
 use Rattle.places.specs.Entry.{placesVerdict, placesNeeded}
 use Rattle.places.proofs.Reported.{needed-is, needed-calm, needed-facts, needed-few}
 use Rattle.agreement.specs.Agreement.{CallInput, CallOutput, byRun, byRebinding, joinedWords, bound, walkOutputs}

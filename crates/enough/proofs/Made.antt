@@ -8,12 +8,12 @@ use lib.Dec.{ltb}
 use lib.ListN.{length, take, drop, length-append, length-map, length-take, length-drop}
 use native.Mathlib.Omega.{arith}
 use borrow.Author.Tests.{eqb-false, le-ltb}
-use Rattle.lists.specs.Pick.{pick}
-use Rattle.lists.proofs.Joins.{all_map, all_of}
-use Rattle.lists.specs.Sequences.{All}
+use Rattle.words.specs.lists.Pick.{pick}
+use Rattle.words.proofs.lists.Joins.{all_map, all_of}
+use Rattle.words.specs.lists.Sequences.{All}
 use Rattle.bindings.specs.Binding.{Binding}
-use Rattle.frames.specs.Answer.{Reply, success, refusal, replyCount}
-use Rattle.frames.proofs.Lent.{front}
+use Rattle.text.specs.frames.Answer.{Reply, success, refusal, replyCount}
+use Rattle.text.proofs.frames.Lent.{front}
 use Rattle.charts.specs.Chart.{Chart}
 use Rattle.walk.specs.Walk.{signals, Tick, isDrop}
 use Rattle.agreement.specs.Agreement.{RunInput, CallInput, toRun, toRebind, CallOutput, byRun, byRebinding}

@@ -6,17 +6,17 @@ use mathlib.Core.List.{List, [], ◌∷◌}
 use lib.Dec.{eqb}
 use lib.ListN.{length}
 use native.Mathlib.Omega.{arith}
-use Rattle.lists.specs.Pick.{pick}
-use Rattle.lists.specs.Numbers.{lowest, any, count, sum, highest}
-use Rattle.lists.specs.Sequences.{some, filter, concatMap, All}
-use Rattle.bits.specs.Word.{bit}
+use Rattle.words.specs.lists.Pick.{pick}
+use Rattle.words.specs.lists.Numbers.{lowest, any, count, sum, highest}
+use Rattle.words.specs.lists.Sequences.{some, filter, concatMap, All}
+use Rattle.words.specs.bits.Word.{bit}
 use Rattle.results.specs.Results.{Results, noResults}
 use Rattle.bindings.specs.Binding.{ownBinding}
-use Rattle.graph.specs.Reach.{reach}
-use Rattle.digits.specs.Digit.{digitOf, charOf}
-use Rattle.frames.specs.Frame.{contents, total, frameText, text_of}
-use Rattle.frames.specs.Answer.{success}
-use Rattle.frames.specs.Check.{badForm, badSum, textVerdict}
+use Rattle.words.specs.graph.Reach.{reach}
+use Rattle.text.specs.digits.Digit.{digitOf, charOf}
+use Rattle.text.specs.frames.Frame.{contents, total, frameText, text_of}
+use Rattle.text.specs.frames.Answer.{success}
+use Rattle.text.specs.frames.Check.{badForm, badSum, textVerdict}
 use Rattle.charts.specs.Chart.{handler, node_of}
 use Rattle.charts.specs.Check.{badField, chartVerdict}
 use Rattle.charts.specs.Entry.{readVerdict}
@@ -24,10 +24,10 @@ use Rattle.walk.specs.Stops.{stops, start, follow, by_word, stop_at}
 use Rattle.walk.specs.Walk.{Signal, Tick, isDrop, walk}
 use Rattle.walk.proofs.Trace.{opens, WalkPosition, at, tickAt, move, trace, positionAtHome}
 use Rattle.walk.proofs.Recursion.{walk-trace}
-use Rattle.chart_labels.specs.Labels.{label}
+use Rattle.chart_rows.specs.chart_labels.Labels.{label}
 use Rattle.chart_rows.specs.Rows.{paths, rows_of, rows}
 use Rattle.translator.specs.Entry.{translateVerdict}
-use Rattle.chains.specs.Calls.{calls, circular, endsOf, places}
+use Rattle.places.specs.chains.Calls.{calls, circular, endsOf, places}
 use Rattle.places.specs.Entry.{placesVerdict, placesNeeded}
 use Rattle.agreement.specs.Agreement.{isFullCall, bound, joinedWords}
 use Rattle.agreement.proofs.Bounds.{bound-go, bound-le}

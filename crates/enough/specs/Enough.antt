@@ -2,14 +2,14 @@
 -- with that many or more, no call of any list from a fresh state gets 17 or makes a drop, as long as every number is served by its own
 -- scheme. Said over the functions, and for a caller from C; each call is known by its contract alone.
 use Rattle.std.specs.Prelude.{ℕ, ◌≤◌, ◌≡◌, List, map, length, take}
-use Rattle.lists.specs.Pick.{pick}
-use Rattle.lists.specs.Sequences.{All}
+use Rattle.words.specs.lists.Pick.{pick}
+use Rattle.words.specs.lists.Sequences.{All}
 use Rattle.bindings.specs.Binding.{ownBinding}
-use Rattle.frames.specs.Codes.{DROP-CODE}
-use Rattle.frames.specs.Refusals.{NO-ROOM}
-use Rattle.frames.specs.Frame.{contents}
-use Rattle.frames.specs.Answer.{Reply, success, refusal, reply, replyNumber, replyCount, GivesBuffer}
-use Rattle.frames.specs.declared.Answer.{Answer}
+use Rattle.text.specs.frames.Codes.{DROP-CODE}
+use Rattle.text.specs.frames.Refusals.{NO-ROOM}
+use Rattle.text.specs.frames.Frame.{contents}
+use Rattle.text.specs.frames.Answer.{Reply, success, refusal, reply, replyNumber, replyCount, GivesBuffer}
+use Rattle.text.specs.declared.frames.Answer.{Answer}
 use Rattle.charts.specs.Chart.{Chart}
 use Rattle.walk.specs.Walk.{Signal}
 use Rattle.translator.specs.Entry.{translate}
@@ -17,7 +17,7 @@ use Rattle.places.specs.Entry.{placesNeeded}
 use Rattle.state.specs.Layout.{PLACES}
 use Rattle.state.specs.declared.StateReport.{StateReport}
 use Rattle.state.specs.State.{freshState, GivesState}
-use Rattle.telling.specs.AnswersForC.{GivesReplyC}
+use Rattle.fairleadow.specs.telling.AnswersForC.{GivesReplyC}
 use Rattle.fairleadow.specs.Calls.{GivesBufferC, GivesStateC}
 use Rattle.agreement.specs.Agreement.{CallInput, toRun, toRebind, CallOutput, byRun, byRebinding, short, joinedWords, replyTo}
 use Rattle.agreement.specs.Calls.{CallsInTurn}

@@ -1,7 +1,7 @@
 -- A chart that needs two places by its calls, while no words lead to the call: one place does.
 use Rattle.std.specs.Prelude.{◌≡◌, List, [], ◌∷◌, ◌++◌}
-use Rattle.frames.specs.Frame.{text_of}
-use Rattle.frames.specs.Answer.{success}
+use Rattle.text.specs.frames.Frame.{text_of}
+use Rattle.text.specs.frames.Answer.{success}
 use Rattle.charts.specs.Chart.{Chart}
 use Rattle.places.specs.Entry.{placesNeeded}
 use Rattle.agreement.specs.Agreement.{CallInput, walkOutputs}

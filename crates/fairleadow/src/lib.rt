@@ -1,8 +1,8 @@
 // The entry points for C, as the header has them: a slice is a pointer and a length, a reference is a pointer, and a state is 130 bytes.
-// `at` and `made` are the header's index and count. Each is the call of its subject's crate, under the name that C links.
+// `at` and `made` are the header's index and count. Each is the call of its subject's module, under the name that C links.
 #![tactic(auto)]
 
-ghost use Rattle.frames.specs.Answer.{judged};
+ghost use Rattle.text.specs.frames.Answer.{judged};
 ghost use Rattle.charts.specs.Entry.{readChart, writeChart};
 ghost use Rattle.image.specs.Check.{imageVerdict};
 ghost use Rattle.translator.specs.Entry.{translate};
@@ -12,14 +12,26 @@ ghost use Rattle.little_charts.specs.Little.{littleChart};
 ghost use Rattle.state.specs.State.{freshState};
 ghost use Rattle.tables.specs.Prepare.{prepare};
 ghost use Rattle.fillings.specs.Counts.{countFillings};
-ghost use Rattle.listing.specs.Listing.{list};
-ghost use Rattle.telling.specs.AnswersForC.{GivesReplyC};
+ghost use Rattle.rows.specs.listing.Listing.{list};
+ghost use Rattle.fairleadow.specs.telling.AnswersForC.{GivesReplyC};
 ghost use Rattle.fairleadow.specs.Calls.{GivesBufferC, GivesListingC, GivesStateC, runFor, liveRunFor, GivesRunC};
 ghost use Rattle.fairleadow.specs.Calls.{pricedRunFor, GivesPricedRunC, tickFor, liveTickFor, GivesTickC};
 ghost use Rattle.fairleadow.specs.Calls.{causeFor, GivesCauseC, rebindFor, liveRebindFor};
 ghost use Rattle.fairleadow.specs.Calls.{GivesRebindingC, spinFor, liveSpinFor, GivesSpinC};
 ghost use Rattle.fairleadow.specs.Calls.{GivesFillingsC};
-ghost use Rattle.causes_for_c.specs.Meant.{Meant};
+ghost use Rattle.fairleadow.specs.causes_for_c.Meant.{Meant};
+
+pub mod causes_for_c;
+pub mod charts_for_c;
+pub mod fillings_for_c;
+pub mod images_for_c;
+pub mod minimising_for_c;
+pub mod prices_for_c;
+pub mod rebinding_for_c;
+pub mod runs_for_c;
+pub mod spindles_for_c;
+pub mod telling;
+pub mod translating_for_c;
 
 use state::layout::STATE_BYTES;
 
@@ -33,7 +45,7 @@ pub extern "C" fn fairleadow_read_chart(
     ensures { GivesBufferC (readChart text.now records.old) result
         at.new made.new records.new }
 {
-    charts_for_c::read_chart(text, records, at, made)
+    crate::charts_for_c::read_chart(text, records, at, made)
 }
 
 #[unsafe(no_mangle)]
@@ -46,7 +58,7 @@ pub extern "C" fn fairleadow_write_chart(
     ensures { GivesBufferC (writeChart records.now text.old) result
         at.new made.new text.new }
 {
-    charts_for_c::write_chart(records, text, at, made)
+    crate::charts_for_c::write_chart(records, text, at, made)
 }
 
 #[unsafe(no_mangle)]
@@ -59,7 +71,7 @@ pub extern "C" fn fairleadow_translate(
     ensures { GivesBufferC (translate chart.now image.old) result
         at.new made.new image.new }
 {
-    translating_for_c::translate(chart, image, at, made)
+    crate::translating_for_c::translate(chart, image, at, made)
 }
 
 #[unsafe(no_mangle)]
@@ -72,7 +84,7 @@ pub extern "C" fn fairleadow_minimise(
     ensures { GivesBufferC (minimise image.now smaller.old) result
         at.new made.new smaller.new }
 {
-    minimising_for_c::minimise(image, smaller, at, made)
+    crate::minimising_for_c::minimise(image, smaller, at, made)
 }
 
 #[unsafe(no_mangle)]
@@ -86,21 +98,21 @@ pub extern "C" fn fairleadow_little_chart(
     ensures { GivesBufferC (littleChart frames number text.old) result
         at.new made.new text.new }
 {
-    charts_for_c::little_chart(frames, number, text, at, made)
+    crate::charts_for_c::little_chart(frames, number, text, at, made)
 }
 
 #[unsafe(no_mangle)]
 pub extern "C" fn fairleadow_places(chart: &[u8], at: &mut usize, made: &mut usize) -> u8
     ensures { GivesReplyC (placesNeeded chart.now) result at.new made.new }
 {
-    charts_for_c::places(chart, at, made)
+    crate::charts_for_c::places(chart, at, made)
 }
 
 #[unsafe(no_mangle)]
 pub extern "C" fn fairleadow_check_image(image: &[u8], at: &mut usize, made: &mut usize) -> u8
     ensures { GivesReplyC (judged (imageVerdict image.now) 0) result at.new made.new }
 {
-    images_for_c::check_image(image, at, made)
+    crate::images_for_c::check_image(image, at, made)
 }
 
 #[unsafe(no_mangle)]
@@ -114,7 +126,7 @@ pub extern "C" fn fairleadow_list_rows(
     ensures { GivesListingC (list image.now firsts.old counts.old) result
         at.new made.new firsts.new counts.new }
 {
-    images_for_c::list_rows(image, firsts, counts, at, made)
+    crate::images_for_c::list_rows(image, firsts, counts, at, made)
 }
 
 #[unsafe(no_mangle)]
@@ -126,7 +138,7 @@ pub extern "C" fn fairleadow_fresh(
 ) -> u8
     ensures { GivesStateC (freshState size) result at.new made.new state.new }
 {
-    runs_for_c::fresh(size, state, at, made)
+    crate::runs_for_c::fresh(size, state, at, made)
 }
 
 #[unsafe(no_mangle)]
@@ -143,7 +155,7 @@ pub extern "C" fn fairleadow_run(
         codes.old) state.old result at.new made.new
         state.new masks.new codes.new }
 {
-    runs_for_c::run(image, state, words, masks, codes, at, made)
+    crate::runs_for_c::run(image, state, words, masks, codes, at, made)
 }
 
 #[unsafe(no_mangle)]
@@ -163,7 +175,7 @@ pub extern "C" fn fairleadow_priced_run(
         codes.old) words.now state.old result at.new made.new
         state.new masks.new codes.new price.new }
 {
-    prices_for_c::priced_run(image, state, prices, words, masks, codes, price, at, made)
+    crate::prices_for_c::priced_run(image, state, prices, words, masks, codes, price, at, made)
 }
 
 #[unsafe(no_mangle)]
@@ -179,7 +191,7 @@ pub extern "C" fn fairleadow_tick(
     ensures { GivesTickC (tickFor image.now state.old word) state.old mask.old
         code.old result at.new made.new state.new mask.new code.new }
 {
-    runs_for_c::tick(image, state, word, mask, code, at, made)
+    crate::runs_for_c::tick(image, state, word, mask, code, at, made)
 }
 
 #[unsafe(no_mangle)]
@@ -192,7 +204,7 @@ pub extern "C" fn fairleadow_prepare(
     ensures { GivesBufferC (prepare image.now table.old) result
         at.new made.new table.new }
 {
-    images_for_c::prepare(image, table, at, made)
+    crate::images_for_c::prepare(image, table, at, made)
 }
 
 #[unsafe(no_mangle)]
@@ -209,7 +221,7 @@ pub extern "C" fn fairleadow_live_run(
         codes.old) state.old result at.new made.new
         state.new masks.new codes.new }
 {
-    runs_for_c::live_run(table, state, words, masks, codes, at, made)
+    crate::runs_for_c::live_run(table, state, words, masks, codes, at, made)
 }
 
 #[unsafe(no_mangle)]
@@ -225,7 +237,7 @@ pub extern "C" fn fairleadow_live_tick(
     ensures { GivesTickC (liveTickFor table.now state.old word) state.old mask.old
         code.old result at.new made.new state.new mask.new code.new }
 {
-    runs_for_c::live_tick(table, state, word, mask, code, at, made)
+    crate::runs_for_c::live_tick(table, state, word, mask, code, at, made)
 }
 
 #[unsafe(no_mangle)]
@@ -240,7 +252,7 @@ pub extern "C" fn fairleadow_rebind(
     ensures { GivesRebindingC (rebindFor image.now state.old number scheme)
         state.old result at.new made.new state.new }
 {
-    rebinding_for_c::rebind(image, state, number, scheme, at, made)
+    crate::rebinding_for_c::rebind(image, state, number, scheme, at, made)
 }
 
 #[unsafe(no_mangle)]
@@ -255,7 +267,7 @@ pub extern "C" fn fairleadow_live_rebind(
     ensures { GivesRebindingC (liveRebindFor table.now state.old number scheme)
         state.old result at.new made.new state.new }
 {
-    rebinding_for_c::live_rebind(table, state, number, scheme, at, made)
+    crate::rebinding_for_c::live_rebind(table, state, number, scheme, at, made)
 }
 
 #[unsafe(no_mangle)]
@@ -274,7 +286,7 @@ pub extern "C" fn fairleadow_spin(
         spindle mask.old code.old result at.new made.new states.new
         taken.new mask.new code.new }
 {
-    spindles_for_c::spin(states, taken, spindle, image, word, mask, code, at, made)
+    crate::spindles_for_c::spin(states, taken, spindle, image, word, mask, code, at, made)
 }
 
 #[unsafe(no_mangle)]
@@ -293,7 +305,7 @@ pub extern "C" fn fairleadow_live_spin(
         states.old spindle mask.old code.old result at.new made.new
         states.new taken.new mask.new code.new }
 {
-    spindles_for_c::live_spin(states, taken, spindle, table, word, mask, code, at, made)
+    crate::spindles_for_c::live_spin(states, taken, spindle, table, word, mask, code, at, made)
 }
 
 #[unsafe(no_mangle)]
@@ -310,7 +322,7 @@ pub extern "C" fn fairleadow_cause(
     ensures { GivesCauseC (causeFor image.now state.now word) result at.new
         made.new row.new mask.new bit.new }
 {
-    causes_for_c::cause(image, state, word, row, mask, bit, at, made)
+    crate::causes_for_c::cause(image, state, word, row, mask, bit, at, made)
 }
 
 #[unsafe(no_mangle)]
@@ -328,7 +340,7 @@ pub extern "C" fn fairleadow_count_fillings(
     ensures { GivesFillingsC (countFillings image.now size ticks conditions) result at.new
         made.new ended.new full.new unmatched.new }
 {
-    fillings_for_c::count_fillings(
+    crate::fillings_for_c::count_fillings(
         image, size, ticks, conditions, ended, full, unmatched, at, made,
     )
 }
@@ -337,5 +349,5 @@ pub extern "C" fn fairleadow_count_fillings(
 pub extern "C" fn fairleadow_meaning(code: u8, called: &mut u8) -> u8
     ensures { Meant code result called.new }
 {
-    causes_for_c::meaning(code, called)
+    crate::causes_for_c::meaning(code, called)
 }

@@ -7,17 +7,17 @@ use lib.Dec.{ltb, eqb, leb-suc-suc}
 use lib.ListN.{length, take}
 use native.Mathlib.Omega.{arith}
 use borrow.Author.Tests.{lt-ltb, eqb-false}
-use Rattle.lists.specs.Pick.{pick}
-use Rattle.lists.specs.Numbers.{count}
-use Rattle.lists.specs.Sequences.{some}
-use Rattle.lists.proofs.Tests.{or_l}
-use Rattle.lists.proofs.Counts.{count_none, count-alike}
-use Rattle.lists.proofs.Searches.{some-cons}
+use Rattle.words.specs.lists.Pick.{pick}
+use Rattle.words.specs.lists.Numbers.{count}
+use Rattle.words.specs.lists.Sequences.{some}
+use Rattle.words.proofs.lists.Tests.{or_l}
+use Rattle.words.proofs.lists.Counts.{count_none, count-alike}
+use Rattle.words.proofs.lists.Searches.{some-cons}
 use Rattle.results.specs.Results.{noResults}
 use Rattle.bindings.specs.Binding.{ownBinding}
-use Rattle.frames.specs.Frame.{contents}
-use Rattle.frames.specs.Verdict.{Verdict, fine, refused, next, when}
-use Rattle.frames.proofs.Verdicts.{next-first, next-rest, when-fine}
+use Rattle.text.specs.frames.Frame.{contents}
+use Rattle.text.specs.frames.Verdict.{Verdict, fine, refused, next, when}
+use Rattle.text.proofs.frames.Verdicts.{next-first, next-rest, when-fine}
 use Rattle.charts.specs.Chart.{Chart}
 use Rattle.charts.specs.Entry.{readVerdict}
 use Rattle.walk.specs.Walk.{Tick, signals}

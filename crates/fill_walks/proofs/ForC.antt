@@ -4,9 +4,9 @@ use Prim.Native.Nat.{ℕ, ◌+◌}
 use mathlib.Core.Path.{◌≡◌, sym, ◌∙◌}
 use mathlib.Core.List.{List}
 use lib.ListN.{take}
-use Rattle.lists.specs.Numbers.{count}
-use Rattle.frames.specs.Frame.{contents}
-use Rattle.frames.specs.Answer.{success}
+use Rattle.words.specs.lists.Numbers.{count}
+use Rattle.text.specs.frames.Frame.{contents}
+use Rattle.text.specs.frames.Answer.{success}
 use Rattle.translator.specs.Entry.{translate}
 use Rattle.fillings.specs.Counts.{words_of, lists, countFillings}
 use Rattle.fillings.specs.Promises.{SumsUp}

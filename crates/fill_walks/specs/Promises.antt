@@ -1,10 +1,10 @@
 -- What the counts are on the image of a chart: no list meets 18, and those that meet 17 are the ones whose walk goes too deep.
 use Rattle.std.specs.Prelude.{ℕ, Bool, false, ◌≡◌, List, take}
-use Rattle.lists.specs.Numbers.{count}
-use Rattle.lists.specs.Sequences.{some}
+use Rattle.words.specs.lists.Numbers.{count}
+use Rattle.words.specs.lists.Sequences.{some}
 use Rattle.bindings.specs.Binding.{ownBinding}
-use Rattle.frames.specs.Frame.{contents}
-use Rattle.frames.specs.Answer.{success}
+use Rattle.text.specs.frames.Frame.{contents}
+use Rattle.text.specs.frames.Answer.{success}
 use Rattle.charts.specs.Chart.{Chart}
 use Rattle.walk.specs.Walk.{Tick, signals, walk}
 use Rattle.translator.specs.Entry.{translate}

@@ -7,7 +7,7 @@ use lib.Arith.{digits_lt}
 use lib.Pow.{pow-add, pow_pos, shr_lt, split, high, low}
 use native.Mathlib.Nat.{suc-mul, zero-mul, mod-lt}
 use native.Mathlib.Omega.{arith}
-use Rattle.lists.specs.Sequences.{All}
+use Rattle.words.specs.lists.Sequences.{All}
 use Rattle.fillings.specs.Counts.{words_of, lists}
 use Rattle.fillings.specs.Promises.{Words, NumberedList, AllLists}
 

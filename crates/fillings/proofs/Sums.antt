@@ -5,13 +5,13 @@ use mathlib.Core.Path.{◌≡◌, refl, ◌∙◌, ap}
 use mathlib.Core.List.{List, [], ◌∷◌}
 use lib.Dec.{leb, eqb}
 use native.Mathlib.Omega.{arith}
-use Rattle.lists.specs.Pick.{pick}
-use Rattle.lists.specs.Numbers.{count}
+use Rattle.words.specs.lists.Pick.{pick}
+use Rattle.words.specs.lists.Numbers.{count}
 use Rattle.results.specs.Results.{Results, withResult, cleared}
 use Rattle.bindings.specs.Binding.{served}
-use Rattle.frames.specs.Frame.{contents}
-use Rattle.frames.specs.Verdict.{Verdict, fine, refused}
-use Rattle.frames.specs.Answer.{success}
+use Rattle.text.specs.frames.Frame.{contents}
+use Rattle.text.specs.frames.Verdict.{Verdict, fine, refused}
+use Rattle.text.specs.frames.Answer.{success}
 use Rattle.image.specs.Layout.{tickKind}
 use Rattle.image.specs.Image.{Image, Label}
 use Rattle.image.specs.Decode.{decoded}

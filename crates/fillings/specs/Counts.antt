@@ -1,11 +1,11 @@
 -- How often the stack fills: over all lists of n words that use conditions 0 to k - 1, with the others 0, how their runs end.
 use Rattle.std.specs.Prelude.{ℕ, zero, suc, ◌*◌, ◌/◌, ◌%◌, ◌^◌, Bool, ◌||◌, List, [], ◌∷◌, ltb, eqb}
-use Rattle.lists.specs.Numbers.{count}
-use Rattle.frames.specs.Sizes.{CONDITIONS, WORDS}
-use Rattle.frames.specs.Refusals.{BAD-SIZE, FULL, NO-ROW, MANY-LISTS}
-use Rattle.frames.specs.Frame.{contents}
-use Rattle.frames.specs.Verdict.{Verdict, fine, refused, next, when}
-use Rattle.frames.specs.Answer.{Reply, success, refusal}
+use Rattle.words.specs.lists.Numbers.{count}
+use Rattle.text.specs.frames.Sizes.{CONDITIONS, WORDS}
+use Rattle.text.specs.frames.Refusals.{BAD-SIZE, FULL, NO-ROW, MANY-LISTS}
+use Rattle.text.specs.frames.Frame.{contents}
+use Rattle.text.specs.frames.Verdict.{Verdict, fine, refused, next, when}
+use Rattle.text.specs.frames.Answer.{Reply, success, refusal}
 use Rattle.image.specs.Image.{Image}
 use Rattle.image.specs.Decode.{decoded}
 use Rattle.image.specs.Check.{imageVerdict}

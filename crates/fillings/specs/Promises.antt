@@ -1,7 +1,7 @@
 -- What the counts promise of every image: the lists counted are all lists, each once, and the three counts are together as many.
 use Rattle.std.specs.Prelude.{ℕ, ◌+◌, ◌^◌, ◌<◌, ◌≡◌, List, length}
-use Rattle.lists.specs.Sequences.{All}
-use Rattle.frames.specs.Answer.{success}
+use Rattle.words.specs.lists.Sequences.{All}
+use Rattle.text.specs.frames.Answer.{success}
 use Rattle.fillings.specs.Counts.{words_of, lists, countFillings}
 
 -- n words below 2 ^ k

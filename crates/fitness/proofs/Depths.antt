@@ -5,7 +5,7 @@ use mathlib.Core.Path.{◌≡◌}
 use native.Mathlib.Omega.{arith}
 use lib.Dec.{ltb, eqb}
 use borrow.Author.Tests.{ne_eqb, le-ltb, eqb-false, ltb-false}
-use Rattle.lists.proofs.Tests.{or_l, or_r}
+use Rattle.words.proofs.lists.Tests.{or_l, or_r}
 use Rattle.state.specs.declared.State.{State}
 use Rattle.fitness.specs.Fitness.{badDepth}
 

@@ -6,8 +6,8 @@ use mathlib.Core.Logic.{◌⊎◌, inl, inr}
 use native.Mathlib.Omega.{arith}
 use lib.Dec.{leb, ltb, eqb}
 use borrow.Author.Tests.{eq-eqb, ne_eqb, eqb-false, ltb-false, lt-ltb, le-ltb, le-leb, lt-leb}
-use Rattle.lists.specs.Numbers.{any}
-use Rattle.lists.proofs.Tests.{or_l, or_r, or-none, or_true_r, and_no, split}
+use Rattle.words.specs.lists.Numbers.{any}
+use Rattle.words.proofs.lists.Tests.{or_l, or_r, or-none, or_true_r, and_no, split}
 use Rattle.image.specs.Image.{Image}
 use Rattle.state.specs.declared.State.{State}
 use Rattle.state.specs.State.{badSize}

@@ -6,10 +6,10 @@ use lib.Dec.{leb, ltb, eqb}
 use lib.ListN.{length}
 use native.Mathlib.Omega.{arith}
 use borrow.Author.Tests.{eqb-true, lt-ltb, ltb-true, le-leb, lt-leb, leb-true, leb-false}
-use Rattle.lists.specs.Pick.{pick}
-use Rattle.lists.specs.Numbers.{any}
-use Rattle.lists.proofs.Tests.{or_r, or_l, or-none, and_l, and_r, and-true, and-false, not-false}
-use Rattle.lists.proofs.Searches.{any_false, any_none}
+use Rattle.words.specs.lists.Pick.{pick}
+use Rattle.words.specs.lists.Numbers.{any}
+use Rattle.words.proofs.lists.Tests.{or_r, or_l, or-none, and_l, and_r, and-true, and-false, not-false}
+use Rattle.words.proofs.lists.Searches.{any_false, any_none}
 use Rattle.bindings.specs.Binding.{served}
 use Rattle.image.specs.Image.{Image}
 use Rattle.state.specs.declared.State.{State}

@@ -1,9 +1,9 @@
 -- Whether a state fits an image: refusal 15.
 use Rattle.std.specs.Prelude.{ℕ, ◌+◌, ◌-◌, Bool, ◌&&◌, ◌||◌, not, leb, ltb, eqb, length}
-use Rattle.lists.specs.Pick.{pick}
-use Rattle.lists.specs.Numbers.{any}
+use Rattle.words.specs.lists.Pick.{pick}
+use Rattle.words.specs.lists.Numbers.{any}
 use Rattle.bindings.specs.Binding.{served}
-use Rattle.frames.specs.Sizes.{SCHEMES}
+use Rattle.text.specs.frames.Sizes.{SCHEMES}
 use Rattle.image.specs.Layout.{OPERATION-CALL, FUNCTION-CALL}
 use Rattle.image.specs.Image.{Image, Label}
 use Rattle.state.specs.Layout.{PLACES}

@@ -5,6 +5,9 @@ ghost use Rattle.std.specs.Prelude.{◌≡◌, ◌&&◌, ◌||◌, not, eqb};
 ghost use Rattle.fitness.specs.inner.FitnessContracts.{astray, own, miscalled, misserved};
 ghost use Rattle.image.specs.Layout.{OPERATION-CALL, FUNCTION-CALL};
 
+pub mod fit_places;
+pub mod fitting;
+
 use image::layout::{FUNCTION_CALL, OPERATION_CALL};
 
 // Whether a label of that kind may not be kept under another: only a call may.

@@ -7,11 +7,11 @@ use native.Mathlib.Omega.{arith}
 use lib.Dec.{eqb}
 use lib.ListN.{length}
 use borrow.Author.Tests.{eqb-true, eqb-false, eq-eqb, ne_eqb}
-use Rattle.lists.specs.Pick.{pick}
-use Rattle.lists.specs.Numbers.{any, count}
-use Rattle.lists.proofs.Tests.{and_l, split, not-true, bit-low}
-use Rattle.lists.proofs.Searches.{any_false, any_none}
-use Rattle.lists.proofs.Counts.{count-within}
+use Rattle.words.specs.lists.Pick.{pick}
+use Rattle.words.specs.lists.Numbers.{any, count}
+use Rattle.words.proofs.lists.Tests.{and_l, split, not-true, bit-low}
+use Rattle.words.proofs.lists.Searches.{any_false, any_none}
+use Rattle.words.proofs.lists.Counts.{count-within}
 use Rattle.image.specs.Image.{Image, nthRow}
 use Rattle.image.specs.inner.Sound.{SoundImage}
 use Rattle.state.specs.State.{label_at}

@@ -10,11 +10,11 @@ use lib.Dec.{eqb, ltb, leb}
 use lib.ListN.{length, get_or, set, replicate, length-set, length-replicate, get_or-replicate}
 use lib.Seq.{get_or-set_same, get_or-set_other}
 use borrow.Author.Tests.{eq-eqb, ne_eqb, eqb-true, lt-ltb, le-leb, lt-leb, ltb-true, leb-false}
-use Rattle.lists.specs.Numbers.{any}
-use Rattle.lists.specs.Sequences.{some}
-use Rattle.lists.proofs.Tests.{no_both, and_l, and_r, and-true, and-false, and_no, not-true, not-false, or_cases, or-true-l, or_true_r}
-use Rattle.lists.proofs.Searches.{any_false, any-true, any_some, any_none}
-use Rattle.frames.specs.Frame.{field}
+use Rattle.words.specs.lists.Numbers.{any}
+use Rattle.words.specs.lists.Sequences.{some}
+use Rattle.words.proofs.lists.Tests.{no_both, and_l, and_r, and-true, and-false, and_no, not-true, not-false, or_cases, or-true-l, or_true_r}
+use Rattle.words.proofs.lists.Searches.{any_false, any-true, any_some, any_none}
+use Rattle.text.specs.frames.Frame.{field}
 use Rattle.image.specs.Image.{Image, Row, no_row}
 use Rattle.image.specs.Decode.{lastLabel, rowInFrame}
 use Rattle.tables.specs.Table.{firstOn, endOn, rowOn, tableImage}

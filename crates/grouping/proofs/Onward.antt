@@ -7,10 +7,10 @@ use native.Mathlib.Omega.{arith}
 use lib.Dec.{eqb}
 use lib.ListN.{length, get_or}
 use borrow.Author.Tests.{eqb-true, eq-eqb}
-use Rattle.lists.specs.Pick.{pick}
-use Rattle.lists.specs.Sequences.{some, filter, All}
-use Rattle.lists.proofs.Tests.{no_both, and_l, and_r, and-true, and-false, or_l, or_r, not-false}
-use Rattle.lists.proofs.Joins.{all-places, all_filter}
+use Rattle.words.specs.lists.Pick.{pick}
+use Rattle.words.specs.lists.Sequences.{some, filter, All}
+use Rattle.words.proofs.lists.Tests.{no_both, and_l, and_r, and-true, and-false, or_l, or_r, not-false}
+use Rattle.words.proofs.lists.Joins.{all-places, all_filter}
 use Rattle.image.specs.Image.{Image, Label, Row, no_row, nthRow}
 use Rattle.image.specs.inner.Sound.{SoundRow, SoundImage}
 use Rattle.state.specs.State.{label_at}

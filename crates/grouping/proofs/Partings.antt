@@ -8,11 +8,11 @@ use lib.Bits.{bit_and}
 use lib.Dec.{eqb}
 use lib.ListN.{get_or}
 use borrow.Author.Tests.{eq-eqb, ne_eqb}
-use Rattle.lists.specs.Numbers.{range, any}
-use Rattle.lists.specs.Sequences.{some}
-use Rattle.lists.proofs.Tests.{or-none}
-use Rattle.lists.proofs.Searches.{any-alike}
-use Rattle.frames.specs.Frame.{field, pair_at}
+use Rattle.words.specs.lists.Numbers.{range, any}
+use Rattle.words.specs.lists.Sequences.{some}
+use Rattle.words.proofs.lists.Tests.{or-none}
+use Rattle.words.proofs.lists.Searches.{any-alike}
+use Rattle.text.specs.frames.Frame.{field, pair_at}
 use Rattle.image.specs.Image.{Row}
 use Rattle.image.specs.Decode.{lastLabel, rowInFrame}
 use Rattle.tables.specs.Table.{firstOn, endOn, rowOn, rowsOn, tableImage}

@@ -5,11 +5,11 @@ use mathlib.Core.Path.{◌≡◌, sym, ◌∙◌, ap, subst}
 use mathlib.Core.List.{List, map}
 use native.Mathlib.Omega.{arith}
 use lib.ListN.{length, get_or}
-use Rattle.lists.specs.Numbers.{range}
-use Rattle.lists.proofs.Ranges.{getD-map-range}
-use Rattle.frames.specs.Frame.{field, contents}
-use Rattle.frames.specs.Verdict.{fine}
-use Rattle.frames.proofs.Contents.{any-contents-length}
+use Rattle.words.specs.lists.Numbers.{range}
+use Rattle.words.proofs.lists.Ranges.{getD-map-range}
+use Rattle.text.specs.frames.Frame.{field, contents}
+use Rattle.text.specs.frames.Verdict.{fine}
+use Rattle.text.proofs.frames.Contents.{any-contents-length}
 use Rattle.image.specs.Image.{Row, no_row}
 use Rattle.image.specs.Decode.{lastLabel, decoded, rowInFrame}
 use Rattle.image.specs.Check.{tableVerdict}

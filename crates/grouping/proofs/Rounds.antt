@@ -8,10 +8,10 @@ use native.Mathlib.Omega.{arith}
 use lib.Dec.{eqb}
 use lib.ListN.{length}
 use borrow.Author.Tests.{eqb-true, eq-eqb}
-use Rattle.lists.specs.Numbers.{tabulate, count}
-use Rattle.lists.proofs.Tests.{and_l, and_r, and-true, not-true, split}
-use Rattle.lists.proofs.Counts.{count-within, count_same, count-le, count-some}
-use Rattle.lists.proofs.Ranges.{map-count, length-map-range}
+use Rattle.words.specs.lists.Numbers.{tabulate, count}
+use Rattle.words.proofs.lists.Tests.{and_l, and_r, and-true, not-true, split}
+use Rattle.words.proofs.lists.Counts.{count-within, count_same, count-le, count-some}
+use Rattle.words.proofs.lists.Ranges.{map-count, length-map-range}
 use Rattle.image.specs.Image.{Image}
 use Rattle.image.specs.inner.Sound.{SoundImage}
 use Rattle.image.proofs.Accepted.{fields-same}

@@ -10,11 +10,11 @@ use lib.Dec.{eqb}
 use lib.ListN.{length, get_or, set, length-set}
 use lib.Seq.{get_or-set_same, get_or-set_other}
 use borrow.Author.Tests.{eq-eqb, eqb-true}
-use Rattle.lists.specs.Numbers.{lowest}
-use Rattle.lists.specs.Sequences.{some}
-use Rattle.lists.proofs.Tests.{no_both, and_l, and_r, and-true, not-true, split}
-use Rattle.lists.proofs.Searches.{lowest-hit, lowest-above, lowest-most, lowest-before, lowest-alike}
-use Rattle.lists.proofs.Tabulated.{length-tabulate}
+use Rattle.words.specs.lists.Numbers.{lowest}
+use Rattle.words.specs.lists.Sequences.{some}
+use Rattle.words.proofs.lists.Tests.{no_both, and_l, and_r, and-true, not-true, split}
+use Rattle.words.proofs.lists.Searches.{lowest-hit, lowest-above, lowest-most, lowest-before, lowest-alike}
+use Rattle.words.proofs.lists.Tabulated.{length-tabulate}
 use Rattle.image.specs.Image.{Image, Row, no_row}
 use Rattle.image.specs.Decode.{lastLabel}
 use Rattle.tables.specs.Table.{tableImage}

@@ -1,8 +1,8 @@
 -- The grouping with fewest groups, found in rounds: labels that hold the same start in one class, and a round parts those whose rows lead
 -- to different classes. A list of classes has for each label the lowest one of its class.
 use Rattle.std.specs.Prelude.{ℕ, zero, suc, Bool, ◌&&◌, not, List, eqb, length, get_or}
-use Rattle.lists.specs.Numbers.{tabulate, lowest}
-use Rattle.lists.specs.Sequences.{some}
+use Rattle.words.specs.lists.Numbers.{tabulate, lowest}
+use Rattle.words.specs.lists.Sequences.{some}
 use Rattle.image.specs.Image.{Image, Label, Row}
 use Rattle.state.specs.State.{label_at}
 use Rattle.covering.specs.Matched.{together}

@@ -1,3 +1,5 @@
 pub mod Rule
 pub mod Classes
 pub mod inner
+pub mod marked_parts
+pub mod marking

@@ -1,7 +1,7 @@
 -- The rule for a grouping of an image's labels, and how many groups a grouping has.
 use Rattle.std.specs.Prelude.{ℕ, ◌<◌, Bool, true, not, ◌≡◌, eqb, length}
-use Rattle.lists.specs.Numbers.{any, count}
-use Rattle.frames.specs.Sizes.{WORDS}
+use Rattle.words.specs.lists.Numbers.{any, count}
+use Rattle.text.specs.frames.Sizes.{WORDS}
 use Rattle.image.specs.Image.{Image, nthRow}
 use Rattle.rows.specs.Rows.{isCandidate}
 use Rattle.state.specs.State.{label_at}

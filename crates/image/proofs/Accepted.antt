@@ -9,13 +9,13 @@ use lib.ListN.{length, get_or}
 use lib.Bits.{bit_and}
 use lib.Dec.{leb, ltb, eqb}
 use borrow.Author.Tests.{le-ltb, lt-ltb, eq-eqb, ne_eqb, eqb-true, eqb-false, ltb-false, leb-true}
-use Rattle.lists.proofs.Tests.{or_l, or_r, or_cases, and_l, and_r, and-false, not-false, yes-pick, no-pick}
-use Rattle.lists.proofs.Ranges.{length-map-range, getD-map-range}
-use Rattle.frames.specs.Frame.{size, field, pair_at, contents}
-use Rattle.frames.specs.Verdict.{fine, next, when, atLowest}
-use Rattle.frames.specs.Check.{textVerdict}
-use Rattle.frames.proofs.Verdicts.{next-first, next-rest, when-fine, at-lowest-fine}
-use Rattle.frames.proofs.Contents.{text-told, contents-bytes}
+use Rattle.words.proofs.lists.Tests.{or_l, or_r, or_cases, and_l, and_r, and-false, not-false, yes-pick, no-pick}
+use Rattle.words.proofs.lists.Ranges.{length-map-range, getD-map-range}
+use Rattle.text.specs.frames.Frame.{size, field, pair_at, contents}
+use Rattle.text.specs.frames.Verdict.{fine, next, when, atLowest}
+use Rattle.text.specs.frames.Check.{textVerdict}
+use Rattle.text.proofs.frames.Verdicts.{next-first, next-rest, when-fine, at-lowest-fine}
+use Rattle.text.proofs.frames.Contents.{text-told, contents-bytes}
 use Rattle.image.specs.Image.{Label, Row, no_row, nthRow, homeLabel, returnLabel}
 use Rattle.image.specs.Decode.{schemeCount, lastLabel, rowCount, handlerIn, labels_from, rows_from, entryIn, labelIn, row_in, decoded}
 use Rattle.image.specs.Check.{filled, badHandler, badCounts, badHeader, entryPosition, labelPosition}

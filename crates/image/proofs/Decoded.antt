@@ -4,9 +4,9 @@ use mathlib.Core.Path.{◌≡◌, ◌∙◌, ap}
 use mathlib.Core.List.{List, map}
 use native.Mathlib.Omega.{arith}
 use lib.ListN.{length, get_or}
-use Rattle.lists.specs.Numbers.{range}
-use Rattle.lists.proofs.Ranges.{map-count}
-use Rattle.frames.specs.Frame.{field, pair_at, quadAt, contents}
+use Rattle.words.specs.lists.Numbers.{range}
+use Rattle.words.proofs.lists.Ranges.{map-count}
+use Rattle.text.specs.frames.Frame.{field, pair_at, quadAt, contents}
 use Rattle.image.specs.Image.{Image, Label, Row, labelFrame, rowFrame, imageText, no_row, nthRow}
 use Rattle.image.specs.Decode.{schemeCount, lastLabel, rowCount, handlerIn, labels_from, rows_from, entryIn, labelIn, row_in, decoded}
 use Rattle.image.specs.inner.Sound.{no_label, nthLabel, SoundImage}

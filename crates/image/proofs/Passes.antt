@@ -10,12 +10,12 @@ use lib.Seq.{get_or-append-add}
 use lib.Dec.{ltb, eqb}
 use lib.Bits.{bit_and}
 use borrow.Author.Tests.{le-ltb, lt-ltb, le-leb, eq-eqb, ne_eqb}
-use Rattle.lists.specs.Pick.{pick}
-use Rattle.lists.proofs.Tests.{split, or-none, or-true-l, or_true_r}
-use Rattle.lists.proofs.Searches.{any_none}
-use Rattle.frames.specs.Frame.{size, field, pair, contents}
-use Rattle.frames.specs.Verdict.{Verdict, fine, next, when, atLowest}
-use Rattle.frames.proofs.Verdicts.{at_none}
+use Rattle.words.specs.lists.Pick.{pick}
+use Rattle.words.proofs.lists.Tests.{split, or-none, or-true-l, or_true_r}
+use Rattle.words.proofs.lists.Searches.{any_none}
+use Rattle.text.specs.frames.Frame.{size, field, pair, contents}
+use Rattle.text.specs.frames.Verdict.{Verdict, fine, next, when, atLowest}
+use Rattle.text.proofs.frames.Verdicts.{at_none}
 use Rattle.image.specs.Image.{Image, Label, Row, imageText, nthRow}
 use Rattle.image.specs.Decode.{schemeCount, lastLabel, rowCount, handlerIn, rows_from, labelIn, row_in}
 use Rattle.image.specs.Check.{filled, badHandler, badCounts, badHeader, entryPosition, labelPosition}

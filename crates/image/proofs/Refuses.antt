@@ -2,10 +2,10 @@
 use Prim.Native.Nat.{ℕ, ◌≤◌}
 use mathlib.Core.List.{List}
 use native.Mathlib.Omega.{arith}
-use Rattle.frames.specs.Frame.{size, contents}
-use Rattle.frames.specs.Verdict.{when, atLowest}
-use Rattle.frames.specs.Check.{textVerdict}
-use Rattle.frames.proofs.Refuses.{RefusesWith, next-refuses, when-refuses, lowest-refuses, text-refuses}
+use Rattle.text.specs.frames.Frame.{size, contents}
+use Rattle.text.specs.frames.Verdict.{when, atLowest}
+use Rattle.text.specs.frames.Check.{textVerdict}
+use Rattle.text.proofs.frames.Refuses.{RefusesWith, next-refuses, when-refuses, lowest-refuses, text-refuses}
 use Rattle.image.specs.Check.{badHeader, stray, badContent, tableVerdict, imageVerdict}
 
 -- a refusal that changes no buffer and no state

@@ -5,7 +5,7 @@ use mathlib.Core.List.{List, [], ◌∷◌}
 use native.Mathlib.Nat.{add-zero}
 use native.Mathlib.Omega.{arith}
 use lib.ListN.{length, get_or}
-use Rattle.frames.specs.Frame.{size, field}
+use Rattle.text.specs.frames.Frame.{size, field}
 use Rattle.image.specs.Image.{Row, no_row, nthRow}
 use Rattle.image.specs.Decode.{rowCount, rows_from, rowInFrame, decoded}
 use Rattle.image.specs.inner.Sound.{SoundImage}

@@ -5,14 +5,14 @@ use mathlib.Core.List.{List, [], ◌++◌, map}
 use native.Mathlib.Omega.{arith}
 use lib.ListN.{length, get_or, length-append, length-map, get_or-append}
 use lib.Seq.{get_or-append-add}
-use Rattle.lists.specs.Sequences.{mapFrom, All}
-use Rattle.lists.proofs.Ranges.{get_d_map, length-mapFrom, getD-mapFrom}
-use Rattle.lists.proofs.Joins.{all_append, all-places}
-use Rattle.frames.specs.Frame.{contents, field}
-use Rattle.frames.specs.Verdict.{fine}
-use Rattle.frames.specs.Check.{textVerdict}
-use Rattle.frames.proofs.Frames.{Frame, frame-by}
-use Rattle.frames.proofs.Texts.{text-fine, contents-length, contents-at}
+use Rattle.words.specs.lists.Sequences.{mapFrom, All}
+use Rattle.words.proofs.lists.Ranges.{get_d_map, length-mapFrom, getD-mapFrom}
+use Rattle.words.proofs.lists.Joins.{all_append, all-places}
+use Rattle.text.specs.frames.Frame.{contents, field}
+use Rattle.text.specs.frames.Verdict.{fine}
+use Rattle.text.specs.frames.Check.{textVerdict}
+use Rattle.text.proofs.frames.Frames.{Frame, frame-by}
+use Rattle.text.proofs.frames.Texts.{text-fine, contents-length, contents-at}
 use Rattle.image.specs.Image.{Image, Label, headerFrame, entryFrame, labelFrame, rowFrame, imageFrames, imageText, no_row, nthRow}
 use Rattle.image.specs.inner.Sound.{no_label, nthLabel, SoundLabel, SoundRow, SoundImage}
 

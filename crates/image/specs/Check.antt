@@ -1,13 +1,13 @@
 -- Why an image is refused: refusals 1 to 3 and 11 to 13.
 use Rattle.std.specs.Prelude.{ℕ, zero, suc, ◌+◌, ◌-◌, Bool, false, ◌&&◌, ◌||◌, not, List, leb, ltb, eqb}
 use Rattle.std.specs.Int.Bits.{bit_and}
-use Rattle.lists.specs.Pick.{pick}
-use Rattle.lists.specs.Numbers.{any}
-use Rattle.frames.specs.Sizes.{SCHEMES, ROWS, IMAGE-TEXT}
-use Rattle.frames.specs.Refusals.{BAD-HEADER, STRAY-FRAME, BAD-CONTENT}
-use Rattle.frames.specs.Frame.{size, field, contents}
-use Rattle.frames.specs.Verdict.{Verdict, next, when, atLowest}
-use Rattle.frames.specs.Check.{textVerdict}
+use Rattle.words.specs.lists.Pick.{pick}
+use Rattle.words.specs.lists.Numbers.{any}
+use Rattle.text.specs.frames.Sizes.{SCHEMES, ROWS, IMAGE-TEXT}
+use Rattle.text.specs.frames.Refusals.{BAD-HEADER, STRAY-FRAME, BAD-CONTENT}
+use Rattle.text.specs.frames.Frame.{size, field, contents}
+use Rattle.text.specs.frames.Verdict.{Verdict, next, when, atLowest}
+use Rattle.text.specs.frames.Check.{textVerdict}
 use Rattle.image.specs.Layout.{HEADER, ENTRY, LABEL, ROW, FRAME-KIND, NUMBER, NO-BIT, PLAIN, FUNCTION-CALL, RETURN, HOME}
 use Rattle.image.specs.Image.{Label, Row}
 use Rattle.image.specs.Decode.{schemeCount, lastLabel, rowCount, handlerIn, labels_from, rows_from, entryIn, labelIn, row_in}

@@ -1,7 +1,7 @@
 -- The image that the contents of a text hold, ten bytes a frame.
 use Rattle.std.specs.Prelude.{ℕ, ◌+◌, List, map}
-use Rattle.lists.specs.Numbers.{range}
-use Rattle.frames.specs.Frame.{field, pair_at, quadAt}
+use Rattle.words.specs.lists.Numbers.{range}
+use Rattle.text.specs.frames.Frame.{field, pair_at, quadAt}
 use Rattle.image.specs.Layout.{SCHEME-COUNT, LAST-LABEL, ROW-COUNT, HANDLER, ENTRY-LABEL}
 use Rattle.image.specs.Layout.{TICK-KIND, CALLED, OWNER, LABEL-RESULT, LABEL-MASK, FROM, CARE, VALUES, FUNCTION-BIT, NEXT}
 use Rattle.image.specs.Image.{Image, Label, Row}

@@ -1,7 +1,7 @@
 -- The image (the paper's word for the table that the machine steps through): the handler, entries, labels and rows, and its frames.
 use Rattle.std.specs.Prelude.{ℕ, ◌-◌, List, [], ◌∷◌, ◌++◌, map, length, get_or, replicate}
-use Rattle.lists.specs.Sequences.{mapFrom}
-use Rattle.frames.specs.Frame.{pair, quad, framesText}
+use Rattle.words.specs.lists.Sequences.{mapFrom}
+use Rattle.text.specs.frames.Frame.{pair, quad, framesText}
 use Rattle.image.specs.Layout.{HEADER, ENTRY, LABEL, ROW, PLAIN, RETURN, HOME}
 
 -- kind: the tick kind

@@ -1,6 +1,6 @@
 // The counts and the handler of the header, as far as refusal 11 tries them by themselves.
 ghost use Rattle.std.specs.Prelude.{◌≡◌, ◌<◌};
-ghost use Rattle.frames.specs.Frame.{size};
+ghost use Rattle.text.specs.frames.Frame.{size};
 ghost use Rattle.image.specs.Check.{badCounts, badHandler};
 
 use crate::layout::*;

@@ -1,14 +1,14 @@
 // What stands in a decoded table: bytes, two-byte and four-byte fields, and where labels and rows begin.
 ghost use Rattle.std.specs.Prelude.{◌≡◌, ◌+◌, ◌*◌, ◌-◌, ◌<◌, length};
-ghost use Rattle.frames.specs.Sizes.{FRAME};
-ghost use Rattle.frames.specs.Frame.{size, field, pair_at, quadAt};
+ghost use Rattle.text.specs.frames.Sizes.{FRAME};
+ghost use Rattle.text.specs.frames.Frame.{size, field, pair_at, quadAt};
 ghost use Rattle.image.specs.Layout.{LABEL-MASK};
 ghost use Rattle.image.specs.Decode.{labels_from, rows_from};
 ghost use Rattle.image.specs.Check.{filled};
 ghost use Rattle.image.specs.inner.FrameContracts.{BytesAsked};
 
 use crate::layout::{LABEL_MASK, LAST_LABEL, SCHEME_COUNT};
-use frames::sizes::FRAME;
+use text::frames::sizes::FRAME;
 
 // Byte k of frame f.
 pub fn byte(table: &[u8], f: usize, k: usize) -> u8

@@ -6,9 +6,9 @@ use Prim.Native.Nat.{ℕ, ◌+◌, ◌-◌, ◌≤◌, ◌<◌}
 use native.Mathlib.Omega.{arith}
 use lib.Dec.{ltb, eqb}
 use borrow.Author.Tests.{eq-eqb, ne_eqb, lt-ltb, le-ltb, ltb-false}
-use Rattle.lists.specs.Pick.{pick}
-use Rattle.lists.proofs.Tests.{or-true-l, or_true_r}
-use Rattle.frames.specs.Frame.{size, field}
+use Rattle.words.specs.lists.Pick.{pick}
+use Rattle.words.proofs.lists.Tests.{or-true-l, or_true_r}
+use Rattle.text.specs.frames.Frame.{size, field}
 use Rattle.image.specs.Decode.{rowCount, labels_from, rows_from}
 use Rattle.image.specs.Check.{Position, headerPosition, entryPosition, labelPosition, rowPosition, filled}
 use Rattle.image.specs.Check.{badHandler, badCounts, badHeader, position_of, strayFrame, stray}

@@ -5,16 +5,16 @@ use Prim.Native.Nat.{ℕ, ◌*◌, ◌/◌, ◌≤◌}
 use native.Mathlib.Omega.{arith}
 use lib.ListN.{length, take, drop}
 use lib.Seq.{take_at}
-use Rattle.frames.specs.Frame.{size, frameCount, contents}
-use Rattle.frames.specs.Verdict.{fine, refused}
-use Rattle.frames.specs.Check.{textVerdict}
-use Rattle.frames.specs.inner.Read.{readInto}
-use Rattle.frames.specs.Answer.{reply, judged}
-use Rattle.frames.specs.declared.Answer.{Answer}
-use Rattle.frames.specs.declared.Answer.TheVariants.{Done, Refused}
-use Rattle.frames.proofs.Contents.{text-told, any-contents-length}
-use Rattle.frames.proofs.Reading.{read-fine}
-use Rattle.frames.proofs.Chains.{next-refused, next-on, done-fine, refused-verdict}
+use Rattle.text.specs.frames.Frame.{size, frameCount, contents}
+use Rattle.text.specs.frames.Verdict.{fine, refused}
+use Rattle.text.specs.frames.Check.{textVerdict}
+use Rattle.text.specs.frames.inner.Read.{readInto}
+use Rattle.text.specs.frames.Answer.{reply, judged}
+use Rattle.text.specs.declared.frames.Answer.{Answer}
+use Rattle.text.specs.declared.frames.Answer.TheVariants.{Done, Refused}
+use Rattle.text.proofs.frames.Contents.{text-told, any-contents-length}
+use Rattle.text.proofs.frames.Reading.{read-fine}
+use Rattle.text.proofs.frames.Chains.{next-refused, next-on, done-fine, refused-verdict}
 use Rattle.image.specs.Check.{tableVerdict, imageVerdict}
 
 -- an image's text of m frames that 1 to 3 let pass

@@ -6,14 +6,14 @@ use Prim.Native.Nat.{ℕ, ◌+◌, ◌≤◌, ◌<◌}
 use native.Mathlib.Omega.{arith}
 use lib.Dec.{eqb}
 use borrow.Author.Tests.{lt-ltb, le-ltb, eqb-true}
-use Rattle.lists.specs.Numbers.{lowest}
-use Rattle.lists.proofs.Tests.{or_l, or_r, not-false}
-use Rattle.lists.proofs.Searches.{lowest-past, lowest-none, lowest-alike}
-use Rattle.frames.specs.Frame.{size, field}
-use Rattle.frames.specs.Answer.{success, refusal, judged}
+use Rattle.words.specs.lists.Numbers.{lowest}
+use Rattle.words.proofs.lists.Tests.{or_l, or_r, not-false}
+use Rattle.words.proofs.lists.Searches.{lowest-past, lowest-none, lowest-alike}
+use Rattle.text.specs.frames.Frame.{size, field}
+use Rattle.text.specs.frames.Answer.{success, refusal, judged}
 use Rattle.image.specs.Decode.{rowCount, rows_from}
 use Rattle.image.specs.Check.{filled, badHandler, badCounts, badHeader, stray, badContent, tableVerdict}
-use Rattle.image_faults.specs.inner.FaultyFrames.{faulty}
+use Rattle.image_check.specs.image_faults.inner.FaultyFrames.{faulty}
 
 -- a good header tells how many frames there are
 pub header-size : (b : List ℕ) → badHeader b ≡ false → size b ≡ rows_from b + rowCount b

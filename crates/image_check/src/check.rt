@@ -1,14 +1,14 @@
 // Refusals 11 to 13 of a decoded table.
 ghost use Rattle.std.specs.Prelude.{◌≡◌, ◌<◌};
-ghost use Rattle.frames.specs.Frame.{size};
-ghost use Rattle.frames.specs.Answer.{reply, judged};
+ghost use Rattle.text.specs.frames.Frame.{size};
+ghost use Rattle.text.specs.frames.Answer.{reply, judged};
 ghost use Rattle.image.specs.Check.{tableVerdict};
 
+use crate::image_faults::lowest_fault;
 use crate::positions::{bad_header, lowest_stray};
-use frames::refusals::{BAD_CONTENT, BAD_HEADER, STRAY_FRAME};
-use frames::sizes::FRAME;
-use frames::{Answer, refused};
-use image_faults::lowest_fault;
+use text::frames::refusals::{BAD_CONTENT, BAD_HEADER, STRAY_FRAME};
+use text::frames::sizes::FRAME;
+use text::frames::{Answer, refused};
 
 // 11 to 13. A table in which 12 and 13 find no frame is done with one pass; else 12 on any frame goes before 13.
 pub fn check_table(table: &[u8]) -> Answer

@@ -2,6 +2,9 @@
 #![tactic(auto)]
 
 mod check;
+pub mod image_faults;
+pub mod image_fields;
+pub mod image_strays;
 mod positions;
 mod read;
 

@@ -1,14 +1,14 @@
 // Refusals 11 and 12: the header, and what each frame has to be by its position.
 ghost use Rattle.std.specs.Prelude.{◌≡◌, ◌<◌, ◌≤◌};
-ghost use Rattle.lists.specs.Numbers.{lowest};
-ghost use Rattle.frames.specs.Frame.{size};
+ghost use Rattle.words.specs.lists.Numbers.{lowest};
+ghost use Rattle.text.specs.frames.Frame.{size};
 ghost use Rattle.image.specs.Check.{badHeader, position_of, stray};
 ghost use Rattle.image_check.specs.inner.CheckedFrames.{positionKind};
 
-use frames::sizes::FRAME;
+use crate::image_strays::{stray_entry, stray_label, stray_row};
 use image::layout::*;
 use image::{bad_counts, bad_handler, byte, filled_to, labels_from, pair, rows_from};
-use image_strays::{stray_entry, stray_label, stray_row};
+use text::frames::sizes::FRAME;
 
 // 11
 pub fn bad_header(table: &[u8]) -> bool

@@ -1,14 +1,14 @@
 // An image's text: read and checked, refusals 1 to 3 and 11 to 13.
 ghost use Rattle.std.specs.Prelude.{◌≡◌, ◌≤◌, length};
-ghost use Rattle.frames.specs.Sizes.{IMAGE-TEXT, TABLE};
-ghost use Rattle.frames.specs.Answer.{reply, judged};
-ghost use Rattle.frames.specs.inner.Read.{readInto};
+ghost use Rattle.text.specs.frames.Sizes.{IMAGE-TEXT, TABLE};
+ghost use Rattle.text.specs.frames.Answer.{reply, judged};
+ghost use Rattle.text.specs.frames.inner.Read.{readInto};
 ghost use Rattle.image.specs.Check.{imageVerdict};
 
 use crate::check::check_table;
-use frames::Answer;
-use frames::sizes::{FRAME, IMAGE_TEXT, TABLE};
-use reading::read_text;
+use text::frames::Answer;
+use text::frames::sizes::{FRAME, IMAGE_TEXT, TABLE};
+use text::reading::read_text;
 
 // The table, ten bytes a frame, is written to the front of the lent buffer; only 1 leaves the buffer as it was.
 // No entry point: the caller lends scratch space, as the image check below and a run do.

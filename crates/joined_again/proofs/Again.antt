@@ -8,17 +8,17 @@ use native.Mathlib.Omega.{arith}
 use lib.Dec.{eqb}
 use lib.ListN.{length, get_or}
 use borrow.Author.Tests.{eqb-true, eq-eqb}
-use Rattle.lists.specs.Pick.{pick}
-use Rattle.lists.specs.Numbers.{range, count}
-use Rattle.lists.specs.Sequences.{filter}
-use Rattle.lists.proofs.Tests.{and_l}
-use Rattle.lists.proofs.Counts.{count-alike, count-all}
-use Rattle.lists.proofs.Ranges.{map-places}
-use Rattle.lists.proofs.Elements.{map-own, filter-own}
-use Rattle.lists.proofs.Joins.{all-places, all_of, all-range}
-use Rattle.frames.specs.Frame.{contents}
-use Rattle.frames.specs.Verdict.{fine, next, when}
-use Rattle.frames.proofs.Verdicts.{next-first, next-rest, when-fine}
+use Rattle.words.specs.lists.Pick.{pick}
+use Rattle.words.specs.lists.Numbers.{range, count}
+use Rattle.words.specs.lists.Sequences.{filter}
+use Rattle.words.proofs.lists.Tests.{and_l}
+use Rattle.words.proofs.lists.Counts.{count-alike, count-all}
+use Rattle.words.proofs.lists.Ranges.{map-places}
+use Rattle.words.proofs.lists.Elements.{map-own, filter-own}
+use Rattle.words.proofs.lists.Joins.{all-places, all_of, all-range}
+use Rattle.text.specs.frames.Frame.{contents}
+use Rattle.text.specs.frames.Verdict.{fine, next, when}
+use Rattle.text.proofs.frames.Verdicts.{next-first, next-rest, when-fine}
 use Rattle.image.specs.Image.{Image, Row, imageText, nthRow}
 use Rattle.image.specs.Decode.{decoded}
 use Rattle.image.specs.Check.{imageVerdict}
@@ -35,10 +35,10 @@ use Rattle.grouping.specs.Classes.{class_of, isFirst, grouping}
 use Rattle.grouping.proofs.Onward.{onwardLabel, onward-is}
 use Rattle.grouping.proofs.Rounds.{ClassRound, group-round, group-leads}
 use Rattle.grouping.proofs.Coarsest.{bit-of, within-grouping}
-use Rattle.group_numbers.specs.Smaller.{renumbered, renumberedRow, joinedLabels, smaller}
+use Rattle.minimising.specs.group_numbers.Smaller.{renumbered, renumberedRow, joinedLabels, smaller}
 use Rattle.minimising.specs.Entry.{minimiseVerdict}
-use Rattle.group_numbers.proofs.Numbering.{new-inside, label-new, joined-sound}
-use Rattle.group_numbers.proofs.Led.{Member, member, one-new, even-new, onward-new}
+use Rattle.minimising.proofs.group_numbers.Numbering.{new-inside, label-new, joined-sound}
+use Rattle.minimising.proofs.group_numbers.Led.{Member, member, one-new, even-new, onward-new}
 
 -- ---- an image in which each label is alone stays as it is
 module _ (i : Image) (S : SoundImage i) (c : List ℕ) (alone : (l : ℕ) → l < length i.labels → class_of c l ≡ l) where

@@ -5,13 +5,13 @@ use mathlib.Core.Path.{◌≡◌, ◌∙◌, ap}
 use mathlib.Core.List.{List}
 use native.Mathlib.Omega.{arith}
 use lib.ListN.{length}
-use Rattle.lists.proofs.Counts.{count-le}
-use Rattle.frames.specs.Frame.{contents}
-use Rattle.frames.specs.Verdict.{Verdict, fine}
-use Rattle.frames.specs.Answer.{success, BufferOutcome, bufferOn}
-use Rattle.frames.proofs.Contents.{any-contents-length}
-use Rattle.frames.proofs.Texts.{text-length}
-use Rattle.frames.proofs.Lent.{lent-told, lent_fits}
+use Rattle.words.proofs.lists.Counts.{count-le}
+use Rattle.text.specs.frames.Frame.{contents}
+use Rattle.text.specs.frames.Verdict.{Verdict, fine}
+use Rattle.text.specs.frames.Answer.{success, BufferOutcome, bufferOn}
+use Rattle.text.proofs.frames.Contents.{any-contents-length}
+use Rattle.text.proofs.frames.Texts.{text-length}
+use Rattle.text.proofs.frames.Lent.{lent-told, lent_fits}
 use Rattle.image.specs.Image.{Image, imageFrames, imageText}
 use Rattle.image.specs.Decode.{decoded}
 use Rattle.image.specs.Check.{imageVerdict}
@@ -24,8 +24,8 @@ use Rattle.grouping.specs.Rule.{Grouping, Meets, groups}
 use Rattle.grouping.specs.Classes.{isFirst, grouping}
 use Rattle.grouping.proofs.Rounds.{ClassRound, group-round}
 use Rattle.grouping.proofs.Coarsest.{groups-counted, even-fewest}
-use Rattle.group_numbers.specs.Smaller.{smaller}
-use Rattle.group_numbers.proofs.Numbering as numbered
+use Rattle.minimising.specs.group_numbers.Smaller.{smaller}
+use Rattle.minimising.proofs.group_numbers.Numbering as numbered
 use Rattle.minimising.specs.Entry.{minimiseVerdict, minimise}
 use Rattle.joined_again.proofs.Again.{smaller-sound, AllowedImage, minimise-allowed}
 

@@ -6,11 +6,11 @@ use mathlib.Core.Path.{◌≡◌, sym, ◌∙◌, ap, ap₂}
 use mathlib.Core.List.{List}
 use native.Mathlib.Omega.{arith}
 use lib.ListN.{length, take}
-use Rattle.lists.specs.Sequences.{over}
-use Rattle.frames.specs.Frame.{contents}
-use Rattle.frames.specs.Verdict.{Verdict, fine, next, when}
-use Rattle.frames.specs.Answer.{success, bufferOn}
-use Rattle.frames.proofs.Lent.{lent-told, lent_fits, front}
+use Rattle.words.specs.lists.Sequences.{over}
+use Rattle.text.specs.frames.Frame.{contents}
+use Rattle.text.specs.frames.Verdict.{Verdict, fine, next, when}
+use Rattle.text.specs.frames.Answer.{success, bufferOn}
+use Rattle.text.proofs.frames.Lent.{lent-told, lent_fits, front}
 use Rattle.image.specs.Image.{Image, imageText}
 use Rattle.image.specs.Decode.{decoded}
 use Rattle.image.specs.Check.{imageVerdict}
@@ -20,7 +20,7 @@ use Rattle.covering.specs.Matched.{uneven}
 use Rattle.grouping.specs.Rule.{Grouping, Meets, groups}
 use Rattle.grouping.specs.Classes.{class_of, grouping}
 use Rattle.grouping.proofs.Coarsest.{even-meets, even-fewest}
-use Rattle.group_numbers.specs.Smaller.{smaller}
+use Rattle.minimising.specs.group_numbers.Smaller.{smaller}
 use Rattle.minimising.specs.Entry.{minimiseVerdict, minimise}
 use Rattle.joined_again.proofs.Again.{smaller-even, smaller-again, smaller-passes, smaller-decoded, AllowedImage, minimise-allowed}
 

@@ -6,23 +6,23 @@ use mathlib.Core.List.{List, [], ◌∷◌, map}
 use native.Mathlib.Omega.{arith}
 use native.Mathlib.Decide.{dec_lt}
 use lib.ListN.{length, get_or}
-use Rattle.lists.specs.Numbers.{range, any}
-use Rattle.lists.proofs.Tests.{no_both, not-true, not-false}
-use Rattle.lists.proofs.Searches.{any_false, any_none}
-use Rattle.lists.proofs.Ranges.{length-map-range, map-count}
-use Rattle.lists.proofs.Joins.{all-at, all_of, all_map, all-concat, all_filter, all-range}
-use Rattle.lists.specs.Sequences.{All}
-use Rattle.frames.specs.Frame.{contents, size, field, tenAt, framesText, frameText, text_of}
-use Rattle.frames.specs.Verdict.{Verdict, fine, refused, next}
-use Rattle.frames.specs.Check.{textVerdict}
-use Rattle.frames.proofs.Frames.{Frame, frame-length}
-use Rattle.frames.proofs.Texts.{text-count, text-fine, text-contents, contents-length, contents-at}
-use Rattle.frames.proofs.Contents.{text-back, any-contents-length, ten-frames, textOf-contents}
+use Rattle.words.specs.lists.Numbers.{range, any}
+use Rattle.words.proofs.lists.Tests.{no_both, not-true, not-false}
+use Rattle.words.proofs.lists.Searches.{any_false, any_none}
+use Rattle.words.proofs.lists.Ranges.{length-map-range, map-count}
+use Rattle.words.proofs.lists.Joins.{all-at, all_of, all_map, all-concat, all_filter, all-range}
+use Rattle.words.specs.lists.Sequences.{All}
+use Rattle.text.specs.frames.Frame.{contents, size, field, tenAt, framesText, frameText, text_of}
+use Rattle.text.specs.frames.Verdict.{Verdict, fine, refused, next}
+use Rattle.text.specs.frames.Check.{textVerdict}
+use Rattle.text.proofs.frames.Frames.{Frame, frame-length}
+use Rattle.text.proofs.frames.Texts.{text-count, text-fine, text-contents, contents-length, contents-at}
+use Rattle.text.proofs.frames.Contents.{text-back, any-contents-length, ten-frames, textOf-contents}
 use Rattle.charts.specs.Chart.{Chart}
 use Rattle.charts.specs.Check.{chartVerdict}
 use Rattle.charts.specs.Entry.{readVerdict}
 use Rattle.charts.proofs.Accepted.{Accepted, accepted, accepted-bytes, read-text}
-use Rattle.frames.proofs.Verdicts.{next-rest}
+use Rattle.text.proofs.frames.Verdicts.{next-rest}
 use Rattle.little_charts.specs.Little.{littleNode, nodes, lists_of, chartOf, passes, littleCharts, littleText}
 use Rattle.little_charts.specs.Promises.{before, littleTotal, Wanted, AllWanted, NumberedText, NoneMissing, InOrder, EachOnce}
 use Rattle.little_charts.proofs.Members.{In, here, in_map, in-concat, in-filter, in_all, all_in, Place, in_place}

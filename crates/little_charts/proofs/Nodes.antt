@@ -9,14 +9,14 @@ use native.Mathlib.Decide.{ℕ_discrete}
 use lib.Dec.{leb, ltb, eqb}
 use lib.ListN.{length}
 use borrow.Author.Tests.{eqb-true, eq-eqb, leb-true, leb-false}
-use Rattle.lists.specs.Numbers.{range}
-use Rattle.lists.specs.Sequences.{some, concatMap, All}
-use Rattle.lists.proofs.Tests.{no_both, or_l, or_r, and_l, and_r, not-false, not-true, or_cases}
-use Rattle.lists.proofs.Searches.{any_false, highest-le, some-cons}
-use Rattle.lists.proofs.Joins.{all_of}
-use Rattle.digits.specs.Digit.{charOf}
-use Rattle.frames.specs.Frame.{size, field, tenAt, total, frameText}
-use Rattle.frames.proofs.Frames.{Frame, frame-by}
+use Rattle.words.specs.lists.Numbers.{range}
+use Rattle.words.specs.lists.Sequences.{some, concatMap, All}
+use Rattle.words.proofs.lists.Tests.{no_both, or_l, or_r, and_l, and_r, not-false, not-true, or_cases}
+use Rattle.words.proofs.lists.Searches.{any_false, highest-le, some-cons}
+use Rattle.words.proofs.lists.Joins.{all_of}
+use Rattle.text.specs.digits.Digit.{charOf}
+use Rattle.text.specs.frames.Frame.{size, field, tenAt, total, frameText}
+use Rattle.text.proofs.frames.Frames.{Frame, frame-by}
 use Rattle.charts.specs.Chart.{Chart, kind, scheme, argument, next0, next1, result, mask, is, schemes}
 use Rattle.charts.specs.Layout.{kind_of}
 use Rattle.charts.specs.Check.{filledFrom, badUse, badField}

@@ -8,11 +8,11 @@ use native.Mathlib.Omega.{arith}
 use lib.Dec.{ltb, eqb}
 use lib.ListN.{length, get_or}
 use borrow.Author.Tests.{eq-eqb, le-ltb}
-use Rattle.lists.specs.Sequences.{filter, concatMap, All}
-use Rattle.lists.proofs.Tests.{or_cases, or-true-l, or_true_r, or-none, and_l, and_r, and-true, and_no}
-use Rattle.lists.proofs.Ranges.{filter-yes, filter-no}
-use Rattle.lists.proofs.Joins.{all-at, all-every, all_append, all_map, all_of, all-concat, all_filter, concat-cons}
-use Rattle.frames.specs.Frame.{frameText, framesText}
+use Rattle.words.specs.lists.Sequences.{filter, concatMap, All}
+use Rattle.words.proofs.lists.Tests.{or_cases, or-true-l, or_true_r, or-none, and_l, and_r, and-true, and_no}
+use Rattle.words.proofs.lists.Ranges.{filter-yes, filter-no}
+use Rattle.words.proofs.lists.Joins.{all-at, all-every, all_append, all_map, all_of, all-concat, all_filter, concat-cons}
+use Rattle.text.specs.frames.Frame.{frameText, framesText}
 use Rattle.little_charts.specs.Little.{lists_of}
 use Rattle.little_charts.specs.Promises.{before}
 

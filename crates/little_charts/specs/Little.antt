@@ -1,12 +1,12 @@
 -- All the little charts: the accepted ones of 2 to 4 frames with one scheme, no function and no mark, condition 0 alone, masks 0 or 1
 -- and results 0.
 use Rattle.std.specs.Prelude.{ℕ, zero, suc, Bool, true, false, ◌&&◌, ◌||◌, not, List, [], ◌∷◌, ◌++◌, map, leb, ltb, eqb, length, get_or, replicate}
-use Rattle.lists.specs.Numbers.{range, any}
-use Rattle.lists.specs.Sequences.{filter, concatMap}
-use Rattle.frames.specs.Refusals.{NO-LITTLE-CHART}
-use Rattle.frames.specs.Frame.{size, text_of}
-use Rattle.frames.specs.Verdict.{Verdict, fine, refused, when}
-use Rattle.frames.specs.Answer.{BufferOutcome, bufferOn}
+use Rattle.words.specs.lists.Numbers.{range, any}
+use Rattle.words.specs.lists.Sequences.{filter, concatMap}
+use Rattle.text.specs.frames.Refusals.{NO-LITTLE-CHART}
+use Rattle.text.specs.frames.Frame.{size, text_of}
+use Rattle.text.specs.frames.Verdict.{Verdict, fine, refused, when}
+use Rattle.text.specs.frames.Answer.{BufferOutcome, bufferOn}
 use Rattle.charts.specs.Layout.{BEGIN, END, OPERATION, CONDITION}
 use Rattle.charts.specs.Chart.{Chart, kind, scheme, argument, result, mask, is}
 use Rattle.charts.specs.Check.{chartVerdict}

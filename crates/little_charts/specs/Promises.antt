@@ -1,8 +1,8 @@
 -- What the list of little charts promises: each is accepted and of the form, none is missing, and their texts increase.
 use Rattle.std.specs.Prelude.{ℕ, ◌≤◌, ◌<◌, Bool, true, false, ◌&&◌, ◌||◌, ◌≡◌, List, [], ◌∷◌, map, ltb, eqb, length}
-use Rattle.digits.specs.Digit.{capital}
-use Rattle.frames.specs.Frame.{contents, frameCount, text_of}
-use Rattle.frames.specs.Verdict.{fine}
+use Rattle.text.specs.digits.Digit.{capital}
+use Rattle.text.specs.frames.Frame.{contents, frameCount, text_of}
+use Rattle.text.specs.frames.Verdict.{fine}
 use Rattle.charts.specs.Entry.{readVerdict}
 use Rattle.little_charts.specs.Little.{little, littleCharts, littleText}
 

@@ -1,2 +1,2 @@
-// All the little charts: definitions and laws, no function.
+// All the little charts, listed, a search that finds them, and how many there are.
 #![tactic(auto)]

@@ -4,8 +4,8 @@ use Prim.Native.Nat.{ℕ}
 use mathlib.Core.Bool.{false}
 use mathlib.Core.Path.{◌≡◌, refl}
 use mathlib.Core.List.{List}
-use Rattle.frames.specs.Frame.{contents}
-use Rattle.frames.specs.Verdict.{fine}
+use Rattle.text.specs.frames.Frame.{contents}
+use Rattle.text.specs.frames.Verdict.{fine}
 use Rattle.image.specs.Image.{Image, imageText}
 use Rattle.image.specs.Decode.{decoded}
 use Rattle.image.specs.inner.Sound.{SoundImage}
@@ -19,7 +19,7 @@ use Rattle.runs.specs.Run.{run}
 use Rattle.rebinding.specs.Rebind.{rebind}
 use Rattle.covering.proofs.Hits.{one-row}
 use Rattle.grouping.specs.Classes.{grouping}
-use Rattle.group_numbers.specs.Smaller.{smaller}
+use Rattle.minimising.specs.group_numbers.Smaller.{smaller}
 use Rattle.minimising.specs.Entry.{minimiseVerdict}
 use Rattle.joined_again.proofs.Again.{AllowedImage, minimise-allowed}
 use Rattle.minimised.specs.Renamed.{renamed, renamedTick, renamedRun, renamedState}

@@ -5,19 +5,19 @@ use mathlib.Core.Path.{◌≡◌, sym, ◌∙◌, ap, subst}
 use mathlib.Core.List.{List}
 use native.Mathlib.Omega.{arith}
 use lib.ListN.{length, take, length-map, length-take}
-use Rattle.lists.specs.Pick.{pick}
-use Rattle.lists.specs.Sequences.{filter}
-use Rattle.frames.specs.Frame.{contents, size}
-use Rattle.frames.specs.Verdict.{Verdict, fine, next, when}
-use Rattle.frames.specs.Answer.{success}
-use Rattle.frames.proofs.Lent.{Success, lent-told, front}
+use Rattle.words.specs.lists.Pick.{pick}
+use Rattle.words.specs.lists.Sequences.{filter}
+use Rattle.text.specs.frames.Frame.{contents, size}
+use Rattle.text.specs.frames.Verdict.{Verdict, fine, next, when}
+use Rattle.text.specs.frames.Answer.{success}
+use Rattle.text.proofs.frames.Lent.{Success, lent-told, front}
 use Rattle.charts.specs.Chart.{Chart}
 use Rattle.charts.proofs.Accepted.{SoundChart, accepted}
 use Rattle.walk.proofs.Facts.{Facts}
 use Rattle.walk.proofs.FactsHold.{facts}
 use Rattle.image.specs.Image.{Image, Row, imageText}
 use Rattle.image.specs.Decode.{decoded}
-use Rattle.chart_labels.specs.Labels.{label}
+use Rattle.chart_rows.specs.chart_labels.Labels.{label}
 use Rattle.chart_rows.specs.Rows.{rows}
 use Rattle.translator.specs.Table.{table}
 use Rattle.translator.specs.Entry.{translateVerdict, translate}
@@ -35,7 +35,7 @@ use Rattle.agreement.proofs.Images.{translated-passes, translated-decoded}
 use Rattle.agreement.proofs.Demand.{theorem}
 use Rattle.covering.specs.Matched.{hits, uneven}
 use Rattle.covering.proofs.Hits.{OneRow, even-of}
-use Rattle.group_numbers.specs.Smaller.{smaller}
+use Rattle.minimising.specs.group_numbers.Smaller.{smaller}
 use Rattle.minimising.specs.Entry.{minimiseVerdict, minimise}
 use Rattle.joined_again.proofs.Shorter.{never-longer, room-enough}
 use Rattle.minimised.specs.Demand.{Shrunk, SmallerMade, SmallerAgreement}

@@ -3,8 +3,8 @@ use Prim.Native.Nat.{ℕ, ◌≤◌}
 use mathlib.Core.Path.{◌≡◌, sym, ◌∙◌, ap, subst}
 use mathlib.Core.List.{List, map}
 use lib.ListN.{take}
-use Rattle.frames.specs.Frame.{contents}
-use Rattle.frames.specs.Answer.{success}
+use Rattle.text.specs.frames.Frame.{contents}
+use Rattle.text.specs.frames.Answer.{success}
 use Rattle.translator.specs.Entry.{translate}
 use Rattle.minimising.specs.Entry.{minimise}
 use Rattle.state.specs.declared.State.{State}

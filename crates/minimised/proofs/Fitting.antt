@@ -7,8 +7,8 @@ use native.Mathlib.Omega.{arith}
 use lib.Dec.{leb, eqb}
 use lib.ListN.{length, length-map}
 use borrow.Author.Tests.{eqb-true}
-use Rattle.lists.specs.Pick.{pick}
-use Rattle.lists.proofs.Tests.{and_l, not-false}
+use Rattle.words.specs.lists.Pick.{pick}
+use Rattle.words.proofs.lists.Tests.{and_l, not-false}
 use Rattle.bindings.specs.Binding.{served}
 use Rattle.image.specs.Image.{Image, Label}
 use Rattle.image.specs.inner.Sound.{SoundImage}
@@ -17,8 +17,8 @@ use Rattle.state.specs.State.{label_at, placeAt, number_at, serverAt, Sized}
 use Rattle.fitness.specs.Fitness.{is_call, callable, mayCarry, filledPlace, ofHandler, isOwnBottom, badBottom, badServed}
 use Rattle.fitness.proofs.Fitness.{Fits}
 use Rattle.grouping.proofs.Rounds.{ClassRound}
-use Rattle.group_numbers.specs.Smaller.{renumbered, joinedLabels}
-use Rattle.group_numbers.proofs.Numbering.{new-zero, new-inside, label-new, entries-count}
+use Rattle.minimising.specs.group_numbers.Smaller.{renumbered, joinedLabels}
+use Rattle.minimising.proofs.group_numbers.Numbering.{new-zero, new-inside, label-new, entries-count}
 use Rattle.minimised.specs.Renamed.{renamed}
 use Rattle.minimised.proofs.Renumbered.{same-handler, place-new, one_same}
 

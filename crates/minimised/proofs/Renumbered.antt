@@ -7,7 +7,7 @@ use native.Mathlib.Omega.{arith}
 use lib.Dec.{eqb}
 use lib.ListN.{length, get_or, set, replicate, get_or-map}
 use borrow.Author.Tests.{ne_eqb}
-use Rattle.lists.specs.Pick.{pick}
+use Rattle.words.specs.lists.Pick.{pick}
 use Rattle.results.specs.Results.{Results, result_of}
 use Rattle.image.specs.Image.{Image, Label}
 use Rattle.image.specs.inner.Sound.{SoundImage}
@@ -19,9 +19,9 @@ use Rattle.covering.proofs.Hits.{OneRow}
 use Rattle.grouping.specs.Classes.{class_of}
 use Rattle.grouping.proofs.Onward.{onwardLabel, best-found}
 use Rattle.grouping.proofs.Rounds.{ClassRound}
-use Rattle.group_numbers.specs.Smaller.{renumbered, joinedLabels}
-use Rattle.group_numbers.proofs.Numbering.{new-zero, new-one, new-high, new-inside, label-new, joined-sound}
-use Rattle.group_numbers.proofs.Led.{one-new, onward-new}
+use Rattle.minimising.specs.group_numbers.Smaller.{renumbered, joinedLabels}
+use Rattle.minimising.proofs.group_numbers.Numbering.{new-zero, new-one, new-high, new-inside, label-new, joined-sound}
+use Rattle.minimising.proofs.group_numbers.Led.{one-new, onward-new}
 use Rattle.minimised.specs.Renamed.{renamed}
 
 pub map-set : (f : ℕ → ℕ) (xs : List ℕ) (k u : ℕ) → set (map f xs) k (f u) ≡ map f (set xs k u)

@@ -7,8 +7,8 @@ use mathlib.Core.List.{List, [], ◌∷◌}
 use lib.ListN.{length}
 use Rattle.results.specs.Results.{noResults}
 use Rattle.bindings.specs.Binding.{ownBinding, badRebinding}
-use Rattle.frames.specs.Frame.{contents}
-use Rattle.frames.specs.Verdict.{Verdict, fine, refused, when}
+use Rattle.text.specs.frames.Frame.{contents}
+use Rattle.text.specs.frames.Verdict.{Verdict, fine, refused, when}
 use Rattle.image.specs.Image.{Image, imageText}
 use Rattle.image.specs.Decode.{decoded}
 use Rattle.image.specs.Check.{imageVerdict}
@@ -28,8 +28,8 @@ use Rattle.covering.specs.Matched.{uneven}
 use Rattle.covering.proofs.Hits.{OneRow, one-row}
 use Rattle.grouping.specs.Classes.{grouping}
 use Rattle.grouping.proofs.Rounds.{ClassRound, group-round, group-leads}
-use Rattle.group_numbers.specs.Smaller.{smaller}
-use Rattle.group_numbers.proofs.Numbering.{entries-count}
+use Rattle.minimising.specs.group_numbers.Smaller.{smaller}
+use Rattle.minimising.proofs.group_numbers.Numbering.{entries-count}
 use Rattle.joined_again.proofs.Again.{smaller-passes, smaller-decoded}
 use Rattle.minimised.specs.Renamed.{renamed, renamedTick, renamedMachineRun, renamedRun, renamedState}
 use Rattle.minimised.proofs.Renumbered.{same-handler, nothing-new}

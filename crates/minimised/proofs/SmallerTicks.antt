@@ -7,7 +7,7 @@ use native.Mathlib.Omega.{arith}
 use lib.Dec.{leb, eqb}
 use lib.ListN.{length, set}
 use borrow.Author.Tests.{leb-false}
-use Rattle.lists.specs.Pick.{pick}
+use Rattle.words.specs.lists.Pick.{pick}
 use Rattle.results.specs.Results.{Results, withResult, cleared}
 use Rattle.bindings.specs.Binding.{served}
 use Rattle.image.specs.Layout.{tickKind}
@@ -26,8 +26,8 @@ use Rattle.ticks.proofs.Keeps.{Keeps, tick-keeps}
 use Rattle.runs.specs.Run.{MachineRun, then, ticks}
 use Rattle.covering.proofs.Hits.{OneRow}
 use Rattle.grouping.proofs.Rounds.{ClassRound}
-use Rattle.group_numbers.specs.Smaller.{renumbered, joinedLabels}
-use Rattle.group_numbers.proofs.Numbering.{new-zero, label-new}
+use Rattle.minimising.specs.group_numbers.Smaller.{renumbered, joinedLabels}
+use Rattle.minimising.proofs.group_numbers.Numbering.{new-zero, label-new}
 use Rattle.minimised.specs.Renamed.{renamed, renamedTick, renamedMachineRun}
 use Rattle.minimised.proofs.Renumbered.{map-set, same-handler, entry-at, place-new, only-new}
 use Rattle.minimised.proofs.Renumbered.{renamedFound, GroupLeads, row-some, row_new}

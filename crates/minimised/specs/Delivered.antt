@@ -1,9 +1,9 @@
 -- Demand 3 for the smaller image over the functions: calls of translate, of minimise on what it wrote and of State::fresh, then calls
 -- that run, tick and rebind in any mixture on the smaller image, or on a table that prepare made of it. The same for C.
 use Rattle.std.specs.Prelude.{ℕ, ◌≤◌, ◌≡◌, List, map, take}
-use Rattle.frames.specs.Frame.{contents}
-use Rattle.frames.specs.Answer.{reply, success, GivesBuffer}
-use Rattle.frames.specs.declared.Answer.{Answer}
+use Rattle.text.specs.frames.Frame.{contents}
+use Rattle.text.specs.frames.Answer.{reply, success, GivesBuffer}
+use Rattle.text.specs.declared.frames.Answer.{Answer}
 use Rattle.translator.specs.Entry.{translate}
 use Rattle.state.specs.Layout.{PLACES}
 use Rattle.minimising.specs.Entry.{minimise}

@@ -1,7 +1,7 @@
 -- Demand 3 for the smaller image: what a list of runs and rebindings on it hands back, against the walk of the chart.
 use Rattle.std.specs.Prelude.{ℕ, ◌≤◌, ◌≡◌, List, length, take}
-use Rattle.frames.specs.Frame.{contents}
-use Rattle.frames.specs.Answer.{success, BufferOutcome}
+use Rattle.text.specs.frames.Frame.{contents}
+use Rattle.text.specs.frames.Answer.{success, BufferOutcome}
 use Rattle.state.specs.Layout.{PLACES}
 use Rattle.agreement.specs.Agreement.{Translator, Maker, Runner, Rebinder, CallInput, callOutputs, walkOutputs}
 

@@ -5,7 +5,7 @@ use Rattle.state.specs.State.{StateOutcome}
 use Rattle.state.specs.Changes.{withPlaces}
 use Rattle.ticks.specs.Tick.{MachineTick, finished, stopped}
 use Rattle.runs.specs.Run.{MachineRun, RunOutcome}
-use Rattle.group_numbers.specs.Smaller.{renumbered}
+use Rattle.minimising.specs.group_numbers.Smaller.{renumbered}
 
 -- a state with each label renumbered; label 0, which also stands above the depth, keeps its number
 abbrev pub renamed : List ℕ → State → State

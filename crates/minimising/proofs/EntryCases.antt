@@ -2,13 +2,13 @@
 use mathlib.Core.Path.{◌≡◌, sym, ◌∙◌, ap, subst}
 use mathlib.Core.List.{List}
 use Prim.Native.Nat.{ℕ}
-use Rattle.frames.specs.Frame.{contents}
-use Rattle.frames.specs.Verdict.{Verdict, refused, next, when}
-use Rattle.frames.specs.Answer.{reply, judged, BufferOutcome, bufferOn, GivesBuffer}
-use Rattle.frames.specs.declared.Answer.{Answer}
-use Rattle.frames.specs.declared.Answer.TheVariants.{Refused}
-use Rattle.frames.proofs.Chains.{next-refused, refused-verdict}
-use Rattle.frames.proofs.Lent.{lent-refused}
+use Rattle.text.specs.frames.Frame.{contents}
+use Rattle.text.specs.frames.Verdict.{Verdict, refused, next, when}
+use Rattle.text.specs.frames.Answer.{reply, judged, BufferOutcome, bufferOn, GivesBuffer}
+use Rattle.text.specs.declared.frames.Answer.{Answer}
+use Rattle.text.specs.declared.frames.Answer.TheVariants.{Refused}
+use Rattle.text.proofs.frames.Chains.{next-refused, refused-verdict}
+use Rattle.text.proofs.frames.Lent.{lent-refused}
 use Rattle.image.specs.Image.{Image, imageText}
 use Rattle.image.specs.Decode.{decoded}
 use Rattle.image.specs.Check.{imageVerdict}
@@ -16,9 +16,9 @@ use Rattle.tables.proofs.Made.{MadeTable}
 use Rattle.covering.specs.Matched.{uneven}
 use Rattle.covering.proofs.Tables.{noted-decoded, made_table, made-uneven}
 use Rattle.grouping.proofs.Prepared.{made-even}
-use Rattle.group_numbers.specs.Smaller.{smaller}
-use Rattle.group_image.specs.inner.WriteContracts.{smallerOutcome}
-use Rattle.joining.specs.inner.JoiningContracts.{ReadableTable}
+use Rattle.minimising.specs.group_numbers.Smaller.{smaller}
+use Rattle.minimising.specs.group_image.inner.WriteContracts.{smallerOutcome}
+use Rattle.minimising.specs.joining.inner.JoiningContracts.{ReadableTable}
 use Rattle.minimising.specs.Entry.{minimiseVerdict, minimise}
 
 module _ (t : List ℕ) where

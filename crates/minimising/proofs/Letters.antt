@@ -2,14 +2,14 @@
 use Prim.Native.Nat.{ℕ}
 use mathlib.Core.Path.{◌≡◌, ap₂}
 use mathlib.Core.List.{List}
-use Rattle.frames.specs.Verdict.{Verdict, next, when}
-use Rattle.frames.specs.Answer.{bufferOn}
-use Rattle.frames.proofs.Capitals.{ReadAlike}
+use Rattle.text.specs.frames.Verdict.{Verdict, next, when}
+use Rattle.text.specs.frames.Answer.{bufferOn}
+use Rattle.text.proofs.frames.Capitals.{ReadAlike}
 use Rattle.image.specs.Image.{imageText}
 use Rattle.image.specs.Decode.{decoded}
 use Rattle.image.proofs.Alike.{image-verdict}
 use Rattle.covering.specs.Matched.{uneven}
-use Rattle.group_numbers.specs.Smaller.{smaller}
+use Rattle.minimising.specs.group_numbers.Smaller.{smaller}
 use Rattle.minimising.specs.Entry.{minimiseVerdict, minimise}
 
 pub minimises : (t u : List ℕ) → ReadAlike t u → (out : List ℕ) → minimise t out ≡ minimise u out

@@ -1,14 +1,14 @@
 -- The smaller image of an image's text: what is answered and what the lent buffer then holds.
 use Rattle.std.specs.Prelude.{ℕ, List}
-use Rattle.frames.specs.Refusals.{UNEVEN}
-use Rattle.frames.specs.Frame.{contents}
-use Rattle.frames.specs.Verdict.{Verdict, next, when}
-use Rattle.frames.specs.Answer.{BufferOutcome, bufferOn}
+use Rattle.text.specs.frames.Refusals.{UNEVEN}
+use Rattle.text.specs.frames.Frame.{contents}
+use Rattle.text.specs.frames.Verdict.{Verdict, next, when}
+use Rattle.text.specs.frames.Answer.{BufferOutcome, bufferOn}
 use Rattle.image.specs.Image.{imageText}
 use Rattle.image.specs.Decode.{decoded}
 use Rattle.image.specs.Check.{imageVerdict}
 use Rattle.covering.specs.Matched.{uneven}
-use Rattle.group_numbers.specs.Smaller.{smaller}
+use Rattle.minimising.specs.group_numbers.Smaller.{smaller}
 
 -- what the image check tries, then 23; 16 follows
 unfoldable pub minimiseVerdict : List ℕ → Verdict

@@ -1,13 +1,20 @@
 // The entry point to the image with one label a group.
 #![tactic(auto)]
 
-ghost use Rattle.frames.specs.Answer.{GivesBuffer};
+ghost use Rattle.text.specs.frames.Answer.{GivesBuffer};
 ghost use Rattle.minimising.specs.Entry.{minimise};
 
-use frames::Answer;
-use frames::sizes::*;
-use joining::minimise_table;
-use preparing::prepare_table;
+pub mod group_frames;
+pub mod group_image;
+pub mod group_numbers;
+pub mod group_pieces;
+pub mod group_text;
+pub mod joining;
+
+use crate::joining::minimise_table;
+use tables::preparing::prepare_table;
+use text::frames::Answer;
+use text::frames::sizes::*;
 
 // What the image check tries, then 23 and 16; counts characters. A refusal leaves the buffer as it was.
 pub fn minimise(image: &[u8], out: &mut [u8]) -> Answer

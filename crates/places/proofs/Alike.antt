@@ -2,10 +2,10 @@
 use Prim.Native.Nat.{ℕ}
 use mathlib.Core.Path.{◌≡◌, ap₂}
 use mathlib.Core.List.{List}
-use Rattle.frames.specs.Verdict.{Verdict, next, when}
-use Rattle.frames.specs.Answer.{judged}
-use Rattle.frames.proofs.Capitals.{ReadAlike}
-use Rattle.chains.specs.Calls.{circular, places}
+use Rattle.text.specs.frames.Verdict.{Verdict, next, when}
+use Rattle.text.specs.frames.Answer.{judged}
+use Rattle.text.proofs.frames.Capitals.{ReadAlike}
+use Rattle.places.specs.chains.Calls.{circular, places}
 use Rattle.translator.proofs.Alike.{translate-verdict}
 use Rattle.places.specs.Entry.{placesVerdict, placesNeeded}
 

@@ -8,24 +8,24 @@ use native.Mathlib.Omega.{arith}
 use borrow.Author.Tests.{le-ltb}
 use lib.Dec.{ltb}
 use lib.ListN.{length, take}
-use Rattle.lists.specs.Pick.{pick}
-use Rattle.lists.proofs.Tests.{cases, same-ltb}
-use Rattle.frames.specs.Frame.{contents}
-use Rattle.frames.specs.Verdict.{Verdict, refused, when}
-use Rattle.frames.specs.Answer.{success, refusal, reply, judged}
-use Rattle.frames.specs.declared.Answer.{Answer}
-use Rattle.frames.specs.declared.Answer.TheVariants.{Refused}
-use Rattle.frames.proofs.Chains.{next-refused, next-on}
+use Rattle.words.specs.lists.Pick.{pick}
+use Rattle.words.proofs.lists.Tests.{cases, same-ltb}
+use Rattle.text.specs.frames.Frame.{contents}
+use Rattle.text.specs.frames.Verdict.{Verdict, refused, when}
+use Rattle.text.specs.frames.Answer.{success, refusal, reply, judged}
+use Rattle.text.specs.declared.frames.Answer.{Answer}
+use Rattle.text.specs.declared.frames.Answer.TheVariants.{Refused}
+use Rattle.text.proofs.frames.Chains.{next-refused, next-on}
 use Rattle.charts.specs.Chart.{Chart}
 use Rattle.charts.specs.Entry.{readVerdict, readChart}
 use Rattle.walk.proofs.Facts.{Facts}
-use Rattle.chart_labels.proofs.ReadyLaws.{ready-facts}
+use Rattle.chart_rows.proofs.chart_labels.ReadyLaws.{ready-facts}
 use Rattle.chart_rows.specs.Rows.{rows}
 use Rattle.translator.specs.Entry.{translateVerdict}
 use Rattle.translator.proofs.EntrySteps.{read_no, Read, read-ready}
-use Rattle.chains.specs.Calls.{circular, places}
-use Rattle.chains.specs.inner.Masks.{longestChain}
-use Rattle.chains.proofs.Longest.{places-some}
+use Rattle.places.specs.chains.Calls.{circular, places}
+use Rattle.places.specs.chains.inner.Masks.{longestChain}
+use Rattle.places.proofs.chains.Longest.{places-some}
 use Rattle.places.specs.Entry.{placesVerdict, placesNeeded}
 
 -- ---- rows counted up to 1025

@@ -4,22 +4,22 @@ use mathlib.Core.Bool.{Bool, true, false}
 use mathlib.Core.Path.{◌≡◌, refl, sym, ◌∙◌, ap, subst}
 use mathlib.Core.List.{List}
 use native.Mathlib.Omega.{arith}
-use Rattle.frames.specs.Frame.{contents}
-use Rattle.frames.specs.Verdict.{Verdict, fine, refused, next, when}
-use Rattle.frames.specs.Answer.{success, refusal, replyNumber, replyCount, judged}
-use Rattle.frames.proofs.Chains.{next-on}
-use Rattle.frames.proofs.Refuses.{RefusesWith}
-use Rattle.frames.proofs.Verdicts.{next-first, next-rest, when-fine}
+use Rattle.text.specs.frames.Frame.{contents}
+use Rattle.text.specs.frames.Verdict.{Verdict, fine, refused, next, when}
+use Rattle.text.specs.frames.Answer.{success, refusal, replyNumber, replyCount, judged}
+use Rattle.text.proofs.frames.Chains.{next-on}
+use Rattle.text.proofs.frames.Refuses.{RefusesWith}
+use Rattle.text.proofs.frames.Verdicts.{next-first, next-rest, when-fine}
 use Rattle.charts.specs.Chart.{Chart}
 use Rattle.walk.proofs.Facts.{Facts}
 use Rattle.walk.proofs.FactsHold.{facts}
 use Rattle.translator.specs.Entry.{translateVerdict}
 use Rattle.translator.proofs.Refuses.{OfChart, translate-refuses}
 use Rattle.translator.proofs.Translated.{translated-read}
-use Rattle.chains.specs.Calls.{circular, places}
-use Rattle.chains.specs.Chains.{Circle, Longest}
-use Rattle.chains.proofs.Longest.{chain-some, chain-few, no_longer, as_long}
-use Rattle.chains.proofs.Circles.{circle-told, circle-refused}
+use Rattle.places.specs.chains.Calls.{circular, places}
+use Rattle.places.specs.chains.Chains.{Circle, Longest}
+use Rattle.places.proofs.chains.Longest.{chain-some, chain-few, no_longer, as_long}
+use Rattle.places.proofs.chains.Circles.{circle-told, circle-refused}
 use Rattle.places.specs.Entry.{placesVerdict, placesNeeded}
 use Rattle.places.specs.Reported.{Reported}
 

@@ -1,11 +1,11 @@
 -- How many places a chart needs, by its text.
 use Rattle.std.specs.Prelude.{ℕ, List}
-use Rattle.frames.specs.Refusals.{CALLS-ITSELF}
-use Rattle.frames.specs.Frame.{contents}
-use Rattle.frames.specs.Verdict.{Verdict, next, when}
-use Rattle.frames.specs.Answer.{Reply, judged}
+use Rattle.text.specs.frames.Refusals.{CALLS-ITSELF}
+use Rattle.text.specs.frames.Frame.{contents}
+use Rattle.text.specs.frames.Verdict.{Verdict, next, when}
+use Rattle.text.specs.frames.Answer.{Reply, judged}
 use Rattle.translator.specs.Entry.{translateVerdict}
-use Rattle.chains.specs.Calls.{circular, places}
+use Rattle.places.specs.chains.Calls.{circular, places}
 
 -- 1 to 10, 19 after 5, and 20
 unfoldable pub placesVerdict : List ℕ → Verdict

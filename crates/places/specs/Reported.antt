@@ -1,12 +1,12 @@
 -- What the answers mean, by chains of calls from scheme 1.
 use Rattle.std.specs.Prelude.{ℕ, ◌≤◌, ◌≡◌, List}
-use Rattle.frames.specs.Sizes.{SCHEMES}
-use Rattle.frames.specs.Refusals.{CALLS-ITSELF}
-use Rattle.frames.specs.Frame.{contents}
-use Rattle.frames.specs.Verdict.{fine}
-use Rattle.frames.specs.Answer.{success, refusal}
+use Rattle.text.specs.frames.Sizes.{SCHEMES}
+use Rattle.text.specs.frames.Refusals.{CALLS-ITSELF}
+use Rattle.text.specs.frames.Frame.{contents}
+use Rattle.text.specs.frames.Verdict.{fine}
+use Rattle.text.specs.frames.Answer.{success, refusal}
 use Rattle.translator.specs.Entry.{translateVerdict}
-use Rattle.chains.specs.Chains.{Circle, Longest}
+use Rattle.places.specs.chains.Chains.{Circle, Longest}
 use Rattle.places.specs.Entry.{placesNeeded}
 
 -- success tells the number of schemes of the longest chain; 20 tells of a circle, and of each where nothing else refuses

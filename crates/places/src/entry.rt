@@ -1,18 +1,18 @@
 // The places that a chart needs, by its text. There is no buffer.
 ghost use Rattle.std.specs.Prelude.{◌≡◌, ltb, length};
-ghost use Rattle.frames.specs.Sizes.{ROWS};
-ghost use Rattle.frames.specs.Answer.{reply};
-ghost use Rattle.chart_labels.specs.inner.ChartContracts.{Ready};
+ghost use Rattle.text.specs.frames.Sizes.{ROWS};
+ghost use Rattle.text.specs.frames.Answer.{reply};
+ghost use Rattle.chart_rows.specs.chart_labels.inner.ChartContracts.{Ready};
 ghost use Rattle.chart_rows.specs.Rows.{rows};
 ghost use Rattle.places.specs.Entry.{placesNeeded};
 
-use chains::longest_chain;
+use crate::chains::longest_chain;
+use chart_rows::row_bounds::bound_rows;
 use chart_rows::{COUNTED, NOTES, count_rows, note_nodes};
 use chart_text::read_chart;
-use frames::refusals::{CALLS_ITSELF, MANY_ROWS};
-use frames::sizes::*;
-use frames::{Answer, refused};
-use row_bounds::bound_rows;
+use text::frames::refusals::{CALLS_ITSELF, MANY_ROWS};
+use text::frames::sizes::*;
+use text::frames::{Answer, refused};
 
 // 10: there are more rows than an image has. Where a bound on the rows excludes it, the paths are not walked to count them.
 fn too_many_rows(records: &[u8]) -> bool

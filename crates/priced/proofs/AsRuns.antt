@@ -8,16 +8,16 @@ use lib.Dec.{ltb}
 use lib.ListN.{length, take, drop, length-map, length-drop}
 use lib.Seq.{length-take-le}
 use borrow.Author.Tests.{le-ltb}
-use Rattle.lists.specs.Pick.{pick}
-use Rattle.lists.proofs.Tests.{no_both, or-none, and_no}
+use Rattle.words.specs.lists.Pick.{pick}
+use Rattle.words.proofs.lists.Tests.{no_both, or-none, and_no}
 use Rattle.bindings.specs.Binding.{Binding}
-use Rattle.frames.specs.Answer.{success, refusal, replyNumber, replyCount}
-use Rattle.frames.proofs.Lent.{front}
+use Rattle.text.specs.frames.Answer.{success, refusal, replyNumber, replyCount}
+use Rattle.text.proofs.frames.Lent.{front}
 use Rattle.charts.specs.Chart.{Chart}
 use Rattle.walk.specs.Walk.{Signal, signals, Tick}
 use Rattle.prices.specs.Prices.{price}
-use Rattle.priced_runs.specs.PricedRun.{tooManyWords}
-use Rattle.priced_runs.proofs.Pricing.{no-price}
+use Rattle.prices.specs.priced_runs.PricedRun.{tooManyWords}
+use Rattle.prices.proofs.priced_runs.Pricing.{no-price}
 use Rattle.agreement.specs.Agreement.{RunInput, CallInput, toRun, toRebind, CallOutput, byRun, byRebinding}
 use Rattle.agreement.specs.Agreement.{short, bindingAfter, expected, refusedShort, replyTo}
 use Rattle.agreement.specs.Agreement as agreed

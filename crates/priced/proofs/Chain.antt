@@ -5,15 +5,15 @@ use mathlib.Core.Path.{◌≡◌, refl, sym, ◌∙◌, ap}
 use mathlib.Core.List.{List, [], ◌∷◌, map}
 use lib.ListN.{length, take}
 use borrow.Author.Tests.{ltb-true, ltb-false}
-use Rattle.lists.specs.Pick.{pick}
-use Rattle.frames.specs.Answer.{replyNumber, replyCount}
+use Rattle.words.specs.lists.Pick.{pick}
+use Rattle.text.specs.frames.Answer.{replyNumber, replyCount}
 use Rattle.state.specs.declared.State.{State}
 use Rattle.runs.specs.Run.{RunOutcome, run}
 use Rattle.rebinding.specs.Rebind.{rebind}
 use Rattle.prices.specs.Prices.{price}
-use Rattle.priced_runs.specs.PricedRun.{tooManyWords, PricedOutcome, pricedRun}
-use Rattle.priced_runs.proofs.Pricing.{does-all, by-the-masks}
-use Rattle.priced_runs.proofs.EntryCases.{none-state, many-refused}
+use Rattle.prices.specs.priced_runs.PricedRun.{tooManyWords, PricedOutcome, pricedRun}
+use Rattle.prices.proofs.priced_runs.Pricing.{does-all, by-the-masks}
+use Rattle.prices.proofs.priced_runs.EntryCases.{none-state, many-refused}
 use Rattle.agreement.specs.Agreement.{RunInput, outputOf, CallInput, toRun, toRebind, CallOutput, byRun, byRebinding}
 use Rattle.agreement.specs.Agreement as agreed
 use Rattle.priced.specs.Demand.{PricedInput, unpriced, toPricedRun, PricedOutput, byUnpriced, byPricedRun, pricedOutputs, refusedMany}

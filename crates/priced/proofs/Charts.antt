@@ -4,10 +4,10 @@ use mathlib.Core.Bool.{Bool, true, false, ◌||◌}
 use mathlib.Core.Path.{◌≡◌, refl, sym, ◌∙◌, ap, ap₂, subst}
 use mathlib.Core.List.{List, [], ◌∷◌, ◌++◌, map, append-nil}
 use lib.ListN.{length, take}
-use Rattle.lists.specs.Pick.{pick}
+use Rattle.words.specs.lists.Pick.{pick}
 use Rattle.bindings.specs.Binding.{ownBinding}
-use Rattle.frames.specs.Frame.{contents}
-use Rattle.frames.specs.Answer.{success, replyCount}
+use Rattle.text.specs.frames.Frame.{contents}
+use Rattle.text.specs.frames.Answer.{success, replyCount}
 use Rattle.charts.specs.Chart.{Chart}
 use Rattle.walk.specs.Walk.{Signal, signals, Tick, walk}
 use Rattle.translator.specs.Entry.{translate}
@@ -16,8 +16,8 @@ use Rattle.state.specs.State.{freshState}
 use Rattle.runs.specs.Run.{run}
 use Rattle.rebinding.specs.Rebind.{rebind}
 use Rattle.prices.specs.Prices.{price}
-use Rattle.priced_runs.specs.PricedRun.{tooManyWords, PricedOutcome, pricedRun}
-use Rattle.priced_runs.proofs.Pricing.{no-price}
+use Rattle.prices.specs.priced_runs.PricedRun.{tooManyWords, PricedOutcome, pricedRun}
+use Rattle.prices.proofs.priced_runs.Pricing.{no-price}
 use Rattle.agreement.specs.Agreement.{RunInput, RunOutput, outputOf, CallInput, CallOutput, short, bound, expected, Agreement}
 use Rattle.agreement.specs.Agreement as agreed
 use Rattle.agreement.proofs.Bounds.{bound-le}

@@ -7,7 +7,7 @@ use Rattle.state.specs.declared.State.{State}
 use Rattle.state.specs.State.{freshState}
 use Rattle.state.specs.Bytes.{state_of}
 use Rattle.state.proofs.ResultBytes.{fresh-held}
-use Rattle.priced_runs.proofs.EntryCases.{priced-held}
+use Rattle.prices.proofs.priced_runs.EntryCases.{priced-held}
 use Rattle.agreement.proofs.ForC.{returned-0}
 use Rattle.agreement.proofs.OneCallC.{LikeC, call-like}
 use Rattle.priced.specs.Demand.{PricedInput, unpriced, toPricedRun, pricedOutputs, PricedAgreement}

@@ -2,16 +2,16 @@
 -- calls of translate and State::fresh, then priced runs among calls that run, tick and rebind in any mixture. Each call is known by its
 -- contract alone.
 use Rattle.std.specs.Prelude.{ℕ, ◌≤◌, ◌≡◌, List, [], ◌∷◌, take}
-use Rattle.frames.specs.Frame.{contents}
-use Rattle.frames.specs.Answer.{reply, success, GivesBuffer}
-use Rattle.frames.specs.declared.Answer.{Answer}
+use Rattle.text.specs.frames.Frame.{contents}
+use Rattle.text.specs.frames.Answer.{reply, success, GivesBuffer}
+use Rattle.text.specs.declared.frames.Answer.{Answer}
 use Rattle.translator.specs.Entry.{translate}
 use Rattle.state.specs.Layout.{PLACES}
 use Rattle.state.specs.declared.State.{State}
 use Rattle.state.specs.declared.StateReport.{StateReport}
 use Rattle.state.specs.State.{freshState, GivesState}
-use Rattle.priced_runs.specs.declared.PricedStateReport.{PricedStateReport}
-use Rattle.priced_runs.specs.PricedRun.{pricedRun, GivesPricedRun}
+use Rattle.prices.specs.declared.priced_runs.PricedStateReport.{PricedStateReport}
+use Rattle.prices.specs.priced_runs.PricedRun.{pricedRun, GivesPricedRun}
 use Rattle.agreement.specs.Agreement.{RunInput, CallInput, CallOutput}
 use Rattle.agreement.specs.Calls.{Call}
 use Rattle.priced.specs.Demand.{PricedInput, unpriced, toPricedRun, PricedOutput, byUnpriced, byPricedRun, pricedWalkOutputs}

@@ -1,16 +1,16 @@
 -- Demand 3 with prices: what a list of runs, rebindings and priced runs hands back, against what the walk of the joined words gives.
 use Rattle.std.specs.Prelude.{ℕ, ◌+◌, ◌-◌, ◌≤◌, min, true, false, ◌||◌, ◌≡◌, List, [], ◌∷◌, ◌++◌, map, length, take, drop}
-use Rattle.lists.specs.Pick.{pick}
+use Rattle.words.specs.lists.Pick.{pick}
 use Rattle.bindings.specs.Binding.{Binding, ownBinding}
-use Rattle.frames.specs.Refusals.{MANY-WORDS}
-use Rattle.frames.specs.Frame.{contents}
-use Rattle.frames.specs.Answer.{success, refusal}
+use Rattle.text.specs.frames.Refusals.{MANY-WORDS}
+use Rattle.text.specs.frames.Frame.{contents}
+use Rattle.text.specs.frames.Answer.{success, refusal}
 use Rattle.charts.specs.Chart.{Chart}
 use Rattle.walk.specs.Walk.{Signal, signals, Tick, walk}
 use Rattle.state.specs.Layout.{PLACES}
 use Rattle.state.specs.declared.State.{State}
 use Rattle.prices.specs.Prices.{price}
-use Rattle.priced_runs.specs.PricedRun.{tooManyWords, PricedOutcome}
+use Rattle.prices.specs.priced_runs.PricedRun.{tooManyWords, PricedOutcome}
 use Rattle.agreement.specs.Agreement.{Translator, Maker, Runner, Rebinder, RunInput, RunOutput, outputOf}
 use Rattle.agreement.specs.Agreement.{CallInput, toRun, toRebind, CallOutput, byRun, byRebinding}
 use Rattle.agreement.specs.Agreement.{short, bindingAfter, bound, expected, refusedShort, replyTo}

@@ -2,7 +2,7 @@
 -- priced runs among calls that run, tick and rebind in any mixture, each given the bytes that the call before it left, and known by its
 -- contract alone.
 use Rattle.std.specs.Prelude.{ℕ, ◌≤◌, ◌≡◌, List, [], ◌∷◌, map, take}
-use Rattle.frames.specs.Frame.{contents}
+use Rattle.text.specs.frames.Frame.{contents}
 use Rattle.translator.specs.Entry.{translate}
 use Rattle.state.specs.Layout.{PLACES}
 use Rattle.state.specs.State.{freshState}

@@ -8,12 +8,12 @@ use lib.Arith.{lt-one}
 use lib.Bits.{bit_and, and_step, and_self, and_le_r}
 use lib.Count.{count_trailing_zeros, under}
 use lib.ListN.{get_or}
-use Rattle.lists.specs.Numbers.{sum}
-use Rattle.lists.proofs.Searches.{sum-shift}
-use Rattle.bits.specs.Word.{bit}
-use Rattle.lists.proofs.Sums.{sum_same, sum-zero}
-use Rattle.bits.proofs.BitLaws.{bit-zero, bit-none}
-use Rattle.bits.proofs.MaskLaws.{bit-suc}
+use Rattle.words.specs.lists.Numbers.{sum}
+use Rattle.words.proofs.lists.Searches.{sum-shift}
+use Rattle.words.specs.bits.Word.{bit}
+use Rattle.words.proofs.lists.Sums.{sum_same, sum-zero}
+use Rattle.words.proofs.bits.BitLaws.{bit-zero, bit-none}
+use Rattle.words.proofs.bits.MaskLaws.{bit-suc}
 use Rattle.prices.specs.Prices.{tickPrice}
 use Rattle.prices.proofs.Sums.{tick-most}
 

@@ -7,8 +7,8 @@ use native.Mathlib.Numerals.{add-one}
 use native.Mathlib.Omega.{arith}
 use lib.ListN.{length, get_or, take, length-take}
 use lib.Seq.{take_all}
-use Rattle.lists.proofs.Sums.{sum-most}
-use Rattle.bits.specs.Word.{bit}
+use Rattle.words.proofs.lists.Sums.{sum-most}
+use Rattle.words.specs.bits.Word.{bit}
 use Rattle.prices.specs.Prices.{tickPrice, hundredths}
 
 -- one tick more

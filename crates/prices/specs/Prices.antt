@@ -1,7 +1,7 @@
 -- The price of ticks: a price list gives each micro operation, mask bit 0 first, hundredths of a cent a tick.
 use Rattle.std.specs.Prelude.{ℕ, ◌+◌, ◌*◌, ◌/◌, List, [], ◌∷◌, get_or}
-use Rattle.lists.specs.Numbers.{sum}
-use Rattle.bits.specs.Word.{bit}
+use Rattle.words.specs.lists.Numbers.{sum}
+use Rattle.words.specs.bits.Word.{bit}
 
 -- of one tick: the prices of its mask's set bits
 unfoldable pub tickPrice : List ℕ → ℕ → ℕ

@@ -4,6 +4,9 @@
 ghost use Rattle.std.specs.Prelude.{◌≡◌, ◌≤◌, length};
 ghost use Rattle.prices.specs.Prices.{tickPrice, hundredths, price};
 
+pub mod priced_runs;
+pub mod priced_states;
+
 // Of one tick: each turn takes the lowest set bit off the mask, so that a mask of few bits is few turns.
 fn tick_price(prices: &[u16], mask: u32) -> u64
     requires { length prices.now ≡ 32 }

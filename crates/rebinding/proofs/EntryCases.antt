@@ -5,13 +5,13 @@ use mathlib.Core.List.{List}
 use Prim.Native.Nat.{ℕ, ◌*◌}
 use native.Mathlib.Omega.{arith}
 use lib.ListN.{length, take}
-use Rattle.frames.specs.Frame.{contents}
-use Rattle.frames.specs.Verdict.{Verdict, fine, refused, next, when}
-use Rattle.frames.specs.Answer.{reply, judged}
-use Rattle.frames.specs.declared.Answer.{Answer}
-use Rattle.frames.specs.declared.Answer.TheVariants.{Refused}
-use Rattle.frames.proofs.Refuses.{RefusesWith}
-use Rattle.frames.proofs.Chains.{refused-verdict}
+use Rattle.text.specs.frames.Frame.{contents}
+use Rattle.text.specs.frames.Verdict.{Verdict, fine, refused, next, when}
+use Rattle.text.specs.frames.Answer.{reply, judged}
+use Rattle.text.specs.declared.frames.Answer.{Answer}
+use Rattle.text.specs.declared.frames.Answer.TheVariants.{Refused}
+use Rattle.text.proofs.frames.Refuses.{RefusesWith}
+use Rattle.text.proofs.frames.Chains.{refused-verdict}
 use Rattle.image.specs.Decode.{decoded}
 use Rattle.image.specs.Check.{imageVerdict}
 use Rattle.image.proofs.Refuses.{Early, early-image}

@@ -4,9 +4,9 @@ use mathlib.Core.Path.{◌≡◌, refl}
 use mathlib.Core.Bool.{Bool, true, false}
 use mathlib.Core.List.{List}
 use lib.Dec.{eqb}
-use Rattle.lists.specs.Pick.{pick}
-use Rattle.frames.specs.Verdict.{Verdict, fine, refused}
-use Rattle.frames.specs.Answer.{replyNumber}
+use Rattle.words.specs.lists.Pick.{pick}
+use Rattle.text.specs.frames.Verdict.{Verdict, fine, refused}
+use Rattle.text.specs.frames.Answer.{replyNumber}
 use Rattle.state.specs.Bytes.{state_of, bytesOf}
 use Rattle.state.proofs.ResultBytes.{state-back, held-sized, held-bits, held_back}
 use Rattle.rebinding.specs.Rebind.{rebinding, rebindOn}

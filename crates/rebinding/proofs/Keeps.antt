@@ -9,11 +9,11 @@ use lib.Dec.{leb, eqb}
 use lib.ListN.{length, set, length-set}
 use lib.Seq.{get_or-set_same, get_or-set_other}
 use borrow.Author.Tests.{ne_eqb, le-leb}
-use Rattle.lists.specs.Pick.{pick}
-use Rattle.lists.proofs.Tests.{and-true}
+use Rattle.words.specs.lists.Pick.{pick}
+use Rattle.words.proofs.lists.Tests.{and-true}
 use Rattle.bindings.specs.Binding.{served, badRebinding}
-use Rattle.frames.specs.Frame.{contents}
-use Rattle.frames.specs.Verdict.{Verdict, fine, next, when}
+use Rattle.text.specs.frames.Frame.{contents}
+use Rattle.text.specs.frames.Verdict.{Verdict, fine, next, when}
 use Rattle.image.specs.Image.{Image}
 use Rattle.image.specs.Decode.{decoded}
 use Rattle.image.specs.Check.{imageVerdict}
@@ -23,7 +23,7 @@ use Rattle.state.specs.State.{Sized}
 use Rattle.fitness.specs.Fitness.{callable, badServed, unfit}
 use Rattle.fitness.proofs.Fitness.{Fits, fits, unfits, range-callable}
 use Rattle.rebinding.specs.Rebind.{rebinding, rebindOn, rebind}
-use Rattle.rebindable.proofs.Refusal.{AllowedRebinding, allowed}
+use Rattle.rebinding.proofs.rebindable.Refusal.{AllowedRebinding, allowed}
 
 pub rebinding-sized : (s : State) (h k : ℕ) → Sized s → Sized (rebinding h k s)
 rebinding-sized s h k z = record {

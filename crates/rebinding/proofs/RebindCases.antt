@@ -7,12 +7,12 @@ use native.Mathlib.Omega.{arith}
 use lib.Dec.{eqb, ltb}
 use lib.ListN.{length}
 use borrow.Author.Tests.{ne_eqb, ltb-false}
-use Rattle.lists.proofs.Tests.{no-pick, or_l, or_r}
+use Rattle.words.proofs.lists.Tests.{no-pick, or_l, or_r}
 use Rattle.bindings.specs.Binding.{rebound, badRebinding}
-use Rattle.frames.specs.Verdict.{next, when}
-use Rattle.frames.specs.Answer.{refusal, reply}
-use Rattle.frames.specs.declared.Answer.{Answer}
-use Rattle.frames.specs.declared.Answer.TheVariants.{Done, Refused}
+use Rattle.text.specs.frames.Verdict.{next, when}
+use Rattle.text.specs.frames.Answer.{refusal, reply}
+use Rattle.text.specs.declared.frames.Answer.{Answer}
+use Rattle.text.specs.declared.frames.Answer.TheVariants.{Done, Refused}
 use Rattle.image.specs.Decode.{schemeCount, handlerIn, lastLabel, rowCount}
 use Rattle.tables.specs.Table.{tableImage}
 use Rattle.tables.specs.inner.Asked.{Whole}
@@ -23,7 +23,7 @@ use Rattle.state.specs.Changes.{withServing}
 use Rattle.state.specs.Bytes.{state_of, bytesOf}
 use Rattle.fitness.specs.Fitness.{unfit}
 use Rattle.rebinding.specs.Rebind.{rebindOn, tableRebind, GivesRebindingOn}
-use Rattle.rebindable.proofs.Refusal.{AllowedRebinding, allowed}
+use Rattle.rebinding.proofs.rebindable.Refusal.{AllowedRebinding, allowed}
 
 -- a refusal hands back what it was given
 abbrev pub keptState : ℕ → ℕ → State → StateOutcome

@@ -1,12 +1,12 @@
 -- A rebinding between ticks: number h is served by scheme k from then on; refusal 22.
 use Rattle.std.specs.Prelude.{ℕ, ◌≡◌, List, eqb, length}
-use Rattle.lists.specs.Pick.{pick}
+use Rattle.words.specs.lists.Pick.{pick}
 use Rattle.bindings.specs.Binding.{rebound, badRebinding}
-use Rattle.frames.specs.Refusals.{BAD-HEADER, UNFIT, BAD-REBINDING}
-use Rattle.frames.specs.Frame.{contents}
-use Rattle.frames.specs.Verdict.{Verdict, fine, refused, next, when}
-use Rattle.frames.specs.Answer.{success, refusal, replyNumber, reply}
-use Rattle.frames.specs.declared.Answer.{Answer}
+use Rattle.text.specs.frames.Refusals.{BAD-HEADER, UNFIT, BAD-REBINDING}
+use Rattle.text.specs.frames.Frame.{contents}
+use Rattle.text.specs.frames.Verdict.{Verdict, fine, refused, next, when}
+use Rattle.text.specs.frames.Answer.{success, refusal, replyNumber, reply}
+use Rattle.text.specs.declared.frames.Answer.{Answer}
 use Rattle.image.specs.Image.{Image}
 use Rattle.image.specs.Decode.{decoded}
 use Rattle.image.specs.Check.{imageVerdict}

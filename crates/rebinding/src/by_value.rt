@@ -3,8 +3,8 @@ ghost use Rattle.state.specs.State.{GivesState};
 ghost use Rattle.rebinding.specs.Rebind.{rebind, liveRebind};
 
 use crate::in_place::{live_rebind_bytes, rebind_bytes};
+use state::state_bytes::{bytes_of, state_of};
 use state::{State, StateReport};
-use state_bytes::{bytes_of, state_of};
 
 pub fn rebind(image: &[u8], state: State, number: usize, scheme: usize) -> StateReport
     ensures { GivesState (rebind image.now state number scheme) result }

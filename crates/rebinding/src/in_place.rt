@@ -3,15 +3,15 @@ ghost use Rattle.tables.specs.inner.Asked.{Whole};
 ghost use Rattle.state.specs.Bytes.{state_of};
 ghost use Rattle.rebinding.specs.Rebind.{rebind, tableRebind, liveRebind, GivesRebindingOn};
 
-use fitting::is_unfit;
-use frames::refusals::{BAD_HEADER, BAD_REBINDING, UNFIT};
-use frames::sizes::{FRAME, LINE, TABLE};
-use frames::{Answer, refused};
-use preparing::prepare_table;
-use rebindable::bad_rebinding;
+use crate::rebindable::bad_rebinding;
+use fitness::fitting::is_unfit;
 use state::layout::STATE_BYTES;
-use state_results::{put_serving, tidy_results};
+use state::state_results::{put_serving, tidy_results};
+use tables::preparing::prepare_table;
 use tables::{bad_table, table_length};
+use text::frames::refusals::{BAD_HEADER, BAD_REBINDING, UNFIT};
+use text::frames::sizes::{FRAME, LINE, TABLE};
+use text::frames::{Answer, refused};
 
 // A rebinding on a prepared table: 15, then 22.
 fn rebind_table(table: &[u8], bytes: &mut [u8; STATE_BYTES], number: usize, scheme: usize) -> Answer

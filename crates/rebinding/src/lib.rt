@@ -3,6 +3,7 @@
 
 mod by_value;
 mod in_place;
+pub mod rebindable;
 
 pub use by_value::{live_rebind, rebind};
 pub use in_place::{live_rebind_bytes, rebind_bytes};

@@ -1,6 +1,6 @@
 -- The result bits, one for each scheme number; walk and machine both keep them.
 use Rattle.std.specs.Prelude.{ℕ, ◌-◌, Bool, false, List, eqb, get_or, set, replicate}
-use Rattle.lists.specs.Pick.{pick}
+use Rattle.words.specs.lists.Pick.{pick}
 
 -- number h's bit stands at h - 1
 abbrev pub Results : Type 0

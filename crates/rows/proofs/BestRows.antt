@@ -8,9 +8,9 @@ use native.Mathlib.Nat.{zero-add}
 use native.Mathlib.Omega.{arith}
 use lib.Count.{ones}
 use lib.ListN.{length, get_or}
-use Rattle.lists.proofs.Tests.{no_both, split}
-use Rattle.lists.proofs.Joins.{all-at}
-use Rattle.lists.specs.Sequences.{All}
+use Rattle.words.proofs.lists.Tests.{no_both, split}
+use Rattle.words.proofs.lists.Joins.{all-at}
+use Rattle.words.specs.lists.Sequences.{All}
 use Rattle.image.specs.Image.{Row, no_row}
 use Rattle.rows.specs.Rows.{isCandidate, Choice, row, noChoice, better, bestRow, found, missing, leads}
 use Rattle.rows.specs.Choices.{Best}

@@ -11,9 +11,9 @@ use lib.Count.{ones}
 use lib.Dec.{ltb, eqb}
 use lib.ListN.{length, get_or}
 use borrow.Author.Tests.{lt-ltb, le-ltb, eq-eqb, eqb-true}
-use Rattle.lists.specs.Pick.{pick}
-use Rattle.lists.proofs.Tests.{split}
-use Rattle.bits.specs.Word.{agrees}
+use Rattle.words.specs.lists.Pick.{pick}
+use Rattle.words.proofs.lists.Tests.{split}
+use Rattle.words.specs.bits.Word.{agrees}
 use Rattle.image.specs.Image.{Row, no_row}
 use Rattle.rows.specs.Rows.{matches, isCandidate, Choice, row, noChoice, better, bestRow, leads}
 

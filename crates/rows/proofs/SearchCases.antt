@@ -13,11 +13,11 @@ use lib.Count.{ones}
 use lib.Dec.{ltb, eqb}
 use lib.ListN.{get_or}
 use borrow.Author.Tests.{lt-ltb, le-ltb, eq-eqb, ne_eqb}
-use Rattle.lists.specs.Pick.{pick}
-use Rattle.lists.specs.Numbers.{range}
-use Rattle.lists.proofs.Tests.{split, yes-pick, no-pick}
-use Rattle.bits.specs.Word.{agrees}
-use Rattle.frames.specs.Frame.{size, field, pair_at}
+use Rattle.words.specs.lists.Pick.{pick}
+use Rattle.words.specs.lists.Numbers.{range}
+use Rattle.words.proofs.lists.Tests.{split, yes-pick, no-pick}
+use Rattle.words.specs.bits.Word.{agrees}
+use Rattle.text.specs.frames.Frame.{size, field, pair_at}
 use Rattle.image.specs.Decode.{labels_from}
 use Rattle.tables.specs.Table.{tableLabel, firstOn, endOn, rowOn, rowsOn, tableImage}
 use Rattle.tables.specs.inner.Asked.{Whole}

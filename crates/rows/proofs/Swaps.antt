@@ -6,7 +6,7 @@ use native.Mathlib.Decide.{ℕ_discrete}
 use lib.Bits.{bit_and, and_block, and_lt}
 use lib.Dec.{eqb}
 use borrow.Author.Tests.{eq-eqb, ne_eqb}
-use Rattle.bits.specs.Word.{agrees}
+use Rattle.words.specs.bits.Word.{agrees}
 use Rattle.rows.specs.inner.Search.{swap}
 
 pub swap-twice : (w : ℕ) → w < 65536 → swap (swap w) ≡ w

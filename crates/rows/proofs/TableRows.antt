@@ -9,12 +9,12 @@ use native.Mathlib.Omega.{arith}
 use lib.Dec.{ltb, eqb}
 use lib.ListN.{length, get_or, length-append}
 use borrow.Author.Tests.{lt-ltb, le-ltb, ne_eqb}
-use Rattle.lists.specs.Numbers.{range}
-use Rattle.lists.specs.Sequences.{concatMap, All}
-use Rattle.lists.proofs.Tests.{yes-pick, no-pick}
-use Rattle.lists.proofs.Ranges.{length-map-range, getD-map-range}
-use Rattle.lists.proofs.Joins.{all-every, all_map, all-concat, concat-cons}
-use Rattle.frames.specs.Frame.{size, field}
+use Rattle.words.specs.lists.Numbers.{range}
+use Rattle.words.specs.lists.Sequences.{concatMap, All}
+use Rattle.words.proofs.lists.Tests.{yes-pick, no-pick}
+use Rattle.words.proofs.lists.Ranges.{length-map-range, getD-map-range}
+use Rattle.words.proofs.lists.Joins.{all-every, all_map, all-concat, concat-cons}
+use Rattle.text.specs.frames.Frame.{size, field}
 use Rattle.image.specs.Image.{Row, no_row}
 use Rattle.image.specs.Decode.{lastLabel}
 use Rattle.tables.specs.Table.{tableLabel, firstOn, endOn, rowOn, rowsOn, tableImage}

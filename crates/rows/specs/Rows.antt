@@ -1,8 +1,8 @@
 -- Which row a label takes.
 use Rattle.std.specs.Prelude.{ℕ, suc, Bool, ◌&&◌, ◌||◌, List, [], ◌∷◌, ltb, eqb}
 use Rattle.std.specs.Int.Count.{ones}
-use Rattle.lists.specs.Pick.{pick}
-use Rattle.bits.specs.Word.{agrees}
+use Rattle.words.specs.lists.Pick.{pick}
+use Rattle.words.specs.bits.Word.{agrees}
 use Rattle.image.specs.Layout.{NO-BIT, NO-LABEL}
 use Rattle.image.specs.Image.{Row}
 

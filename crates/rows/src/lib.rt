@@ -2,15 +2,19 @@
 #![tactic(auto)]
 
 ghost use Rattle.std.specs.Prelude.{◌≡◌, ◌<◌};
-ghost use Rattle.frames.specs.Frame.{size};
+ghost use Rattle.text.specs.frames.Frame.{size};
 ghost use Rattle.image.specs.Decode.{schemeCount};
 ghost use Rattle.rows.specs.inner.Search.{swap, matchingFrame, BetterOf, Chosen, Deciding};
 
-use frames::sizes::FRAME;
+pub mod image_rows;
+pub mod listing;
+pub mod row_search;
+
 use image::layout::*;
 use image::{byte, pair};
-use row_ranges::low_pair;
-pub use row_ranges::{end_of, first_of};
+use tables::row_ranges::low_pair;
+pub use tables::row_ranges::{end_of, first_of};
+use text::frames::sizes::FRAME;
 
 // The number of no frame: whatever bytes its header has, a table has fewer.
 pub const NO_FRAME: usize = 131072;

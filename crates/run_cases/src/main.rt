@@ -11,7 +11,7 @@ fn text_of(table: [u8; 120], edits: &[u8]) -> [u8; 276] {
     let mut edited = table;
     patch(&mut edited, edits);
     let mut text = [0u8; 276];
-    frames::put_text(&mut text, 0, &edited);
+    text::frames::put_text(&mut text, 0, &edited);
     text
 }
 
@@ -51,9 +51,9 @@ fn line(bytes: &[u8]) {
 // The mask's last byte and the code of each of eight ticks; 77 and AA where nothing was written.
 fn print_ticks(masks: [u32; 8], codes: [u8; 8]) {
     for i in 0..8 {
-        let mask = printing::code_line((masks[i] % 256) as u8);
+        let mask = output::printing::code_line((masks[i] % 256) as u8);
         line(&mask);
-        let code = printing::code_line(codes[i]);
+        let code = output::printing::code_line(codes[i]);
         line(&code);
     }
 }
@@ -62,7 +62,7 @@ fn print_ticks(masks: [u32; 8], codes: [u8; 8]) {
 fn run(text: [u8; 276], state: State, words: [u16; 8]) -> State {
     let mut masks = [119u32; 8];
     let mut codes = [170u8; 8];
-    let ran = state_runs::run(&text, state, &words, &mut masks, &mut codes);
+    let ran = runs::state_runs::run(&text, state, &words, &mut masks, &mut codes);
     let answer = ran.answer;
     report(1, answer, 0);
     print_ticks(masks, codes);
@@ -74,7 +74,7 @@ fn rest(text: [u8; 276], state: State) {
     let mut masks = [0u32; 1];
     let mut codes = [0u8; 1];
     let words = [0u16; 1];
-    let ran = state_runs::run(&text, state, &words[..0], &mut masks, &mut codes);
+    let ran = runs::state_runs::run(&text, state, &words[..0], &mut masks, &mut codes);
     let answer = ran.answer;
     report(1, answer, 0);
 }
@@ -83,7 +83,7 @@ fn rest(text: [u8; 276], state: State) {
 fn short(text: [u8; 276], state: State, words: [u16; 8]) -> State {
     let mut masks = [119u32; 8];
     let mut codes = [170u8; 7];
-    let ran = state_runs::run(&text, state, &words, &mut masks, &mut codes);
+    let ran = runs::state_runs::run(&text, state, &words, &mut masks, &mut codes);
     let answer = ran.answer;
     report(1, answer, 0);
     ran.state

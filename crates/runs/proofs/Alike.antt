@@ -2,8 +2,8 @@
 use Prim.Native.Nat.{ℕ}
 use mathlib.Core.Path.{◌≡◌, ap, ap₂}
 use mathlib.Core.List.{List, [], ◌∷◌}
-use Rattle.frames.specs.Verdict.{Verdict, next, when}
-use Rattle.frames.proofs.Capitals.{ReadAlike}
+use Rattle.text.specs.frames.Verdict.{Verdict, next, when}
+use Rattle.text.proofs.frames.Capitals.{ReadAlike}
 use Rattle.image.specs.Decode.{decoded}
 use Rattle.image.proofs.Alike.{image-verdict}
 use Rattle.state.specs.declared.State.{State}

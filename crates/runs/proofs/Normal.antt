@@ -2,7 +2,7 @@
 use Prim.Native.Nat.{ℕ, ◌≤◌}
 use mathlib.Core.Path.{refl, ◌∙◌}
 use mathlib.Core.List.{List, [], ◌∷◌}
-use Rattle.frames.specs.Verdict.{Verdict, fine, refused}
+use Rattle.text.specs.frames.Verdict.{Verdict, fine, refused}
 use Rattle.image.specs.Image.{Image}
 use Rattle.state.specs.declared.State.{State}
 use Rattle.ticks.specs.Tick.{MachineTick, finished, stopped, tick}

@@ -7,12 +7,12 @@ use native.Mathlib.Omega.{arith}
 use lib.Dec.{leb, ltb, eqb}
 use lib.ListN.{length, get_or}
 use borrow.Author.Tests.{lt-ltb, le-ltb, lt-leb, le-leb, ltb-false, ne_eqb}
-use Rattle.lists.specs.Sequences.{over}
-use Rattle.lists.proofs.Tests.{or_l, or_r, yes-pick, no-pick, and_no, and-true}
-use Rattle.frames.specs.Verdict.{Verdict, fine, refused, next, when}
-use Rattle.frames.specs.Answer.{Reply, success, refusal, replyNumber, reply, replied}
-use Rattle.frames.specs.declared.Answer.{Answer}
-use Rattle.frames.specs.declared.Answer.TheVariants.{Done, Refused}
+use Rattle.words.specs.lists.Sequences.{over}
+use Rattle.words.proofs.lists.Tests.{or_l, or_r, yes-pick, no-pick, and_no, and-true}
+use Rattle.text.specs.frames.Verdict.{Verdict, fine, refused, next, when}
+use Rattle.text.specs.frames.Answer.{Reply, success, refusal, replyNumber, reply, replied}
+use Rattle.text.specs.declared.frames.Answer.{Answer}
+use Rattle.text.specs.declared.frames.Answer.TheVariants.{Done, Refused}
 use Rattle.tables.specs.Table.{tableImage}
 use Rattle.tables.specs.inner.Asked.{Whole}
 use Rattle.state.specs.declared.State.{State}

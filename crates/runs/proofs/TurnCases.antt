@@ -7,9 +7,9 @@ use native.Mathlib.Numerals.{add-one}
 use native.Mathlib.Omega.{arith}
 use lib.ListN.{length, get_or, set, drop, length-append, length-set, drop_of_length-le}
 use lib.Seq.{drop-cons, append_snoc}
-use Rattle.lists.specs.Sequences.{over, written}
-use Rattle.lists.proofs.Written.{written_none, written-snoc, written-front}
-use Rattle.frames.specs.Verdict.{Verdict, fine, refused}
+use Rattle.words.specs.lists.Sequences.{over, written}
+use Rattle.words.proofs.lists.Written.{written_none, written-snoc, written-front}
+use Rattle.text.specs.frames.Verdict.{Verdict, fine, refused}
 use Rattle.image.specs.Image.{Image}
 use Rattle.tables.specs.Table.{tableImage}
 use Rattle.state.specs.declared.State.{State}

@@ -1,9 +1,9 @@
 -- A run and a tick on the bytes of a state that the caller keeps: what they promise, and what the bytes then hold.
 use Rattle.std.specs.Prelude.{ℕ, Bool, ◌&&◌, ◌≡◌, List, eqb, leb}
-use Rattle.lists.specs.Pick.{pick}
-use Rattle.frames.specs.Refusals.{BAD-LENGTH, NO-ROOM}
-use Rattle.frames.specs.Answer.{replyNumber, reply}
-use Rattle.frames.specs.declared.Answer.{Answer}
+use Rattle.words.specs.lists.Pick.{pick}
+use Rattle.text.specs.frames.Refusals.{BAD-LENGTH, NO-ROOM}
+use Rattle.text.specs.frames.Answer.{replyNumber, reply}
+use Rattle.text.specs.declared.frames.Answer.{Answer}
 use Rattle.state.specs.Bytes.{bytesOf}
 use Rattle.runs.specs.declared.TickReport.{TickReport}
 use Rattle.runs.specs.Run.{RunOutcome}

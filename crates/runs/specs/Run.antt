@@ -1,10 +1,10 @@
 -- A run: ticks over a list of words; what it answers, the state it hands back and what the two buffers then hold.
 use Rattle.std.specs.Prelude.{ℕ, Bool, ◌||◌, ◌≡◌, List, [], ◌∷◌, ltb, length}
-use Rattle.lists.specs.Sequences.{over}
-use Rattle.frames.specs.Refusals.{UNFIT, NO-ROOM}
-use Rattle.frames.specs.Frame.{contents}
-use Rattle.frames.specs.Verdict.{Verdict, fine, refused, next, when}
-use Rattle.frames.specs.Answer.{Reply, refusal, reply, replied}
+use Rattle.words.specs.lists.Sequences.{over}
+use Rattle.text.specs.frames.Refusals.{UNFIT, NO-ROOM}
+use Rattle.text.specs.frames.Frame.{contents}
+use Rattle.text.specs.frames.Verdict.{Verdict, fine, refused, next, when}
+use Rattle.text.specs.frames.Answer.{Reply, refusal, reply, replied}
 use Rattle.image.specs.Image.{Image}
 use Rattle.image.specs.Decode.{decoded}
 use Rattle.image.specs.Check.{imageVerdict}

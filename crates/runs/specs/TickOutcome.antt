@@ -1,6 +1,6 @@
 -- One tick as a controller calls it: a run of one word, with room for one mask and one code.
 use Rattle.std.specs.Prelude.{ℕ, ◌≡◌, List, [], ◌∷◌, get_or}
-use Rattle.frames.specs.Answer.{Reply, reply}
+use Rattle.text.specs.frames.Answer.{Reply, reply}
 use Rattle.state.specs.declared.State.{State}
 use Rattle.runs.specs.declared.TickReport.{TickReport}
 use Rattle.runs.specs.Run.{RunOutcome, run}

@@ -1,9 +1,13 @@
 // Ticks over the words of a run, on a prepared table and the bytes of a state.
 #![tactic(auto)]
 
-use frames::Answer;
+use text::frames::Answer;
 
+pub mod kept_states;
+pub mod machine;
 mod runs;
+pub mod state_runs;
+pub mod table_runs;
 
 pub use runs::{tick_all, tick_word};
 

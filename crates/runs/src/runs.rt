@@ -5,10 +5,10 @@ ghost use Rattle.runs.specs.inner.RunContracts.{RunAsked, GivesRunEnd};
 
 use super::RunEnd;
 use state::layout::STATE_BYTES;
-use state_places::{depth_of, place_of};
-use stepping::tick_on;
+use state::state_places::{depth_of, place_of};
 use tables::{last_label, scheme_count};
 use ticks::TickEnd;
+use ticks::stepping::tick_on;
 
 // One tick a word, until one is stopped.
 pub fn tick_all(

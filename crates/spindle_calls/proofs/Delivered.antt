@@ -7,11 +7,11 @@ use native.Mathlib.Omega.{arith}
 use lib.Dec.{eqb}
 use lib.ListN.{set, take}
 use borrow.Author.Tests.{ne_eqb}
-use Rattle.lists.specs.Pick.{pick}
-use Rattle.lists.specs.Sequences.{All}
+use Rattle.words.specs.lists.Pick.{pick}
+use Rattle.words.specs.lists.Sequences.{All}
 use Rattle.bindings.specs.Binding.{ownBinding}
-use Rattle.frames.specs.Frame.{contents}
-use Rattle.frames.specs.Answer.{Reply, reply, replyNumber, success, refusal}
+use Rattle.text.specs.frames.Frame.{contents}
+use Rattle.text.specs.frames.Answer.{Reply, reply, replyNumber, success, refusal}
 use Rattle.state.specs.declared.State.{State}
 use Rattle.state.specs.State.{fresh, noState, badSize, StateOutcome, freshState}
 use Rattle.agreement.specs.Calls.{TableOf}
@@ -19,7 +19,7 @@ use Rattle.agreement.proofs.OneCall.{prepared-rebind-is, table-prepared}
 use Rattle.spindles.specs.declared.SpinReport.{SpinReport}
 use Rattle.spindles.specs.Spindles.{stateAt, depths, SpinOutcome, spin, liveSpin, GivesSpin}
 use Rattle.spindles.proofs.Live.{live-spin-is}
-use Rattle.spindle_places.specs.Calls.{Head, headAfter}
+use Rattle.spindles.specs.spindle_places.Calls.{Head, headAfter}
 use Rattle.spindle_walks.specs.Walks.{HandsImage, FollowsWalk, OwnWalk}
 use Rattle.spindle_walks.proofs.Walks.{own-walks}
 use Rattle.spindle_calls.specs.ObservedCalls.{ObservedCall, call_of}

@@ -6,11 +6,11 @@ use mathlib.Core.List.{List, [], ◌∷◌, ◌++◌, map}
 use native.Mathlib.Omega.{arith}
 use lib.Dec.{eqb}
 use lib.ListN.{length, take}
-use Rattle.lists.specs.Pick.{pick}
-use Rattle.lists.specs.Sequences.{written, All}
+use Rattle.words.specs.lists.Pick.{pick}
+use Rattle.words.specs.lists.Sequences.{written, All}
 use Rattle.bindings.specs.Binding.{ownBinding}
-use Rattle.frames.specs.Frame.{contents}
-use Rattle.frames.specs.Answer.{replyNumber, success, refusal}
+use Rattle.text.specs.frames.Frame.{contents}
+use Rattle.text.specs.frames.Answer.{replyNumber, success, refusal}
 use Rattle.state.specs.declared.State.{State}
 use Rattle.state.specs.State.{fresh, noState, badSize, StateOutcome, freshState}
 use Rattle.state.specs.Bytes.{state_of, bytesOf}
@@ -19,11 +19,11 @@ use Rattle.fairleadow.specs.Calls.{GivesStateC}
 use Rattle.agreement.proofs.ForC.{returned-0}
 use Rattle.spindles.specs.Spindles.{depths}
 use Rattle.spindles.proofs.InParts.{four-depths}
-use Rattle.spindle_parts.specs.FourStates.{part_of, statesOf, depthsIn}
-use Rattle.spindle_parts.proofs.States.{count-is, state-is, depths-are}
-use Rattle.spindle_places.specs.Calls.{newHead}
-use Rattle.spindle_places.specs.Calls as calls
-use Rattle.spindle_places.specs.PlacesBalance.{placesReturned}
+use Rattle.spindles.specs.spindle_parts.FourStates.{part_of, statesOf, depthsIn}
+use Rattle.spindles.proofs.spindle_parts.States.{count-is, state-is, depths-are}
+use Rattle.spindles.specs.spindle_places.Calls.{newHead}
+use Rattle.spindles.specs.spindle_places.Calls as calls
+use Rattle.spindles.specs.spindle_places.PlacesBalance.{placesReturned}
 use Rattle.spindle_walks.specs.Walks.{HandsImage, FollowsWalk, OwnWalk}
 use Rattle.spindle_walks.proofs.Walks.{own-walks}
 use Rattle.spindle_calls.specs.ObservedCalls.{ObservedCall, call_of}

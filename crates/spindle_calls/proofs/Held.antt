@@ -8,13 +8,13 @@ use lib.Dec.{ltb, eqb}
 use lib.ListN.{length, set}
 use lib.Seq.{get_or-set_same}
 use borrow.Author.Tests.{ne_eqb, eqb-true}
-use Rattle.lists.specs.Pick.{pick}
-use Rattle.lists.specs.Sequences.{written}
-use Rattle.lists.proofs.Tests.{no-pick}
-use Rattle.frames.specs.Frame.{contents}
-use Rattle.frames.specs.Verdict.{Verdict, fine, refused, next, when}
-use Rattle.frames.specs.Answer.{success}
-use Rattle.frames.proofs.Refuses.{next-refuses, when-refuses}
+use Rattle.words.specs.lists.Pick.{pick}
+use Rattle.words.specs.lists.Sequences.{written}
+use Rattle.words.proofs.lists.Tests.{no-pick}
+use Rattle.text.specs.frames.Frame.{contents}
+use Rattle.text.specs.frames.Verdict.{Verdict, fine, refused, next, when}
+use Rattle.text.specs.frames.Answer.{success}
+use Rattle.text.proofs.frames.Refuses.{next-refuses, when-refuses}
 use Rattle.image.specs.Image.{Image}
 use Rattle.image.specs.Decode.{decoded}
 use Rattle.image.specs.Check.{imageVerdict}
@@ -26,14 +26,14 @@ use Rattle.state.proofs.ResultBytes.{state-back, held-sized, held-bits}
 use Rattle.fitness.specs.Fitness.{unfit}
 use Rattle.ticks.specs.Tick.{MachineTick, finished, stopped, tick}
 use Rattle.ticks.proofs.Normal.{Same, Normal, tick-normal}
-use Rattle.machine.proofs.OneTick.{advanceBy}
+use Rattle.runs.proofs.machine.OneTick.{advanceBy}
 use Rattle.spindles.specs.Spindles.{stateAt, badHead, headVerdict, SpinOutcome, turnedBack, noneLeft, spunBy, spunOn, spin, liveSpin}
 use Rattle.spindles.proofs.OneCall.{tickTried, tickByVerdict, spinBy, spin-by, live-spin-by, kept_by}
 use Rattle.spindles.proofs.Others.{Tried, tried}
-use Rattle.turning.proofs.Settled.{NumberedVerdict, image-numbered, table-numbered}
-use Rattle.spindle_parts.specs.FourStates.{part_of, statesOf}
-use Rattle.spindle_bytes.specs.Bytes.{bytesSpun}
-use Rattle.spindle_parts.proofs.States.{count-is, state-is}
+use Rattle.spindles.proofs.turning.Settled.{NumberedVerdict, image-numbered, table-numbered}
+use Rattle.spindles.specs.spindle_parts.FourStates.{part_of, statesOf}
+use Rattle.spindles.specs.spindle_bytes.Bytes.{bytesSpun}
+use Rattle.spindles.proofs.spindle_parts.States.{count-is, state-is}
 use Rattle.fairleadow.specs.Calls.{spinFor, liveSpinFor}
 use Rattle.spindle_calls.specs.Held.{BytesHold}
 use Rattle.spindle_calls.proofs.StateParts.{put-states}

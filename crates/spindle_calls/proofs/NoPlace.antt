@@ -8,12 +8,12 @@ use native.Mathlib.Omega.{arith}
 use lib.Dec.{leb, ltb, eqb}
 use lib.ListN.{set}
 use borrow.Author.Tests.{lt-ltb, leb-true, le-leb, ltb-true, ne_eqb}
-use Rattle.lists.specs.Pick.{pick}
-use Rattle.lists.proofs.Tests.{and_l, and_r, and-true}
-use Rattle.frames.specs.Frame.{contents}
-use Rattle.frames.specs.Verdict.{Verdict, fine, refused, when}
-use Rattle.frames.specs.Answer.{Reply, success, refusal, replyNumber}
-use Rattle.frames.proofs.Verdicts.{next-rest, when-fine}
+use Rattle.words.specs.lists.Pick.{pick}
+use Rattle.words.proofs.lists.Tests.{and_l, and_r, and-true}
+use Rattle.text.specs.frames.Frame.{contents}
+use Rattle.text.specs.frames.Verdict.{Verdict, fine, refused, when}
+use Rattle.text.specs.frames.Answer.{Reply, success, refusal, replyNumber}
+use Rattle.text.proofs.frames.Verdicts.{next-rest, when-fine}
 use Rattle.image.specs.Image.{Image}
 use Rattle.image.specs.Decode.{decoded}
 use Rattle.image.specs.Check.{imageVerdict}
@@ -25,12 +25,12 @@ use Rattle.fitness.specs.Fitness.{unfit}
 use Rattle.fitness.proofs.Fitness.{Fits, unfits}
 use Rattle.ticks.specs.Tick.{MachineTick, finished, stopped, tick}
 use Rattle.runs.specs.TickOutcome.{TickOutcome, imageTick}
-use Rattle.machine.proofs.OneTick.{advanceBy, advance-by}
-use Rattle.machine.proofs.OneTick as one
+use Rattle.runs.proofs.machine.OneTick.{advanceBy, advance-by}
+use Rattle.runs.proofs.machine.OneTick as one
 use Rattle.spindles.specs.Spindles.{stateAt, turnedBack, noneLeft, spunBy, spunOn, spin}
 use Rattle.spindles.proofs.Others.{Tried, tried}
-use Rattle.spindle_places.specs.PlacesBalance.{placesCalled, placesReturned, placesGivenBack}
-use Rattle.spindle_places.proofs.Depths.{Deepens, called-few, tick-deepens}
+use Rattle.spindles.specs.spindle_places.PlacesBalance.{placesCalled, placesReturned, placesGivenBack}
+use Rattle.spindles.proofs.spindle_places.Depths.{Deepens, called-few, tick-deepens}
 use Rattle.spindle_calls.specs.NoPlace.{NoPlaceExactly}
 
 -- ---- a finished tick ends deeper exactly where it is a call

@@ -8,12 +8,12 @@ use lib.Dec.{eqb}
 use lib.ListN.{length, get_or, set, drop}
 use lib.Seq.{get_or-take, get_or-drop}
 use borrow.Author.Tests.{ne_eqb}
-use Rattle.lists.specs.Pick.{pick}
-use Rattle.lists.specs.Sequences.{written}
-use Rattle.lists.proofs.Tests.{no-pick}
-use Rattle.frames.specs.Frame.{contents}
-use Rattle.frames.specs.Verdict.{next}
-use Rattle.frames.specs.Answer.{replyNumber}
+use Rattle.words.specs.lists.Pick.{pick}
+use Rattle.words.specs.lists.Sequences.{written}
+use Rattle.words.proofs.lists.Tests.{no-pick}
+use Rattle.text.specs.frames.Frame.{contents}
+use Rattle.text.specs.frames.Verdict.{next}
+use Rattle.text.specs.frames.Answer.{replyNumber}
 use Rattle.image.specs.Decode.{decoded}
 use Rattle.image.specs.Check.{imageVerdict}
 use Rattle.state.specs.declared.State.{State}
@@ -27,10 +27,10 @@ use Rattle.agreement.proofs.OneCall.{prepared-rebind-is}
 use Rattle.agreement.proofs.OneCallC.{table-prepared}
 use Rattle.spindles.specs.Spindles.{stateAt, SpinOutcome}
 use Rattle.spindles.proofs.Live.{live-spin-is}
-use Rattle.spindle_parts.specs.FourStates.{part_of, statesOf}
-use Rattle.spindle_bytes.specs.Bytes.{ifSpun, bytesSpun}
-use Rattle.spindle_parts.proofs.States.{part_length, state-is}
-use Rattle.spindle_places.specs.Calls.{Head, headAfter}
+use Rattle.spindles.specs.spindle_parts.FourStates.{part_of, statesOf}
+use Rattle.spindles.specs.spindle_bytes.Bytes.{ifSpun, bytesSpun}
+use Rattle.spindles.proofs.spindle_parts.States.{part_length, state-is}
+use Rattle.spindles.specs.spindle_places.Calls.{Head, headAfter}
 use Rattle.spindle_calls.specs.ObservedCalls.{ObservedCall, observedSpin, observedRebinding, call_of}
 use Rattle.spindle_calls.specs.ForC.{observedTickC}
 use Rattle.spindle_calls.proofs.Row.{Hears, hearsNo, hearsTick}

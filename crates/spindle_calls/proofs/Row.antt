@@ -7,16 +7,16 @@ use mathlib.Core.List.{List, [], ◌∷◌, map}
 use native.Mathlib.Omega.{arith}
 use lib.Dec.{eqb}
 use borrow.Author.Tests.{eq-eqb}
-use Rattle.lists.specs.Pick.{pick}
-use Rattle.lists.proofs.Tests.{no_both}
+use Rattle.words.specs.lists.Pick.{pick}
+use Rattle.words.proofs.lists.Tests.{no_both}
 use Rattle.bindings.specs.Binding.{Binding}
 use Rattle.charts.specs.Chart.{Chart}
 use Rattle.agreement.specs.Agreement.{bindingAfter}
 use Rattle.spindles.specs.Spindles.{stateAt, depths, SpinOutcome}
-use Rattle.spindle_places.specs.Calls.{Head, newHead, headAfter, headAfterAll}
-use Rattle.spindle_places.specs.Calls as calls
-use Rattle.spindle_places.specs.PlacesBalance.{placesCalled, placesReturned, placesGivenBack, counts, tally, PlacesBalance, PlacesCounted}
-use Rattle.spindle_places.proofs.PlacesBalance.{places-counted}
+use Rattle.spindles.specs.spindle_places.Calls.{Head, newHead, headAfter, headAfterAll}
+use Rattle.spindles.specs.spindle_places.Calls as calls
+use Rattle.spindles.specs.spindle_places.PlacesBalance.{placesCalled, placesReturned, placesGivenBack, counts, tally, PlacesBalance, PlacesCounted}
+use Rattle.spindles.proofs.spindle_places.PlacesBalance.{places-counted}
 use Rattle.spindle_walks.specs.Walks.{FinishedTick, isSuccess, finishedBy}
 use Rattle.spindle_calls.specs.ObservedCalls.{ObservedTick, ObservedCall, observedSpin, observedRebinding, call_of}
 use Rattle.spindle_calls.specs.ObservedCalls.{countsIn, tallyIn, ObservedBalance, finishedIn}

@@ -9,14 +9,14 @@ use lib.Dec.{eqb}
 use lib.ListN.{length, get_or, set, take, drop, length-take, get_or-append}
 use lib.Seq.{get_or-take, get_or-drop, get_or-append-add}
 use borrow.Author.Tests.{eq-eqb}
-use Rattle.lists.specs.Sequences.{written}
-use Rattle.lists.proofs.Tests.{yes-pick, split}
-use Rattle.lists.proofs.Ranges.{map-count}
-use Rattle.lists.proofs.Written.{written-length}
+use Rattle.words.specs.lists.Sequences.{written}
+use Rattle.words.proofs.lists.Tests.{yes-pick, split}
+use Rattle.words.proofs.lists.Ranges.{map-count}
+use Rattle.words.proofs.lists.Written.{written-length}
 use Rattle.state.specs.declared.State.{State}
 use Rattle.state.specs.Bytes.{state_of}
-use Rattle.spindle_parts.specs.FourStates.{part_of, statesOf}
-use Rattle.spindle_parts.proofs.States.{part_length, part-is}
+use Rattle.spindles.specs.spindle_parts.FourStates.{part_of, statesOf}
+use Rattle.spindles.proofs.spindle_parts.States.{part_length, part-is}
 
 abbrev pub fourStates : List ℕ → List State
 fourStates b = state_of (part_of b 0) ∷ state_of (part_of b 1) ∷ state_of (part_of b 2) ∷ state_of (part_of b 3) ∷ []

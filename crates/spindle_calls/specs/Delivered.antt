@@ -2,11 +2,11 @@
 -- rebind and live_rebind on one of the states, put back in its place. Each call is known by its contract alone, which is the record that
 -- the function's `ensures` cites.
 use Rattle.std.specs.Prelude.{ℕ, ◌≤◌, ◌<◌, ◌≡◌, List, [], ◌∷◌, map, length, set, take}
-use Rattle.lists.specs.Sequences.{All}
+use Rattle.words.specs.lists.Sequences.{All}
 use Rattle.bindings.specs.Binding.{ownBinding}
-use Rattle.frames.specs.Frame.{contents}
-use Rattle.frames.specs.Answer.{reply, replyNumber, success, GivesBuffer}
-use Rattle.frames.specs.declared.Answer.{Answer}
+use Rattle.text.specs.frames.Frame.{contents}
+use Rattle.text.specs.frames.Answer.{reply, replyNumber, success, GivesBuffer}
+use Rattle.text.specs.declared.frames.Answer.{Answer}
 use Rattle.translator.specs.Entry.{translate}
 use Rattle.state.specs.Layout.{PLACES}
 use Rattle.state.specs.declared.State.{State}

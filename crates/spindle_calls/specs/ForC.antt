@@ -2,16 +2,16 @@
 -- that the call before left, fairleadow_rebind and fairleadow_live_rebind on the 130 bytes of one spindle. Each call is known by its
 -- contract alone, which is the record that the function's `ensures` cites.
 use Rattle.std.specs.Prelude.{ℕ, ◌+◌, ◌*◌, ◌≤◌, ◌<◌, ◌≡◌, List, [], ◌∷◌, ◌++◌, map, length, get_or, take}
-use Rattle.lists.specs.Sequences.{written, All}
+use Rattle.words.specs.lists.Sequences.{written, All}
 use Rattle.bindings.specs.Binding.{ownBinding}
-use Rattle.frames.specs.Frame.{contents}
+use Rattle.text.specs.frames.Frame.{contents}
 use Rattle.translator.specs.Entry.{translate}
 use Rattle.state.specs.Layout.{PLACES, STATE-BYTES, DEPTH}
 use Rattle.state.specs.State.{freshState}
 use Rattle.spindles.specs.Layout.{SPINDLES, HEAD-BYTES}
 use Rattle.fairleadow.specs.Calls.{GivesBufferC, GivesStateC, rebindFor, liveRebindFor, GivesRebindingC, spinFor, liveSpinFor, GivesSpinC}
 use Rattle.agreement.specs.ForC.{TableOfC}
-use Rattle.spindle_parts.specs.FourStates.{part_of, depthsIn}
+use Rattle.spindles.specs.spindle_parts.FourStates.{part_of, depthsIn}
 use Rattle.spindle_walks.specs.Walks.{HandsImage, FollowsWalk}
 use Rattle.spindle_calls.specs.ObservedCalls.{ObservedTick, ObservedCall, observedSpin, observedRebinding}
 use Rattle.spindle_calls.specs.ObservedCalls.{call_of, ObservedBalance, finishedIn}

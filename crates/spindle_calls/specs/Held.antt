@@ -1,7 +1,7 @@
 -- After a call from C the 520 bytes hold the states after it, whatever they held before it.
 use Rattle.std.specs.Prelude.{ℕ, ◌≡◌, List}
 use Rattle.spindles.specs.Spindles.{SpinOutcome}
-use Rattle.spindle_parts.specs.FourStates.{statesOf}
+use Rattle.spindles.specs.spindle_parts.FourStates.{statesOf}
 use Rattle.fairleadow.specs.Calls.{GivesSpinC}
 
 -- a call on an image, and one on a prepared table

@@ -1,16 +1,16 @@
 -- Refusal 26, exactly: where all that is tried before the tick is passed, and the spindle's own tick is finished, the call is refused with
 -- 26 if this tick is a call by its code and all 64 places are taken, and else not.
 use Rattle.std.specs.Prelude.{ℕ, ◌≡◌, ◌↔◌, List}
-use Rattle.frames.specs.Refusals.{NO-PLACE}
-use Rattle.frames.specs.Verdict.{fine}
-use Rattle.frames.specs.Answer.{success, refusal}
+use Rattle.text.specs.frames.Refusals.{NO-PLACE}
+use Rattle.text.specs.frames.Verdict.{fine}
+use Rattle.text.specs.frames.Answer.{success, refusal}
 use Rattle.image.specs.Check.{imageVerdict}
 use Rattle.state.specs.declared.State.{State}
 use Rattle.state.specs.State.{Sized}
 use Rattle.runs.specs.TickOutcome.{imageTick}
 use Rattle.spindles.specs.Layout.{STORE}
 use Rattle.spindles.specs.Spindles.{stateAt, headVerdict, spin}
-use Rattle.spindle_places.specs.PlacesBalance.{placesCalled}
+use Rattle.spindles.specs.spindle_places.PlacesBalance.{placesCalled}
 
 unfoldable pub NoPlaceExactly : Type 0
 NoPlaceExactly =

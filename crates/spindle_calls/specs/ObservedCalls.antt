@@ -1,12 +1,12 @@
 -- Calls of four spindles with what their caller has of them: the places that they take and give back, and the ticks of each spindle.
 use Rattle.std.specs.Prelude.{ℕ, ◌+◌, ◌≤◌, ◌&&◌, ◌≡◌, List, [], ◌∷◌, eqb}
-use Rattle.lists.specs.Pick.{pick}
+use Rattle.words.specs.lists.Pick.{pick}
 use Rattle.bindings.specs.Binding.{Binding}
 use Rattle.charts.specs.Chart.{Chart}
 use Rattle.spindles.specs.Layout.{STORE}
 use Rattle.agreement.specs.Agreement.{bindingAfter}
-use Rattle.spindle_places.specs.Calls.{SpindleCall, spins, rebinds}
-use Rattle.spindle_places.specs.PlacesBalance.{placesCalled, placesReturned, placesGivenBack}
+use Rattle.spindles.specs.spindle_places.Calls.{SpindleCall, spins, rebinds}
+use Rattle.spindles.specs.spindle_places.PlacesBalance.{placesCalled, placesReturned, placesGivenBack}
 use Rattle.spindle_walks.specs.Walks.{FinishedTick}
 
 -- what a caller has of a tick: the depth of the spindle before it, the number of the answer, 0 for success, and mask and code after it

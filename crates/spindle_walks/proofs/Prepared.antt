@@ -3,7 +3,7 @@ use Prim.Native.Nat.{ℕ, ◌≤◌}
 use mathlib.Core.Path.{◌≡◌}
 use mathlib.Core.List.{List}
 use lib.ListN.{take}
-use Rattle.frames.specs.Answer.{success}
+use Rattle.text.specs.frames.Answer.{success}
 use Rattle.tables.specs.Prepare.{prepare}
 use Rattle.state.specs.declared.State.{State}
 use Rattle.agreement.proofs.OneCall.{prepared-holds}

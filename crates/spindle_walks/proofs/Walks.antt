@@ -7,12 +7,12 @@ use lib.Dec.{eqb}
 use lib.ListN.{length, take}
 use native.Mathlib.Decide.{ℕ_discrete}
 use borrow.Author.Tests.{eq-eqb, ne_eqb}
-use Rattle.lists.specs.Pick.{pick}
-use Rattle.lists.specs.Sequences.{All}
+use Rattle.words.specs.lists.Pick.{pick}
+use Rattle.words.specs.lists.Sequences.{All}
 use Rattle.results.specs.Results.{noResults}
 use Rattle.bindings.specs.Binding.{Binding, ownBinding}
-use Rattle.frames.specs.Frame.{contents}
-use Rattle.frames.specs.Verdict.{fine}
+use Rattle.text.specs.frames.Frame.{contents}
+use Rattle.text.specs.frames.Verdict.{fine}
 use Rattle.charts.specs.Chart.{Chart}
 use Rattle.charts.specs.Entry.{readVerdict}
 use Rattle.walk.specs.Walk.{Signal, Tick, walk}
@@ -35,7 +35,7 @@ use Rattle.agreement.proofs.Places.{stateOfPosition}
 use Rattle.agreement.proofs.Images.{translated-passes, translated-decoded}
 use Rattle.agreement.proofs.Chain.{fresh-is, home-is, sound}
 use Rattle.spindles.specs.Spindles.{stateAt, SpinOutcome}
-use Rattle.spindle_places.specs.Calls.{Head, SpindleCall, spins, rebinds, spinOn, headAfter}
+use Rattle.spindles.specs.spindle_places.Calls.{Head, SpindleCall, spins, rebinds, spinOn, headAfter}
 use Rattle.spindle_walks.specs.Walks.{FinishedTick, isSuccess, finishedBy, HandsImage, FollowsWalk, OwnWalk}
 use Rattle.spindle_walks.proofs.WatchedCalls.{At, signalTold, Turned, stays, steps, turned, passed_over, bound-over, bound-own}
 

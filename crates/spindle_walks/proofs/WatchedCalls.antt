@@ -6,11 +6,11 @@ use mathlib.Core.List.{List}
 use lib.ListN.{length, set, length-set}
 use lib.Seq.{get_or-set_same, get_or-set_other}
 use native.Mathlib.Omega.{arith}
-use Rattle.lists.specs.Pick.{pick}
+use Rattle.words.specs.lists.Pick.{pick}
 use Rattle.bindings.specs.Binding.{Binding, rebound}
-use Rattle.frames.specs.Frame.{contents}
-use Rattle.frames.specs.Verdict.{Verdict, fine, when}
-use Rattle.frames.specs.Answer.{success}
+use Rattle.text.specs.frames.Frame.{contents}
+use Rattle.text.specs.frames.Verdict.{Verdict, fine, when}
+use Rattle.text.specs.frames.Answer.{success}
 use Rattle.charts.specs.Chart.{Chart}
 use Rattle.walk.specs.Walk.{Signal}
 use Rattle.walk.proofs.Facts.{Facts}
@@ -36,7 +36,7 @@ use Rattle.spindles.specs.Spindles.{stateAt, SpinOutcome, spin}
 use Rattle.spindles.specs.Laws.{OthersLeft}
 use Rattle.spindles.proofs.OneCall.{spinBy, Comes, turnsBack, on, comes, spin-by}
 use Rattle.spindles.proofs.Others.{others-left}
-use Rattle.spindle_places.specs.Calls.{Head, spins, rebinds, spinOn, headAfter}
+use Rattle.spindles.specs.spindle_places.Calls.{Head, spins, rebinds, spinOn, headAfter}
 use Rattle.spindle_walks.specs.Walks.{isSuccess}
 
 -- ---- what a finished tick tells of the answer that it is

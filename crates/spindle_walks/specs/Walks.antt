@@ -1,11 +1,11 @@
 -- The finished ticks of a spindle are those of its own walk over the words of just these ticks, whatever the other spindles are handed
 -- meanwhile.
 use Rattle.std.specs.Prelude.{ℕ, ◌≤◌, ◌<◌, Bool, true, false, ◌&&◌, ◌≡◌, List, [], ◌∷◌, map, eqb, length, take}
-use Rattle.lists.specs.Pick.{pick}
-use Rattle.lists.specs.Sequences.{All}
+use Rattle.words.specs.lists.Pick.{pick}
+use Rattle.words.specs.lists.Sequences.{All}
 use Rattle.bindings.specs.Binding.{Binding, ownBinding}
-use Rattle.frames.specs.Frame.{contents}
-use Rattle.frames.specs.Answer.{Reply, success, refusal}
+use Rattle.text.specs.frames.Frame.{contents}
+use Rattle.text.specs.frames.Answer.{Reply, success, refusal}
 use Rattle.charts.specs.Chart.{Chart}
 use Rattle.walk.specs.Walk.{Signal, Tick, walk}
 use Rattle.translator.specs.Entry.{translate}
@@ -13,7 +13,7 @@ use Rattle.state.specs.Layout.{PLACES}
 use Rattle.state.specs.State.{freshState}
 use Rattle.agreement.specs.Agreement.{bindingAfter}
 use Rattle.spindles.specs.Spindles.{stateAt}
-use Rattle.spindle_places.specs.Calls.{Head, SpindleCall, spins, rebinds, spinOn, headAfter}
+use Rattle.spindles.specs.spindle_places.Calls.{Head, SpindleCall, spins, rebinds, spinOn, headAfter}
 
 -- a finished tick, its word and the binding that is told before it
 pub record FinishedTick : Type 0 where

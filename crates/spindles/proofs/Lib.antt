@@ -2,3 +2,4 @@ pub mod OneCall
 pub mod Others
 pub mod Live
 pub mod InParts
+pub mod spindle_places

@@ -3,10 +3,10 @@ use Prim.Native.Nat.{ℕ}
 use mathlib.Core.Path.{◌≡◌, sym, ◌∙◌, ap, ap₂}
 use mathlib.Core.Bool.{Bool}
 use mathlib.Core.List.{List}
-use Rattle.frames.specs.Verdict.{Verdict, when}
+use Rattle.text.specs.frames.Verdict.{Verdict, when}
 use Rattle.state.specs.declared.State.{State}
 use Rattle.runs.specs.TickOutcome.{TickOutcome, imageTick}
-use Rattle.machine.proofs.Live.{PreparedTable, live-tick-is}
+use Rattle.runs.proofs.machine.Live.{PreparedTable, live-tick-is}
 use Rattle.spindles.specs.Spindles.{stateAt, headVerdict, spunOn, spin, liveSpin}
 
 module _ {t b : List ℕ} (p : PreparedTable t b) where

@@ -7,11 +7,11 @@ use lib.Dec.{leb, ltb}
 use lib.ListN.{length, set}
 use native.Mathlib.Omega.{arith}
 use borrow.Author.Tests.{le-ltb}
-use Rattle.lists.specs.Pick.{pick}
-use Rattle.frames.specs.Frame.{contents}
-use Rattle.frames.specs.Verdict.{Verdict, fine, refused, next, when}
-use Rattle.frames.specs.Answer.{replyNumber, success, refusal}
-use Rattle.frames.proofs.Verdicts.{next-rest, when-fine}
+use Rattle.words.specs.lists.Pick.{pick}
+use Rattle.text.specs.frames.Frame.{contents}
+use Rattle.text.specs.frames.Verdict.{Verdict, fine, refused, next, when}
+use Rattle.text.specs.frames.Answer.{replyNumber, success, refusal}
+use Rattle.text.proofs.frames.Verdicts.{next-rest, when-fine}
 use Rattle.image.specs.Image.{Image}
 use Rattle.image.specs.Decode.{decoded}
 use Rattle.image.specs.Check.{imageVerdict}
@@ -21,8 +21,8 @@ use Rattle.fitness.specs.Fitness.{unfit}
 use Rattle.ticks.specs.Tick.{MachineTick, finished, stopped, tick}
 use Rattle.runs.specs.Run.{ticks}
 use Rattle.runs.specs.TickOutcome.{TickOutcome, imageTick}
-use Rattle.machine.specs.Live.{liveVerdict, liveRun, liveTick}
-use Rattle.machine.proofs.OneTick.{advanceBy, advance-by}
+use Rattle.runs.specs.machine.Live.{liveVerdict, liveRun, liveTick}
+use Rattle.runs.proofs.machine.OneTick.{advanceBy, advance-by}
 use Rattle.spindles.specs.Spindles.{stateAt, headVerdict, SpinOutcome, turnedBack, noneLeft, spunBy, spunOn, spin, liveSpin}
 use Rattle.spindles.specs.Laws.{Unchanged, RefusedLeaves, FullFirst, LevelGoes}
 

@@ -8,16 +8,16 @@ use lib.ListN.{length, set}
 use lib.Seq.{get_or-set_same, get_or-set_other}
 use native.Mathlib.Omega.{arith}
 use borrow.Author.Tests.{ltb-false, eqb-true}
-use Rattle.lists.specs.Pick.{pick}
-use Rattle.lists.proofs.Tests.{or_l, or_r, not-false}
-use Rattle.frames.specs.Verdict.{Verdict, fine, refused, next, when}
-use Rattle.frames.proofs.Verdicts.{next-first, next-rest, when-fine}
+use Rattle.words.specs.lists.Pick.{pick}
+use Rattle.words.proofs.lists.Tests.{or_l, or_r, not-false}
+use Rattle.text.specs.frames.Verdict.{Verdict, fine, refused, next, when}
+use Rattle.text.proofs.frames.Verdicts.{next-first, next-rest, when-fine}
 use Rattle.image.specs.Check.{imageVerdict}
 use Rattle.tables.specs.Table.{badTable}
 use Rattle.state.specs.declared.State.{State}
 use Rattle.state.specs.State.{noState}
 use Rattle.runs.specs.TickOutcome.{TickOutcome, imageTick}
-use Rattle.machine.specs.Live.{liveTick}
+use Rattle.runs.specs.machine.Live.{liveTick}
 use Rattle.spindles.specs.Spindles.{stateAt, depths, badHead, headVerdict, turnedBack, findsNone, spunBy, spunOn, spin, liveSpin}
 use Rattle.spindles.specs.Laws.{OthersLeft, AlikeSpins, OnlyDepths}
 

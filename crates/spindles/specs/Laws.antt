@@ -1,8 +1,8 @@
 -- What holds of one call: a refusal changes nothing, the other three states stay, and of them no more than the depths is read.
 use Rattle.std.specs.Prelude.{ℕ, suc, ◌≤◌, ◌≡◌, List, length}
-use Rattle.frames.specs.Refusals.{FULL}
-use Rattle.frames.specs.Verdict.{fine}
-use Rattle.frames.specs.Answer.{replyNumber, refusal}
+use Rattle.text.specs.frames.Refusals.{FULL}
+use Rattle.text.specs.frames.Verdict.{fine}
+use Rattle.text.specs.frames.Answer.{replyNumber, refusal}
 use Rattle.image.specs.Check.{imageVerdict}
 use Rattle.state.specs.declared.State.{State}
 use Rattle.runs.specs.TickOutcome.{imageTick}

@@ -1,15 +1,15 @@
 -- Four spindles that share 64 places: one call ticks a named spindle by one word. Refusals 25 and 26.
 use Rattle.std.specs.Prelude.{ℕ, ◌+◌, ◌-◌, Bool, ◌&&◌, ◌||◌, not, ◌≡◌, List, [], ◌∷◌, leb, ltb, eqb, length, get_or, set}
-use Rattle.lists.specs.Pick.{pick}
-use Rattle.frames.specs.Refusals.{BAD-HEADER, UNFIT, NO-SPINDLE, NO-PLACE}
-use Rattle.frames.specs.Verdict.{Verdict, fine, refused, next, when}
-use Rattle.frames.specs.Answer.{Reply, refusal, reply}
+use Rattle.words.specs.lists.Pick.{pick}
+use Rattle.text.specs.frames.Refusals.{BAD-HEADER, UNFIT, NO-SPINDLE, NO-PLACE}
+use Rattle.text.specs.frames.Verdict.{Verdict, fine, refused, next, when}
+use Rattle.text.specs.frames.Answer.{Reply, refusal, reply}
 use Rattle.image.specs.Check.{imageVerdict}
 use Rattle.tables.specs.Table.{badTable}
 use Rattle.state.specs.declared.State.{State}
 use Rattle.state.specs.State.{noState}
 use Rattle.runs.specs.TickOutcome.{TickOutcome, imageTick}
-use Rattle.machine.specs.Live.{liveTick}
+use Rattle.runs.specs.machine.Live.{liveTick}
 use Rattle.spindles.specs.Layout.{SPINDLES, STORE}
 use Rattle.spindles.specs.declared.SpinReport.{SpinReport}
 

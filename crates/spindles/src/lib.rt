@@ -2,13 +2,20 @@
 #![tactic(auto)]
 
 pub mod layout;
+pub mod live_spindle_bytes;
+pub mod spindle_bytes;
+pub mod spindle_heads;
+pub mod spindle_list;
+pub mod spindle_parts;
+pub mod state_turns;
+pub mod turning;
 
 ghost use Rattle.std.specs.Prelude.{◌≡◌};
 ghost use Rattle.spindles.specs.Spindles.{noneLeft};
 ghost use Rattle.spindles.specs.inner.HeadAndTurn.{badSpinCall, badRecord};
 
-use frames::Answer;
 use layout::{SPINDLES, STORE};
+use text::frames::Answer;
 
 // What a call answers: with a refusal, mask and code are 0 and the record is as it was.
 #[derive(Drop)]

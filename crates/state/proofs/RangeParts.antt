@@ -7,8 +7,8 @@ use native.Mathlib.Decide.{ℕ_discrete}
 use native.Mathlib.Omega.{arith}
 use lib.ListN.{length, get_or, set, length-set}
 use lib.Seq.{ext_get_or, get_or-set_same, get_or-set_other}
-use Rattle.lists.specs.Numbers.{range}
-use Rattle.lists.proofs.Ranges.{length-map-range, getD-map-range}
+use Rattle.words.specs.lists.Numbers.{range}
+use Rattle.words.proofs.lists.Ranges.{length-map-range, getD-map-range}
 use Rattle.tables.proofs.RangeLaws.{map-alike}
 
 -- a list given by a function of the place, after one place is set

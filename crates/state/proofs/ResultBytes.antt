@@ -7,11 +7,11 @@ use native.Mathlib.Nat.{zero-add}
 use mir.Val.{bool_byte}
 use lib.Dec.{eqb}
 use lib.ListN.{length, get_or, set, replicate}
-use Rattle.lists.specs.Pick.{pick}
-use Rattle.lists.specs.Numbers.{range}
-use Rattle.lists.specs.Sequences.{written}
-use Rattle.lists.proofs.Ranges.{map-count}
-use Rattle.frames.specs.Answer.{success, refusal}
+use Rattle.words.specs.lists.Pick.{pick}
+use Rattle.words.specs.lists.Numbers.{range}
+use Rattle.words.specs.lists.Sequences.{written}
+use Rattle.words.proofs.lists.Ranges.{map-count}
+use Rattle.text.specs.frames.Answer.{success, refusal}
 use Rattle.state.specs.declared.State.{State}
 use Rattle.state.specs.State.{Sized, placeAt, number_at, serverAt, fresh, noState, badSize, StateOutcome, freshState}
 use Rattle.state.specs.Changes.{withPlaces, with_bits, withServing}

@@ -5,7 +5,7 @@ use mathlib.Core.Path.{◌≡◌}
 use native.Mathlib.Omega.{arith}
 use lib.Dec.{eqb, ltb}
 use borrow.Author.Tests.{ltb-false, le-ltb, ne_eqb}
-use Rattle.lists.proofs.Tests.{or_r, or-none}
+use Rattle.words.proofs.lists.Tests.{or_r, or-none}
 use Rattle.state.specs.State.{badSize}
 
 pub size-most : (n : ℕ) → badSize n ≡ false → n ≤ 32

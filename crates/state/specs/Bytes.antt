@@ -2,9 +2,9 @@
 -- size, depth, 32 places, 16 results, the 16 schemes that serve, and for each place the number that its scheme was called by, then the
 -- scheme that served it.
 use Rattle.std.specs.Prelude.{ℕ, ◌+◌, Bool, false, not, List, ◌∷◌, ◌++◌, map, eqb, get_or}
-use Rattle.lists.specs.Pick.{pick}
-use Rattle.lists.specs.Numbers.{range}
-use Rattle.frames.specs.Sizes.{SCHEMES}
+use Rattle.words.specs.lists.Pick.{pick}
+use Rattle.words.specs.lists.Numbers.{range}
+use Rattle.text.specs.frames.Sizes.{SCHEMES}
 use Rattle.state.specs.Layout.{PLACES, SIZE, DEPTH, PLACES-FROM, RESULTS-FROM, SERVING-FROM, NUMBERS-FROM, SERVERS-FROM}
 use Rattle.state.specs.declared.State.{State}
 use Rattle.state.specs.State.{placeAt, number_at, serverAt}

@@ -1,11 +1,11 @@
 -- The state, and a fresh one (refusal 14).
 use Rattle.std.specs.Prelude.{ℕ, ◌-◌, Bool, ◌||◌, ◌≡◌, List, ltb, eqb, length, get_or, set, replicate}
-use Rattle.lists.specs.Pick.{pick}
+use Rattle.words.specs.lists.Pick.{pick}
 use Rattle.results.specs.Results.{noResults}
 use Rattle.bindings.specs.Binding.{ownBinding}
-use Rattle.frames.specs.Sizes.{SCHEMES}
-use Rattle.frames.specs.Refusals.{BAD-SIZE}
-use Rattle.frames.specs.Answer.{Reply, success, refusal, reply}
+use Rattle.text.specs.frames.Sizes.{SCHEMES}
+use Rattle.text.specs.frames.Refusals.{BAD-SIZE}
+use Rattle.text.specs.frames.Answer.{Reply, success, refusal, reply}
 use Rattle.image.specs.Image.{Image, Label, no_label}
 use Rattle.state.specs.Layout.{PLACES}
 use Rattle.state.specs.declared.State.{State}

@@ -4,9 +4,9 @@ ghost use Rattle.bindings.specs.Binding.{ownBinding};
 ghost use Rattle.state.specs.State.{badSize, freshState, GivesState};
 
 use super::{State, StateReport};
-use frames::refusals::BAD_SIZE;
-use frames::sizes::SCHEMES;
-use frames::{Answer, refused};
+use text::frames::refusals::BAD_SIZE;
+use text::frames::sizes::SCHEMES;
+use text::frames::{Answer, refused};
 
 // Whether a stack size lies outside 1 to 32.
 pub fn bad_size(size: usize) -> bool

@@ -4,11 +4,14 @@
 ghost use Rattle.std.specs.Prelude.{◌≡◌, ◌<◌, length, set};
 
 use crate::layout::PLACES;
-use frames::sizes::SCHEMES;
-use frames::{Answer, sizes};
+use text::frames::sizes::SCHEMES;
+use text::frames::{Answer, sizes};
 
 mod fresh;
 pub mod layout;
+pub mod state_bytes;
+pub mod state_places;
+pub mod state_results;
 
 pub use fresh::bad_size;
 

@@ -7,12 +7,12 @@ use mathlib.Core.List.{List}
 use native.Mathlib.Omega.{arith}
 use lib.ListN.{get_or}
 use borrow.Author.Tests.{leb-true, leb-false, le-leb, lt-leb}
-use Rattle.lists.specs.Numbers.{lowest}
-use Rattle.lists.proofs.Searches.{lowest-hit, lowest-above, lowest-before, lowest-inside}
-use Rattle.lists.proofs.Searches.{lowest-from, lowest-none, lowest-here, lowest-over}
-use Rattle.lists.proofs.Tests.{split}
-use Rattle.frames.specs.Frame.{size, field}
-use Rattle.frames.specs.Verdict.{fine}
+use Rattle.words.specs.lists.Numbers.{lowest}
+use Rattle.words.proofs.lists.Searches.{lowest-hit, lowest-above, lowest-before, lowest-inside}
+use Rattle.words.proofs.lists.Searches.{lowest-from, lowest-none, lowest-here, lowest-over}
+use Rattle.words.proofs.lists.Tests.{split}
+use Rattle.text.specs.frames.Frame.{size, field}
+use Rattle.text.specs.frames.Verdict.{fine}
 use Rattle.image.specs.Image.{nthRow}
 use Rattle.image.specs.Decode.{lastLabel, rows_from, decoded}
 use Rattle.image.specs.Check.{tableVerdict}

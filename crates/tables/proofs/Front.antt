@@ -8,12 +8,12 @@ use lib.Dec.{ltb, eqb}
 use lib.ListN.{length, get_or, take, length-take}
 use lib.Seq.{get_or-take}
 use borrow.Author.Tests.{ltb-false, le-ltb}
-use Rattle.lists.specs.Pick.{pick}
-use Rattle.lists.specs.Numbers.{range}
-use Rattle.lists.specs.Sequences.{concatMap}
-use Rattle.lists.proofs.Joins.{concat-alike}
-use Rattle.lists.proofs.Tests.{or_l, or_r, no-pick}
-use Rattle.frames.specs.Frame.{size, field, pair_at, quadAt}
+use Rattle.words.specs.lists.Pick.{pick}
+use Rattle.words.specs.lists.Numbers.{range}
+use Rattle.words.specs.lists.Sequences.{concatMap}
+use Rattle.words.proofs.lists.Joins.{concat-alike}
+use Rattle.words.proofs.lists.Tests.{or_l, or_r, no-pick}
+use Rattle.text.specs.frames.Frame.{size, field, pair_at, quadAt}
 use Rattle.image.specs.Image.{Label, no_label}
 use Rattle.image.specs.Decode.{schemeCount, lastLabel, rowCount, handlerIn, labels_from, entryIn}
 use Rattle.image.specs.Check.{badCounts, badHandler}

@@ -7,8 +7,8 @@ use native.Mathlib.Omega.{arith}
 use lib.Dec.{ltb}
 use lib.ListN.{length}
 use borrow.Author.Tests.{lt-ltb, le-ltb, ltb-true, ltb-false}
-use Rattle.lists.proofs.Tests.{or-true-l, or_true_r, or-none}
-use Rattle.frames.specs.Frame.{size}
+use Rattle.words.proofs.lists.Tests.{or-true-l, or_true_r, or-none}
+use Rattle.text.specs.frames.Frame.{size}
 use Rattle.image.specs.Check.{badCounts, badHandler}
 use Rattle.tables.specs.Table.{table_end, badTable}
 

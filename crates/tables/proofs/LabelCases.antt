@@ -5,9 +5,9 @@ use mathlib.Core.List.{List}
 use native.Mathlib.Omega.{arith}
 use lib.Dec.{ltb}
 use borrow.Author.Tests.{lt-ltb, le-ltb}
-use Rattle.lists.specs.Pick.{pick}
-use Rattle.lists.proofs.Tests.{yes-pick, no-pick}
-use Rattle.frames.specs.Frame.{field, quadAt}
+use Rattle.words.specs.lists.Pick.{pick}
+use Rattle.words.proofs.lists.Tests.{yes-pick, no-pick}
+use Rattle.text.specs.frames.Frame.{field, quadAt}
 use Rattle.image.specs.Image.{Label, homeLabel, returnLabel}
 use Rattle.image.specs.Decode.{schemeCount, lastLabel, labels_from, labelIn}
 use Rattle.tables.specs.Table.{labelOn, tableLabel}

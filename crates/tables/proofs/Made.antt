@@ -5,14 +5,14 @@ use mathlib.Core.Path.{◌≡◌, sym, ◌∙◌, ap, subst}
 use mathlib.Core.List.{List}
 use native.Mathlib.Omega.{arith}
 use lib.ListN.{length, take}
-use Rattle.lists.specs.Numbers.{range}
-use Rattle.lists.specs.Sequences.{concatMap}
-use Rattle.frames.specs.Frame.{contents, frameCount}
-use Rattle.frames.specs.Verdict.{fine}
-use Rattle.frames.specs.declared.Answer.{Answer}
-use Rattle.frames.specs.declared.Answer.TheVariants.{Done}
-use Rattle.frames.proofs.Chains.{done-fine}
-use Rattle.frames.proofs.Contents.{any-contents-length}
+use Rattle.words.specs.lists.Numbers.{range}
+use Rattle.words.specs.lists.Sequences.{concatMap}
+use Rattle.text.specs.frames.Frame.{contents, frameCount}
+use Rattle.text.specs.frames.Verdict.{fine}
+use Rattle.text.specs.declared.frames.Answer.{Answer}
+use Rattle.text.specs.declared.frames.Answer.TheVariants.{Done}
+use Rattle.text.proofs.frames.Chains.{done-fine}
+use Rattle.text.proofs.frames.Contents.{any-contents-length}
 use Rattle.image.specs.Decode.{lastLabel, rows_from, decoded}
 use Rattle.image.specs.Check.{tableVerdict, imageVerdict}
 use Rattle.image.proofs.Accepted.{image-table, image-bytes}

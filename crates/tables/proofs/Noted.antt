@@ -6,8 +6,8 @@ use native.Mathlib.Decide.{ℕ_discrete}
 use native.Mathlib.Omega.{arith}
 use lib.ListN.{length, get_or, set, length-set}
 use lib.Seq.{get_or-set_same, get_or-set_other}
-use Rattle.frames.specs.Frame.{size, field, pair_at, quadAt}
-use Rattle.frames.specs.Verdict.{fine}
+use Rattle.text.specs.frames.Frame.{size, field, pair_at, quadAt}
+use Rattle.text.specs.frames.Verdict.{fine}
 use Rattle.image.specs.Image.{Label}
 use Rattle.image.specs.Decode.{schemeCount, lastLabel, rowCount, handlerIn, labels_from, rows_from, labelIn}
 use Rattle.image.specs.Check.{tableVerdict}

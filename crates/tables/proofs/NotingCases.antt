@@ -8,10 +8,10 @@ use native.Mathlib.Omega.{arith}
 use lib.Dec.{leb}
 use lib.ListN.{length, set}
 use borrow.Author.Tests.{leb-false, lt-leb}
-use Rattle.lists.specs.Numbers.{lowest}
-use Rattle.lists.proofs.Searches.{lowest-above, lowest-inside, lowest-from, lowest-alike}
-use Rattle.frames.specs.Frame.{size, field}
-use Rattle.frames.specs.Verdict.{fine}
+use Rattle.words.specs.lists.Numbers.{lowest}
+use Rattle.words.proofs.lists.Searches.{lowest-above, lowest-inside, lowest-from, lowest-alike}
+use Rattle.text.specs.frames.Frame.{size, field}
+use Rattle.text.specs.frames.Verdict.{fine}
 use Rattle.image.specs.Decode.{schemeCount, lastLabel, rows_from}
 use Rattle.image.specs.Check.{tableVerdict}
 use Rattle.image.proofs.Accepted.{counted}

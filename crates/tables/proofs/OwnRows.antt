@@ -4,9 +4,9 @@ use mathlib.Core.Path.{◌≡◌, refl, ◌∙◌, ap}
 use mathlib.Core.List.{List, [], ◌++◌}
 use native.Mathlib.Decide.{ℕ_discrete}
 use native.Mathlib.Omega.{arith}
-use Rattle.lists.specs.Numbers.{range}
-use Rattle.lists.specs.Sequences.{concatMap}
-use Rattle.lists.proofs.Joins.{concat-cons}
+use Rattle.words.specs.lists.Numbers.{range}
+use Rattle.words.specs.lists.Sequences.{concatMap}
+use Rattle.words.proofs.lists.Joins.{concat-cons}
 use Rattle.image.specs.Image.{Row}
 use Rattle.image.specs.Decode.{lastLabel}
 use Rattle.tables.specs.Table.{rowsOn, tableImage}

@@ -5,20 +5,20 @@ use mathlib.Core.List.{List, ◌++◌}
 use native.Mathlib.Omega.{arith}
 use lib.ListN.{length, take, drop}
 use lib.Seq.{take_at, drop_at}
-use Rattle.lists.specs.Sequences.{over, written}
-use Rattle.lists.proofs.Written.{written-front}
-use Rattle.frames.specs.Frame.{frameCount, contents}
-use Rattle.frames.specs.Verdict.{Verdict, fine, refused}
-use Rattle.frames.specs.Answer.{reply, judged, GivesBuffer}
-use Rattle.frames.specs.Check.{textVerdict}
-use Rattle.frames.specs.inner.Read.{readInto}
-use Rattle.frames.specs.declared.Answer.{Answer}
-use Rattle.frames.specs.declared.Answer.TheVariants.{Done, Refused}
-use Rattle.frames.proofs.Verdicts.{next-first}
-use Rattle.frames.proofs.Chains.{refused-verdict, judged-fine}
-use Rattle.frames.proofs.Contents.{any-contents-length}
-use Rattle.frames.proofs.Reading.{read-fine}
-use Rattle.frames.proofs.Lent.{lent-refused, lent-short, lent-done}
+use Rattle.words.specs.lists.Sequences.{over, written}
+use Rattle.words.proofs.lists.Written.{written-front}
+use Rattle.text.specs.frames.Frame.{frameCount, contents}
+use Rattle.text.specs.frames.Verdict.{Verdict, fine, refused}
+use Rattle.text.specs.frames.Answer.{reply, judged, GivesBuffer}
+use Rattle.text.specs.frames.Check.{textVerdict}
+use Rattle.text.specs.frames.inner.Read.{readInto}
+use Rattle.text.specs.declared.frames.Answer.{Answer}
+use Rattle.text.specs.declared.frames.Answer.TheVariants.{Done, Refused}
+use Rattle.text.proofs.frames.Verdicts.{next-first}
+use Rattle.text.proofs.frames.Chains.{refused-verdict, judged-fine}
+use Rattle.text.proofs.frames.Contents.{any-contents-length}
+use Rattle.text.proofs.frames.Reading.{read-fine}
+use Rattle.text.proofs.frames.Lent.{lent-refused, lent-short, lent-done}
 use Rattle.image.specs.Check.{tableVerdict, imageVerdict}
 use Rattle.image.proofs.Accepted.{image-table}
 use Rattle.image_check.proofs.ReadCases.{good-text, front-contents, front_length}

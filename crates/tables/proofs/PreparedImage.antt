@@ -10,17 +10,17 @@ use lib.Dec.{ltb, eqb}
 use lib.ListN.{length, take, drop, get_or, length-append, length-take, get_or-append}
 use lib.Seq.{get_or-take}
 use borrow.Author.Tests.{le-ltb, eq-eqb, ne_eqb}
-use Rattle.lists.specs.Pick.{pick}
-use Rattle.lists.specs.Numbers.{range}
-use Rattle.lists.specs.Sequences.{concatMap}
-use Rattle.lists.proofs.Joins.{concat-alike}
-use Rattle.lists.proofs.Tests.{or-none, yes-pick, no-pick}
-use Rattle.lists.proofs.Ranges.{length-map-range}
-use Rattle.frames.specs.Frame.{size, field, pair_at, contents}
-use Rattle.frames.specs.Verdict.{fine}
-use Rattle.frames.specs.Answer.{success}
-use Rattle.frames.proofs.Lent.{Success, lent-told}
-use Rattle.frames.proofs.Contents.{any-contents-length}
+use Rattle.words.specs.lists.Pick.{pick}
+use Rattle.words.specs.lists.Numbers.{range}
+use Rattle.words.specs.lists.Sequences.{concatMap}
+use Rattle.words.proofs.lists.Joins.{concat-alike}
+use Rattle.words.proofs.lists.Tests.{or-none, yes-pick, no-pick}
+use Rattle.words.proofs.lists.Ranges.{length-map-range}
+use Rattle.text.specs.frames.Frame.{size, field, pair_at, contents}
+use Rattle.text.specs.frames.Verdict.{fine}
+use Rattle.text.specs.frames.Answer.{success}
+use Rattle.text.proofs.frames.Lent.{Success, lent-told}
+use Rattle.text.proofs.frames.Contents.{any-contents-length}
 use Rattle.image.specs.Image.{Label, Row, nthRow}
 use Rattle.image.specs.Decode.{schemeCount, lastLabel, rowCount, rows_from, entryIn, labelIn, row_in, decoded, rowInFrame}
 use Rattle.image.specs.Check.{badCounts, badHandler, tableVerdict, imageVerdict}

@@ -10,10 +10,10 @@ use native.Mathlib.Omega.{arith}
 use lib.Dec.{ltb, eqb}
 use lib.ListN.{length, get_or, get_or-eq_default}
 use borrow.Author.Tests.{lt-ltb, le-ltb, ltb-false, eqb-false}
-use Rattle.lists.specs.Pick.{pick}
-use Rattle.lists.specs.Numbers.{range}
-use Rattle.lists.proofs.Tests.{or_l, or_r, yes-pick, no-pick, cases, split}
-use Rattle.lists.proofs.Ranges.{length-map-range, getD-map-range}
+use Rattle.words.specs.lists.Pick.{pick}
+use Rattle.words.specs.lists.Numbers.{range}
+use Rattle.words.proofs.lists.Tests.{or_l, or_r, yes-pick, no-pick, cases, split}
+use Rattle.words.proofs.lists.Ranges.{length-map-range, getD-map-range}
 use Rattle.image.specs.Image.{Label, no_label}
 use Rattle.image.specs.Decode.{schemeCount, lastLabel, rowCount, handlerIn, entryIn, labelIn}
 use Rattle.image.specs.Check.{badCounts}

@@ -1,9 +1,9 @@
 -- The image that any bytes hold when they are taken for a prepared table; refusal 11 of such bytes.
 use Rattle.std.specs.Prelude.{ℕ, zero, suc, ◌+◌, ◌*◌, ◌-◌, min, Bool, ◌||◌, List, map, ltb, eqb}
-use Rattle.lists.specs.Pick.{pick}
-use Rattle.lists.specs.Numbers.{range}
-use Rattle.lists.specs.Sequences.{concatMap}
-use Rattle.frames.specs.Frame.{size, field, pair_at}
+use Rattle.words.specs.lists.Pick.{pick}
+use Rattle.words.specs.lists.Numbers.{range}
+use Rattle.words.specs.lists.Sequences.{concatMap}
+use Rattle.text.specs.frames.Frame.{size, field, pair_at}
 use Rattle.image.specs.Layout.{CARE, VALUES, FUNCTION-BIT, NEXT, NO-BIT, PLAIN, FUNCTION-CALL}
 use Rattle.image.specs.Image.{Image, Label, Row, no_label, homeLabel, returnLabel}
 use Rattle.image.specs.Decode.{schemeCount, lastLabel, rowCount, handlerIn, labels_from, rows_from, entryIn, labelIn}

@@ -1,12 +1,12 @@
 // Refusal 11 of a table, which only its header and its length decide.
 ghost use Rattle.std.specs.Prelude.{◌≡◌, ◌*◌, ◌<◌};
-ghost use Rattle.frames.specs.Sizes.{FRAME};
-ghost use Rattle.frames.specs.Frame.{size};
+ghost use Rattle.text.specs.frames.Sizes.{FRAME};
+ghost use Rattle.text.specs.frames.Frame.{size};
 ghost use Rattle.tables.specs.Table.{table_end, badTable};
 
-use frames::sizes::FRAME;
 use image::layout::ROW_COUNT;
 use image::{bad_counts, bad_handler, pair, rows_from};
+use text::frames::sizes::FRAME;
 
 // How many frames the header counts.
 fn table_end(table: &[u8]) -> usize

@@ -1,7 +1,7 @@
 // Labels and entries of a table, whatever its bytes are.
 ghost use Rattle.std.specs.Prelude.{◌≡◌, ◌+◌, ◌≤◌, ◌<◌};
-ghost use Rattle.frames.specs.Sizes.{FRAME};
-ghost use Rattle.frames.specs.Frame.{field};
+ghost use Rattle.text.specs.frames.Sizes.{FRAME};
+ghost use Rattle.text.specs.frames.Frame.{field};
 ghost use Rattle.image.specs.Decode.{schemeCount, lastLabel, handlerIn, labels_from};
 ghost use Rattle.tables.specs.Table.{tableLabel};
 ghost use Rattle.tables.specs.inner.Asked.{Whole, entry_of};

@@ -3,6 +3,8 @@
 
 mod header;
 mod labels;
+pub mod preparing;
+pub mod row_ranges;
 
 pub use header::{bad_table, table_length};
 pub use labels::{

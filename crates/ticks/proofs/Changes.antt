@@ -9,7 +9,7 @@ use lib.Dec.{eqb}
 use lib.ListN.{length, get_or, set, length-set, get_or-replicate}
 use lib.Seq.{get_or-set_same, get_or-set_other}
 use native.Mathlib.Omega.{arith}
-use Rattle.lists.proofs.Tests.{split}
+use Rattle.words.proofs.lists.Tests.{split}
 use Rattle.results.specs.Results.{Results}
 use Rattle.image.specs.Image.{Image}
 use Rattle.image.specs.inner.Sound.{Reaches, SoundImage}

@@ -9,12 +9,12 @@ use lib.ListN.{length, get_or-eq_default}
 use lib.Seq.{get_or-set_other}
 use native.Mathlib.Omega.{arith}
 use borrow.Author.Tests.{eqb-true, eqb-false, eq-eqb, lt-leb}
-use Rattle.lists.specs.Pick.{pick}
-use Rattle.lists.proofs.Tests.{no_both, or_l, or_cases, and_l, and_r, and-true, and-false, split}
+use Rattle.words.specs.lists.Pick.{pick}
+use Rattle.words.proofs.lists.Tests.{no_both, or_l, or_cases, and_l, and_r, and-true, and-false, split}
 use Rattle.results.specs.Results.{Results, result_of, withResult, cleared}
 use Rattle.bindings.specs.Binding.{served}
 use Rattle.results.proofs.ResultLaws.{cleared-own, cleared-keeps, result-keeps}
-use Rattle.frames.specs.Frame.{contents}
+use Rattle.text.specs.frames.Frame.{contents}
 use Rattle.image.specs.Layout.{tickKind}
 use Rattle.image.specs.Image.{Image, Label, no_label, returnLabel}
 use Rattle.image.specs.Decode.{decoded}

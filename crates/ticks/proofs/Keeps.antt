@@ -8,13 +8,13 @@ use lib.ListN.{length, get_or-replicate}
 use lib.Seq.{get_or-set_other}
 use native.Mathlib.Omega.{arith}
 use borrow.Author.Tests.{eqb-false, eq-eqb, leb-true, leb-false}
-use Rattle.lists.specs.Pick.{pick}
-use Rattle.lists.proofs.Ranges.{getD-range}
-use Rattle.lists.proofs.Tests.{and-true}
+use Rattle.words.specs.lists.Pick.{pick}
+use Rattle.words.proofs.lists.Ranges.{getD-range}
+use Rattle.words.proofs.lists.Tests.{and-true}
 use Rattle.results.specs.Results.{Results, withResult, cleared}
 use Rattle.bindings.specs.Binding.{ownBinding, served}
-use Rattle.frames.specs.Frame.{contents}
-use Rattle.frames.specs.Verdict.{fine}
+use Rattle.text.specs.frames.Frame.{contents}
+use Rattle.text.specs.frames.Verdict.{fine}
 use Rattle.image.specs.Layout.{tickKind}
 use Rattle.image.specs.Image.{Image, Label}
 use Rattle.image.specs.Decode.{decoded}

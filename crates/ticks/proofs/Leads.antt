@@ -7,8 +7,8 @@ use lib.Dec.{eqb}
 use lib.ListN.{length}
 use native.Mathlib.Omega.{arith}
 use borrow.Author.Tests.{eqb-true, eqb-false, eq-eqb, ne_eqb}
-use Rattle.lists.specs.Pick.{pick}
-use Rattle.lists.proofs.Tests.{or_cases, or-true-l, or_true_r, and_l, and_r, and-true, not-true, not-false}
+use Rattle.words.specs.lists.Pick.{pick}
+use Rattle.words.proofs.lists.Tests.{or_cases, or-true-l, or_true_r, and_l, and_r, and-true, not-true, not-false}
 use Rattle.image.specs.Image.{Image, Label, Row, nthRow}
 use Rattle.image.specs.inner.Sound.{end_of, Reaches, SoundImage}
 use Rattle.state.specs.State.{label_at, entry_at}

@@ -6,8 +6,8 @@ use native.Mathlib.Omega.{arith}
 use native.Mathlib.Decide.{ℕ_discrete}
 use lib.Dec.{eqb}
 use borrow.Author.Tests.{eq-eqb, ne_eqb}
-use Rattle.lists.specs.Pick.{pick}
-use Rattle.lists.proofs.Tests.{yes-pick, no-pick, bit-low}
+use Rattle.words.specs.lists.Pick.{pick}
+use Rattle.words.proofs.lists.Tests.{yes-pick, no-pick, bit-low}
 use Rattle.results.specs.Results.{Results, result_of}
 use Rattle.image.specs.Image.{Label}
 use Rattle.tables.specs.Table.{tableLabel}

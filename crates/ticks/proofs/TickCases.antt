@@ -8,7 +8,7 @@ use lib.Dec.{leb}
 use lib.ListN.{get_or, set}
 use lib.Seq.{get_or-set_same}
 use borrow.Author.Tests.{le-leb, lt-leb, leb-false}
-use Rattle.lists.specs.Pick.{pick}
+use Rattle.words.specs.lists.Pick.{pick}
 use Rattle.results.specs.Results.{Results, withResult, cleared}
 use Rattle.bindings.specs.Binding.{served}
 use Rattle.image.specs.Layout.{tickKind}
@@ -20,7 +20,7 @@ use Rattle.tables.proofs.TableReads.{counts-told, label-on, label-above, label-a
 use Rattle.rows.specs.Rows.{Found, found, missing, leads}
 use Rattle.rows.specs.inner.Search.{Deciding}
 use Rattle.rows.proofs.TableRows.{row-above}
-use Rattle.codes.specs.Codes.{code_of}
+use Rattle.ticks.specs.codes.Codes.{code_of}
 use Rattle.state.specs.declared.State.{State}
 use Rattle.state.specs.State.{entry_at, placeAt, number_at}
 use Rattle.state.specs.Changes.{withPlace, with_bits}

@@ -1,12 +1,12 @@
 -- A call leaves the bit of the number called 0, and a function's label takes its row for bit 0 if nothing writes 1 to that bit between
 -- its call and its return: said of the machine's ticks, on any accepted image.
 use Rattle.std.specs.Prelude.{ℕ, suc, ◌-◌, ◌≤◌, Bool, true, false, ◌&&◌, ◌≡◌, List, leb, eqb}
-use Rattle.lists.specs.Pick.{pick}
+use Rattle.words.specs.lists.Pick.{pick}
 use Rattle.results.specs.Results.{result_of, withResult}
 use Rattle.bindings.specs.Binding.{Binding}
-use Rattle.frames.specs.Codes.{RETURN-CODE, DROP-CODE}
-use Rattle.frames.specs.Frame.{contents}
-use Rattle.frames.specs.Verdict.{fine}
+use Rattle.text.specs.frames.Codes.{RETURN-CODE, DROP-CODE}
+use Rattle.text.specs.frames.Frame.{contents}
+use Rattle.text.specs.frames.Verdict.{fine}
 use Rattle.image.specs.Layout.{FUNCTION-CALL, RETURN}
 use Rattle.image.specs.Image.{Image, Label}
 use Rattle.image.specs.Decode.{decoded}

@@ -1,3 +1,5 @@
 pub mod Tick
 pub mod Functions
 pub mod inner
+pub mod codes
+pub mod calls

@@ -1,10 +1,10 @@
 -- One tick of the machine over an image; refusals 17 and 18.
 use Rattle.std.specs.Prelude.{ℕ, suc, ◌+◌, ◌-◌, Bool, true, false, ◌||◌, leb, eqb}
-use Rattle.lists.specs.Pick.{pick}
+use Rattle.words.specs.lists.Pick.{pick}
 use Rattle.results.specs.Results.{Results, result_of, withResult, cleared}
 use Rattle.bindings.specs.Binding.{served}
-use Rattle.frames.specs.Codes.{PLAIN-CODE, RETURN-CODE, HOME-CODE, OPERATION-CALL-CODE, FUNCTION-CALL-CODE, DROP-CODE}
-use Rattle.frames.specs.Refusals.{FULL, NO-ROW}
+use Rattle.text.specs.frames.Codes.{PLAIN-CODE, RETURN-CODE, HOME-CODE, OPERATION-CALL-CODE, FUNCTION-CALL-CODE, DROP-CODE}
+use Rattle.text.specs.frames.Refusals.{FULL, NO-ROW}
 use Rattle.image.specs.Layout.{TickKind, plain, operationCall, functionCall, return, home, tickKind}
 use Rattle.image.specs.Image.{Image, Label}
 use Rattle.rows.specs.Rows.{Choice, bestRow, Found, found, missing, leads}

@@ -2,15 +2,21 @@
 #![tactic(auto)]
 
 ghost use Rattle.std.specs.Prelude.{◌≡◌};
-ghost use Rattle.frames.specs.Refusals.{NO-ROW};
+ghost use Rattle.text.specs.frames.Refusals.{NO-ROW};
 ghost use Rattle.state.specs.Bytes.{state_of};
 ghost use Rattle.ticks.specs.Tick.{stopped};
 ghost use Rattle.ticks.specs.inner.TickContracts.{bit_of, endOfTick};
 
-use frames::refusals::NO_ROW;
+pub mod calls;
+pub mod codes;
+pub mod full_stack;
+pub mod returns;
+pub mod stepping;
+
 use image::layout::{FUNCTION_CALL, NO_BIT};
 use state::layout::STATE_BYTES;
-use state_results::result_of;
+use state::state_results::result_of;
+use text::frames::refusals::NO_ROW;
 
 // What a tick answers: 0, or the number that stops it, and then nothing is changed.
 #[derive(Drop)]

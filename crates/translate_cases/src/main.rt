@@ -4,7 +4,7 @@
 
 ghost use Rattle.std.specs.Prelude.{◌≤◌, length};
 
-use frames::Answer;
+use text::frames::Answer;
 
 // Where the chart that begins at a place ends.
 fn end_of(text: &[u8], start: usize) -> usize
@@ -30,7 +30,7 @@ fn refuse(answer: Answer) {
     else {
         return;
     };
-    let line = printing::refusal_line(number, index);
+    let line = output::printing::refusal_line(number, index);
     io::write_all(1, &line);
 }
 
@@ -47,7 +47,7 @@ fn show(image: &[u8]) {
 
 fn run(text: &[u8]) {
     let mut image = [0u8; 29831];
-    let answer = translating::translate(text, &mut image);
+    let answer = translator::translating::translate(text, &mut image);
     let Answer::Done(count) = answer else {
         refuse(answer);
         return;

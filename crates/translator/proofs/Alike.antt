@@ -4,9 +4,9 @@ use mathlib.Core.Path.{◌≡◌, ap₂}
 use mathlib.Core.List.{List}
 use lib.Dec.{ltb}
 use lib.ListN.{length}
-use Rattle.frames.specs.Verdict.{Verdict, next, when}
-use Rattle.frames.specs.Answer.{bufferOn}
-use Rattle.frames.proofs.Capitals.{ReadAlike}
+use Rattle.text.specs.frames.Verdict.{Verdict, next, when}
+use Rattle.text.specs.frames.Answer.{bufferOn}
+use Rattle.text.proofs.frames.Capitals.{ReadAlike}
 use Rattle.charts.proofs.Alike.{read-verdict}
 use Rattle.image.specs.Image.{imageText}
 use Rattle.chart_rows.specs.Rows.{rows}

@@ -5,15 +5,15 @@ use Prim.Native.Nat.{ℕ, ◌*◌, ◌/◌, ◌≤◌}
 use native.Mathlib.Omega.{arith}
 use lib.Dec.{ltb}
 use lib.ListN.{length, take, replicate}
-use Rattle.frames.specs.Frame.{contents}
-use Rattle.frames.specs.Verdict.{Verdict, fine, refused, when}
-use Rattle.frames.specs.Answer.{success, refusal, reply, BufferOutcome, GivesBuffer, bufferOn}
-use Rattle.frames.specs.declared.Answer.{Answer}
-use Rattle.frames.specs.declared.Answer.TheVariants.{Done, Refused}
-use Rattle.frames.specs.Check.{textVerdict}
-use Rattle.frames.proofs.Chains.{next-refused, next-on}
-use Rattle.frames.proofs.Verdicts.{next-rest}
-use Rattle.frames.proofs.Lent.{Success, lent_fits, lent-told, lent-refused, front}
+use Rattle.text.specs.frames.Frame.{contents}
+use Rattle.text.specs.frames.Verdict.{Verdict, fine, refused, when}
+use Rattle.text.specs.frames.Answer.{success, refusal, reply, BufferOutcome, GivesBuffer, bufferOn}
+use Rattle.text.specs.declared.frames.Answer.{Answer}
+use Rattle.text.specs.declared.frames.Answer.TheVariants.{Done, Refused}
+use Rattle.text.specs.frames.Check.{textVerdict}
+use Rattle.text.proofs.frames.Chains.{next-refused, next-on}
+use Rattle.text.proofs.frames.Verdicts.{next-rest}
+use Rattle.text.proofs.frames.Lent.{Success, lent_fits, lent-told, lent-refused, front}
 use Rattle.charts.specs.Check.{chartVerdict}
 use Rattle.charts.specs.Entry.{readVerdict, readChart}
 use Rattle.charts.proofs.Accepted.{Accepted, accepted, accepted-bytes}
@@ -21,7 +21,7 @@ use Rattle.image.specs.Image.{imageText}
 use Rattle.chart_rows.specs.Rows.{rows}
 use Rattle.translator.specs.Table.{table}
 use Rattle.translator.specs.Entry.{translateVerdict, translate}
-use Rattle.chart_labels.specs.inner.ChartContracts.{Ready}
+use Rattle.chart_rows.specs.chart_labels.inner.ChartContracts.{Ready}
 use Rattle.translator.specs.inner.ImageBytes.{imageOutcome}
 
 -- a refusal with room for all of it is the verdict's, and counts 0

@@ -4,15 +4,15 @@ use mathlib.Core.List.{List, [], ◌∷◌}
 use Prim.Native.Nat.{ℕ, suc, ◌+◌, ◌*◌, ◌/◌, ◌≤◌, ◌<◌}
 use native.Mathlib.Omega.{arith}
 use lib.ListN.{length, get_or}
-use Rattle.lists.specs.Numbers.{range}
-use Rattle.lists.specs.Sequences.{concatMap, mapFrom, written, All}
-use Rattle.lists.proofs.Ranges.{map-count}
-use Rattle.lists.proofs.Joins.{all-every, all_append, all_map, all_of, all-at, concat-map, concat-places, length-concat, getD-concat}
-use Rattle.frames.specs.Frame.{size, field, tenAt, frameText, text_of}
-use Rattle.frames.proofs.FrameLoops.{length-frame}
-use Rattle.frames.proofs.TextLoops.{frame_of}
+use Rattle.words.specs.lists.Numbers.{range}
+use Rattle.words.specs.lists.Sequences.{concatMap, mapFrom, written, All}
+use Rattle.words.proofs.lists.Ranges.{map-count}
+use Rattle.words.proofs.lists.Joins.{all-every, all_append, all_map, all_of, all-at, concat-map, concat-places, length-concat, getD-concat}
+use Rattle.text.specs.frames.Frame.{size, field, tenAt, frameText, text_of}
+use Rattle.text.proofs.frames.FrameLoops.{length-frame}
+use Rattle.text.proofs.frames.TextLoops.{frame_of}
 use Rattle.image.specs.Image.{Image, entryFrame, labelFrame, rowFrame, imageFrames, imageText}
-use Rattle.label_text.specs.inner.LabelBytes.{Put}
+use Rattle.translator.specs.label_text.inner.LabelBytes.{Put}
 use Rattle.translator.specs.inner.ImageBytes.{framesBytes}
 use Rattle.chart_text.proofs.SpreadSteps.{text-spread}
 

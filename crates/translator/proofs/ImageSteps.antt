@@ -10,36 +10,36 @@ use native.Mathlib.Omega.{arith}
 use lib.Dec.{ltb}
 use lib.ListN.{length, length-append}
 use borrow.Author.Tests.{lt-ltb, le-ltb}
-use Rattle.lists.specs.Pick.{pick}
-use Rattle.lists.specs.Numbers.{range, count}
-use Rattle.lists.specs.Sequences.{concatMap, filter, mapFrom, written}
-use Rattle.lists.proofs.Tests.{yes-pick, no-pick}
-use Rattle.lists.proofs.Counts.{count-suc, count-snoc}
-use Rattle.lists.proofs.Ranges.{mapFrom-cons, filter-yes, filter-no}
-use Rattle.lists.proofs.Joins.{concat-cons, concat-map, concat-append, length-concat-range}
-use Rattle.lists.proofs.Written.{written-more, written-front, written-before}
-use Rattle.frames.specs.Frame.{size}
-use Rattle.frames.specs.Verdict.{fine, when}
-use Rattle.frames.specs.Answer.{GivesBuffer}
-use Rattle.frames.specs.declared.Answer.TheVariants.{Done, Refused}
-use Rattle.frames.proofs.Chains.{when-holds, when-fails}
-use Rattle.frames.proofs.Lent.{lent-refused, lent-short, lent-done}
+use Rattle.words.specs.lists.Pick.{pick}
+use Rattle.words.specs.lists.Numbers.{range, count}
+use Rattle.words.specs.lists.Sequences.{concatMap, filter, mapFrom, written}
+use Rattle.words.proofs.lists.Tests.{yes-pick, no-pick}
+use Rattle.words.proofs.lists.Counts.{count-suc, count-snoc}
+use Rattle.words.proofs.lists.Ranges.{mapFrom-cons, filter-yes, filter-no}
+use Rattle.words.proofs.lists.Joins.{concat-cons, concat-map, concat-append, length-concat-range}
+use Rattle.words.proofs.lists.Written.{written-more, written-front, written-before}
+use Rattle.text.specs.frames.Frame.{size}
+use Rattle.text.specs.frames.Verdict.{fine, when}
+use Rattle.text.specs.frames.Answer.{GivesBuffer}
+use Rattle.text.specs.declared.frames.Answer.TheVariants.{Done, Refused}
+use Rattle.text.proofs.frames.Chains.{when-holds, when-fails}
+use Rattle.text.proofs.frames.Lent.{lent-refused, lent-short, lent-done}
 use Rattle.charts.specs.Chart.{Chart, handler, schemes}
 use Rattle.image.specs.Image.{Row, entryFrame, labelFrame, rowFrame, imageFrames, imageText}
-use Rattle.chart_labels.specs.Labels.{numbered, label, entry, homeLabel, returnLabel, stopLabel, numberedNodes}
+use Rattle.chart_rows.specs.chart_labels.Labels.{numbered, label, entry, homeLabel, returnLabel, stopLabel, numberedNodes}
 use Rattle.chart_rows.specs.Rows.{rows}
 use Rattle.translator.specs.Table.{table}
-use Rattle.path_text.specs.inner.RowBytes.{rowsBytes}
-use Rattle.row_text.specs.inner.NodeBytes.{nodeRowsBytes}
+use Rattle.translator.specs.path_text.inner.RowBytes.{rowsBytes}
+use Rattle.translator.specs.row_text.inner.NodeBytes.{nodeRowsBytes}
 use Rattle.translator.specs.inner.ImageBytes.{framesBytes, tableBytes, sizeRefusal, imageOutcome}
 use Rattle.chart_rows.specs.inner.NodeRows.{nodeRows}
-use Rattle.label_text.specs.inner.LabelBytes.{headerBytes, entryBytes, fixedBytes, nodeLabelBytes, up_to, Put}
+use Rattle.translator.specs.label_text.inner.LabelBytes.{headerBytes, entryBytes, fixedBytes, nodeLabelBytes, up_to, Put}
 use Rattle.translator.specs.inner.TranslatorContracts.{Sizes}
 use Rattle.translator.proofs.LabelLaws.{length-labels, length-entries}
 use Rattle.translator.proofs.ImageBytes.{bytes-length, image-length}
-use Rattle.chart_labels.proofs.LabelSteps.{label-own}
+use Rattle.chart_rows.proofs.chart_labels.LabelSteps.{label-own}
 use Rattle.chart_rows.proofs.RowSteps.{below_all}
-use Rattle.path_text.proofs.RowPuts.{rows_append}
+use Rattle.translator.proofs.path_text.RowPuts.{rows_append}
 
 -- ---- entries
 entries_from : (c : Chart) (i n : ℕ)

@@ -9,18 +9,18 @@ use native.Mathlib.Omega.{arith}
 use lib.ListN.{length, get_or, length-map}
 use lib.Dec.{eqb}
 use borrow.Author.Tests.{eq-eqb}
-use Rattle.lists.specs.Pick.{pick}
-use Rattle.lists.specs.Numbers.{count}
-use Rattle.lists.proofs.Tests.{yes-pick, and_no, split}
-use Rattle.lists.proofs.Counts.{count-le, count-below, count-apart, count_yes, count-pass, count-miss2}
-use Rattle.lists.proofs.Ranges.{length-map-range, getD-map-range, length-filter, getD-filter}
-use Rattle.frames.specs.Frame.{size}
+use Rattle.words.specs.lists.Pick.{pick}
+use Rattle.words.specs.lists.Numbers.{count}
+use Rattle.words.proofs.lists.Tests.{yes-pick, and_no, split}
+use Rattle.words.proofs.lists.Counts.{count-le, count-below, count-apart, count_yes, count-pass, count-miss2}
+use Rattle.words.proofs.lists.Ranges.{length-map-range, getD-map-range, length-filter, getD-filter}
+use Rattle.text.specs.frames.Frame.{size}
 use Rattle.charts.specs.Chart.{Chart, kind, scheme, next0, is, schemes, begin, end}
 use Rattle.walk.specs.Stops.{stops}
 use Rattle.walk.proofs.Facts.{Facts}
 use Rattle.walk.proofs.Follow.{stops-begin}
 use Rattle.image.specs.inner.Sound.{no_label, nthLabel}
-use Rattle.chart_labels.specs.Labels.{numbered, numberedNodes, label, entry, homeLabel, returnLabel, stopLabel}
+use Rattle.chart_rows.specs.chart_labels.Labels.{numbered, numberedNodes, label, entry, homeLabel, returnLabel, stopLabel}
 use Rattle.chart_rows.specs.Rows.{rows}
 use Rattle.translator.specs.Table.{table}
 

@@ -8,15 +8,15 @@ use native.Mathlib.Omega.{arith}
 use lib.Bits.{bit_and}
 use lib.Dec.{eqb}
 use borrow.Author.Tests.{eq-eqb, ne_eqb}
-use Rattle.lists.specs.Pick.{pick}
-use Rattle.lists.specs.Sequences.{filter, concatMap}
-use Rattle.lists.proofs.Tests.{and-true, cases}
-use Rattle.lists.proofs.Ranges.{filter-yes, filter-no, map-append}
-use Rattle.lists.proofs.Joins.{concat-cons}
-use Rattle.lists.proofs.Filters.{filter_none, filter-append}
-use Rattle.bits.specs.Word.{bit, agrees}
-use Rattle.bits.proofs.BitLaws.{bit-cases, Mask, Agree, Clash, agree-match, clash-match, mask-0}
-use Rattle.bits.proofs.BitLaws.{mask-1, agree-0, agree-1, clash-0, clash-1, clash-here-0, clash-here-1}
+use Rattle.words.specs.lists.Pick.{pick}
+use Rattle.words.specs.lists.Sequences.{filter, concatMap}
+use Rattle.words.proofs.lists.Tests.{and-true, cases}
+use Rattle.words.proofs.lists.Ranges.{filter-yes, filter-no, map-append}
+use Rattle.words.proofs.lists.Joins.{concat-cons}
+use Rattle.words.proofs.lists.Filters.{filter_none, filter-append}
+use Rattle.words.specs.bits.Word.{bit, agrees}
+use Rattle.words.proofs.bits.BitLaws.{bit-cases, Mask, Agree, Clash, agree-match, clash-match, mask-0}
+use Rattle.words.proofs.bits.BitLaws.{mask-1, agree-0, agree-1, clash-0, clash-1, clash-here-0, clash-here-1}
 use Rattle.charts.specs.Chart.{Chart, kind, argument, next0, next1, taken}
 use Rattle.charts.proofs.Accepted.{SoundChart}
 use Rattle.charts.proofs.Nodes.{Target, conditions}
@@ -24,7 +24,7 @@ use Rattle.charts.proofs.Rank.{rank, rank-some}
 use Rattle.walk.specs.Stops.{stops, follow}
 use Rattle.walk.proofs.Follow.{goes_on, follow-stays, follow-goes, takes-0, takes-1, condition-arc0, condition-arc1, taken-end, taken-falls}
 use Rattle.image.specs.Image.{Row}
-use Rattle.chart_labels.specs.Labels.{label}
+use Rattle.chart_rows.specs.chart_labels.Labels.{label}
 use Rattle.chart_rows.specs.Rows.{paths}
 use Rattle.chart_rows.specs.inner.NodeRows.{pathsFrom}
 use Rattle.chart_rows.proofs.PathSteps.{pathRow, paths-stop, paths-known, paths-new}

@@ -4,11 +4,11 @@ use mathlib.Core.List.{List}
 use native.Mathlib.Omega.{arith}
 use lib.Dec.{ltb}
 use lib.ListN.{length}
-use Rattle.lists.specs.Numbers.{any}
-use Rattle.frames.specs.Frame.{contents, size}
-use Rattle.frames.specs.Verdict.{when, atLowest}
-use Rattle.frames.specs.Check.{textVerdict}
-use Rattle.frames.proofs.Refuses.{RefusesWith, next-refuses, when-refuses, lowest-refuses, text-refuses}
+use Rattle.words.specs.lists.Numbers.{any}
+use Rattle.text.specs.frames.Frame.{contents, size}
+use Rattle.text.specs.frames.Verdict.{when, atLowest}
+use Rattle.text.specs.frames.Check.{textVerdict}
+use Rattle.text.proofs.frames.Refuses.{RefusesWith, next-refuses, when-refuses, lowest-refuses, text-refuses}
 use Rattle.charts.specs.Chart.{Chart, schemes}
 use Rattle.charts.specs.Check.{badField, badScheme, badMarks, badArc, badCall, onCircle, cutOff, chartVerdict}
 use Rattle.charts.specs.Entry.{readVerdict}

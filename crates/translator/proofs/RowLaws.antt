@@ -11,15 +11,15 @@ use native.Mathlib.Omega.{arith}
 use lib.ListN.{length, get_or, length-map}
 use lib.Dec.{eqb}
 use borrow.Author.Tests.{eqb-true, eqb-false, eq-eqb, ne_eqb}
-use Rattle.lists.specs.Pick.{pick}
-use Rattle.lists.specs.Numbers.{range}
-use Rattle.lists.specs.Sequences.{filter}
-use Rattle.lists.proofs.Tests.{and_l, and_r, not-true, yes-pick, no-pick}
-use Rattle.lists.proofs.Filters.{concat-only, one_passes}
-use Rattle.bits.specs.Word.{bit, agrees}
-use Rattle.bits.proofs.BitLaws.{bit-none, bit-cases, Mask, Agree, Clash, mask-none, agree-none, mask-0}
-use Rattle.bits.proofs.BitLaws.{mask-1, agree-0, agree-1, clash-here-0, clash-here-1}
-use Rattle.frames.specs.Frame.{size}
+use Rattle.words.specs.lists.Pick.{pick}
+use Rattle.words.specs.lists.Numbers.{range}
+use Rattle.words.specs.lists.Sequences.{filter}
+use Rattle.words.proofs.lists.Tests.{and_l, and_r, not-true, yes-pick, no-pick}
+use Rattle.words.proofs.lists.Filters.{concat-only, one_passes}
+use Rattle.words.specs.bits.Word.{bit, agrees}
+use Rattle.words.proofs.bits.BitLaws.{bit-none, bit-cases, Mask, Agree, Clash, mask-none, agree-none, mask-0}
+use Rattle.words.proofs.bits.BitLaws.{mask-1, agree-0, agree-1, clash-here-0, clash-here-1}
+use Rattle.text.specs.frames.Frame.{size}
 use Rattle.charts.specs.Chart.{Chart, kind, scheme, argument, next0, next1, is}
 use Rattle.charts.proofs.Accepted.{SoundChart}
 use Rattle.charts.proofs.Nodes.{Target, conditions, arc0, arc1}
@@ -27,11 +27,11 @@ use Rattle.charts.proofs.Rank.{rank-le}
 use Rattle.walk.specs.Stops.{stops, byArc, by_word}
 use Rattle.walk.proofs.Follow.{stops-other, stops-condition, stops-begin, follow-condition, takes-0, takes-1}
 use Rattle.image.specs.Image.{Row, no_row}
-use Rattle.chart_labels.specs.Labels.{numbered, label}
+use Rattle.chart_rows.specs.chart_labels.Labels.{numbered, label}
 use Rattle.chart_rows.specs.Rows.{rows_of, rows}
 use Rattle.chart_rows.proofs.RowKinds.{function-rows, condition-rows, plain_rows}
 use Rattle.chart_rows.specs.inner.NodeRows.{pathsFrom}
-use Rattle.label_text.proofs.LabelPuts.{numbered-stop}
+use Rattle.translator.proofs.label_text.LabelPuts.{numbered-stop}
 use Rattle.translator.proofs.LabelLaws.{labels_apart}
 use Rattle.translator.proofs.Matching.{matchingRow, targets, targets-concat, in-first, in-second, paths-none, paths-miss, paths-hit}
 

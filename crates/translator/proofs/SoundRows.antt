@@ -11,15 +11,15 @@ use lib.Bits.{bit_and, and_le_r, and_zero_l, and_self}
 use lib.Dec.{eqb}
 use lib.Pow.{pow-lt}
 use borrow.Author.Tests.{eqb-true, eqb-false, eq-eqb}
-use Rattle.lists.specs.Pick.{pick}
-use Rattle.lists.specs.Numbers.{range, count}
-use Rattle.lists.specs.Sequences.{concatMap, filter, All}
-use Rattle.lists.proofs.Tests.{and_r, not-true}
-use Rattle.lists.proofs.Counts.{count-snoc}
-use Rattle.lists.proofs.Joins.{all_append, all_of, all-concat, all-range, all_filter}
-use Rattle.bits.specs.Word.{bit}
-use Rattle.bits.proofs.MaskLaws.{more-small, more-within-0, more-within-1}
-use Rattle.frames.specs.Frame.{size}
+use Rattle.words.specs.lists.Pick.{pick}
+use Rattle.words.specs.lists.Numbers.{range, count}
+use Rattle.words.specs.lists.Sequences.{concatMap, filter, All}
+use Rattle.words.proofs.lists.Tests.{and_r, not-true}
+use Rattle.words.proofs.lists.Counts.{count-snoc}
+use Rattle.words.proofs.lists.Joins.{all_append, all_of, all-concat, all-range, all_filter}
+use Rattle.words.specs.bits.Word.{bit}
+use Rattle.words.proofs.bits.MaskLaws.{more-small, more-within-0, more-within-1}
+use Rattle.text.specs.frames.Frame.{size}
 use Rattle.charts.specs.Chart.{Chart, is, kind, scheme, argument, next0, next1, taken}
 use Rattle.walk.specs.Stops.{stops}
 use Rattle.walk.proofs.Facts.{Facts, Target}
@@ -27,8 +27,8 @@ use Rattle.walk.proofs.Follow.{goes_on}
 use Rattle.image.specs.Image.{Label, Row, no_row}
 use Rattle.image.specs.inner.Sound.{nthLabel, end_of, Reaches, SoundRow}
 use Rattle.image.proofs.Rising.{Rising, rising-at}
-use Rattle.chart_labels.specs.Labels.{numbered, numberedNodes, label, stopLabel}
-use Rattle.chart_labels.proofs.LabelKinds.{label-function, label-owner}
+use Rattle.chart_rows.specs.chart_labels.Labels.{numbered, numberedNodes, label, stopLabel}
+use Rattle.chart_rows.proofs.chart_labels.LabelKinds.{label-function, label-owner}
 use Rattle.chart_rows.specs.Rows.{paths, rows_of, rows}
 use Rattle.chart_rows.proofs.RowKinds.{function-rows, condition-rows, plain_rows}
 use Rattle.chart_rows.specs.inner.NodeRows.{pathsFrom}

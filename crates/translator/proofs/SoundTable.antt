@@ -7,11 +7,11 @@ use native.Mathlib.Omega.{arith}
 use lib.ListN.{length, get_or, length-map}
 use lib.Dec.{eqb}
 use borrow.Author.Tests.{eqb-true, eqb-false}
-use Rattle.lists.specs.Pick.{pick}
-use Rattle.lists.proofs.Ranges.{get_d_map}
-use Rattle.lists.proofs.Joins.{all-at}
-use Rattle.frames.specs.Frame.{contents, size}
-use Rattle.frames.specs.Verdict.{fine}
+use Rattle.words.specs.lists.Pick.{pick}
+use Rattle.words.proofs.lists.Ranges.{get_d_map}
+use Rattle.words.proofs.lists.Joins.{all-at}
+use Rattle.text.specs.frames.Frame.{contents, size}
+use Rattle.text.specs.frames.Verdict.{fine}
 use Rattle.charts.specs.Layout.{Function, kind_of}
 use Rattle.charts.specs.Chart.{Chart, kind, scheme, argument, result, mask, schemes}
 use Rattle.walk.specs.Stops.{start}
@@ -22,7 +22,7 @@ use Rattle.image.specs.Check.{imageVerdict}
 use Rattle.image.specs.inner.Sound.{no_label, nthLabel, Reaches, SoundLabel, SoundRow, SoundImage}
 use Rattle.image.proofs.Decoded.{image-decoded}
 use Rattle.image.proofs.Passes.{image-fine}
-use Rattle.chart_labels.specs.Labels.{numbered, numberedNodes, bareLabel, labelAs, stopLabel}
+use Rattle.chart_rows.specs.chart_labels.Labels.{numbered, numberedNodes, bareLabel, labelAs, stopLabel}
 use Rattle.chart_rows.specs.Rows.{rows}
 use Rattle.translator.specs.Table.{table}
 use Rattle.translator.proofs.LabelLaws.{label-home, label-return, labels-two, labels-few, length-entries, entry-holds, rows_are}

@@ -6,13 +6,13 @@ use native.Mathlib.Omega.{arith}
 use lib.Dec.{ltb}
 use lib.ListN.{length, take, length-take}
 use borrow.Author.Tests.{ltb-false}
-use Rattle.frames.specs.Frame.{contents}
-use Rattle.frames.specs.Verdict.{fine, when}
-use Rattle.frames.specs.Answer.{success, reply}
-use Rattle.frames.specs.declared.Answer.{Answer}
-use Rattle.frames.specs.declared.Answer.TheVariants.{Done}
-use Rattle.frames.proofs.Verdicts.{next-first, next-rest, when-fine}
-use Rattle.frames.proofs.Lent.{Success, lent-told, front}
+use Rattle.text.specs.frames.Frame.{contents}
+use Rattle.text.specs.frames.Verdict.{fine, when}
+use Rattle.text.specs.frames.Answer.{success, reply}
+use Rattle.text.specs.declared.frames.Answer.{Answer}
+use Rattle.text.specs.declared.frames.Answer.TheVariants.{Done}
+use Rattle.text.proofs.frames.Verdicts.{next-first, next-rest, when-fine}
+use Rattle.text.proofs.frames.Lent.{Success, lent-told, front}
 use Rattle.charts.specs.Entry.{readVerdict}
 use Rattle.image.specs.Image.{imageText}
 use Rattle.chart_rows.specs.Rows.{rows}

@@ -1,10 +1,10 @@
 -- The translator: what it answers and what the lent buffer then holds.
 use Rattle.std.specs.Prelude.{ℕ, List, ltb, length}
-use Rattle.frames.specs.Sizes.{ROWS}
-use Rattle.frames.specs.Refusals.{MANY-ROWS}
-use Rattle.frames.specs.Frame.{contents}
-use Rattle.frames.specs.Verdict.{Verdict, next, when}
-use Rattle.frames.specs.Answer.{BufferOutcome, bufferOn}
+use Rattle.text.specs.frames.Sizes.{ROWS}
+use Rattle.text.specs.frames.Refusals.{MANY-ROWS}
+use Rattle.text.specs.frames.Frame.{contents}
+use Rattle.text.specs.frames.Verdict.{Verdict, next, when}
+use Rattle.text.specs.frames.Answer.{BufferOutcome, bufferOn}
 use Rattle.charts.specs.Entry.{readVerdict}
 use Rattle.image.specs.Image.{imageText}
 use Rattle.chart_rows.specs.Rows.{rows}

@@ -1,9 +1,9 @@
 -- The table of a chart.
 use Rattle.std.specs.Prelude.{◌∷◌, map}
-use Rattle.lists.specs.Numbers.{range}
+use Rattle.words.specs.lists.Numbers.{range}
 use Rattle.charts.specs.Chart.{Chart, handler, schemes}
 use Rattle.image.specs.Image.{Image}
-use Rattle.chart_labels.specs.Labels.{entry, homeLabel, returnLabel, stopLabel, numberedNodes}
+use Rattle.chart_rows.specs.chart_labels.Labels.{entry, homeLabel, returnLabel, stopLabel, numberedNodes}
 use Rattle.chart_rows.specs.Rows.{rows}
 
 unfoldable pub table : Chart → Image

@@ -2,20 +2,20 @@
 ghost use Rattle.std.specs.Prelude.{◌≡◌, ◌≤◌};
 ghost use Rattle.image.specs.Image.{imageText};
 ghost use Rattle.chart_rows.specs.inner.PathContracts.{Noted};
-ghost use Rattle.label_text.specs.inner.LabelBytes.{Put};
+ghost use Rattle.translator.specs.label_text.inner.LabelBytes.{Put};
 ghost use Rattle.translator.specs.Table.{table};
 ghost use Rattle.translator.specs.inner.TranslatorContracts.{ImageRoom};
 ghost use Rattle.translator.specs.inner.ImageBytes.{tableBytes, sizeRefusal};
 
-use chart_handler::handler_scheme;
+use crate::entry_text::{put_entries, put_header};
+use crate::label_text::{put_fixed, put_labels};
+use crate::row_text::put_rows;
+use chart_check::chart_handler::handler_scheme;
+use chart_rows::row_bounds::bound_rows;
 use chart_rows::{COUNTED, count_rows};
 use chart_text::spread;
-use entry_text::{put_entries, put_header};
-use frames::refusals::{MANY_ROWS, NO_ROOM};
-use frames::sizes::*;
-use label_text::{put_fixed, put_labels};
-use row_bounds::bound_rows;
-use row_text::put_rows;
+use text::frames::refusals::{MANY_ROWS, NO_ROOM};
+use text::frames::sizes::*;
 
 // 10, or 16 where there is no room for so many frames before the rows and for the rows, or 0. Where a bound on the rows excludes both,
 // the paths are not walked to count them.

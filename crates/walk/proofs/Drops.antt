@@ -6,7 +6,7 @@ use mathlib.Core.Path.{◌≡◌, refl}
 use lib.Dec.{eqb}
 use native.Mathlib.Omega.{arith}
 use borrow.Author.Tests.{ne_eqb}
-use Rattle.frames.specs.Frame.{size}
+use Rattle.text.specs.frames.Frame.{size}
 use Rattle.charts.specs.Chart.{Chart, argument}
 use Rattle.walk.specs.Stops.{Stop, plain, call, function, test, home, back, stop_at}
 use Rattle.walk.specs.Walk.{isDrop}

@@ -3,7 +3,7 @@ use Prim.Native.Nat.{ℕ, ◌*◌, ◌≤◌, ◌<◌}
 use mathlib.Core.Bool.{true}
 use mathlib.Core.Path.{◌≡◌}
 use lib.ListN.{length, get_or}
-use Rattle.frames.specs.Frame.{size}
+use Rattle.text.specs.frames.Frame.{size}
 use Rattle.charts.specs.Chart.{Chart, kind, scheme, argument, next0, next1, result, handler, schemes, begin, end}
 pub use Rattle.charts.proofs.Nodes.{Target}
 use Rattle.walk.specs.Stops.{stops, start, byArc, by_word}

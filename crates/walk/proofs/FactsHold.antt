@@ -3,8 +3,8 @@ use mathlib.Core.Path.{◌≡◌}
 use mathlib.Core.List.{List}
 use Prim.Native.Nat.{ℕ, ◌<◌}
 use lib.ListN.{get_or}
-use Rattle.frames.specs.Frame.{contents}
-use Rattle.frames.specs.Verdict.{fine}
+use Rattle.text.specs.frames.Frame.{contents}
+use Rattle.text.specs.frames.Verdict.{fine}
 use Rattle.charts.specs.Chart.{Chart}
 use Rattle.charts.specs.Entry.{readVerdict}
 use Rattle.charts.proofs.Accepted.{Accepted, SoundChart, accepted, accepted-bytes}

@@ -7,9 +7,9 @@ use native.Mathlib.Decide.{ℕ_discrete}
 use native.Mathlib.Omega.{arith}
 use lib.Dec.{eqb}
 use borrow.Author.Tests.{eqb-true, eq-eqb, ne_eqb}
-use Rattle.lists.proofs.Tests.{no_both, and-true, yes-pick, no-pick, cases}
-use Rattle.bits.specs.Word.{bit}
-use Rattle.frames.specs.Frame.{size}
+use Rattle.words.proofs.lists.Tests.{no_both, and-true, yes-pick, no-pick, cases}
+use Rattle.words.specs.bits.Word.{bit}
+use Rattle.text.specs.frames.Frame.{size}
 use Rattle.charts.specs.Chart.{Chart, kind, scheme, argument, next0, next1, is, schemes, begin, taken}
 use Rattle.charts.proofs.Accepted.{SoundChart}
 use Rattle.charts.proofs.Nodes.{Target, TheNode, begins, arc0, arc1}

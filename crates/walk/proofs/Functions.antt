@@ -10,13 +10,13 @@ use lib.ListN.{length, get_or, length-append, get_or-eq_default}
 use native.Mathlib.Omega.{arith}
 use native.Mathlib.Decide.{dec_lt}
 use borrow.Author.Tests.{eqb-true, eq-eqb}
-use Rattle.lists.specs.Pick.{pick}
-use Rattle.lists.specs.Sequences.{some}
-use Rattle.lists.proofs.Tests.{no_both, or_l, or_r, and_l, and_r, and-true}
-use Rattle.lists.proofs.Searches.{some-cons}
+use Rattle.words.specs.lists.Pick.{pick}
+use Rattle.words.specs.lists.Sequences.{some}
+use Rattle.words.proofs.lists.Tests.{no_both, or_l, or_r, and_l, and_r, and-true}
+use Rattle.words.proofs.lists.Searches.{some-cons}
 use Rattle.results.specs.Results.{Results, noResults, result_of, withResult, cleared}
 use Rattle.results.proofs.ResultLaws.{cleared-own, cleared-keeps, result-keeps}
-use Rattle.frames.specs.Frame.{contents, size}
+use Rattle.text.specs.frames.Frame.{contents, size}
 use Rattle.charts.specs.Chart.{Chart, kind, argument, next0, next1, result}
 use Rattle.walk.specs.Stops.{byArc, Stop, plain, call, function, test, home, back, stop_at}
 use Rattle.walk.specs.Walk.{Signal, Tick, isDrop}

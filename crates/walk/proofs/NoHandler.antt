@@ -8,8 +8,8 @@ use lib.ListN.{length}
 use native.Mathlib.Omega.{arith}
 use Rattle.results.specs.Results.{Results, noResults, result_of, withResult, cleared}
 use Rattle.bindings.specs.Binding.{ownBinding}
-use Rattle.frames.specs.Frame.{contents}
-use Rattle.frames.specs.Verdict.{fine}
+use Rattle.text.specs.frames.Frame.{contents}
+use Rattle.text.specs.frames.Verdict.{fine}
 use Rattle.charts.specs.Entry.{readVerdict}
 use Rattle.charts.specs.Chart.{Chart, scheme, argument, next0, next1, result, mask, handler, end}
 use Rattle.walk.specs.Stops.{start, Stop, plain, call, function, test, home, back, stop_at}
@@ -25,7 +25,7 @@ use Rattle.walk.proofs.Trace.{WalkPosition, stopTick, movedBy, dropsAt, tickAt, 
 use Rattle.walk.proofs.Trace.{positionAtHome, home-stop, arc-to, function_to, begin-to}
 use Rattle.walk.proofs.Recursion.{walk-trace}
 use Rattle.walk.proofs.OwnBinding.{own-binding}
-use Rattle.frames.specs.Codes.{HOME-CODE, PLAIN-CODE}
+use Rattle.text.specs.frames.Codes.{HOME-CODE, PLAIN-CODE}
 
 -- ---- no call drops, whatever the number of places
 no_drop : (c : Chart) → handler c ≡ 0 → (n : ℕ) (f : Bool) (o : ℕ) → drops n c f o ≡ false

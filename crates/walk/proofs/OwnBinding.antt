@@ -6,11 +6,11 @@ use mathlib.Core.Path.{◌≡◌, refl, ap, ◌∙◌, sym, subst}
 use mathlib.Core.List.{List, [], ◌∷◌, ◌++◌}
 use lib.ListN.{length, length-map}
 use native.Mathlib.Omega.{arith}
-use Rattle.lists.proofs.Ranges.{getD-range}
+use Rattle.words.proofs.lists.Ranges.{getD-range}
 use Rattle.results.specs.Results.{Results, noResults, result_of, cleared}
 use Rattle.bindings.specs.Binding.{ownBinding, served}
-use Rattle.frames.specs.Frame.{contents}
-use Rattle.frames.specs.Verdict.{fine}
+use Rattle.text.specs.frames.Frame.{contents}
+use Rattle.text.specs.frames.Verdict.{fine}
 use Rattle.charts.specs.Entry.{readVerdict}
 use Rattle.charts.specs.Chart.{Chart, scheme, argument, handler, schemes, end}
 use Rattle.walk.specs.Stops.{start, Stop}
@@ -23,7 +23,7 @@ use Rattle.walk.proofs.FactsHold.{facts}
 use Rattle.walk.proofs.Views.{View, a-plain, a_call, a-function, a-home, a_back, a-begin, a-condition, view}
 use Rattle.walk.proofs.Trace.{Serves, drop-handler, stop-as, home-stop, arc-to, function_to, begin-to}
 use Rattle.walk.specs.Walk.{oneTick}
-use Rattle.frames.specs.Codes.{HOME-CODE, PLAIN-CODE}
+use Rattle.text.specs.frames.Codes.{HOME-CODE, PLAIN-CODE}
 use Rattle.charts.specs.Chart.{mask}
 
 -- ---- each number is served by its own scheme

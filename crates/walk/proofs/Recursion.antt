@@ -6,7 +6,7 @@ use mathlib.Core.List.{List, [], ◌∷◌, ◌++◌, append_assoc}
 use lib.ListN.{length}
 use native.Mathlib.Omega.{arith}
 use native.Mathlib.Nat.{le_of_suc-le-suc, not-suc-le-zero}
-use Rattle.lists.specs.Pick.{pick}
+use Rattle.words.specs.lists.Pick.{pick}
 use Rattle.results.specs.Results.{Results, noResults, cleared}
 use Rattle.bindings.specs.Binding.{Binding, served}
 use Rattle.charts.specs.Chart.{Chart, handler, end}
@@ -16,7 +16,7 @@ use Rattle.walk.specs.Walk.{Performer, resume, openedBy, performCall, act, perfo
 use Rattle.walk.specs.Walk.{bottom, carriedOn, walkFrom, walk}
 use Rattle.walk.proofs.Trace.{Open, opens, moved_to, at, tickOf, stopTick, resumedBy, resumed, positionReturned}
 use Rattle.walk.proofs.Trace.{positionHandling, positionCalled, movedBy, trace, positionAtHome}
-use Rattle.frames.specs.Codes.{HOME-CODE, PLAIN-CODE}
+use Rattle.text.specs.frames.Codes.{HOME-CODE, PLAIN-CODE}
 use Rattle.walk.specs.Stops.{byArc, by_word}
 
 -- ---- a scheme that has ended, or was dropped, leaves fewer than n words

@@ -8,11 +8,11 @@ use lib.ListN.{length}
 use lib.Dec.{eqb}
 use borrow.Author.Tests.{eqb-false}
 use native.Mathlib.Omega.{arith}
-use Rattle.lists.specs.Pick.{pick}
-use Rattle.lists.proofs.Tests.{no_both, and_l, and_r, not-true}
+use Rattle.words.specs.lists.Pick.{pick}
+use Rattle.words.proofs.lists.Tests.{no_both, and_l, and_r, not-true}
 use Rattle.results.specs.Results.{Results, result_of, withResult, cleared}
 use Rattle.bindings.specs.Binding.{Binding, served}
-use Rattle.frames.specs.Frame.{size}
+use Rattle.text.specs.frames.Frame.{size}
 use Rattle.charts.specs.Chart.{Chart, kind, scheme, argument, next0, next1, handler, schemes, end}
 use Rattle.walk.specs.Stops.{stops, start, byArc, by_word, Stop, plain, call, function, test, home, back, stop_at}
 use Rattle.walk.specs.Walk.{Signal, Tick, drops, bottom}

@@ -5,7 +5,7 @@ use mathlib.Core.Path.{◌≡◌, refl, sym, ◌∙◌, ap}
 use lib.Dec.{eqb}
 use native.Mathlib.Omega.{arith}
 use borrow.Author.Tests.{eqb-true, eqb-false, eq-eqb, ne_eqb}
-use Rattle.lists.proofs.Tests.{and_r, yes-pick, no-pick}
+use Rattle.words.proofs.lists.Tests.{and_r, yes-pick, no-pick}
 use Rattle.charts.specs.Layout.{kind_of}
 use Rattle.charts.specs.Chart.{Chart, kind, scheme, argument, next0, next1, result, mask, is}
 use Rattle.walk.specs.Stops.{stopsAs, stops, Stop, plain, call, function, test, home, back, stopAs, stop_at}

@@ -1,10 +1,10 @@
 -- A function takes its 0 arc if nothing writes 1 to the bit of the number that it calls between its call and its return, said of the walk's
 -- ticks alone.
 use Rattle.std.specs.Prelude.{ℕ, suc, ◌+◌, Bool, true, false, ◌&&◌, ◌≡◌, List, ◌∷◌, ◌++◌, map, eqb, length, get_or}
-use Rattle.lists.specs.Sequences.{some}
-use Rattle.frames.specs.Codes.{RETURN-CODE}
-use Rattle.frames.specs.Frame.{contents}
-use Rattle.frames.specs.Verdict.{fine}
+use Rattle.words.specs.lists.Sequences.{some}
+use Rattle.text.specs.frames.Codes.{RETURN-CODE}
+use Rattle.text.specs.frames.Frame.{contents}
+use Rattle.text.specs.frames.Verdict.{fine}
 use Rattle.charts.specs.Layout.{OPERATION, FUNCTION}
 use Rattle.charts.specs.Chart.{Chart, kind, argument, next0, result, is}
 use Rattle.charts.specs.Entry.{readVerdict}

@@ -1,7 +1,7 @@
 -- Stops (the paper's word for the nodes that take a tick) and the way from one to the next.
 use Rattle.std.specs.Prelude.{ℕ, zero, suc, Bool, true, false, ◌&&◌, not, eqb}
-use Rattle.lists.specs.Pick.{pick}
-use Rattle.frames.specs.Frame.{size}
+use Rattle.words.specs.lists.Pick.{pick}
+use Rattle.text.specs.frames.Frame.{size}
 use Rattle.charts.specs.Layout.{CONDITION, Kind, Begin, End, Operation, Condition, Function, Unknown, kind_of}
 use Rattle.charts.specs.Chart.{Chart, kind, scheme, argument, next0, next1, result, mask, is, begin, taken}
 

@@ -2,7 +2,7 @@
 -- ownBinding the walk of an accepted chart with no handler is this one, whatever the number of places.
 use Rattle.std.specs.Prelude.{ℕ, zero, suc, List, [], ◌∷◌, ◌++◌, length}
 use Rattle.results.specs.Results.{Results, noResults, withResult, cleared}
-use Rattle.frames.specs.Codes.{PLAIN-CODE, RETURN-CODE, HOME-CODE}
+use Rattle.text.specs.frames.Codes.{PLAIN-CODE, RETURN-CODE, HOME-CODE}
 use Rattle.charts.specs.Chart.{Chart, end}
 use Rattle.walk.specs.Stops.{start, byArc, by_word, Stop, plain, call, function, test, home, back, stop_at}
 use Rattle.walk.specs.Walk.{OpenScheme, Tick, oneTick, SchemeCall, callByOperation, callByFunction}

@@ -3,7 +3,7 @@
 -- with no rebinding speak of it.
 use Rattle.std.specs.Prelude.{ℕ, zero, suc, Bool, true, false, List, [], ◌∷◌, ◌++◌, length}
 use Rattle.results.specs.Results.{Results, noResults, withResult, cleared}
-use Rattle.frames.specs.Codes.{PLAIN-CODE, RETURN-CODE, HOME-CODE, DROP-CODE}
+use Rattle.text.specs.frames.Codes.{PLAIN-CODE, RETURN-CODE, HOME-CODE, DROP-CODE}
 use Rattle.charts.specs.Chart.{Chart, scheme, handler, end}
 use Rattle.walk.specs.Stops.{start, byArc, by_word, Stop, plain, call, function, test, home, back, stop_at}
 use Rattle.walk.specs.Walk.{OpenScheme, Tick, oneTick, SchemeCall, callByOperation, callByFunction, drops}

@@ -1,10 +1,10 @@
 -- The walk (the paper's word for what a chart does by itself): schemes performed recursively, one tick a word.
 -- It knows charts, the number of places and the binding that is told before each word, and nothing of labels, rows or a stack.
 use Rattle.std.specs.Prelude.{ℕ, zero, suc, ◌+◌, Bool, true, false, ◌&&◌, not, List, [], ◌∷◌, ◌++◌, map, eqb, length}
-use Rattle.lists.specs.Pick.{pick}
+use Rattle.words.specs.lists.Pick.{pick}
 use Rattle.results.specs.Results.{Results, noResults, result_of, withResult, cleared}
 use Rattle.bindings.specs.Binding.{Binding, served}
-use Rattle.frames.specs.Codes.{PLAIN-CODE, RETURN-CODE, HOME-CODE, OPERATION-CALL-CODE, FUNCTION-CALL-CODE, DROP-CODE}
+use Rattle.text.specs.frames.Codes.{PLAIN-CODE, RETURN-CODE, HOME-CODE, OPERATION-CALL-CODE, FUNCTION-CALL-CODE, DROP-CODE}
 use Rattle.charts.specs.Chart.{Chart, handler, end}
 use Rattle.walk.specs.Stops.{start, byArc, by_word, Stop, plain, call, function, test, home, back, stop_at}
 

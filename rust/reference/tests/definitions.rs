@@ -39,12 +39,14 @@ fn crates() -> Vec<(String, Vec<String>)> {
         .collect()
 }
 
-/// The spec files, as crate/File or crate/inner/File; Lib and inner only declare the others. Those of bench are cases.
+/// The spec files, as crate/File or crate/module/inner/File, but for those that only declare others. Those of bench are cases.
 fn specs() -> BTreeMap<String, String> {
     let of = |name: String| {
         let files = texts(root().join("crates").join(&name).join("specs"), &["antt"]).into_iter();
         files
-            .filter(|(file, _)| file != "Lib" && file != "inner")
+            .filter(|(_, text)| {
+                !text.lines().all(|line| line.starts_with("pub mod ") || line.starts_with("--"))
+            })
             .map(move |(file, text)| (format!("{name}/{file}"), text))
     };
     crates().into_iter().map(|(name, _)| name).filter(|name| name != "bench").flat_map(of).collect()
@@ -114,7 +116,7 @@ fn traced() -> BTreeSet<String> {
     let word = |c: char| !(c.is_alphanumeric() || c == '_' || c == '/');
     let named = trace.split(word).filter_map(|path| path.split_once("/specs/"));
     named
-        .filter(|(name, file)| *name != "bench" && !file.starts_with("inner/"))
+        .filter(|(name, file)| *name != "bench" && !format!("/{file}").contains("/inner/"))
         .map(|(name, file)| format!("{name}/{file}"))
         .collect()
 }

@@ -1,10 +1,10 @@
 -- What the functions that find the conditions against rows ask of a prepared table and promise.
 use Rattle.std.specs.Prelude.{ℕ, zero, suc, ◌^◌, ◌≤◌, ◌<◌, Bool, ◌&&◌, ◌||◌, not, ◌≡◌, List, eqb}
 use Rattle.std.specs.Int.Bits.{bit_and, bit_or}
-use Rattle.lists.specs.Pick.{pick}
-use Rattle.lists.specs.Numbers.{lowest}
-use Rattle.bits.specs.Word.{agrees}
-use Rattle.frames.specs.Frame.{size, field, pair_at}
+use Rattle.words.specs.lists.Pick.{pick}
+use Rattle.words.specs.lists.Numbers.{lowest}
+use Rattle.words.specs.bits.Word.{agrees}
+use Rattle.text.specs.frames.Frame.{size, field, pair_at}
 use Rattle.image.specs.Layout.{CARE, VALUES, FUNCTION-BIT, NO-BIT}
 use Rattle.cause.specs.Cause.{differs}
 

@@ -1,10 +1,10 @@
 -- What the checks of a chart ask of their callers, refusals that found nothing; and what is left of the verdict then.
 use Rattle.std.specs.Prelude.{◌≤◌, ◌≡◌, false}
-use Rattle.lists.specs.Numbers.{lowest, any}
-use Rattle.frames.specs.Sizes.{NODES}
-use Rattle.frames.specs.Refusals.{CIRCLE, CUT-OFF}
-use Rattle.frames.specs.Frame.{size}
-use Rattle.frames.specs.Verdict.{Verdict, next, atLowest}
+use Rattle.words.specs.lists.Numbers.{lowest, any}
+use Rattle.text.specs.frames.Sizes.{NODES}
+use Rattle.text.specs.frames.Refusals.{CIRCLE, CUT-OFF}
+use Rattle.text.specs.frames.Frame.{size}
+use Rattle.text.specs.frames.Verdict.{Verdict, next, atLowest}
 use Rattle.charts.specs.Chart.{Chart, schemes}
 use Rattle.charts.specs.Check.{badField, badScheme, badArc, onCircle, cutOff}
 

@@ -1,14 +1,14 @@
 -- Parts of the rows, as the functions that count and write them have them, node by node.
 use Rattle.std.specs.Prelude.{ℕ, zero, suc, Bool, true, false, ◌&&◌, not, List, [], ◌++◌, eqb}
-use Rattle.lists.specs.Pick.{pick}
-use Rattle.lists.specs.Numbers.{count}
-use Rattle.bits.specs.Word.{bit}
-use Rattle.frames.specs.Frame.{size}
+use Rattle.words.specs.lists.Pick.{pick}
+use Rattle.words.specs.lists.Numbers.{count}
+use Rattle.words.specs.bits.Word.{bit}
+use Rattle.text.specs.frames.Frame.{size}
 use Rattle.charts.specs.Layout.{CONDITION}
 use Rattle.charts.specs.Chart.{Chart, argument, next0, next1, is, taken}
 use Rattle.walk.specs.Stops.{stops}
 use Rattle.image.specs.Image.{Row}
-use Rattle.chart_labels.specs.Labels.{numbered}
+use Rattle.chart_rows.specs.chart_labels.Labels.{numbered}
 use Rattle.chart_rows.specs.Rows.{paths, rows_of}
 
 -- the number of the condition that a path tests at node v, or 16 where no path goes on from it so

@@ -1,11 +1,11 @@
 -- What the functions on paths ask of their arguments: nodes that a path may come to, and its care mask and values there.
 use Rattle.std.specs.Prelude.{ℕ, ◌+◌, ◌*◌, ◌^◌, ◌≤◌, ◌<◌, ◌≡◌, List, length, get_or}
 use Rattle.std.specs.Int.Bits.{bit_and}
-use Rattle.frames.specs.Sizes.{NODES}
-use Rattle.frames.specs.Frame.{size}
+use Rattle.text.specs.frames.Sizes.{NODES}
+use Rattle.text.specs.frames.Frame.{size}
 use Rattle.charts.specs.Layout.{BEGIN, CONDITION}
 use Rattle.charts.specs.Chart.{Chart, kind}
-use Rattle.chart_labels.specs.inner.ChartContracts.{Charted}
+use Rattle.chart_rows.specs.chart_labels.inner.ChartContracts.{Charted}
 use Rattle.chart_rows.specs.inner.NodeRows.{pathsFrom, testedNumber, untested}
 
 -- notes on the nodes of an accepted chart: the label of each, and from 256 on the number of the condition that a path tests there

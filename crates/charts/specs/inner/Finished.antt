@@ -1,8 +1,8 @@
 -- Conditions that a depth-first search has finished, so that they are known to be on no circle; the others are marked as unfinished.
 use Rattle.std.specs.Prelude.{ℕ, ◌<◌, ◌≡◌, Bool, true, false, List, length}
-use Rattle.lists.specs.Pick.{pick}
-use Rattle.graph.specs.Reach.{member, marked}
-use Rattle.frames.specs.Frame.{size}
+use Rattle.words.specs.lists.Pick.{pick}
+use Rattle.words.specs.graph.Reach.{member, marked}
+use Rattle.text.specs.frames.Frame.{size}
 use Rattle.charts.specs.Chart.{Chart, next0, next1}
 use Rattle.charts.specs.Check.{conditionArcs, onCircle}
 

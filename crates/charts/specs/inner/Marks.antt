@@ -1,8 +1,8 @@
 -- The arcs that marks spread over, and the marks that they spread from.
 use Rattle.std.specs.Prelude.{ℕ, Bool, List, map}
-use Rattle.lists.specs.Pick.{pick}
-use Rattle.lists.specs.Numbers.{range}
-use Rattle.frames.specs.Frame.{size}
+use Rattle.words.specs.lists.Pick.{pick}
+use Rattle.words.specs.lists.Numbers.{range}
+use Rattle.text.specs.frames.Frame.{size}
 use Rattle.charts.specs.Chart.{Chart, is}
 use Rattle.charts.specs.Check.{arcs, conditionArcs}
 

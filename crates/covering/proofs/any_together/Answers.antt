@@ -1,6 +1,6 @@
 use mathlib.Core.Path.{sym, ◌∙◌}
 use Prim.Native.Nat.{◌-◌}
-use Rattle.lists.proofs.Searches.{any_here, any-on, any-over}
+use Rattle.words.proofs.lists.Searches.{any_here, any-on, any-over}
 use Rattle.image.specs.Decode.{rowInFrame}
 use Rattle.covering.specs.inner.CoveringContracts.{togetherSome}
 use Rattle.std.proofs.Common.{rules}

@@ -1,7 +1,7 @@
 -- `covering::any_together` meets its contract: the loop keeps what is left of the search.
 use mathlib.Core.Path.{◌≡◌}
 use Prim.Native.Nat.{◌-◌, ◌≤◌}
-use Rattle.lists.specs.Numbers.{any}
+use Rattle.words.specs.lists.Numbers.{any}
 use Rattle.image.specs.Decode.{rowInFrame}
 use Rattle.covering.specs.inner.CoveringContracts.{togetherSome, togetherAny}
 use Rattle.covering.proofs.any_together.Given as goal

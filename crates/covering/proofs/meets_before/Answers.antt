@@ -1,5 +1,5 @@
 use mathlib.Core.Path.{sym, ◌∙◌}
-use Rattle.lists.proofs.Searches.{any_here, any-on, any-over}
+use Rattle.words.proofs.lists.Searches.{any_here, any-on, any-over}
 use Rattle.image.specs.Decode.{rowInFrame}
 use Rattle.covering.specs.Matched.{together}
 use Rattle.covering.proofs.CoverCases.{read-row}

@@ -1,7 +1,7 @@
 -- `covering::meets_before` meets its contract: the loop keeps what is left of the search.
 use mathlib.Core.Path.{◌≡◌}
 use Prim.Native.Nat.{◌-◌, ◌≤◌}
-use Rattle.lists.specs.Numbers.{any}
+use Rattle.words.specs.lists.Numbers.{any}
 use Rattle.image.specs.Decode.{rowInFrame}
 use Rattle.covering.specs.Matched.{together}
 use Rattle.covering.specs.inner.CoveringContracts.{togetherSome}

@@ -1,6 +1,6 @@
 use mathlib.Core.Path.{sym, ◌∙◌}
-use Rattle.frames.specs.Frame.{size}
-use Rattle.lists.proofs.Searches.{lowest-here, lowest-on, lowest-over}
+use Rattle.text.specs.frames.Frame.{size}
+use Rattle.words.proofs.lists.Searches.{lowest-here, lowest-on, lowest-over}
 use Rattle.covering.specs.inner.CoveringContracts.{isOther}
 use Rattle.covering.proofs.CoverCases.{other-yes, other-no}
 use Rattle.std.proofs.Common.{rules}

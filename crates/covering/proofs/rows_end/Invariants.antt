@@ -1,7 +1,7 @@
 -- `covering::rows_end` meets its contract: the loop keeps what is left of the search.
 use mathlib.Core.Path.{◌≡◌}
 use Prim.Native.Nat.{◌-◌, ◌≤◌}
-use Rattle.lists.specs.Numbers.{lowest}
+use Rattle.words.specs.lists.Numbers.{lowest}
 use Rattle.covering.specs.inner.CoveringContracts.{isOther}
 use Rattle.covering.proofs.rows_end.Given as goal
 

@@ -1,4 +1,4 @@
-use Rattle.lists.proofs.Sums.{adding-start, adding-on}
+use Rattle.words.proofs.lists.Sums.{adding-start, adding-on}
 use Rattle.image.specs.Decode.{rowInFrame}
 use Rattle.covering.specs.inner.CoveringContracts.{wordsWith}
 use Rattle.std.proofs.Common.{rules}

@@ -1,6 +1,6 @@
 -- `covering::words_in` meets its contract: the sum over the rows before f.
 use Prim.Native.Nat.{◌-◌}
-use Rattle.lists.proofs.Sums.{Adding}
+use Rattle.words.proofs.lists.Sums.{Adding}
 use Rattle.image.specs.Decode.{rowInFrame}
 use Rattle.covering.specs.inner.CoveringContracts.{wordsWith}
 use Rattle.covering.proofs.words_in.Given as goal

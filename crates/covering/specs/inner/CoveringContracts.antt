@@ -1,10 +1,10 @@
 -- What the functions that try 23 ask and promise, by frames of the table.
 use Rattle.std.specs.Prelude.{ℕ, ◌+◌, ◌-◌, ◌^◌, Bool, ◌||◌, not, List, ◌≡◌, eqb}
 use Rattle.std.specs.Int.Count.{ones}
-use Rattle.lists.specs.Pick.{pick}
-use Rattle.lists.specs.Numbers.{any, sum}
-use Rattle.frames.specs.Frame.{size, field}
-use Rattle.frames.specs.Sizes.{CONDITIONS, WORDS}
+use Rattle.words.specs.lists.Pick.{pick}
+use Rattle.words.specs.lists.Numbers.{any, sum}
+use Rattle.text.specs.frames.Frame.{size, field}
+use Rattle.text.specs.frames.Sizes.{CONDITIONS, WORDS}
 use Rattle.image.specs.Layout.{FROM, NO-BIT}
 use Rattle.image.specs.Image.{Row}
 use Rattle.image.specs.Decode.{rowCount, rows_from, rowInFrame, decoded}

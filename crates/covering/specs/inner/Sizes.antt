@@ -2,9 +2,9 @@
 -- numbers of words that its rows match sum up to 65,536.
 use Rattle.std.specs.Prelude.{ℕ, ◌-◌, ◌^◌, Bool, ◌&&◌, ◌||◌, not, eqb, length}
 use Rattle.std.specs.Int.Count.{ones}
-use Rattle.lists.specs.Pick.{pick}
-use Rattle.lists.specs.Numbers.{any, sum}
-use Rattle.frames.specs.Sizes.{CONDITIONS, WORDS}
+use Rattle.words.specs.lists.Pick.{pick}
+use Rattle.words.specs.lists.Numbers.{any, sum}
+use Rattle.text.specs.frames.Sizes.{CONDITIONS, WORDS}
 use Rattle.image.specs.Layout.{NO-BIT}
 use Rattle.image.specs.Image.{Image, Row, nthRow}
 use Rattle.covering.specs.Matched.{together}

@@ -1,6 +1,6 @@
 -- What the tests of a state's fitness ask and promise.
 use Rattle.std.specs.Prelude.{ℕ, ◌≤◌, Bool, ◌&&◌, ◌||◌, not, List, leb, eqb}
-use Rattle.lists.specs.Pick.{pick}
+use Rattle.words.specs.lists.Pick.{pick}
 use Rattle.tables.specs.inner.Asked.{Whole}
 use Rattle.state.specs.Layout.{PLACES}
 use Rattle.state.specs.declared.State.{State}

@@ -1,8 +1,8 @@
 -- What the functions that find the groups ask of a prepared table and promise.
 use Rattle.std.specs.Prelude.{ℕ, suc, ◌-◌, ◌≤◌, ◌<◌, Bool, true, false, ◌&&◌, ◌||◌, not, ◌≡◌, List, eqb, leb, length, get_or}
-use Rattle.lists.specs.Numbers.{any, lowest}
-use Rattle.frames.specs.Sizes.{LABELS}
-use Rattle.frames.specs.Frame.{field}
+use Rattle.words.specs.lists.Numbers.{any, lowest}
+use Rattle.text.specs.frames.Sizes.{LABELS}
+use Rattle.text.specs.frames.Frame.{field}
 use Rattle.image.specs.Layout.{FUNCTION-BIT, NEXT}
 use Rattle.image.specs.Decode.{lastLabel, rowInFrame}
 use Rattle.image.specs.inner.Sound.{SoundImage}

@@ -1,7 +1,7 @@
 -- What a function of the code asks of its callers.
 use Rattle.std.specs.Prelude.{ℕ, ◌≤◌, ◌<◌, List}
-use Rattle.frames.specs.Sizes.{FRAME}
-use Rattle.frames.specs.Frame.{size}
+use Rattle.text.specs.frames.Sizes.{FRAME}
+use Rattle.text.specs.frames.Frame.{size}
 
 -- what looking at the bytes of frame f from k up to end asks
 pub record BytesAsked (b : List ℕ) (f k end : ℕ) : Type 0 where

@@ -1,8 +1,8 @@
 -- A sound image: the plain facts that let its text be read back and pass the image check.
 use Rattle.std.specs.Prelude.{ℕ, suc, ◌≤◌, ◌<◌, ◌≡◌, ◌⊎◌, length, get_or, eqb}
 use Rattle.std.specs.Int.Bits.{bit_and}
-use Rattle.lists.specs.Pick.{pick}
-use Rattle.frames.specs.Sizes.{SCHEMES, LABELS, ROWS, WORDS}
+use Rattle.words.specs.lists.Pick.{pick}
+use Rattle.text.specs.frames.Sizes.{SCHEMES, LABELS, ROWS, WORDS}
 use Rattle.image.specs.Image.{Image, Label, Row, homeLabel, returnLabel, nthRow}
 pub use Rattle.image.specs.Image.{no_label}
 

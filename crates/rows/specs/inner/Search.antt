@@ -1,8 +1,8 @@
 -- What the search for a row among the frames of a table asks and promises.
 use Rattle.std.specs.Prelude.{ℕ, ◌+◌, ◌*◌, ◌/◌, ◌%◌, Bool, ◌&&◌, ◌||◌, ◌≡◌, List, ltb, eqb}
-use Rattle.lists.specs.Pick.{pick}
-use Rattle.bits.specs.Word.{agrees}
-use Rattle.frames.specs.Frame.{size, field, pair_at}
+use Rattle.words.specs.lists.Pick.{pick}
+use Rattle.words.specs.bits.Word.{agrees}
+use Rattle.text.specs.frames.Frame.{size, field, pair_at}
 use Rattle.image.specs.Layout.{CARE, VALUES, FUNCTION-BIT, NO-BIT, FUNCTION-CALL}
 use Rattle.tables.specs.Table.{tableLabel, firstOn, rowOn, rowsOn}
 use Rattle.tables.specs.inner.Labels.{NumberedLabel}

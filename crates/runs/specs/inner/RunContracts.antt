@@ -1,8 +1,8 @@
 -- What the functions that make a tick a word ask and promise, and a run on a table whose header holds.
 use Rattle.std.specs.Prelude.{ℕ, zero, suc, ◌≤◌, ◌≡◌, List, length}
-use Rattle.lists.specs.Sequences.{over}
-use Rattle.frames.specs.Refusals.{UNFIT, NO-ROOM}
-use Rattle.frames.specs.Verdict.{Verdict, fine, refused, next, when}
+use Rattle.words.specs.lists.Sequences.{over}
+use Rattle.text.specs.frames.Refusals.{UNFIT, NO-ROOM}
+use Rattle.text.specs.frames.Verdict.{Verdict, fine, refused, next, when}
 use Rattle.tables.specs.Table.{tableImage}
 use Rattle.state.specs.declared.State.{State}
 use Rattle.state.specs.Bytes.{state_of}

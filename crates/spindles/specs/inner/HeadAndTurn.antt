@@ -1,9 +1,9 @@
 -- A call in parts, as the functions have it: a head that is refused before any state is looked at, and one spindle's turn by its own state.
 use Rattle.std.specs.Prelude.{ℕ, ◌+◌, ◌-◌, Bool, ◌||◌, not, ◌≡◌, List, ltb, eqb, length, set}
-use Rattle.lists.specs.Pick.{pick}
-use Rattle.frames.specs.Refusals.{UNFIT, NO-SPINDLE, NO-PLACE}
-use Rattle.frames.specs.Verdict.{Verdict, fine, refused, next, when}
-use Rattle.frames.specs.Answer.{Reply, refusal, replyNumber, reply, judged}
+use Rattle.words.specs.lists.Pick.{pick}
+use Rattle.text.specs.frames.Refusals.{UNFIT, NO-SPINDLE, NO-PLACE}
+use Rattle.text.specs.frames.Verdict.{Verdict, fine, refused, next, when}
+use Rattle.text.specs.frames.Answer.{Reply, refusal, replyNumber, reply, judged}
 use Rattle.state.specs.declared.State.{State}
 use Rattle.state.specs.Bytes.{bytesOf}
 use Rattle.runs.specs.TickOutcome.{TickOutcome}

@@ -1,12 +1,12 @@
 -- What the function that prepares a table in scratch space promises.
 use Rattle.std.specs.Prelude.{ℕ, ◌≡◌, List}
-use Rattle.lists.specs.Sequences.{over}
-use Rattle.frames.specs.Sizes.{IMAGE-TEXT}
-use Rattle.frames.specs.Frame.{contents}
-use Rattle.frames.specs.Verdict.{fine, refused}
-use Rattle.frames.specs.inner.Read.{readInto}
-use Rattle.frames.specs.Answer.{reply, judged}
-use Rattle.frames.specs.declared.Answer.{Answer}
+use Rattle.words.specs.lists.Sequences.{over}
+use Rattle.text.specs.frames.Sizes.{IMAGE-TEXT}
+use Rattle.text.specs.frames.Frame.{contents}
+use Rattle.text.specs.frames.Verdict.{fine, refused}
+use Rattle.text.specs.frames.inner.Read.{readInto}
+use Rattle.text.specs.frames.Answer.{reply, judged}
+use Rattle.text.specs.declared.frames.Answer.{Answer}
 use Rattle.image.specs.Check.{imageVerdict}
 use Rattle.tables.specs.Prepare.{noted}
 

@@ -2,8 +2,8 @@
 use mathlib.Core.Path.{◌∙◌, sym, ap}
 use mathlib.Core.Bool.{Bool}
 use borrow.Author.Tests.{eq-eqb, ne_eqb}
-use Rattle.lists.specs.Pick.{pick}
-use Rattle.lists.proofs.Tests.{yes-pick, no-pick}
+use Rattle.words.specs.lists.Pick.{pick}
+use Rattle.words.proofs.lists.Tests.{yes-pick, no-pick}
 use Rattle.state.proofs.ResultBytes.{byte-is}
 use Rattle.ticks.proofs.bit_of.Goals as goal
 

@@ -1,6 +1,6 @@
 -- What the functions of a tick on a prepared table and on the bytes of a state ask and promise.
 use Rattle.std.specs.Prelude.{ℕ, ◌-◌, ◌≤◌, false, ◌≡◌, List, eqb}
-use Rattle.lists.specs.Pick.{pick}
+use Rattle.words.specs.lists.Pick.{pick}
 use Rattle.results.specs.Results.{Results, result_of}
 use Rattle.image.specs.Layout.{NO-BIT, PLAIN, OPERATION-CALL, FUNCTION-CALL}
 use Rattle.image.specs.Image.{Image}

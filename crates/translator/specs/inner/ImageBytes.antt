@@ -1,11 +1,11 @@
 -- The image of an accepted chart, as the functions behind the entry point leave it.
 use Rattle.std.specs.Prelude.{ℕ, ◌+◌, ◌*◌, List, ltb, length}
-use Rattle.lists.specs.Pick.{pick}
-use Rattle.lists.specs.Sequences.{concatMap}
-use Rattle.frames.specs.Sizes.{LINE, ROWS}
-use Rattle.frames.specs.Refusals.{MANY-ROWS, NO-ROOM}
-use Rattle.frames.specs.Verdict.{when}
-use Rattle.frames.specs.Answer.{BufferOutcome, bufferOn}
+use Rattle.words.specs.lists.Pick.{pick}
+use Rattle.words.specs.lists.Sequences.{concatMap}
+use Rattle.text.specs.frames.Sizes.{LINE, ROWS}
+use Rattle.text.specs.frames.Refusals.{MANY-ROWS, NO-ROOM}
+use Rattle.text.specs.frames.Verdict.{when}
+use Rattle.text.specs.frames.Answer.{BufferOutcome, bufferOn}
 use Rattle.charts.specs.Chart.{Chart}
 use Rattle.image.specs.Image.{imageFrames, imageText}
 use Rattle.chart_rows.specs.Rows.{rows}

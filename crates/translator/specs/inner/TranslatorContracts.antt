@@ -1,10 +1,10 @@
 -- What the functions that write an image ask of their arguments.
 use Rattle.std.specs.Prelude.{ℕ, ◌+◌, ◌*◌, ◌≤◌, ◌≡◌, List, length}
-use Rattle.lists.specs.Numbers.{count}
-use Rattle.frames.specs.Sizes.{LINE, ROWS}
-use Rattle.frames.specs.Frame.{size}
+use Rattle.words.specs.lists.Numbers.{count}
+use Rattle.text.specs.frames.Sizes.{LINE, ROWS}
+use Rattle.text.specs.frames.Frame.{size}
 use Rattle.charts.specs.Chart.{Chart, schemes}
-use Rattle.chart_labels.specs.Labels.{numbered}
+use Rattle.chart_rows.specs.chart_labels.Labels.{numbered}
 use Rattle.chart_rows.specs.Rows.{rows}
 use Rattle.chart_rows.specs.inner.PathContracts.{Noted}
 

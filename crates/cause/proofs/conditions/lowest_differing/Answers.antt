@@ -1,8 +1,8 @@
 use native.Mathlib.Omega.{arith}
 use Rattle.cause.proofs.ConditionCases.{passed-turn}
 use mathlib.Core.Path.{refl, sym}
-use Rattle.lists.specs.Numbers.{lowest}
-use Rattle.lists.proofs.Tests.{yes-pick, no-pick}
+use Rattle.words.specs.lists.Numbers.{lowest}
+use Rattle.words.proofs.lists.Tests.{yes-pick, no-pick}
 use Rattle.std.proofs.Common.{rules}
 use Rattle.cause.proofs.conditions.lowest_differing.Goals as goal
 

@@ -1,11 +1,11 @@
 -- `chart_check::check::check_chart` meets its contract: 4 to 9 in turn, 19 after 5, and the first that refuses answers.
 use mathlib.Core.Path.{◌≡◌, sym, ◌∙◌, ap}
 use mathlib.Core.Bool.{false}
-use Rattle.lists.specs.Numbers.{any}
-use Rattle.frames.specs.Frame.{size}
-use Rattle.frames.specs.Verdict.{Verdict, when}
-use Rattle.frames.specs.Answer.{judged}
-use Rattle.frames.proofs.Chains.{when-holds, when-fails, next-refused, next-on}
+use Rattle.words.specs.lists.Numbers.{any}
+use Rattle.text.specs.frames.Frame.{size}
+use Rattle.text.specs.frames.Verdict.{Verdict, when}
+use Rattle.text.specs.frames.Answer.{judged}
+use Rattle.text.proofs.frames.Chains.{when-holds, when-fails, next-refused, next-on}
 use Rattle.charts.specs.Chart.{schemes}
 use Rattle.charts.specs.Check.{badField, badScheme, badMarks, badArc, badCall, chartVerdict}
 use Rattle.chart_check.specs.inner.CheckContracts.{joinedVerdict}

@@ -2,12 +2,12 @@
 -- some node has none, the lowest is found.
 use mathlib.Core.Path.{◌≡◌, sym, ◌∙◌}
 use lib.ListN.{length}
-use Rattle.graph.specs.inner.Listed.{many}
-use Rattle.graph.proofs.Marking.{full-reach}
-use Rattle.graph.proofs.MarkedNodes.{listed-lowest}
-use Rattle.frames.specs.Frame.{size}
+use Rattle.words.specs.graph.inner.Listed.{many}
+use Rattle.words.proofs.graph.Marking.{full-reach}
+use Rattle.words.proofs.graph.MarkedNodes.{listed-lowest}
+use Rattle.text.specs.frames.Frame.{size}
 use Rattle.charts.specs.Check.{arcs}
-use Rattle.node_marks.proofs.MarkCases.{spread-apart, all-marked}
+use Rattle.chart_check.proofs.node_marks.MarkCases.{spread-apart, all-marked}
 use borrow.Author.Rules.{rules}
 use Rattle.chart_check.proofs.joined.lowest_apart.Goals as goal
 

@@ -1,5 +1,5 @@
 -- `chart_rows::note_nodes`: the labels, then the numbers behind them.
-use Rattle.chart_labels.proofs.LabelSteps.{labelled}
+use Rattle.chart_rows.proofs.chart_labels.LabelSteps.{labelled}
 use native.Mathlib.Omega.{arith}
 use Rattle.chart_rows.proofs.numbers.note_nodes.Goals as goal
 

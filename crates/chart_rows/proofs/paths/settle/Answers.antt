@@ -4,7 +4,7 @@ use mathlib.Core.Path.{◌≡◌}
 use Prim.Native.Nat.{◌+◌}
 use lib.ListN.{get_or}
 use Rattle.charts.specs.Chart.{taken}
-use Rattle.chart_labels.specs.inner.ChartContracts.{Ready}
+use Rattle.chart_rows.specs.chart_labels.inner.ChartContracts.{Ready}
 use Rattle.chart_rows.specs.inner.NodeRows.{testedNumber, known}
 use Rattle.chart_rows.proofs.NumberLaws.{number-most, bit-known, bit-unknown, side-taken}
 use Rattle.chart_rows.proofs.Settled.{passing-start, passing-on, passing-done, known-goes, known-falls}

@@ -3,7 +3,7 @@ use Prim.Native.Nat.{◌*◌}
 use mathlib.Core.Path.{◌≡◌, sym}
 use lib.ListN.{take}
 use native.Mathlib.Omega.{arith}
-use Rattle.frames.specs.Frame.{contents}
+use Rattle.text.specs.frames.Frame.{contents}
 use Rattle.chart_text.proofs.Entries.{Formed, formed, formed-chart, chart-length, chart-asked}
 use Rattle.chart_text.proofs.Entries.{read-unformed, read-unsound, read_short, read_done}
 use Rattle.chart_text.proofs.entry.read_chart.Goals as goal

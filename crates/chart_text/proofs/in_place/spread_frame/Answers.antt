@@ -1,5 +1,5 @@
 -- `chart_text::spread_frame`: the frame put is of the ten bytes taken.
-use Rattle.frames.proofs.TextLoops.{frame-put}
+use Rattle.text.proofs.frames.TextLoops.{frame-put}
 use Rattle.chart_text.proofs.in_place.spread_frame.Goals as goal
 
 pub returns : goal.returns

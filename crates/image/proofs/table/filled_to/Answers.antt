@@ -1,5 +1,5 @@
 use mathlib.Core.Path.{sym, ◌∙◌}
-use Rattle.lists.proofs.Searches.{any_here, any-on, any-over}
+use Rattle.words.proofs.lists.Searches.{any_here, any-on, any-over}
 use Rattle.image.proofs.HeaderCases.{unequal, equal}
 use Rattle.std.proofs.Common.{rules}
 use Rattle.image.proofs.table.filled_to.Goals as goal

@@ -2,7 +2,7 @@
 use mathlib.Core.Path.{◌≡◌, sym, ◌∙◌, ap}
 use mathlib.Core.Bool.{false}
 use native.Mathlib.Omega.{arith}
-use Rattle.frames.specs.Answer.{reply}
+use Rattle.text.specs.frames.Answer.{reply}
 use Rattle.image.specs.Check.{badHeader}
 use Rattle.image_check.proofs.TableCases.{header-size, table-header, table-stray, table-bad, table-good}
 use Rattle.std.proofs.Common.{rules}

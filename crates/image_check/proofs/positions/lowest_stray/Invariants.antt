@@ -1,7 +1,7 @@
 -- `image_check::positions::lowest_stray` meets its contract: the loop keeps what is left to search.
 use Prim.Native.Nat.{◌-◌}
-use Rattle.lists.specs.Numbers.{lowest}
-use Rattle.lists.proofs.Searches.{Searching}
+use Rattle.words.specs.lists.Numbers.{lowest}
+use Rattle.words.proofs.lists.Searches.{Searching}
 use Rattle.image.specs.Check.{stray}
 use Rattle.image_check.proofs.positions.lowest_stray.Given as goal
 

@@ -1,7 +1,7 @@
 -- `places::places_needed` meets its contract: the reader's refusal, 10, 20, or the number.
 use mathlib.Core.Path.{sym, ◌∙◌, ap}
 use native.Mathlib.Omega.{arith}
-use Rattle.frames.specs.Answer.{reply}
+use Rattle.text.specs.frames.Answer.{reply}
 use Rattle.translator.proofs.EntrySteps.{Read, zeros-long, read_told, read-long, read-ready}
 use Rattle.places.proofs.EntrySteps.{needed-unread, needed-wide, needed-circle, needed-done}
 use Rattle.places.proofs.entry.places_needed.Goals as goal

@@ -2,7 +2,7 @@
 use Prim.Native.Nat.{◌*◌}
 use native.Mathlib.Omega.{arith}
 use lib.ListN.{take}
-use Rattle.frames.specs.Frame.{frameCount}
+use Rattle.text.specs.frames.Frame.{frameCount}
 use Rattle.tables.proofs.Made.{MadeTable, image-made}
 use Rattle.rebinding.proofs.EntryCases.{image-refused, image-rebinds}
 use Rattle.rebinding.proofs.in_place.rebind_bytes.Goals as goal

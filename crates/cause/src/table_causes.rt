@@ -1,0 +1,116 @@
+// A cause on a prepared table: the label whose row a tick takes, the row, the conditions that decide it and the bit.
+ghost use Rattle.std.specs.Prelude.{◌≡◌, ◌-◌};
+ghost use Rattle.tables.specs.Table.{tableImage};
+ghost use Rattle.tables.specs.inner.Asked.{Whole};
+ghost use Rattle.state.specs.State.{placeAt};
+ghost use Rattle.state.specs.Bytes.{state_of};
+ghost use Rattle.cause.specs.Cause.{leavesLabel, leaving, causeAt, causeOutcome, GivesCause};
+ghost use Rattle.cause.specs.table_causes.inner.TableCauses.{Ordered, OrderedLabel, leavingNumber, tableCause};
+
+use crate::{CauseReport, against_rows};
+use fitness::fitting::is_unfit;
+use image::layout::{CARE, PLAIN, RETURN};
+use image::{pair, rows_from};
+use rows::row_search::find_row;
+use rows::{end_of, first_of};
+use state::State;
+use state::layout::STATE_BYTES;
+use state::state_places::{depth_of, place_of};
+use tables::{label_of, label_read, scheme_count};
+use text::frames::refusals::{NO_ROW, ROWLESS, UNFIT};
+use text::frames::sizes::FRAME;
+use text::frames::{Answer, refused};
+use ticks::bit_of;
+
+// No cause, but an answer.
+pub fn untold(answer: Answer) -> CauseReport
+    ensures { result ≡ record { answer = answer; row = 0; mask = 0; bit = 0 } }
+{
+    CauseReport {
+        answer,
+        row: 0,
+        mask: 0,
+        bit: 0,
+    }
+}
+
+// The label n places below that depth, whatever the state: the lowest place where there are fewer, and 0 past the highest.
+fn place_below(bytes: &[u8; STATE_BYTES], depth: u8, n: u8) -> u8
+    ensures { result ≡ placeAt (state_of bytes.now) (depth - n) }
+{
+    if depth < n {
+        return place_of(bytes, 0);
+    }
+    let k = (depth - n) as usize;
+    if State::PLACES <= k {
+        return 0;
+    }
+    place_of(bytes, k)
+}
+
+// The label whose row a tick takes, whatever the state: the top of a plain tick, the one beneath on a return, and 0 where it takes none.
+fn leaving_label(table: &[u8], bytes: &[u8; STATE_BYTES]) -> u8
+    requires { Whole table.now }
+    ensures { result ≡ leavingNumber (leaving (tableImage table.now) (state_of bytes.now)) }
+{
+    let depth = depth_of(bytes);
+    let top = place_below(bytes, depth, 1);
+    let label = label_of(table, top);
+    let kind = label.kind;
+    if kind == PLAIN {
+        return top;
+    }
+    if kind != RETURN {
+        return 0;
+    }
+    if depth <= 1 {
+        return 0;
+    }
+    place_below(bytes, depth, 2)
+}
+
+// The row that label l takes, the conditions that decide it and the bit; 18 where no row matches.
+fn cause_at(table: &[u8], bytes: &[u8; STATE_BYTES], l: u8, word: u16) -> CauseReport
+    requires { OrderedLabel table.now l }
+    ensures { GivesCause (causeOutcome
+        (causeAt (tableImage table.now) (state_of bytes.now).bits word (leavesLabel l))) result }
+{
+    let schemes = scheme_count(table);
+    let read = label_read(table, schemes, l as usize);
+    let bit = bit_of(bytes, read.kind, read.called);
+    let f = find_row(table, schemes, l as usize, word, bit);
+    if table.len() / FRAME <= f {
+        let answer = refused(NO_ROW, 0);
+        return untold(answer);
+    }
+    let first = first_of(table, schemes, l as usize);
+    let end = end_of(table, schemes, l as usize);
+    let care = pair(table, f, CARE);
+    let others = against_rows(table, first, end, word, bit);
+    let from = rows_from(table);
+    let row = (f - from) as u16;
+    CauseReport {
+        answer: Answer::Done(0),
+        row,
+        mask: care | others,
+        bit,
+    }
+}
+
+// A cause on a prepared table: 15, then 21, then 18.
+pub fn cause_table(table: &[u8], bytes: &[u8; STATE_BYTES], word: u16) -> CauseReport
+    requires { Ordered table.now }
+    ensures { GivesCause (tableCause table.now (state_of bytes.now) word) result }
+{
+    let unfit = is_unfit(table, bytes);
+    let l = leaving_label(table, bytes);
+    if unfit {
+        let answer = refused(UNFIT, 0);
+        return untold(answer);
+    }
+    if l == 0 {
+        let answer = refused(ROWLESS, 0);
+        return untold(answer);
+    }
+    cause_at(table, bytes, l, word)
+}

@@ -1,0 +1,41 @@
+-- Two searches over the numbers from the last one down.
+use mathlib.Core.Path.{◌≡◌, sym, ◌∙◌, ap}
+use mathlib.Core.Bool.{Bool}
+use Prim.Native.Nat.{ℕ, ◌-◌, ◌≤◌, ◌<◌}
+use native.Mathlib.Nat.{sub-zero}
+use native.Mathlib.Omega.{arith}
+use Rattle.words.specs.lists.Pick.{pick}
+use Rattle.words.specs.lists.Numbers.{lowest}
+use Rattle.words.proofs.lists.Searches.{lowest-over, lowest-below}
+
+-- the numbers from v up to n are tried
+pub record Downward (p q : ℕ → Bool) (n v a b : ℕ) : Type 0 where
+  pub low : v ≤ n
+  pub first : a ≡ lowest p v (n - v)
+  pub second : b ≡ lowest q v (n - v)
+
+pub downward-none : (p q : ℕ → Bool) (n : ℕ) → Downward p q n n n n
+downward-none p q n = record {
+  low = omega arith;
+  first = sym (lowest-over p n n (omega arith));
+  second = sym (lowest-over q n n (omega arith));
+}
+
+module _ (p q : ℕ → Bool) (n v a b : ℕ) (d : Downward p q n v a b) where
+  pub downward-turn : (x y : Bool) (a' b' : ℕ) → 0 < v → x ≡ p (v - 1) → y ≡ q (v - 1) → a' ≡ pick x (v - 1) a → b' ≡ pick y (v - 1) b
+      → Downward p q n (v - 1) a' b'
+  downward-turn x y a' b' some ex ey ea eb = record {
+    low = omega (arith, d.low);
+    first = ea ∙ ap (λ (t : Bool). pick t (v - 1) a) ex ∙ lowest-below p n v a some d.low d.first;
+    second = eb ∙ ap (λ (t : Bool). pick t (v - 1) b) ey ∙ lowest-below q n v b some d.low d.second;
+  }
+
+  module _ (h : v ≤ 0) where
+    whole : (p : ℕ → Bool) → lowest p v (n - v) ≡ lowest p 0 n
+    whole p = ap (λ (j : ℕ). lowest p j (n - j)) (omega arith) ∙ ap (lowest p 0) (sub-zero n)
+
+    pub downward-first : a ≡ lowest p 0 n
+    downward-first = d.first ∙ whole p
+
+    pub downward-second : b ≡ lowest q 0 n
+    downward-second = d.second ∙ whole q

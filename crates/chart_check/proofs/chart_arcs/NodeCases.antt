@@ -1,0 +1,73 @@
+-- The arcs and the call of one node, case by case, as the code meets them.
+use mathlib.Core.Path.{◌≡◌, refl, sym, ◌∙◌, ap}
+use mathlib.Core.Logic.{◌⊎◌}
+use mathlib.Core.Bool.{Bool, true, false, ◌||◌}
+use mathlib.Core.List.{[], ◌∷◌}
+use Prim.Native.Nat.{ℕ, zero, suc, ◌≤◌, ◌<◌}
+use native.Mathlib.Omega.{arith}
+use lib.Dec.{leb, ltb, eqb}
+use borrow.Author.Tests.{eq-eqb, lt-leb}
+use Rattle.words.specs.lists.Sequences.{some}
+use Rattle.words.proofs.lists.Tests.{or_no}
+use Rattle.text.specs.frames.Frame.{size}
+use Rattle.charts.specs.Chart.{Chart, kind, scheme, argument, next0, next1, schemes}
+use Rattle.charts.specs.Layout.{kind_of}
+use Rattle.charts.specs.Check.{badTarget, badArc, badCallAs, badCall}
+use Rattle.charts.proofs.Nodes.{outside, arcs-end, arcs-one, two-arcs}
+
+-- ---- 6
+pub target-inside : (c : Chart) (v u x a b : ℕ) → u < size c → a ≡ scheme c u → b ≡ scheme c v → a ≡ b → x ≡ kind c u
+    → eqb x 0 ≡ badTarget c v u
+target-inside c v u x a b l p q e k = ap (λ y. eqb y 0) k ∙ sym (rw (lt-leb (size c) u l, eq-eqb (scheme c u) (scheme c v) (sym p ∙ e ∙ q)))
+
+some_one : (p : ℕ → Bool) (x : ℕ) → some p (x ∷ []) ≡ p x
+unfolding some
+some_one p x = or_no (p x)
+
+some-two : (p : ℕ → Bool) (x y : ℕ) → some p (x ∷ y ∷ []) ≡ (p x || p y)
+unfolding some
+some-two p x y = ap (λ b. p x || b) (or_no (p y))
+
+module _ (c : Chart) (v k : ℕ) (ek : k ≡ kind c v) where
+  pub end-arc : k ≡ 1 → false ≡ badArc c v
+  end-arc e = sym (ap (some (badTarget c v)) (arcs-end c v (sym ek ∙ e)) ∙ (unfold some in refl))
+
+  pub single-arc : (k ≡ 1 → ⊥) → (k < 3) ⊎ (5 ≤ k) → badTarget c v (next0 c v) ≡ badArc c v
+  single-arc n o =
+      sym (ap (some (badTarget c v)) (arcs-one c v (λ q. n (ek ∙ q)) (λ q. (outside k o).0 (ek ∙ q)) (λ q. (outside k o).1 (ek ∙ q)))
+      ∙ some_one (badTarget c v) (next0 c v))
+
+  pub double-arc : 3 ≤ k → k < 5 → (badTarget c v (next0 c v) || badTarget c v (next1 c v)) ≡ badArc c v
+  double-arc a b =
+      sym (ap (some (badTarget c v)) (two-arcs c v (omega arith) (omega arith)) ∙ some-two (badTarget c v) (next0 c v) (next1 c v))
+
+module _ (c : Chart) (v u : ℕ) (r : Bool) (eu : u ≡ next0 c v) (er : r ≡ badTarget c v u) where
+  pub pair-first : r ≡ true → true ≡ (badTarget c v (next0 c v) || badTarget c v (next1 c v))
+  pair-first t = sym (ap (λ b. b || badTarget c v (next1 c v)) (sym (er ∙ ap (badTarget c v) eu) ∙ t))
+
+  pub pair-second : (w : ℕ) (s : Bool) → r ≡ false → w ≡ next1 c v → s ≡ badTarget c v w
+      → s ≡ (badTarget c v (next0 c v) || badTarget c v (next1 c v))
+  pair-second w s t ew es =
+      es ∙ ap (badTarget c v) ew ∙ sym (ap (λ b. b || badTarget c v (next1 c v)) (sym (er ∙ ap (badTarget c v) eu) ∙ t))
+
+-- ---- 7
+module _ (c : Chart) (v k a h : ℕ) (ek : k ≡ kind c v) (ea : a ≡ argument c v) (eh : h ≡ schemes c) where
+  call_by : (b : ℕ) → k ≡ b → badCall c v ≡ badCallAs c v (kind_of b)
+  call_by b e = ap (λ (k : ℕ). badCallAs c v (kind_of k)) (sym ek ∙ e)
+
+  pub operation-call : k ≡ 2 → badCall c v ≡ (eqb a 1 || ltb h a)
+  operation-call e = call_by 2 e ∙ sym (rw (ea, eh))
+
+  pub function-call : k ≡ 4 → badCall c v ≡ (leb a 1 || ltb h a)
+  function-call e = call_by 4 e ∙ sym (rw (ea, eh))
+
+  pub no_call : (k ≡ 2 → ⊥) → (k ≡ 4 → ⊥) → false ≡ badCall c v
+  no_call x y = sym (go (kind c v) (λ q. x (ek ∙ q)) (λ q. y (ek ∙ q)))
+    where
+      go : (j : ℕ) → (j ≡ 2 → ⊥) → (j ≡ 4 → ⊥) → badCallAs c v (kind_of j) ≡ false
+      go zero m n = refl
+      go (suc zero) m n = refl
+      go (suc (suc zero)) m n = absurd (m refl)
+      go (suc (suc (suc zero))) m n = refl
+      go (suc (suc (suc (suc zero)))) m n = absurd (n refl)
+      go (suc (suc (suc (suc (suc j))))) m n = refl

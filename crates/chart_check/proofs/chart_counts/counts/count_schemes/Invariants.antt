@@ -1,0 +1,10 @@
+-- `chart_check::chart_counts::counts::count_schemes` meets its contract: the nodes passed have good fields and are counted.
+use Rattle.std.proofs.Common.{◌-◌}
+use Rattle.chart_check.proofs.chart_counts.PassLoops.{CountingNodes}
+use Rattle.chart_check.proofs.chart_counts.counts.count_schemes.Given as goal
+
+abbrev pub invariant-loop-v : goal.invariant-loop-v
+invariant-loop-v l = CountingNodes l.records l.n l.v l.highest l.begins l.ends
+
+abbrev pub decreases-loop-v : goal.decreases-loop-v
+decreases-loop-v l = l.n - l.v

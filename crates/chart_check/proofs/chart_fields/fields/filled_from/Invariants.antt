@@ -1,0 +1,15 @@
+-- `chart_check::chart_fields::fields::filled_from` meets its contract: the loop keeps what is left to look at.
+use Prim.Native.Nat.{◌-◌, ◌≤◌}
+use mathlib.Core.Path.{◌≡◌}
+use mathlib.Core.Bool.{not}
+use lib.Dec.{eqb}
+use Rattle.words.specs.lists.Numbers.{any}
+use Rattle.text.specs.frames.Frame.{field}
+use Rattle.charts.specs.Check.{filledFrom}
+use Rattle.chart_check.proofs.chart_fields.fields.filled_from.Given as goal
+
+abbrev pub invariant-loop-k : goal.invariant-loop-k
+invariant-loop-k l = (l.k ≤ 10) × (any (λ j. not (eqb (field l.records l.v j) 0)) l.k (10 - l.k) ≡ filledFrom l.records l.v l.i)
+
+abbrev pub decreases-loop-k : goal.decreases-loop-k
+decreases-loop-k l = 10 - l.k

@@ -1,0 +1,12 @@
+-- `chart_check::chart_handler::handlers::handler_scheme`: the highest scheme that the nodes passed mark.
+use Rattle.std.proofs.Common.{◌≡◌, ◌-◌, ◌≤◌}
+use Rattle.words.specs.lists.Numbers.{highest}
+use Rattle.text.specs.frames.Frame.{size}
+use Rattle.charts.specs.Chart.{handlerAt}
+use Rattle.chart_check.proofs.chart_handler.handlers.handler_scheme.Given as goal
+
+abbrev pub invariant-loop-v : goal.invariant-loop-v
+invariant-loop-v l = (l.v ≤ l.n) × (l.n ≡ size l.records) × (l.highest ≡ highest (handlerAt l.records) 0 l.v)
+
+abbrev pub decreases-loop-v : goal.decreases-loop-v
+decreases-loop-v l = l.n - l.v

@@ -1,0 +1,167 @@
+-- A depth-first search: a condition none of whose arcs leads to an unfinished one is on no circle.
+use mathlib.Core.Path.{◌≡◌, refl, sym, ◌∙◌, ap, subst}
+use mathlib.Core.Logic.{◌⊎◌, inl, inr, ⊎_elim}
+use mathlib.Core.Bool.{Bool, true, false, ◌&&◌, not}
+use mathlib.Core.List.{List, [], ◌∷◌}
+use Prim.Native.Nat.{ℕ, ◌+◌, ◌-◌, ◌≤◌, ◌<◌}
+use native.Mathlib.Decide.{ℕ_discrete}
+use native.Mathlib.Omega.{arith}
+use lib.Dec.{eqb}
+use lib.ListN.{length, get_or, set, length-set}
+use lib.Seq.{get_or-set_same, get_or-set_other}
+use borrow.Author.Tests.{eqb-true}
+use Rattle.words.specs.lists.Pick.{pick}
+use Rattle.words.proofs.lists.Tests.{no_both, not-true, or_cases, yes-pick, no-pick, cases}
+use Rattle.words.proofs.lists.Searches.{some-cons}
+use Rattle.words.proofs.lists.Ranges.{length-map-range}
+use Rattle.words.specs.graph.Reach.{member, marked, joinedFrom}
+use Rattle.words.proofs.graph.Closure.{Closed, marks-at, marked-below, joined-least}
+use Rattle.text.specs.frames.Frame.{size}
+use Rattle.charts.specs.Chart.{Chart, kind, next0, next1, is}
+use Rattle.charts.specs.Check.{arcs, conditionArcs, onCircle}
+use Rattle.charts.specs.inner.Marks.{kindMarks}
+use Rattle.charts.specs.inner.Finished.{nextUnfinished, NoneAhead, Finished}
+use Rattle.charts.proofs.Nodes.{arcs-condition}
+use Rattle.charts.proofs.Meaning.{condition-arcs, leaves-condition, member-only}
+use Rattle.chart_check.proofs.node_marks.MarkCases.{no-circle}
+
+-- at first all conditions are unfinished
+pub finished-none : (c : Chart) (ms : List Bool) → ms ≡ kindMarks c 3 → Finished c ms
+finished-none c ms e = subst (λ (xs : List Bool). Finished c xs) (sym e) (record {
+  long = length-map-range (is c 3) 0 (size c);
+  ahead = λ v l m u s. no_both (is c 3 v) (leaves-condition c v u s) (sym (marks-at (is c 3) (size c) v l) ∙ m);
+  off = λ v l m. no-circle c v (sym (marks-at (is c 3) (size c) v l) ∙ m);
+})
+
+-- ---- the next nodes, the one on a 0 first
+module _ (c : Chart) (ms : List Bool) (v : ℕ) where
+  next-other : marked ms (next0 c v) ≡ false → nextUnfinished c ms v ≡ pick (marked ms (next1 c v)) (next1 c v) (size c)
+  next-other m = no-pick (marked ms (next0 c v)) (next0 c v) (pick (marked ms (next1 c v)) (next1 c v) (size c)) m
+
+  module _ (a : ℕ) (p : a ≡ next0 c v) where
+    pub next-first : marked ms a ≡ true → a ≡ nextUnfinished c ms v
+    next-first m = p ∙ sym (yes-pick (marked ms (next0 c v)) (next0 c v)
+        (pick (marked ms (next1 c v)) (next1 c v) (size c)) (ap (marked ms) (sym p) ∙ m))
+
+    module _ (m : marked ms a ≡ false) (b : ℕ) (q : b ≡ next1 c v) where
+      pub next-second : marked ms b ≡ true → b ≡ nextUnfinished c ms v
+      next-second t = q ∙ sym (next-other (ap (marked ms) (sym p) ∙ m)
+          ∙ yes-pick (marked ms (next1 c v)) (next1 c v) (size c) (ap (marked ms) (sym q) ∙ t))
+
+      pub next-none : marked ms b ≡ false → size c ≡ nextUnfinished c ms v
+      next-none t = sym (next-other (ap (marked ms) (sym p) ∙ m)
+          ∙ no-pick (marked ms (next1 c v)) (next1 c v) (size c) (ap (marked ms) (sym q) ∙ t))
+
+  none_both : marked ms (next0 c v) ≡ false → marked ms (next1 c v) ≡ false → NoneAhead c ms v
+  none_both a b u s =
+      let i : is c 3 v ≡ true = leaves-condition c v u s in
+      let t : member u (next0 c v ∷ next1 c v ∷ []) ≡ true =
+      ap (member u) (sym (condition-arcs c v i ∙ arcs-condition c v (eqb-true (kind c v) 3 i))) ∙ s in
+      ⊎_elim
+      (λ (e : eqb u (next0 c v) ≡ true). ap (marked ms) (eqb-true u (next0 c v) e) ∙ a)
+      (λ (e : member u (next1 c v ∷ []) ≡ true). ap (marked ms) (member-only u (next1 c v) e) ∙ b)
+      (or_cases (eqb u (next0 c v)) (member u (next1 c v ∷ [])) (sym (some-cons (eqb u) (next0 c v) (next1 c v ∷ [])) ∙ t))
+
+  pub none_ahead : length ms ≡ size c → (r : ℕ) → r ≡ nextUnfinished c ms v → size c ≤ r → NoneAhead c ms v
+  none_ahead e r q l = go (cases (marked ms (next0 c v))) (cases (marked ms (next1 c v)))
+    where
+      go : (marked ms (next0 c v) ≡ true) ⊎ (marked ms (next0 c v) ≡ false)
+          → (marked ms (next1 c v) ≡ true) ⊎ (marked ms (next1 c v) ≡ false) → NoneAhead c ms v
+      go (inl a) b = absurd (omega (arith, next-first (next0 c v) refl a, marked-below (size c) ms (next0 c v) e a))
+      go (inr a) (inl b) = absurd (omega
+          (arith, next-second (next0 c v) refl a (next1 c v) refl b, marked-below (size c) ms (next1 c v) e b))
+      go (inr a) (inr b) = none_both a b
+
+-- ---- one more is finished
+module _ (ms : List Bool) (v : ℕ) where
+  clear-keeps : v < length ms → (u : ℕ) → marked ms u ≡ false → marked (set ms v false) u ≡ false
+  clear-keeps l u m = go (ℕ_discrete u v)
+    where
+      go : Dec (u ≡ v) → marked (set ms v false) u ≡ false
+      go (yes e) = ap (marked (set ms v false)) e ∙ get_or-set_same ms v false false l
+      go (no e) = get_or-set_other ms v u false false e ∙ m
+
+  clear-back : (u : ℕ) → marked (set ms v false) u ≡ false → (u ≡ v) ⊎ (marked ms u ≡ false)
+  clear-back u m = go (ℕ_discrete u v)
+    where
+      go : Dec (u ≡ v) → (u ≡ v) ⊎ (marked ms u ≡ false)
+      go (yes e) = inl e
+      go (no e) = inr (sym (get_or-set_other ms v u false false e) ∙ m)
+
+module _ (c : Chart) (ms : List Bool) (f : Finished c ms) where
+  finished-closed : Closed (size c) (conditionArcs c) (λ u. not (marked ms u))
+  finished-closed = record { goes = λ u w lu lw t s. ap not (f.ahead u lu (not-true (marked ms u) t) w s) }
+
+  module _ (v : ℕ) (l : v < size c) (none : NoneAhead c ms v) where
+    -- what an unfinished condition leads to is finished, so it does not lead back to itself
+    unfinished-off : is c 3 v ≡ true → marked ms v ≡ true → onCircle c v ≡ false
+    unfinished-off i m =
+        let ahead : List Bool = joinedFrom (size c) (conditionArcs c) (arcs c v) in
+        ⊎_elim
+        (λ (t : marked ahead v ≡ true). no_both (marked ms v) m (not-true (marked ms v)
+        (joined-least (size c) (conditionArcs c) (arcs c v) (λ u. not (marked ms u)) finished-closed
+        (λ u lu s. ap not (none u (ap (member u) (condition-arcs c v i) ∙ s))) v t)))
+        (λ (t : marked ahead v ≡ false). ap (λ b. b && marked ahead v) i ∙ t)
+        (cases (marked ahead v))
+
+    now-off : onCircle c v ≡ false
+    now-off = go (cases (is c 3 v)) (cases (marked ms v))
+      where
+        go : (is c 3 v ≡ true) ⊎ (is c 3 v ≡ false) → (marked ms v ≡ true) ⊎ (marked ms v ≡ false) → onCircle c v ≡ false
+        go (inr i) m = no-circle c v i
+        go (inl i) (inl m) = unfinished-off i m
+        go (inl i) (inr m) = f.off v l m
+
+    pub finished-more : Finished c (set ms v false)
+    finished-more = record {
+      long = length-set ms v false ∙ f.long;
+      ahead = λ w lw t u s. clear-keeps ms v (omega (arith, f.long)) u (⊎_elim
+          (λ (e : w ≡ v). none u (subst (λ (x : ℕ). member u (conditionArcs c x) ≡ true) e s))
+          (λ (e : marked ms w ≡ false). f.ahead w lw e u s)
+          (clear-back ms v w t));
+      off = λ w lw t. ⊎_elim
+          (λ (e : w ≡ v). subst (λ (x : ℕ). onCircle c x ≡ false) (sym e) now-off)
+          (λ (e : marked ms w ≡ false). f.off w lw e)
+          (clear-back ms v w t);
+    }
+
+-- ---- where a search stands: at a node, with those that led to it on the path
+pub record Standing (c : Chart) (unfinished : List Bool) (path : List ℕ) (left depth at : ℕ) : Type 0 where
+  pub finished : Finished c unfinished
+  pub fits : size c ≤ length path
+  pub steps : depth + left ≤ size c
+  pub here : at < size c
+  pub before : (i : ℕ) → i < depth → get_or path i 0 < size c
+
+pub standing-first : (c : Chart) (ms : List Bool) (path : List ℕ) (v : ℕ) → Finished c ms
+    → size c ≤ length path → v < size c → Standing c ms path (size c) 0 v
+standing-first c ms path v f r l = record { finished = f; fits = r; steps = omega arith; here = l; before = λ i b. absurd (omega arith) }
+
+module _ (c : Chart) (ms : List Bool) (path : List ℕ) (left depth at : ℕ) (s : Standing c ms path left depth at) where
+  pub standing_on : (next : ℕ) → 0 < left → next < size c → Standing c ms (set path depth at) (left - 1) (depth + 1) next
+  standing_on next p l = record {
+    finished = s.finished;
+    fits = omega (arith, s.fits, length-set path depth at);
+    steps = omega (arith, s.steps);
+    here = l;
+    before = λ i b. go i b (ℕ_discrete i depth);
+  }
+    where
+      go : (i : ℕ) → i < depth + 1 → Dec (i ≡ depth) → get_or (set path depth at) i 0 < size c
+      go i b (yes e) = subst (λ (x : ℕ). x < size c)
+          (sym (ap (λ (j : ℕ). get_or (set path depth at) j 0) e ∙ get_or-set_same path depth at 0 (omega (arith, s.fits, s.steps))))
+          s.here
+      go i b (no e) = subst (λ (x : ℕ). x < size c) (sym (get_or-set_other path depth i at 0 e)) (s.before i (omega arith))
+
+  module _ (r : ℕ) (q : r ≡ nextUnfinished c ms at) (l : size c ≤ r) where
+    pub standing-end : Finished c (set ms at false)
+    standing-end = finished-more c ms s.finished at s.here (none_ahead c ms at s.finished.long r q l)
+
+    pub standing-back : (depth ≡ 0 → ⊥) → Standing c (set ms at false) path left (depth - 1) (get_or path (depth - 1) 0)
+    standing-back n = record {
+      finished = standing-end;
+      fits = s.fits;
+      steps = omega (arith, s.steps);
+      here = s.before (depth - 1) (omega arith);
+      before = λ i b. s.before i (omega arith);
+    }

@@ -1,0 +1,10 @@
+-- `chart_check::finishing::finish_all` meets its contract: each call keeps what is finished.
+use Rattle.std.proofs.Common.{◌-◌, ◌≤◌}
+use Rattle.charts.specs.inner.Finished.{Finished}
+use Rattle.chart_check.proofs.finishing.finish_all.Given as goal
+
+abbrev pub invariant-loop-v : goal.invariant-loop-v
+invariant-loop-v l = record { inside : l.v ≤ l.n; finished : Finished l.records l.unfinished }
+
+abbrev pub decreases-loop-v : goal.decreases-loop-v
+decreases-loop-v l = l.n - l.v

@@ -1,0 +1,63 @@
+-- Marked nodes whose arcs are followed in the order of the nodes: a turn of the loop, and that what arcs join from the marks stays the same.
+use mathlib.Core.Path.{◌≡◌, refl, sym, ◌∙◌, ap, subst}
+use mathlib.Core.Logic.{◌⊎◌, inl, inr}
+use mathlib.Core.Bool.{Bool, true, false}
+use mathlib.Core.List.{List}
+use Prim.Native.Nat.{ℕ, zero, suc, ◌+◌, ◌≤◌, ◌<◌}
+use native.Mathlib.Numerals.{add-one}
+use native.Mathlib.Omega.{arith}
+use lib.ListN.{length}
+use Rattle.words.specs.lists.Pick.{pick}
+use Rattle.words.proofs.lists.Tests.{cases, yes-pick, no-pick}
+use Rattle.words.specs.graph.Reach.{marked, reach}
+use Rattle.words.specs.graph.inner.Listed.{markAll}
+use Rattle.words.proofs.graph.Lists.{joining-more}
+use Rattle.words.proofs.graph.Marking.{Joining, joining-first, joining-same}
+use Rattle.text.specs.frames.Frame.{size}
+use Rattle.charts.specs.Chart.{Chart}
+use Rattle.charts.specs.Check.{arcs}
+use Rattle.chart_check.specs.node_marks.inner.MarkContracts.{sweptTo}
+
+-- one node more, followed where it is marked
+swept-more : (c : Chart) (first now out : List Bool) (v : ℕ) → length first ≡ size c → Joining (size c) (arcs c) first now
+    → out ≡ pick (marked now v) (markAll (arcs c v) now) now → Joining (size c) (arcs c) first out
+swept-more c first now out v long on e = go (cases (marked now v))
+  where
+    go : (marked now v ≡ true) ⊎ (marked now v ≡ false) → Joining (size c) (arcs c) first out
+    go (inl m) = joining-more (size c) (arcs c) first now out v long m (e ∙ yes-pick (marked now v) _ _ m) on
+    go (inr m) = subst (λ (xs : List Bool). Joining (size c) (arcs c) first xs) (sym (e ∙ no-pick (marked now v) _ _ m)) on
+
+-- ---- the loop: nodes 0 to v - 1 had their turn
+pub record Sweeping (c : Chart) (first now : List Bool) (v : ℕ) : Type 0 where
+  pub low : v ≤ size c
+  pub long : length now ≡ length first
+  pub is : now ≡ sweptTo c v first
+
+module _ (c : Chart) (first : List Bool) where
+  pub sweeping-none : Sweeping c first first 0
+  unfolding sweptTo
+  sweeping-none = record { low = omega arith; long = refl; is = refl }
+
+  pub sweeping-turn : (now out : List Bool) (v : ℕ) → Sweeping c first now v → v < size c → length out ≡ length now
+      → out ≡ pick (marked now v) (markAll (arcs c v) now) now → Sweeping c first out (v + 1)
+  unfolding sweptTo
+  sweeping-turn now out v t h l e = record {
+    low = omega arith;
+    long = l ∙ t.long;
+    is = e ∙ ap (λ (ms : List Bool). pick (marked ms v) (markAll (arcs c v) ms) ms) t.is
+        ∙ ap (λ (m : ℕ). sweptTo c m first) (sym (add-one v));
+  }
+
+  pub sweeping-all : (now : List Bool) (v : ℕ) → Sweeping c first now v → size c ≤ v → now ≡ sweptTo c (size c) first
+  sweeping-all now v t h = let e : v ≡ size c = omega (arith, t.low) in t.is ∙ ap (λ (m : ℕ). sweptTo c m first) e
+
+  -- ---- what arcs join from the marks stays the same
+  swept-joining : length first ≡ size c → (v : ℕ) → Joining (size c) (arcs c) first (sweptTo c v first)
+  unfolding sweptTo
+  swept-joining long zero = joining-first (size c) (arcs c) first long
+  swept-joining long (suc v) = swept-more c first (sweptTo c v first) _ v long (swept-joining long v) refl
+
+  pub swept_same : (out : List Bool) → length first ≡ size c → out ≡ sweptTo c (size c) first
+      → reach (size c) (arcs c) (size c) out ≡ reach (size c) (arcs c) (size c) first
+  swept_same out long e = ap (reach (size c) (arcs c) (size c)) e
+      ∙ joining-same (size c) (arcs c) first long (sweptTo c (size c) first) (swept-joining long (size c))

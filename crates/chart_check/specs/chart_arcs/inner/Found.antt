@@ -1,0 +1,11 @@
+-- What the pass for refusals 6 and 7 finds.
+use Rattle.std.specs.Prelude.{◌≡◌}
+use Rattle.words.specs.lists.Numbers.{lowest}
+use Rattle.text.specs.frames.Frame.{size}
+use Rattle.charts.specs.Chart.{Chart}
+use Rattle.charts.specs.Check.{badArc, badCall}
+use Rattle.chart_check.specs.declared.chart_arcs.LowestFaults.{LowestFaults}
+
+pub record LowestFound (c : Chart) (r : LowestFaults) : Type 0 where
+  pub arc : r.arc ≡ lowest (badArc c) 0 (size c)
+  pub call : r.call ≡ lowest (badCall c) 0 (size c)

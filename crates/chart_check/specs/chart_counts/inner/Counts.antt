@@ -1,0 +1,12 @@
+-- The Begins and the Ends of each scheme, counted.
+use Rattle.std.specs.Prelude.{ℕ, Bool, ◌&&◌, not, List, eqb, get_or}
+use Rattle.words.specs.lists.Numbers.{tabulate, count}
+use Rattle.charts.specs.Chart.{Chart, is_of}
+
+-- for each scheme up to 16, how many of the first v nodes are of kind k
+abbrev pub countsTo : Chart → ℕ → ℕ → List ℕ
+countsTo c k v = tabulate (λ h. count (is_of c k h) 0 v) 17
+
+-- by the counts of Begins and of Ends, scheme h has not exactly one of each
+abbrev pub notOne : List ℕ → List ℕ → ℕ → Bool
+notOne begins ends h = not (eqb (get_or begins h 0) 1 && eqb (get_or ends h 0) 1)

@@ -1,0 +1,30 @@
+-- The marks that a sweep leaves, and what functions that mark nodes ask of their callers: marks for all nodes, lists with room for all.
+use Rattle.std.specs.Prelude.{ℕ, zero, suc, ◌≤◌, ◌≡◌, Bool, false, List, length, replicate}
+use Rattle.words.specs.lists.Pick.{pick}
+use Rattle.words.specs.graph.Reach.{marked}
+use Rattle.words.specs.graph.inner.Listed.{markAll, Listed}
+use Rattle.text.specs.frames.Sizes.{NODES}
+use Rattle.text.specs.frames.Frame.{size}
+use Rattle.charts.specs.Chart.{Chart}
+use Rattle.charts.specs.Check.{arcs}
+
+-- the marks after the arcs of nodes 0 to n - 1 were followed, each node's where it was marked by then
+unfoldable pub sweptTo : Chart → ℕ → List Bool → List Bool
+sweptTo c zero ms = ms
+sweptTo c (suc v) ms = let now = sweptTo c v ms in pick (marked now v) (markAll (arcs c v) now) now
+
+-- as many nodes as a byte can number, and a list with room for all
+pub record NodeRoom (c : Chart) (list : List ℕ) : Type 0 where
+  pub few : size c ≤ NODES
+  pub room : size c ≤ length list
+
+-- a mark for each node, none set, and a list with room for all nodes
+pub record Blank (c : Chart) (marks : List Bool) (list : List ℕ) : Type 0 where
+  pub none : marks ≡ replicate (size c) false
+  pub room : size c ≤ length list
+
+-- a mark for each node, and a list with room for all, whose first k are the marked ones
+pub record ListedRoom (c : Chart) (marks : List Bool) (list : List ℕ) (k : ℕ) : Type 0 where
+  pub long : length marks ≡ size c
+  pub room : size c ≤ length list
+  pub listed : Listed marks list k

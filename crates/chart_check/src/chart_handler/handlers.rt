@@ -1,0 +1,61 @@
+// The handler, the scheme that is performed when the stack is full, and refusal 19: a mark on scheme 1 or a second mark.
+ghost use Rattle.std.specs.Prelude.{◌≡◌, ◌+◌, ◌*◌, ◌≤◌, length};
+ghost use Rattle.text.specs.frames.Sizes.{RECORD};
+ghost use Rattle.charts.specs.Chart.{marksHandler, handler};
+ghost use Rattle.charts.specs.Check.{badMarks};
+
+use charts::field;
+use charts::layout::*;
+use text::frames::sizes::RECORD;
+
+// Node v is a Begin with the mark.
+fn marks_handler(records: &[u8], v: usize) -> bool
+    requires { RECORD * v + RECORD ≤ length records.now }
+    ensures { result ≡ marksHandler records.now v }
+{
+    if field(records, v, KIND) != BEGIN {
+        return false;
+    }
+    field(records, v, ARGUMENT) == 1
+}
+
+// The handler's scheme, or 0 where none is marked.
+pub fn handler_scheme(records: &[u8]) -> u8
+    ensures { result ≡ handler records.now }
+{
+    let n = records.len() / RECORD;
+    let mut highest: u8 = 0;
+    let mut v: usize = 0;
+    while v < n {
+        if marks_handler(records, v) {
+            let scheme = field(records, v, SCHEME);
+            if highest < scheme {
+                highest = scheme;
+            }
+        }
+        v += 1;
+    }
+    highest
+}
+
+// 19: scheme 1 is marked, or a second Begin is.
+pub fn bad_marks(records: &[u8]) -> bool
+    ensures { result ≡ badMarks records.now }
+{
+    let n = records.len() / RECORD;
+    let mut marked = false;
+    let mut v: usize = 0;
+    while v < n {
+        if marks_handler(records, v) {
+            if marked {
+                return true;
+            }
+            if field(records, v, SCHEME) == 1 {
+                return true;
+            }
+            marked = true;
+        }
+        v += 1;
+    }
+    false
+}

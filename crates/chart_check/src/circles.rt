@@ -1,0 +1,70 @@
+// Refusal 8: a circle of conditions.
+ghost use Rattle.std.specs.Prelude.{◌≡◌, ◌<◌, length};
+ghost use Rattle.words.specs.lists.Numbers.{lowest};
+ghost use Rattle.words.specs.graph.Reach.{marked, joinedFrom};
+ghost use Rattle.text.specs.frames.Frame.{size};
+ghost use Rattle.charts.specs.Check.{arcs, conditionArcs, onCircle};
+ghost use Rattle.chart_check.specs.node_marks.inner.MarkContracts.{NodeRoom, Blank};
+ghost use Rattle.chart_check.specs.finishing.inner.FinishContracts.{DepthFirst};
+
+use crate::finishing::finish_all;
+use crate::node_marks::{follow, join, mark_kind};
+use charts::field;
+use charts::layout::{CONDITION, KIND};
+use text::frames::sizes::{NODES, RECORD};
+
+// The nodes that arcs of conditions join from the next nodes of v are marked; whether v is one of them.
+fn leads_back(records: &[u8], v: usize, marks: &mut [bool], list: &mut [u8]) -> bool
+    requires v_bound { v < size records.now }
+    requires blank { Blank records.now marks.old list.old }
+    ensures { (marks.new ≡ joinedFrom (size records.now) (conditionArcs records.now)
+        (arcs records.now v)) × (result ≡ marked marks.new v) }
+{
+    let count = follow(records, false, v, marks, list, 0);
+    join(records, true, marks, list, count);
+    marks[v]
+}
+
+// 8: node v is a condition on a circle of conditions.
+fn on_circle(records: &[u8], v: usize, list: &mut [u8]) -> bool
+    requires v_bound { v < size records.now }
+    requires node_room { NodeRoom records.now list.old }
+    ensures { result ≡ onCircle records.now v }
+{
+    if field(records, v, KIND) != CONDITION {
+        return false;
+    }
+    let n = records.len() / RECORD;
+    let mut marks = [false; NODES];
+    leads_back(records, v, &mut marks[..n], list)
+}
+
+// The lowest node on a circle, or the number of nodes. A finished node is on none, so only the others are tried.
+fn search_circle(records: &[u8], unfinished: &[bool], list: &mut [u8]) -> usize
+    requires { DepthFirst records.now unfinished.now list.old }
+    ensures { result ≡ lowest (onCircle records.now) 0 (size records.now) }
+{
+    let n = records.len() / RECORD;
+    let mut v: usize = 0;
+    while v < n {
+        if unfinished[v] {
+            if on_circle(records, v, list) {
+                return v;
+            }
+        }
+        v += 1;
+    }
+    v
+}
+
+// The lowest node that 8 refuses, or the number of nodes: at first all conditions are unfinished, then a search finishes what it can.
+// The list serves both as the path and for marks.
+pub fn lowest_circle(records: &[u8], unfinished: &mut [bool], list: &mut [u8]) -> usize
+    requires unfinished_len { length unfinished.old ≡ size records.now }
+    requires node_room { NodeRoom records.now list.old }
+    ensures { result ≡ lowest (onCircle records.now) 0 (size records.now) }
+{
+    mark_kind(records, CONDITION, unfinished);
+    finish_all(records, unfinished, list);
+    search_circle(records, unfinished, list)
+}

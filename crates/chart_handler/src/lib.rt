@@ -1,6 +1,0 @@
-// The handler of a chart, and refusal 19: a mark on scheme 1 or a second mark.
-#![tactic(auto)]
-
-mod handlers;
-
-pub use handlers::{bad_marks, handler_scheme};

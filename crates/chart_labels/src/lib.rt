@@ -1,8 +1,0 @@
-// Labels: which nodes of an accepted chart take a tick, and the label of each node.
-#![tactic(auto)]
-
-mod labels;
-mod nodes;
-
-pub use labels::label_nodes;
-pub use nodes::note_begins;

@@ -1,0 +1,270 @@
+-- How many paths go on from a node at most: each test of a new number takes one from the numbers that are untested, and at most doubles
+-- the paths.
+use mathlib.Core.Path.{◌≡◌, refl, sym, ◌∙◌, ap, subst}
+use mathlib.Core.Logic.{◌⊎◌, inl, inr, ⊎_elim}
+use mathlib.Core.Bool.{Bool, true, false, ◌&&◌}
+use mathlib.Core.List.{List, ◌++◌}
+use Prim.Native.Nat.{ℕ, zero, suc, ◌+◌, ◌-◌, ◌*◌, ◌/◌, ◌%◌, ◌^◌, ◌≤◌, ◌<◌, max}
+use native.Mathlib.Nat.{pow-suc, div-one}
+use native.Mathlib.Decide.{ℕ_discrete}
+use native.Mathlib.Numerals.{add-one}
+use native.Mathlib.Omega.{arith}
+use lib.Arith.{lt-one}
+use lib.Bits.{bit_or}
+use lib.Count.{ones, ones_step, ones-le}
+use lib.Dec.{eqb}
+use lib.ListN.{length, get_or, set, replicate, length-append, length-set, length-replicate, get_or-replicate}
+use lib.Pow.{pow_pos, pow_mono, shr-shr, shr_lt, shl_exact, high, ones_lt, ones_split}
+use lib.Seq.{get_or-set_same, get_or-set_other}
+use borrow.Author.Tests.{eqb-true, eq-eqb, ne_eqb}
+use Rattle.words.specs.lists.Pick.{pick}
+use Rattle.words.specs.lists.Numbers.{count}
+use Rattle.words.proofs.lists.Counts.{count-suc, count-within, count_less}
+use Rattle.words.proofs.lists.Tests.{and_l, and_r, and-true, and_no, yes-pick, no-pick}
+use Rattle.words.specs.bits.Word.{bit}
+use Rattle.words.proofs.bits.BitLaws.{bit-or, bit-pow-same, bit-add-same, bit-add-other, bit-cases}
+use Rattle.text.specs.frames.Frame.{size}
+use Rattle.charts.specs.Chart.{Chart, kind, argument, next0, next1, taken}
+use Rattle.charts.proofs.Rank.{rank, rank-le, rank-some, rank-falls0, rank-falls1}
+use Rattle.walk.specs.Stops.{stops}
+use Rattle.walk.proofs.Follow.{goes_on, taken-by}
+use Rattle.image.specs.Image.{Row}
+use Rattle.chart_rows.specs.chart_labels.inner.ChartContracts.{Ready}
+use Rattle.chart_rows.proofs.chart_labels.ReadyLaws.{ready-sound}
+use Rattle.chart_rows.specs.inner.NodeRows.{pathsFrom, testedNumber, untested}
+use Rattle.chart_rows.specs.inner.PathContracts.{NotedAt, Entered, FewPaths, Masked}
+use Rattle.chart_rows.proofs.PathSteps.{entered0, entered1, at-stop, at-known, at_new}
+use Rattle.chart_rows.proofs.NumberLaws.{small-number, high-stops, low-condition, low_goes, low-number}
+
+-- ---- the numbers of a mask that are untested
+-- each number of the first mask is one of the second
+pub record MaskWithin (m n : ℕ) : Type 0 where
+  pub each : (i : ℕ) → bit m i ≡ 1 → bit n i ≡ 1
+
+abbrev free : ℕ → ℕ → ℕ → Bool
+free mask care i = eqb (bit mask i) 1 && eqb (bit care i) 0
+
+module _ (m n : ℕ) (w : MaskWithin m n) where
+  pub untested-more : (care : ℕ) → untested m care ≤ untested n care
+  untested-more care = count-within (free m care) (free n care) 0 16 (λ k a b e.
+      and-true (eqb (bit n k) 1) (eqb (bit care k) 0)
+      (eq-eqb (bit n k) 1 (w.each k (eqb-true (bit m k) 1 (and_l (eqb (bit m k) 1) (eqb (bit care k) 0) e))))
+      (and_r (eqb (bit m k) 1) (eqb (bit care k) 0) e))
+
+  pub untested-less : (care i : ℕ) → i < 16 → bit n i ≡ 1 → bit care i ≡ 0 → untested m (care + 2 ^ i) < untested n care
+  untested-less care i l one z =
+      count_less (free m (care + 2 ^ i)) (free n care) 0 16 (λ k a b e. go k e (ℕ_discrete i k)) i (omega arith) (omega arith) here
+      (and-true (eqb (bit n i) 1) (eqb (bit care i) 0) (eq-eqb (bit n i) 1 one) (eq-eqb (bit care i) 0 z))
+    where
+      here : free m (care + 2 ^ i) i ≡ false
+      here = ap (λ (x : ℕ). eqb (bit m i) 1 && eqb x 0) (bit-add-same care i z) ∙ and_no (eqb (bit m i) 1) false refl
+
+      go : (k : ℕ) → free m (care + 2 ^ i) k ≡ true → Dec (i ≡ k) → free n care k ≡ true
+      go k e (yes q) =
+          let o : bit (care + 2 ^ i) k ≡ 1 = ap (bit (care + 2 ^ i)) (sym q) ∙ bit-add-same care i z in
+          let y : bit (care + 2 ^ i) k ≡ 0 = eqb-true (bit (care + 2 ^ i) k) 0 (and_r (eqb (bit m k) 1) (eqb (bit (care + 2 ^ i) k) 0) e) in
+          absurd (omega arith)
+      go k e (no q) =
+          and-true (eqb (bit n k) 1) (eqb (bit care k) 0)
+          (eq-eqb (bit n k) 1 (w.each k (eqb-true (bit m k) 1 (and_l (eqb (bit m k) 1) (eqb (bit (care + 2 ^ i) k) 0) e))))
+          (eq-eqb (bit care k) 0 (sym (bit-add-other care i k z q)
+          ∙ eqb-true (bit (care + 2 ^ i) k) 0 (and_r (eqb (bit m k) 1) (eqb (bit (care + 2 ^ i) k) 0) e)))
+
+-- no more of them than bits in the mask
+ones-count : (k i m : ℕ) → m < 2 ^ (i + k) → ones (m / 2 ^ i) ≡ count (λ j. eqb (bit m j) 1) i k
+ones-count zero i m h =
+    unfold count ones in ap ones (lt-one (shr_lt {n = m} 0 i (subst (λ (x : ℕ). m < 2 ^ x) (omega arith) h)))
+ones-count (suc k) i m h =
+    ones_step (m / 2 ^ i) ∙ ap (λ (x : ℕ). bit m i + ones x) (shr-shr m i 1)
+    ∙ ap (λ (x : ℕ). bit m i + x) (ap (λ (x : ℕ). ones (m / 2 ^ x)) (add-one i)
+    ∙ ones-count k (suc i) m (subst (λ (x : ℕ). m < 2 ^ x) (omega arith) h))
+    ∙ ap (λ (x : ℕ). x + count (λ j. eqb (bit m j) 1) (suc i) k) (digit (bit-cases m i))
+    ∙ sym (count-suc (λ j. eqb (bit m j) 1) i k)
+  where
+    digit : (bit m i ≡ 0) ⊎ (bit m i ≡ 1) → bit m i ≡ pick (eqb (bit m i) 1) 1 0
+    digit = ⊎_elim
+        (λ (z : bit m i ≡ 0). z ∙ sym (no-pick (eqb (bit m i) 1) 1 0 (ne_eqb (bit m i) 1 (λ q. omega arith))))
+        (λ (o : bit m i ≡ 1). o ∙ sym (yes-pick (eqb (bit m i) 1) 1 0 (eq-eqb (bit m i) 1 o)))
+
+pub untested-ones : (m care : ℕ) → m < 65536 → untested m care ≤ ones m
+untested-ones m care h =
+    let o : ones m ≡ count (λ j. eqb (bit m j) 1) 0 16 = ap ones (sym (div-one m)) ∙ ones-count 16 0 m h in
+    let w : untested m care ≤ count (λ j. eqb (bit m j) 1) 0 16 =
+    count-within (free m care) (λ j. eqb (bit m j) 1) 0 16 (λ k a b e. and_l (eqb (bit m k) 1) (eqb (bit care k) 0) e) in
+    omega arith
+
+-- one value for no bit, and two for each bit
+pub no-values : (m : ℕ) → m ≡ 0 → ((care : ℕ) → 2 ^ untested m care ≤ 1) × (1 ≤ 65536)
+no-values m e = (
+  λ care.
+      let none : untested m care ≤ 0 = omega (arith, untested-ones m care (omega arith), ones-le 0 m (omega arith)) in
+      omega (arith, pow_mono {i = untested m care} {j = 0} none),
+  omega arith,
+)
+
+pub count-values : (m : ℕ) → m < 65536
+    → ((care : ℕ) → 2 ^ untested m care ≤ 1 * 2 ^ ones m % 18446744073709551616) × (1 * 2 ^ ones m % 18446744073709551616 ≤ 65536)
+count-values m h =
+    let o : 1 * 2 ^ ones m % 2 ^ 64 ≡ 1 * 2 ^ ones m = shl_exact 1 (ones m) 64 (omega arith) (omega (arith, ones-le 16 m h)) in (
+      λ care. omega (arith, o, pow_mono {i = untested m care} {j = ones m} (untested-ones m care h)),
+      omega (arith, o, pow_mono {i = ones m} {j = 16} (ones-le 16 m h)),
+    )
+
+-- ---- the paths on from a node
+module _ (c : Chart) (ready : Ready c) where
+  abbrev P : ℕ → ℕ → ℕ → ℕ → ℕ → List Row
+  P l f care values v = pathsFrom (size c) c l f care values v
+
+  pub few-stop : (v m : ℕ) → Entered c v → stops c v ≡ true → FewPaths c v m
+  few-stop v m t s = record {
+    most = λ l f care values.
+        omega (arith, ap (λ (rs : List Row). length rs) (at-stop c ready l f care values v t s), pow_pos (untested m care));
+  }
+
+  -- by the masks behind the two arcs
+  pub few-goes : (v i a b m : ℕ) → Entered c v → stops c v ≡ false → i ≡ argument c v → FewPaths c (next0 c v) a → FewPaths c (next1 c v) b
+      → bit m i ≡ 1 → MaskWithin a m → MaskWithin b m → FewPaths c v m
+  few-goes v i a b m t s e p q one wa wb = record { most = λ l f care values. go l f care values (bit-cases care i) }
+    where
+      three : kind c v ≡ 3
+      three = goes_on c v t.noBegin s
+
+      small : i < 16
+      small = small-number (record { ready = ready; inside = t.inside; kind = three }) e
+
+      side : (l f care values w : ℕ) → (x : ℕ) → FewPaths c w x → MaskWithin x m → length (P l f care values w) ≤ 2 ^ untested m care
+      side l f care values w x few within =
+          omega (arith, few.most l f care values, pow_mono {i = untested x care} {j = untested m care} (untested-more x m within care))
+
+      half : (l f care values w x : ℕ) → FewPaths c w x → MaskWithin x m → bit care i ≡ 0
+          → length (P l f (care + 2 ^ i) values w) * 2 ≤ 2 ^ untested m care
+      half l f care values w x few within z =
+          let less : suc (untested x (care + 2 ^ i)) ≤ untested m care = untested-less x m within care i small one z in
+          omega (
+            arith,
+            few.most l f (care + 2 ^ i) values,
+            pow-suc 2 (untested x (care + 2 ^ i)),
+            pow_mono {i = suc (untested x (care + 2 ^ i))} {j = untested m care} less,
+          )
+
+      go : (l f care values : ℕ) → (bit care i ≡ 0) ⊎ (bit care i ≡ 1) → length (P l f care values v) ≤ 2 ^ untested m care
+      go l f care values (inr o) =
+          let known : P l f care values v ≡ P l f care values (taken c values v) =
+          at-known c ready l f care values v t s (ap (bit care) (sym e) ∙ o) in
+          let bound : length (P l f care values (taken c values v)) ≤ 2 ^ untested m care =
+          taken-by (λ w. length (P l f care values w) ≤ 2 ^ untested m care) c values v
+          (side l f care values (next0 c v) a p wa) (side l f care values (next1 c v) b q wb) in
+          omega (arith, ap (λ (rs : List Row). length rs) known)
+      go l f care values (inl z) =
+          let n : bit care (argument c v) ≡ 1 → ⊥ = λ o. omega (arith, ap (bit care) e ∙ o) in
+          let x : P l f care values v ≡ P l f (care + 2 ^ i) values (next0 c v) ++ P l f (care + 2 ^ i) (values + 2 ^ i) (next1 c v) =
+          at_new c ready l f care values v t s n
+          ∙ ap (λ (j : ℕ). P l f (care + 2 ^ j) values (next0 c v) ++ P l f (care + 2 ^ j) (values + 2 ^ j) (next1 c v)) (sym e) in
+          omega (
+            arith,
+            ap (λ (rs : List Row). length rs) x
+                ∙ length-append (P l f (care + 2 ^ i) values (next0 c v)) (P l f (care + 2 ^ i) (values + 2 ^ i) (next1 c v)),
+            half l f care values (next0 c v) a p wa z,
+            half l f care (values + 2 ^ i) (next1 c v) b q wb z,
+          )
+
+  -- all sixteen numbers are a mask of every node
+  every : (m : ℕ) → MaskWithin m m
+  every m = record { each = λ i o. o }
+
+  full : (i : ℕ) → i < 16 → bit 65535 i ≡ 1
+  full i l =
+      let k : 16 ≡ suc (15 - i) + i = omega arith in
+      let e : 65535 ≡ 2 ^ (suc (15 - i) + i) - 1 = ap (λ (k : ℕ). 2 ^ k - 1) k in
+      let h : 65535 / 2 ^ i ≡ 2 ^ suc (15 - i) - 1 =
+      ap (λ (x : ℕ). x / 2 ^ i) (e ∙ ones_split (suc (15 - i)) i) ∙ high (2 ^ suc (15 - i) - 1) i (ones_lt i) in
+      omega (arith, h, pow-suc 2 (15 - i), pow_pos (15 - i))
+
+  few-rank : (n v : ℕ) → Entered c v → rank c v ≤ n → FewPaths c v 65535
+  few-rank zero v t h = absurd (omega (arith, rank-some c v t.inside))
+  few-rank (suc n) v t h = go (stops c v) refl (few-rank n)
+    where
+      go : (s : Bool) → stops c v ≡ s → ((v : ℕ) → Entered c v → rank c v ≤ n → FewPaths c v 65535) → FewPaths c v 65535
+      go true s ih = few-stop v 65535 t s
+      go false s ih =
+          let three : kind c v ≡ 3 = goes_on c v t.noBegin s in
+          few-goes v (argument c v) 65535 65535 65535 t s refl
+          (ih (next0 c v) (entered0 c ready v t.inside (λ e. omega arith))
+          (omega (arith, rank-falls0 c (ready-sound ready) v t.inside three)))
+          (ih (next1 c v) (entered1 c ready v t.inside (omega arith))
+          (omega (arith, rank-falls1 c (ready-sound ready) v t.inside three)))
+          (full (argument c v) (small-number (record { ready = ready; inside = t.inside; kind = three }) refl))
+          (every 65535) (every 65535)
+
+  pub masked-full : (masks : List ℕ) → masks ≡ replicate 256 65535 → Masked c masks
+  masked-full masks e = record {
+    long = omega (arith, ready.few, ap (λ (ms : List ℕ). length ms) e ∙ length-replicate {A = ℕ} 256 65535);
+    few = λ v t. subst (FewPaths c v)
+        (sym (ap (λ (ms : List ℕ). get_or ms v 0) e ∙ get_or-replicate 256 v 65535 0 (omega (arith, ready.few, t.inside))))
+        (few-rank (size c) v t (rank-le c v));
+  }
+
+pub masked-set : (c : Chart) (masks : List ℕ) (v x : ℕ) → Masked c masks → v < size c
+    → (Entered c v → FewPaths c v x) → Masked c (set masks v x)
+masked-set c masks v x k l f = record { long = omega (arith, k.long, length-set masks v x); few = λ u t. go u t (ℕ_discrete v u) }
+  where
+    go : (u : ℕ) → Entered c u → Dec (v ≡ u) → FewPaths c u (get_or (set masks v x) u 0)
+    go u t (yes q) =
+        subst (λ (w : ℕ). FewPaths c w (get_or (set masks v x) w 0)) q
+        (subst (FewPaths c v) (sym (get_or-set_same masks v x 0 (omega (arith, k.long)))) (f (subst (Entered c) (sym q) t)))
+    go u t (no q) = subst (FewPaths c u) (sym (get_or-set_other masks v u x 0 (λ e. q (sym e)))) (k.few u t)
+
+-- loops over the nodes write them
+pub record Masking (c : Chart) (old masks : List ℕ) (v : ℕ) : Type 0 where
+  pub within : v ≤ size c
+  pub size : length masks ≡ length old
+  pub masked : Masked c masks
+
+-- the mask of node w, and on to node u
+pub masking-set : (c : Chart) (old masks : List ℕ) (v w u : ℕ) → Masking c old masks v → w < size c → u ≤ size c
+    → (x : ℕ) → (Entered c w → FewPaths c w x) → Masking c old (set masks w x) u
+masking-set c old masks v w u t l m x f = record {
+  within = m;
+  size = length-set masks w x ∙ t.size;
+  masked = masked-set c masks w x t.masked l f;
+}
+
+-- ---- the mask of a node by those behind its arcs
+module _ (c : Chart) (notes masks : List ℕ) (v : ℕ) (node : NotedAt c notes v) (k : Masked c masks) where
+  ready : Ready c
+  ready = node.noted.chart.ready
+
+  read : get_or notes (256 + v) 0 ≡ testedNumber c v
+  read = node.noted.numbers v node.inside
+
+  pub mask-stop : 15 < get_or notes (256 + v) 0 → Entered c v → FewPaths c v 0
+  mask-stop h t = few-stop c ready v 0 t (high-stops c ready v (get_or notes (256 + v) 0) t read h)
+
+  module _ (low : get_or notes (256 + v) 0 ≤ 15) where
+    condition : kind c v ≡ 3
+    condition = low-condition c v (get_or notes (256 + v) 0) read low
+
+    here : Entered c v
+    here = record { inside = node.inside; noBegin = λ q. omega (arith, condition) }
+
+    pub mask-side0 : (w : ℕ) → w ≡ next0 c v → w < length masks
+    mask-side0 w e = omega (arith, k.long, (entered0 c ready v node.inside (λ q. omega (arith, condition))).inside)
+
+    pub mask-side1 : (w : ℕ) → w ≡ next1 c v → w < length masks
+    mask-side1 w e = omega (arith, k.long, (entered1 c ready v node.inside (omega (arith, condition))).inside)
+
+    pub mask-goes : (w0 w1 m : ℕ) → w0 ≡ next0 c v → w1 ≡ next1 c v
+        → m ≡ bit_or (bit_or (get_or masks w0 0) (get_or masks w1 0)) (2 ^ get_or notes (256 + v) 0) → FewPaths c v m
+    mask-goes w0 w1 m e0 e1 em =
+        few-goes c ready v (get_or notes (256 + v) 0) (get_or masks w0 0) (get_or masks w1 0) m here
+        (low_goes c ready v (get_or notes (256 + v) 0) here read low) (low-number c ready v (get_or notes (256 + v) 0) here read low)
+        (subst (λ (w : ℕ). FewPaths c w (get_or masks w0 0)) e0
+        (k.few w0 (subst (Entered c) (sym e0) (entered0 c ready v node.inside (λ q. omega (arith, condition))))))
+        (subst (λ (w : ℕ). FewPaths c w (get_or masks w1 0)) e1
+        (k.few w1 (subst (Entered c) (sym e1) (entered1 c ready v node.inside (omega (arith, condition))))))
+        (each (get_or notes (256 + v) 0) ∙ omega (arith, bit-pow-same (get_or notes (256 + v) 0)))
+        (record { each = λ i o. each i ∙ omega (arith, bit-or (get_or masks w0 0) (get_or masks w1 0) i) })
+        (record { each = λ i o. each i ∙ omega (arith, bit-or (get_or masks w0 0) (get_or masks w1 0) i) })
+      where
+        each : (i : ℕ) → bit m i ≡ max (bit (bit_or (get_or masks w0 0) (get_or masks w1 0)) i) (bit (2 ^ get_or notes (256 + v) 0) i)
+        each i = ap (λ (x : ℕ). bit x i) em ∙ bit-or (bit_or (get_or masks w0 0) (get_or masks w1 0)) (2 ^ get_or notes (256 + v) 0) i

@@ -1,0 +1,49 @@
+-- The labels of a chart's stops.
+use Rattle.std.specs.Prelude.{ℕ, ◌+◌, Bool, ◌&&◌, not, List, eqb}
+use Rattle.words.specs.lists.Pick.{pick}
+use Rattle.words.specs.lists.Numbers.{range, count}
+use Rattle.words.specs.lists.Sequences.{filter}
+use Rattle.text.specs.frames.Frame.{size}
+use Rattle.charts.specs.Layout.{END, Kind, Begin, End, Operation, Condition, Function, Unknown, kind_of}
+use Rattle.charts.specs.Chart.{Chart, kind, scheme, argument, result, mask, is}
+use Rattle.walk.specs.Stops.{stops, start}
+use Rattle.image.specs.Layout.{PLAIN, OPERATION-CALL, FUNCTION-CALL}
+use Rattle.image.specs.Image.{Label}
+pub use Rattle.image.specs.Image.{homeLabel, returnLabel}
+
+-- the stops that get a label of their own, in frame order
+abbrev pub numbered : Chart → ℕ → Bool
+numbered c v = stops c v && not (is c END v)
+
+abbrev pub numberedNodes : Chart → List ℕ
+numberedNodes c = filter (numbered c) (range 0 (size c))
+
+-- the numbered stops have 2, 3, .., all other nodes 0 in scheme 1 and 1 elsewhere; of these only Begin and End are read as labels
+unfoldable pub label : Chart → ℕ → ℕ
+label c v = pick (numbered c v) (2 + count (numbered c) 0 v) (pick (eqb (scheme c v) 1) 0 1)
+
+-- the label where performing scheme h starts
+abbrev pub entry : Chart → ℕ → ℕ
+entry c h = label c (start c h)
+
+-- a label that calls nothing and puts nothing out, of scheme h
+abbrev pub bareLabel : ℕ → Label
+bareLabel h = record { kind = PLAIN; called = 0; owner = h; result = 0; mask = 0 }
+
+-- what the label of a numbered stop holds, by the kind of its node
+abbrev pub labelAs : Chart → ℕ → Kind → Label
+labelAs c v Begin = bareLabel (scheme c v)
+labelAs c v End = bareLabel (scheme c v)
+labelAs c v Operation = record {
+  kind = pick (eqb (argument c v) 0) PLAIN OPERATION-CALL;
+  called = argument c v;
+  owner = scheme c v;
+  result = result c v;
+  mask = mask c v;
+}
+labelAs c v Condition = bareLabel (scheme c v)
+labelAs c v Function = record { kind = FUNCTION-CALL; called = argument c v; owner = scheme c v; result = 0; mask = 0 }
+labelAs c v Unknown = bareLabel (scheme c v)
+
+abbrev pub stopLabel : Chart → ℕ → Label
+stopLabel c v = labelAs c v (kind_of (kind c v))

@@ -1,8 +1,0 @@
--- `charts_for_c::little_chart` meets its contract: what the function that it calls ensures, told.
-use Rattle.telling.proofs.Reports.{told-as}
-use Rattle.charts_for_c.proofs.little_chart.Goals as goal
-
-pub returns : goal.returns
-returns c =
-    let fetch = c.little_chart-answer in
-    record { told = told-as fetch.ensures.answered c.tell.ensures; written = fetch.ensures.written }

@@ -1,8 +1,0 @@
--- `charts_for_c::read_chart` meets its contract: what the function that it calls ensures, told.
-use Rattle.telling.proofs.Reports.{told-as}
-use Rattle.charts_for_c.proofs.read_chart.Goals as goal
-
-pub returns : goal.returns
-returns c =
-    let read-chart = c.read_chart-answer in
-    record { told = told-as read-chart.ensures.answered c.tell.ensures; written = read-chart.ensures.written }

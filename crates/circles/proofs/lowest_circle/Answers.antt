@@ -1,7 +1,0 @@
--- `circles::lowest_circle` meets its contract: at first all conditions are unfinished.
-use Rattle.finishing.proofs.FinishedCases.{finished-none}
-use Rattle.std.proofs.Common.{rules}
-use Rattle.circles.proofs.lowest_circle.Goals as goal
-
-pub finish_all-requires : goal.finish_all-requires
-finish_all-requires c = record { few = search rules; room = search rules; finished = finished-none _ _ c.mark_kind.ensures }

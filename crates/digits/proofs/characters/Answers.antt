@@ -1,7 +1,0 @@
--- `digits::characters` meets its contract: the sum was computed for every byte.
-use Rattle.digits.proofs.Digits.{pair_made}
-use Rattle.std.proofs.Common.{rules}
-use Rattle.digits.proofs.characters.Goals as goal
-
-pub returns : goal.returns
-returns c = pair_made c.args.b (search rules)

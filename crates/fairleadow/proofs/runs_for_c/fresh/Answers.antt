@@ -1,0 +1,13 @@
+-- `fairleadow::runs_for_c::fresh` meets its contract: what the two functions that it calls ensure, put together.
+use mathlib.Core.Path.{ap, ◌∙◌}
+use Rattle.state.specs.Bytes.{bytesOf}
+use Rattle.fairleadow.proofs.telling.Reports.{told-as}
+use Rattle.fairleadow.proofs.runs_for_c.fresh.Goals as goal
+
+pub returns : goal.returns
+returns c =
+    let fresh = c.fresh-done in
+    record {
+      told = told-as fresh.ensures.answered c.tell.ensures;
+      bytes = c.bytes_of-bytes.ensures ∙ ap bytesOf fresh.ensures.state;
+    }

@@ -1,0 +1,22 @@
+-- What C is told of an answer and of a tick's report.
+use Rattle.std.specs.Prelude.{ℕ, ◌≡◌, List, eqb}
+use Rattle.words.specs.lists.Pick.{pick}
+use Rattle.text.specs.frames.Answer.{Reply, replyNumber, replyIndex, replyCount, reply, BufferOutcome}
+use Rattle.runs.specs.declared.TickReport.{TickReport}
+
+-- the number returned, and the index and the count written, are those of the reply
+pub record GivesReplyC (x : Reply) (returned at made : ℕ) : Type 0 where
+  pub number_is : returned ≡ replyNumber x
+  pub index_is : at ≡ replyIndex x
+  pub count-is : made ≡ replyCount x
+
+-- what is written of a tick's report, over the mask and the code before it
+pub record GivesTickReportC (r : TickReport) (m₀ k₀ returned at made m k : ℕ) : Type 0 where
+  pub told : GivesReplyC (reply r.answer) returned at made
+  pub mask : m ≡ pick (eqb returned 0) r.mask m₀
+  pub code : k ≡ pick (eqb returned 0) r.code k₀
+
+-- a call with one lent buffer
+pub record GivesBufferC (x : BufferOutcome) (returned at made : ℕ) (after : List ℕ) : Type 0 where
+  pub told : GivesReplyC x.reply returned at made
+  pub written : after ≡ x.buffer

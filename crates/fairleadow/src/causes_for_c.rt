@@ -1,0 +1,54 @@
+// The calls from C that tell what made a tick go on, and what a tick code stands for.
+ghost use Rattle.fairleadow.specs.causes_for_c.Calls.{causeFor, GivesCauseC};
+ghost use Rattle.fairleadow.specs.causes_for_c.Meant.{Meant};
+
+use crate::telling::tell;
+use cause::explaining::cause_bytes;
+use image::layout::*;
+use state::layout::STATE_BYTES;
+use text::frames::Answer;
+use ticks::codes::{DROP, Meaning, UNKNOWN, meaning_of};
+
+// What made a tick go on: writes the row's number, the conditions that decide it and the result bit, each 0 with a refusal.
+pub fn cause(
+    image: &[u8],
+    state: &[u8; STATE_BYTES],
+    word: u16,
+    row: &mut u16,
+    mask: &mut u16,
+    bit: &mut u8,
+    at: &mut usize,
+    made: &mut usize,
+) -> u8
+    ensures { GivesCauseC (causeFor image.now state.now word) result at.new
+        made.new row.new mask.new bit.new }
+{
+    let found = cause_bytes(image, state, word);
+    let answer: Answer = found.answer;
+    *row = found.row;
+    *mask = found.mask;
+    *bit = found.bit;
+    tell(answer, at, made)
+}
+
+// What a code stands for: returns the tick kind, 5 for a drop, 255 for a code that no tick has, and writes the number called, 0 for none.
+pub fn meaning(code: u8, called: &mut u8) -> u8
+    ensures { Meant code result called.new }
+{
+    *called = 0;
+    match meaning_of(code) {
+        Meaning::Plain => PLAIN,
+        Meaning::OperationCall(scheme) => {
+            *called = scheme;
+            OPERATION_CALL
+        }
+        Meaning::FunctionCall(scheme) => {
+            *called = scheme;
+            FUNCTION_CALL
+        }
+        Meaning::Return => RETURN,
+        Meaning::Home => HOME,
+        Meaning::Drop => DROP,
+        Meaning::Unknown => UNKNOWN,
+    }
+}

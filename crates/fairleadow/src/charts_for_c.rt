@@ -1,0 +1,45 @@
+// The calls from C on charts: read, written, fetched by number, and how many places one needs.
+ghost use Rattle.charts.specs.Entry.{readChart, writeChart};
+ghost use Rattle.little_charts.specs.Little.{littleChart};
+ghost use Rattle.places.specs.Entry.{placesNeeded};
+ghost use Rattle.fairleadow.specs.telling.AnswersForC.{GivesReplyC, GivesBufferC};
+
+use crate::telling::tell;
+use text::frames::Answer;
+
+pub fn read_chart(text: &[u8], records: &mut [u8], at: &mut usize, made: &mut usize) -> u8
+    ensures { GivesBufferC (readChart text.now records.old) result
+        at.new made.new records.new }
+{
+    let answer: Answer = chart_text::read_chart(text, records);
+    tell(answer, at, made)
+}
+
+pub fn write_chart(records: &[u8], text: &mut [u8], at: &mut usize, made: &mut usize) -> u8
+    ensures { GivesBufferC (writeChart records.now text.old) result
+        at.new made.new text.new }
+{
+    let answer: Answer = chart_text::write_chart(records, text);
+    tell(answer, at, made)
+}
+
+pub fn little_chart(
+    frames: usize,
+    number: usize,
+    text: &mut [u8],
+    at: &mut usize,
+    made: &mut usize,
+) -> u8
+    ensures { GivesBufferC (littleChart frames number text.old) result at.new made.new
+        text.new }
+{
+    let answer: Answer = little_fetch::fetching::little_chart(frames, number, text);
+    tell(answer, at, made)
+}
+
+pub fn places(chart: &[u8], at: &mut usize, made: &mut usize) -> u8
+    ensures { GivesReplyC (placesNeeded chart.now) result at.new made.new }
+{
+    let answer: Answer = places::places_needed(chart);
+    tell(answer, at, made)
+}

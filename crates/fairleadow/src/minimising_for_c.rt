@@ -1,0 +1,14 @@
+// The call from C that joins the labels of an image.
+ghost use Rattle.minimising.specs.Entry.{minimise};
+ghost use Rattle.fairleadow.specs.telling.AnswersForC.{GivesBufferC};
+
+use crate::telling::tell;
+use text::frames::Answer;
+
+pub fn minimise(image: &[u8], smaller: &mut [u8], at: &mut usize, made: &mut usize) -> u8
+    ensures { GivesBufferC (minimise image.now smaller.old) result at.new made.new
+        smaller.new }
+{
+    let answer: Answer = minimising::minimise(image, smaller);
+    tell(answer, at, made)
+}

@@ -1,0 +1,29 @@
+// The call from C that runs and tells the price.
+ghost use Rattle.fairleadow.specs.prices_for_c.Calls.{pricedRunFor, GivesPricedRunC};
+
+use crate::telling::tell;
+use prices::priced_runs::priced_run_bytes;
+use state::layout::STATE_BYTES;
+
+// A run, and its price: the price is written in every case, 0 with every refusal but 17 and 18.
+pub fn priced_run(
+    image: &[u8],
+    state: &mut [u8; STATE_BYTES],
+    prices: &[u16; 32],
+    words: &[u16],
+    masks: &mut [u32],
+    codes: &mut [u8],
+    price: &mut u64,
+    at: &mut usize,
+    made: &mut usize,
+) -> u8
+    ensures { GivesPricedRunC
+        (pricedRunFor image.now state.old prices.now words.now masks.old
+        codes.old) words.now state.old result at.new made.new
+        state.new masks.new codes.new price.new }
+{
+    let done = priced_run_bytes(image, state, prices, words, masks, codes);
+    let answer = done.answer;
+    *price = done.price;
+    tell(answer, at, made)
+}

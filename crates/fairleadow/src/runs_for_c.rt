@@ -1,0 +1,87 @@
+// The calls from C that make a state, run and tick, on an image and live on a prepared table; a state is 130 bytes.
+ghost use Rattle.state.specs.State.{freshState};
+ghost use Rattle.fairleadow.specs.runs_for_c.Calls.{GivesStateC, runFor, liveRunFor, GivesRunC, tickFor, liveTickFor, GivesTickC};
+
+use crate::telling::{tell, tell_tick};
+use runs::machine::{State, live_run_bytes, live_tick_bytes, run_bytes, tick_bytes};
+use state::layout::STATE_BYTES;
+use state::state_bytes::bytes_of;
+
+pub fn fresh(size: usize, state: &mut [u8; STATE_BYTES], at: &mut usize, made: &mut usize) -> u8
+    ensures { GivesStateC (freshState size) result at.new made.new state.new }
+{
+    let done = State::fresh(size);
+    let answer = done.answer;
+    let after = done.state;
+    let bytes = bytes_of(after);
+    *state = bytes;
+    tell(answer, at, made)
+}
+
+pub fn run(
+    image: &[u8],
+    state: &mut [u8; STATE_BYTES],
+    words: &[u16],
+    masks: &mut [u32],
+    codes: &mut [u8],
+    at: &mut usize,
+    made: &mut usize,
+) -> u8
+    ensures { GivesRunC (runFor image.now state.old words.now masks.old
+        codes.old) state.old result at.new made.new
+        state.new masks.new codes.new }
+{
+    let answer = run_bytes(image, state, words, masks, codes);
+    tell(answer, at, made)
+}
+
+pub fn live_run(
+    table: &[u8],
+    state: &mut [u8; STATE_BYTES],
+    words: &[u16],
+    masks: &mut [u32],
+    codes: &mut [u8],
+    at: &mut usize,
+    made: &mut usize,
+) -> u8
+    ensures { GivesRunC (liveRunFor table.now state.old words.now masks.old
+        codes.old) state.old result at.new made.new
+        state.new masks.new codes.new }
+{
+    let answer = live_run_bytes(table, state, words, masks, codes);
+    tell(answer, at, made)
+}
+
+// One tick; a refused one writes no mask, no code and no state.
+pub fn tick(
+    image: &[u8],
+    state: &mut [u8; STATE_BYTES],
+    word: u16,
+    mask: &mut u32,
+    code: &mut u8,
+    at: &mut usize,
+    made: &mut usize,
+) -> u8
+    ensures { GivesTickC (tickFor image.now state.old word) state.old mask.old
+        code.old result at.new made.new state.new mask.new code.new }
+{
+    let report = tick_bytes(image, state, word);
+    tell_tick(report, mask, code, at, made)
+}
+
+// One tick on a prepared table; a refused one writes no mask, no code and no state.
+pub fn live_tick(
+    table: &[u8],
+    state: &mut [u8; STATE_BYTES],
+    word: u16,
+    mask: &mut u32,
+    code: &mut u8,
+    at: &mut usize,
+    made: &mut usize,
+) -> u8
+    ensures { GivesTickC (liveTickFor table.now state.old word) state.old mask.old
+        code.old result at.new made.new state.new mask.new code.new }
+{
+    let report = live_tick_bytes(table, state, word);
+    tell_tick(report, mask, code, at, made)
+}

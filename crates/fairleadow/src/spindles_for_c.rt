@@ -1,0 +1,63 @@
+// The calls from C on four spindles, whose states are 520 bytes, on an image and live on a prepared table.
+ghost use Rattle.fairleadow.specs.spindles_for_c.Calls.{spinFor, liveSpinFor, GivesSpinC};
+
+use crate::telling::tell_tick;
+use runs::TickReport;
+use spindles::live_spindle_bytes::live_spin_bytes;
+use spindles::spindle_bytes::spin_bytes;
+
+// One tick of one of four spindles, whose states are 520 bytes; a refused one writes no mask, no code and no state, and leaves `taken` as
+// it was.
+pub fn spin(
+    states: &mut [u8],
+    taken: &mut usize,
+    spindle: usize,
+    image: &[u8],
+    word: u16,
+    mask: &mut u32,
+    code: &mut u8,
+    at: &mut usize,
+    made: &mut usize,
+) -> u8
+    ensures { GivesSpinC (spinFor image.now states.old taken.old spindle word) states.old
+        spindle mask.old code.old result at.new made.new states.new
+        taken.new mask.new code.new }
+{
+    let recorded = *taken;
+    let report = spin_bytes(states, recorded, spindle, image, word);
+    *taken = report.taken;
+    let answer = report.answer;
+    let ticked = TickReport {
+        answer,
+        mask: report.mask,
+        code: report.code,
+    };
+    tell_tick(ticked, mask, code, at, made)
+}
+
+pub fn live_spin(
+    states: &mut [u8],
+    taken: &mut usize,
+    spindle: usize,
+    table: &[u8],
+    word: u16,
+    mask: &mut u32,
+    code: &mut u8,
+    at: &mut usize,
+    made: &mut usize,
+) -> u8
+    ensures { GivesSpinC (liveSpinFor table.now states.old taken.old spindle word)
+        states.old spindle mask.old code.old result at.new made.new
+        states.new taken.new mask.new code.new }
+{
+    let recorded = *taken;
+    let report = live_spin_bytes(states, recorded, spindle, table, word);
+    *taken = report.taken;
+    let answer = report.answer;
+    let ticked = TickReport {
+        answer,
+        mask: report.mask,
+        code: report.code,
+    };
+    tell_tick(ticked, mask, code, at, made)
+}

@@ -1,0 +1,14 @@
+// The call from C that translates a chart.
+ghost use Rattle.translator.specs.Entry.{translate};
+ghost use Rattle.fairleadow.specs.telling.AnswersForC.{GivesBufferC};
+
+use crate::telling::tell;
+use text::frames::Answer;
+
+pub fn translate(chart: &[u8], image: &mut [u8], at: &mut usize, made: &mut usize) -> u8
+    ensures { GivesBufferC (translate chart.now image.old) result
+        at.new made.new image.new }
+{
+    let answer: Answer = translator::translating::translate(chart, image);
+    tell(answer, at, made)
+}

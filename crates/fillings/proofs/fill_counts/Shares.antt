@@ -1,0 +1,88 @@
+-- The lists of one word more, by their first word: where its tick leads, and the lists of the words after it.
+use Prim.Native.Nat.{ℕ, zero, suc, ◌+◌, ◌*◌, ◌^◌, ◌<◌}
+use mathlib.Core.Bool.{Bool, true, false}
+use mathlib.Core.Path.{◌≡◌, refl, sym, ◌∙◌, ap, ap₂}
+use mathlib.Core.List.{List, ◌∷◌}
+use native.Mathlib.Nat.{zero-add, add-zero, add-suc, suc-mul, zero-mul}
+use native.Mathlib.Omega.{arith}
+use lib.Dec.{eqb}
+use lib.Pow.{pow-add, high, low}
+use Rattle.words.specs.lists.Pick.{pick}
+use Rattle.words.specs.lists.Numbers.{count, sum}
+use Rattle.words.proofs.lists.Counts.{count-snoc, count-all, count_none, count-alike}
+use Rattle.words.proofs.lists.Sums.{sum-add, sum-zero, sum_same}
+use Rattle.image.specs.Image.{Image}
+use Rattle.state.specs.declared.State.{State}
+use Rattle.ticks.specs.Tick.{MachineTick, finished, stopped, tick}
+use Rattle.runs.specs.Run.{then, ticks}
+use Rattle.fillings.specs.Counts.{words_of, lists, number_of, met, meeting}
+use Rattle.fillings.proofs.Lists.{lists-suc}
+
+-- ---- a * b numbers, by what they leave over b
+count-block : (p : ℕ → Bool) (m n : ℕ) → count p 0 (m + n) ≡ count p 0 m + count (λ w. p (m + w)) 0 n
+count-block p m zero =
+    let e : count p 0 (m + 0) ≡ count p 0 m = ap (count p 0) (add-zero m) in
+    let z : count (λ w. p (m + w)) 0 0 ≡ 0 = count_none (λ w. p (m + w)) 0 0 (λ k a b. absurd (omega arith)) in
+    omega arith
+count-block p m (suc n) =
+    let e : count p 0 (m + suc n) ≡ count p 0 (suc (m + n)) = ap (count p 0) (add-suc m n) in
+    let x : pick {A = ℕ} (p (0 + (m + n))) 1 0 ≡ pick (p (m + (0 + n))) 1 0 = ap (λ (k : ℕ). pick {A = ℕ} (p k) 1 0) (omega arith) in
+    omega (arith, e, x, count-snoc p 0 (m + n), count-snoc (λ w. p (m + w)) 0 n, count-block p m n)
+
+by-rest : (p : ℕ → Bool) (b a : ℕ) → count p 0 (a * b) ≡ sum (λ w. count (λ q. p (q * b + w)) 0 a) 0 b
+by-rest p b zero =
+    ap (count p 0) (zero-mul b) ∙ count_none p 0 0 (λ k l h. absurd (omega arith))
+    ∙ sym (sum-zero (λ w. count (λ q. p (q * b + w)) 0 0) 0 b
+    (λ w l h. count_none (λ q. p (q * b + w)) 0 0 (λ k a c. absurd (omega arith))))
+by-rest p b (suc a) =
+    let e : count p 0 (suc a * b) ≡ count p 0 (a * b + b) = ap (count p 0) (suc-mul a b) in
+    let more : (w : ℕ) → count (λ q. p (q * b + w)) 0 (suc a) ≡ pick (p (a * b + w)) 1 0 + count (λ q. p (q * b + w)) 0 a =
+    λ w. let x : pick {A = ℕ} (p ((0 + a) * b + w)) 1 0 ≡ pick (p (a * b + w)) 1 0 =
+    ap (λ (k : ℕ). pick {A = ℕ} (p (k * b + w)) 1 0) (zero-add a) in
+    omega (arith, x, count-snoc (λ q. p (q * b + w)) 0 a) in
+    let s : sum (λ w. count (λ q. p (q * b + w)) 0 (suc a)) 0 b
+    ≡ count (λ w. p (a * b + w)) 0 b + sum (λ w. count (λ q. p (q * b + w)) 0 a) 0 b =
+    sum-add (λ w. p (a * b + w)) (λ w. count (λ q. p (q * b + w)) 0 (suc a)) (λ w. count (λ q. p (q * b + w)) 0 a) more 0 b in
+    omega (arith, e, s, count-block p (a * b) b, by-rest p b a)
+
+-- ---- how many of the lists that begin alike meet a number
+abbrev pub share : Image → ℕ → ℕ → ℕ → MachineTick → ℕ
+share i n k number (finished m c t) = meeting i t n k number
+share i n k number (stopped m) = pick (eqb m number) (lists n k) 0
+
+all-or-none : (b : Bool) (m : ℕ) → count (λ q. b) 0 m ≡ pick b m 0
+all-or-none true m = count-all 0 m
+all-or-none false m = count_none (λ q. false) 0 m (λ k l h. refl)
+
+module _ (i : Image) (s : State) (n k number : ℕ) where
+  abbrev meets : List ℕ → Bool
+  meets ws = eqb (met i s ws) number
+
+  words_more : (q w : ℕ) → w < 2 ^ k → words_of (suc n) k (q * 2 ^ k + w) ≡ w ∷ words_of n k q
+  unfolding words_of
+  words_more q w l = ap₂ (λ (a : ℕ) (b : ℕ). a ∷ words_of n k b) (low q k l) (high q k l)
+
+  by-tick : (w : ℕ) (x : MachineTick) → tick i s w ≡ x → count (λ q. meets (w ∷ words_of n k q)) 0 (lists n k) ≡ share i n k number x
+  unfolding ticks meeting
+  by-tick w (finished m c t) e =
+      count-alike (λ q. eqb (met i t (words_of n k q)) number) (λ q. meets (w ∷ words_of n k q)) 0 (lists n k)
+      (λ q l h. ap (λ (y : MachineTick). eqb (number_of (then s (λ u. ticks i u (words_of n k q)) y).verdict) number) e)
+  by-tick w (stopped m) e =
+      count-alike (λ q. eqb m number) (λ q. meets (w ∷ words_of n k q)) 0 (lists n k)
+      (λ q l h. ap (λ (y : MachineTick). eqb (number_of (then s (λ u. ticks i u (words_of n k q)) y).verdict) number) e)
+      ∙ all-or-none (eqb m number) (lists n k)
+
+  pub meeting-more : meeting i s (suc n) k number ≡ sum (λ w. share i n k number (tick i s w)) 0 (2 ^ k)
+  unfolding meeting
+  meeting-more =
+      ap (count (λ x. meets (words_of (suc n) k x)) 0) (lists-suc n k ∙ pow-add 2 (n * k) k)
+      ∙ by-rest (λ x. meets (words_of (suc n) k x)) (2 ^ k) (lists n k)
+      ∙ sum_same (λ w. count (λ q. meets (words_of (suc n) k (q * 2 ^ k + w))) 0 (lists n k))
+      (λ w. share i n k number (tick i s w)) 0 (2 ^ k)
+      (λ w a l. count-alike (λ q. meets (w ∷ words_of n k q)) (λ q. meets (words_of (suc n) k (q * 2 ^ k + w))) 0 (lists n k)
+      (λ q b h. ap meets (words_more q w (omega arith))) ∙ by-tick w (tick i s w) refl)
+
+-- no word is left: the one list has come to its end
+pub meeting-none : (i : Image) (s : State) (k number : ℕ) → meeting i s 0 k number ≡ pick (eqb 0 number) 1 0
+unfolding meeting words_of ticks
+meeting-none i s k number = ap (λ (m : ℕ). count (λ x. eqb 0 number) 0 (2 ^ m)) (zero-mul k) ∙ all-or-none (eqb 0 number) 1

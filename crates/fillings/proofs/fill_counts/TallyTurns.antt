@@ -1,0 +1,192 @@
+-- The loops that tally, turn by turn.
+use Prim.Native.Nat.{ℕ, suc, ◌+◌, ◌*◌, ◌-◌, ◌^◌, ◌≤◌, ◌<◌}
+use mathlib.Core.Path.{◌≡◌, refl, sym, ◌∙◌, ap, subst}
+use mathlib.Core.List.{List}
+use native.Mathlib.Nat.{add-zero, mul-zero, suc-mul, pow-le-pow_right}
+use native.Mathlib.Omega.{arith}
+use lib.Dec.{eqb}
+use Rattle.words.specs.lists.Numbers.{sum}
+use Rattle.words.proofs.lists.Counts.{count-le}
+use Rattle.words.proofs.lists.Searches.{sum-turn}
+use Rattle.words.proofs.lists.Sums.{sum-none, sum-suc, sum-split}
+use Rattle.image.specs.Image.{Image}
+use Rattle.tables.specs.Table.{tableImage}
+use Rattle.state.specs.declared.State.{State}
+use Rattle.state.specs.Bytes.{state_of}
+use Rattle.ticks.specs.declared.TickEnd.{TickEnd}
+use Rattle.ticks.specs.Tick.{MachineTick, tick}
+use Rattle.ticks.specs.inner.TickContracts.{TickAsked, GivesTickEnd}
+use Rattle.ticks.proofs.TickCases.{stands_on}
+use Rattle.runs.proofs.TurnCases.{went, stood}
+use Rattle.fillings.specs.Counts.{words_of, lists, met, meeting}
+use Rattle.fillings.specs.declared.fill_counts.Tally.{Tally}
+use Rattle.fillings.specs.fill_counts.inner.TallyContracts.{tally_of, allMeet, added, FewLists}
+use Rattle.fillings.proofs.fill_counts.Shares.{share, meeting-more, meeting-none}
+
+same-tally : {e e' f f' u u' : ℕ} → e ≡ e' → f ≡ f' → u ≡ u'
+    → ◌≡◌ {A = Tally} (record { ended = e; full = f; unmatched = u }) (record { ended = e'; full = f'; unmatched = u' })
+same-tally p q r = λ j. record { ended = p j; full = q j; unmatched = r j }
+
+-- ---- what the lists that begin with one word add
+abbrev pub share_of : Image → ℕ → ℕ → MachineTick → Tally
+share_of i n k x = record { ended = share i n k 0 x; full = share i n k 17 x; unmatched = share i n k 18 x }
+
+pub tally-none : (i : Image) (s : State) (k : ℕ) → allMeet 0 1 ≡ tally_of i s 0 k
+tally-none i s k = sym (same-tally (meeting-none i s k 0) (meeting-none i s k 17) (meeting-none i s k 18))
+
+module _ (b before : List ℕ) (w : ℕ) (r : TickEnd) (bytes : List ℕ) (q : GivesTickEnd b before w r bytes) (n k : ℕ) where
+  abbrev made : MachineTick
+  made = tick (tableImage b) (state_of before) w
+
+  pub went-share : r.number ≡ 0 → tally_of (tableImage b) (state_of bytes) n k ≡ share_of (tableImage b) n k made
+  went-share z = sym (ap (share_of (tableImage b) n k) (went b before w r bytes q z))
+
+  pub stood-share : (r.number ≡ 0 → ⊥) → allMeet r.number (lists n k) ≡ share_of (tableImage b) n k made
+  stood-share z = sym (ap (share_of (tableImage b) n k) (stood b before w r bytes q z))
+
+-- ---- words that all are 0
+one_word : (i : Image) (s : State) (n number : ℕ) → meeting i s (suc n) 0 number ≡ share i n 0 number (tick i s 0)
+one_word i s n number =
+    let f : ℕ → ℕ = λ w. share i n 0 number (tick i s w) in
+    meeting-more i s n 0 number ∙ sum-suc f 0 0 ∙ ap (λ (m : ℕ). f 0 + m) (sum-none f 1) ∙ add-zero (f 0)
+
+one-share : (i : Image) (s : State) (n : ℕ) → tally_of i s (suc n) 0 ≡ share_of i n 0 (tick i s 0)
+one-share i s n = same-tally (one_word i s n 0) (one_word i s n 17) (one_word i s n 18)
+
+one_list : (n : ℕ) → lists n 0 ≡ 1
+one_list n = ap (λ (m : ℕ). 2 ^ m) (mul-zero n)
+
+-- so many words are left
+pub record One (b bytes₀ : List ℕ) (n : ℕ) (bytes : List ℕ) (left : ℕ) : Type 0 where
+  pub stands : TickAsked b (state_of bytes)
+  pub same : tally_of (tableImage b) (state_of bytes) left 0 ≡ tally_of (tableImage b) (state_of bytes₀) n 0
+
+module _ {b bytes₀ : List ℕ} {n : ℕ} {bytes : List ℕ} {left : ℕ} (y : One b bytes₀ n bytes left) where
+  abbrev i : Image
+  i = tableImage b
+
+  abbrev all : Tally
+  all = tally_of i (state_of bytes₀) n 0
+
+  by-share : 0 < left → share_of i (left - 1) 0 (tick i (state_of bytes) 0) ≡ all
+  by-share l =
+      let e : suc (left - 1) ≡ left = omega arith in
+      sym (one-share i (state_of bytes) (left - 1)) ∙ ap (λ (m : ℕ). tally_of i (state_of bytes) m 0) e ∙ y.same
+
+  module _ (l : 0 < left) (r : TickEnd) (next : List ℕ) (q : GivesTickEnd b bytes 0 r next) where
+    pub one_on : r.number ≡ 0 → One b bytes₀ n next (left - 1)
+    one_on z = record {
+      stands = stands_on q y.stands;
+      same = went-share b bytes 0 r next q (left - 1) 0 z ∙ by-share l;
+    }
+
+    pub one_stood : (r.number ≡ 0 → ⊥) → (t : Tally) → t ≡ allMeet r.number 1 → t ≡ all
+    one_stood z t e =
+        e ∙ ap (allMeet r.number) (sym (one_list (left - 1))) ∙ stood-share b bytes 0 r next q (left - 1) 0 z ∙ by-share l
+
+  pub one-over : left ≤ 0 → (t : Tally) → t ≡ allMeet 0 1 → t ≡ all
+  one-over l t e =
+      let z : 0 ≡ left = omega arith in
+      e ∙ tally-none i (state_of bytes) 0 ∙ ap (λ (m : ℕ). tally_of i (state_of bytes) m 0) z ∙ y.same
+
+-- ---- the first words below one
+abbrev sharing : Image → State → ℕ → ℕ → ℕ → ℕ → ℕ
+sharing i s n k number w = share i n k number (tick i s w)
+
+abbrev partly : Image → State → ℕ → ℕ → ℕ → Tally
+partly i s n k w = record {
+  ended = sum (sharing i s n k 0) 0 w;
+  full = sum (sharing i s n k 17) 0 w;
+  unmatched = sum (sharing i s n k 18) 0 w;
+}
+
+partly_more : (i : Image) (s : State) (n k w : ℕ) → added (partly i s n k w) (share_of i n k (tick i s w)) ≡ partly i s n k (w + 1)
+partly_more i s n k w = same-tally
+    (sum-turn (sharing i s n k 0) _ w _ refl refl)
+    (sum-turn (sharing i s n k 17) _ w _ refl refl)
+    (sum-turn (sharing i s n k 18) _ w _ refl refl)
+
+partly-all : (i : Image) (s : State) (n k : ℕ) → partly i s n k (2 ^ k) ≡ tally_of i s (suc n) k
+partly-all i s n k = sym (same-tally (meeting-more i s n k 0) (meeting-more i s n k 17) (meeting-more i s n k 18))
+
+lists-few : (n k : ℕ) → n * k ≤ 16 → lists n k ≤ 65536
+lists-few n k l = pow-le-pow_right {n = 2} (omega arith) l
+
+partly-few : (i : Image) (s : State) (n k number w : ℕ) → suc n * k ≤ 16 → w ≤ 2 ^ k → sum (sharing i s n k number) 0 w ≤ 65536
+unfolding meeting
+partly-few i s n k number w l h =
+    let f : ℕ → ℕ = sharing i s n k number in
+    let e : sum f 0 (w + (2 ^ k - w)) ≡ sum f 0 (2 ^ k) = ap (sum f 0) (omega arith) in
+    let m : meeting i s (suc n) k number ≤ lists (suc n) k =
+    count-le (λ x. eqb (met i s (words_of (suc n) k x)) number) 0 (lists (suc n) k) in
+    omega (arith, e, m, sum-split f 0 w (2 ^ k - w), meeting-more i s n k number, lists-few (suc n) k l)
+
+pub left-few : (n k left : ℕ) → n ≡ suc left → n * k ≤ 16 → (left * k ≤ 16) × (k ≤ 16)
+left-few n k left e l =
+    let m : n * k ≡ left * k + k = ap (λ (a : ℕ). a * k) e ∙ suc-mul left k in
+    (omega arith, omega arith)
+
+pub words-few : (k : ℕ) → k ≤ 16 → 2 ^ k ≤ 65536
+words-few k l = pow-le-pow_right {n = 2} (omega arith) l
+
+pub record Part (b bytes : List ℕ) (n k left listed words : ℕ) (tally : Tally) (word : ℕ) : Type 0 where
+  pub stands : TickAsked b (state_of bytes)
+  pub whole : n ≡ suc left
+  pub few : n * k ≤ 16
+  pub allLists : listed ≡ lists left k
+  pub allWords : words ≡ 2 ^ k
+  pub low : word ≤ words
+  pub part : tally ≡ partly (tableImage b) (state_of bytes) left k word
+
+pub part-first : (b bytes : List ℕ) (n k left listed words : ℕ) (tally : Tally) → TickAsked b (state_of bytes)
+    → n ≡ suc left → n * k ≤ 16 → listed ≡ lists left k → words ≡ 2 ^ k → tally ≡ allMeet 0 0
+    → Part b bytes n k left listed words tally 0
+part-first b bytes n k left listed words tally y e l u v t =
+    let i : Image = tableImage b in
+    let s : State = state_of bytes in
+    record {
+      stands = y;
+      whole = e;
+      few = l;
+      allLists = u;
+      allWords = v;
+      low = omega arith;
+      part = t ∙ sym (same-tally (sum-none (sharing i s left k 0) 0)
+          (sum-none (sharing i s left k 17) 0) (sum-none (sharing i s left k 18) 0));
+    }
+
+module _ {b bytes : List ℕ} {n k left listed words : ℕ} {tally : Tally} {word : ℕ}
+    (y : Part b bytes n k left listed words tally word) where
+  abbrev image : Image
+  image = tableImage b
+
+  abbrev s : State
+  s = state_of bytes
+
+  -- what the lists that begin with this word add
+  module _ (l : word < words) (t : Tally) (e : t ≡ share_of image left k (tick image s word)) where
+    sums : added tally t ≡ partly image s left k (word + 1)
+    sums = ap (λ (a : Tally). added a t) y.part ∙ ap (added (partly image s left k word)) e ∙ partly_more image s left k word
+
+    few-here : (number : ℕ) → sum (sharing image s left k number) 0 (word + 1) ≤ 65536
+    few-here number = partly-few image s left k number (word + 1)
+        (subst (λ (m : ℕ). m * k ≤ 16) y.whole y.few) (omega (arith, y.allWords))
+
+    pub part-few : FewLists (added tally t)
+    part-few = subst FewLists (sym sums) (record { ended = few-here 0; full = few-here 17; unmatched = few-here 18 })
+
+    pub part-on : (t' : Tally) → t' ≡ added tally t → Part b bytes n k left listed words t' (word + 1)
+    part-on t' q = record {
+      stands = y.stands;
+      whole = y.whole;
+      few = y.few;
+      allLists = y.allLists;
+      allWords = y.allWords;
+      low = omega arith;
+      part = q ∙ sums;
+    }
+
+  pub part-over : words ≤ word → tally ≡ tally_of image s n k
+  part-over l =
+      let e : word ≡ 2 ^ k = omega (arith, y.low, y.allWords) in
+      y.part ∙ ap (partly image s left k) e ∙ partly-all image s left k ∙ ap (λ (m : ℕ). tally_of image s m k) (sym y.whole)

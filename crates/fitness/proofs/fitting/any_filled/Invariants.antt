@@ -1,0 +1,11 @@
+-- `fitness::fitting::any_filled` meets its contract: a full stack has no place above it; else the loop gathers the bits of all that lie there.
+use Prim.Native.Nat.{◌-◌}
+use Rattle.state.specs.Bytes.{state_of}
+use Rattle.fitness.proofs.fitting.AboveCases.{Seen}
+use Rattle.fitness.proofs.fitting.any_filled.Given as goal
+
+abbrev pub invariant-loop-k : goal.invariant-loop-k
+invariant-loop-k l = Seen (state_of l.bytes) l.bits l.k
+
+abbrev pub decreases-loop-k : goal.decreases-loop-k
+decreases-loop-k l = 32 - l.k

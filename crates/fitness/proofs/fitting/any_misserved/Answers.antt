@@ -1,0 +1,33 @@
+-- `fitness::fitting::any_misserved` meets its contract: the first number that is served amiss ends the loop.
+use mathlib.Core.Path.{refl}
+use Prim.Native.Nat.{◌-◌}
+use native.Mathlib.Omega.{arith}
+use Rattle.tables.specs.Table.{tableImage}
+use Rattle.state.specs.declared.State.{State}
+use Rattle.state.specs.Bytes.{state_of}
+use Rattle.fitness.proofs.fitting.ServedCases.{served-found, served-next, served-all}
+use Rattle.std.proofs.Common.{rules}
+use Rattle.fitness.proofs.fitting.any_misserved.Goals as goal
+
+pub loop-h-init : goal.loop-h-init
+loop-h-init c = record { low = omega arith; same = refl }
+
+pub returns-then-is_misserved : goal.returns-then-is_misserved
+returns-then-is_misserved c =
+    let state : State = state_of c.args.bytes.now in
+    served-found _ state _ _ _ _ c.scheme_count-schemes.ensures
+    c.handler_of-handler.ensures c.serving_at.ensures
+    _ c.is_misserved.ensures (search rules) c.loop-h.invariant c.if-is_misserved.true
+
+pub loop-h-preserved : goal.loop-h-preserved
+loop-h-preserved c =
+    let state : State = state_of c.args.bytes.now in
+    served-next _ state _ _ _ _ c.scheme_count-schemes.ensures
+    c.handler_of-handler.ensures c.serving_at.ensures
+    _ c.is_misserved.ensures (search rules) c.loop-h.invariant c.if-is_misserved.false
+
+pub returns : goal.returns
+returns c =
+    let state : State = state_of c.args.bytes.now in
+    served-all (tableImage c.args.table.now)
+    state c.loop-h.h (search rules) c.loop-h.invariant

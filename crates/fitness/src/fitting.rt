@@ -1,0 +1,100 @@
+// Whether a state, kept as 130 bytes, fits the image that a prepared table holds: refusal 15.
+ghost use Rattle.std.specs.Prelude.{◌≡◌, ◌-◌, ◌≤◌, ◌<◌, leb};
+ghost use Rattle.std.specs.Int.Bits.{bit_or};
+ghost use Rattle.words.specs.lists.Pick.{pick};
+ghost use Rattle.words.specs.lists.Numbers.{any};
+ghost use Rattle.tables.specs.Table.{tableImage};
+ghost use Rattle.tables.specs.inner.Asked.{Whole};
+ghost use Rattle.state.specs.Layout.{PLACES};
+ghost use Rattle.state.specs.State.{placeAt, number_at, serverAt};
+ghost use Rattle.state.specs.Bytes.{state_of};
+ghost use Rattle.fitness.specs.Fitness.{filledPlace, badServed, badDepth, unfit};
+
+use crate::fit_places::any_unfit;
+use crate::is_misserved;
+use state::layout::STATE_BYTES;
+use state::state_places::{depth_of, number_of, place_of, server_of, size_of};
+use state::state_results::serving_at;
+use state::{State, bad_size};
+use tables::{handler_of, scheme_count};
+
+// Label, number and server of place k, joined, where it lies above the depth, and 0 where it does not.
+fn place_above(bytes: &[u8; STATE_BYTES], depth: usize, k: usize) -> u8
+    requires { k < PLACES }
+    ensures { result ≡ pick (leb depth k)
+        (bit_or (bit_or (placeAt (state_of bytes.now) k) (number_at (state_of bytes.now) k))
+        (serverAt (state_of bytes.now) k)) 0 }
+{
+    if depth <= k {
+        return place_of(bytes, k) | number_of(bytes, k) | server_of(bytes, k);
+    }
+    0
+}
+
+// Whether some place above the depth is not 0. No place ends the loop, so that it can be unrolled.
+fn any_filled(bytes: &[u8; STATE_BYTES]) -> bool
+    requires { (state_of bytes.now).depth ≤ PLACES }
+    ensures { result ≡ any (filledPlace (state_of bytes.now)) (state_of bytes.now).depth
+        (PLACES - (state_of bytes.now).depth) }
+{
+    let depth = depth_of(bytes) as usize;
+    if State::PLACES <= depth {
+        return false;
+    }
+    let mut bits: u8 = 0;
+    let mut k: usize = 0;
+    while k < State::PLACES {
+        bits = bits | place_above(bytes, depth, k);
+        k += 1;
+    }
+    bits != 0
+}
+
+// Whether some number of 2 to 16 is served by a scheme that may not serve it.
+fn any_misserved(table: &[u8], bytes: &[u8; STATE_BYTES]) -> bool
+    requires { Whole table.now }
+    ensures { result ≡ any (badServed (tableImage table.now) (state_of bytes.now)) 2 15 }
+{
+    let schemes = scheme_count(table);
+    let handler = handler_of(table);
+    let mut h: u8 = 2;
+    while h <= 16 {
+        if is_misserved(schemes, handler, h, serving_at(bytes, h)) {
+            return true;
+        }
+        h += 1;
+    }
+    false
+}
+
+// Whether the stack size is refused, or the depth lies outside 1 to it.
+fn bad_depth(bytes: &[u8; STATE_BYTES]) -> bool
+    ensures { result ≡ badDepth (state_of bytes.now) }
+{
+    let size = size_of(bytes);
+    let depth = depth_of(bytes);
+    if bad_size(size as usize) {
+        return true;
+    }
+    if depth == 0 {
+        return true;
+    }
+    size < depth
+}
+
+// Refusal 15.
+pub fn is_unfit(table: &[u8], bytes: &[u8; STATE_BYTES]) -> bool
+    requires { Whole table.now }
+    ensures { result ≡ unfit (tableImage table.now) (state_of bytes.now) }
+{
+    if bad_depth(bytes) {
+        return true;
+    }
+    if any_unfit(table, bytes) {
+        return true;
+    }
+    if any_filled(bytes) {
+        return true;
+    }
+    any_misserved(table, bytes)
+}

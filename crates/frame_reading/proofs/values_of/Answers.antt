@@ -1,6 +1,0 @@
-use Rattle.lists.proofs.Arrays.{filled-all}
-use Rattle.std.proofs.Common.{rules}
-use Rattle.frame_reading.proofs.values_of.Goals as goal
-
-pub returns : goal.returns
-returns c = filled-all _ _ _ _ _ c.loop-k.invariant (search rules)

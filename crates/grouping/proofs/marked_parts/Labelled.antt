@@ -1,0 +1,71 @@
+-- A buffer after one write for each label: loops that make one, and the classes that are kept by the marks.
+use Prim.Native.Nat.{ℕ, zero, suc, ◌+◌, ◌≤◌, ◌<◌}
+use mathlib.Core.Path.{◌≡◌, refl, sym, ◌∙◌, ap, ap₂, subst}
+use mathlib.Core.Bool.{Bool, true, false}
+use mathlib.Core.List.{List}
+use native.Mathlib.Numerals.{add-one}
+use native.Mathlib.Omega.{arith}
+use lib.Dec.{eqb}
+use lib.ListN.{length, get_or, set, length-set}
+use borrow.Author.Tests.{eqb-true}
+use Rattle.words.specs.lists.Pick.{pick}
+use Rattle.grouping.specs.inner.GroupingContracts.{KeptClasses}
+use Rattle.grouping.proofs.Marked.{kept-start, kept_on}
+use Rattle.grouping.specs.marked_parts.inner.Parts.{labelled, markOthers, PartsMarked}
+
+-- after labels 0 to l - 1 of n
+pub record Labelling (place : ℕ → ℕ) (value : ℕ → List ℕ → ℕ) (xs₀ : List ℕ) (n : ℕ) (xs : List ℕ) (l : ℕ) : Type 0 where
+  pub low : l ≤ n
+  pub long : length xs ≡ length xs₀
+  pub is : xs ≡ labelled place value l xs₀
+
+module _ (place : ℕ → ℕ) (value : ℕ → List ℕ → ℕ) (xs₀ : List ℕ) (n : ℕ) where
+  pub labelling-none : Labelling place value xs₀ n xs₀ 0
+  unfolding labelled
+  labelling-none = record { low = omega arith; long = refl; is = refl }
+
+  pub labelling-turn : (xs : List ℕ) (l k v : ℕ) → Labelling place value xs₀ n xs l → l < n → k ≡ place l → v ≡ value l xs
+      → Labelling place value xs₀ n (set xs k v) (l + 1)
+  unfolding labelled
+  labelling-turn xs l k v t h p e = record {
+    low = omega arith;
+    long = length-set xs k v ∙ t.long;
+    is = ap₂ (set xs) p e ∙ ap (λ (ys : List ℕ). set ys (place l) (value l ys)) t.is
+        ∙ ap (λ (m : ℕ). labelled place value m xs₀) (sym (add-one l));
+  }
+
+  pub labelling-all : (xs : List ℕ) (l : ℕ) → Labelling place value xs₀ n xs l → n ≤ l → xs ≡ labelled place value n xs₀
+  labelling-all xs l t h = let e : l ≡ n = omega (arith, t.low) in t.is ∙ ap (λ (m : ℕ). labelled place value m xs₀) e
+
+-- the writes keep the length
+module _ (place : ℕ → ℕ) (value : ℕ → List ℕ → ℕ) (xs₀ : List ℕ) where
+  labelled-long : (m : ℕ) → length (labelled place value m xs₀) ≡ length xs₀
+  unfolding labelled
+  labelled-long zero = refl
+  labelled-long (suc m) = length-set (labelled place value m xs₀) (place m) _ ∙ labelled-long m
+
+-- ---- the marks
+module _ (former c kept marks₀ : List ℕ) (h : length marks₀ ≡ 256) where
+  kept_of : (t : Bool) (part k : ℕ) → eqb part k ≡ t → pick t 0 2 < 2 → part ≡ k
+  kept_of true part k e l = eqb-true part k e
+  kept_of false part k e l = absurd (omega arith)
+
+  kept-marks : (n : ℕ) → n ≤ 256 → KeptClasses n former c kept (markOthers former c kept n marks₀)
+  unfolding labelled
+  kept-marks zero l = kept-start former c kept marks₀ h
+  kept-marks (suc n) l =
+      subst (λ (m : ℕ). KeptClasses m former c kept (markOthers former c kept (suc n) marks₀)) (add-one n)
+      (kept_on former c kept (markOthers former c kept n marks₀) n _ (kept-marks n (omega arith)) (omega arith)
+      (kept_of (eqb (get_or c n 0) (get_or kept (get_or former n 0) 0)) (get_or c n 0) (get_or kept (get_or former n 0) 0) refl))
+
+-- ---- what mark_parts leaves
+module _ {classes next marks₀ counts₀ kept₀ : List ℕ} {n : ℕ} {marks counts kept : List ℕ}
+    (p : PartsMarked classes next marks₀ counts₀ kept₀ n marks counts kept) where
+  pub parts-kept : length marks₀ ≡ 256 → n ≤ 256 → KeptClasses n classes next kept marks
+  parts-kept h l = subst (KeptClasses n classes next kept) (sym p.others) (kept-marks classes next kept marks₀ h n l)
+
+  pub counts-length : length counts ≡ length counts₀
+  counts-length = ap length p.counted ∙ labelled-long (λ l. get_or next l 0) _ counts₀ n
+
+  pub kept-length : length kept ≡ length kept₀
+  kept-length = ap length p.largest ∙ labelled-long (λ l. get_or classes l 0) _ kept₀ n

@@ -1,0 +1,12 @@
+-- `grouping::marking::touch_of` meets its contract: the loop keeps what is left of the search.
+use mathlib.Core.Path.{◌≡◌}
+use Prim.Native.Nat.{◌-◌}
+use Rattle.words.specs.lists.Numbers.{any}
+use Rattle.grouping.specs.inner.GroupingContracts.{isMarked}
+use Rattle.grouping.proofs.marking.touch_of.Given as goal
+
+abbrev pub invariant-loop-f : goal.invariant-loop-f
+invariant-loop-f l = any (isMarked l.table l.marks 1) l.f (l.end - l.f) ≡ any (isMarked l.table l.marks 1) l.first (l.end - l.first)
+
+abbrev pub decreases-loop-f : goal.decreases-loop-f
+decreases-loop-f l = l.end - l.f

@@ -1,0 +1,10 @@
+-- `grouping::next_classes::refine` meets its contract: the next classes of the labels before l stand in the buffer.
+use Prim.Native.Nat.{◌+◌, ◌-◌}
+use Rattle.grouping.proofs.next_classes.RoundSteps.{Refining}
+use Rattle.grouping.proofs.next_classes.refine.Given as goal
+
+abbrev pub invariant-loop-l : goal.invariant-loop-l
+invariant-loop-l l = Refining l.table l.classes l.next l.last l.l
+
+abbrev pub decreases-loop-l : goal.decreases-loop-l
+decreases-loop-l l = l.last + 1 - l.l

@@ -1,0 +1,37 @@
+-- The parts of each class after a round: how many labels each has, the largest one, and the marks of all others.
+use Rattle.std.specs.Prelude.{ℕ, zero, suc, ◌+◌, ◌≡◌, List, eqb, ltb, get_or, set}
+use Rattle.words.specs.lists.Pick.{pick}
+
+-- a buffer after one write for each label from 0 up to n
+unfoldable pub labelled : (ℕ → ℕ) → (ℕ → List ℕ → ℕ) → ℕ → List ℕ → List ℕ
+labelled place value zero xs = xs
+labelled place value (suc l) xs = let before = labelled place value l xs in set before (place l) (value l before)
+
+-- the labels of a class with label l, up to 255: its lowest label is the first of them
+abbrev pub memberCount : List ℕ → ℕ → ℕ → ℕ
+memberCount counts class l = let before = get_or counts class 0 in pick (eqb class l) 1 (pick (ltb before 255) (before + 1) before)
+
+abbrev pub countMembers : List ℕ → ℕ → List ℕ → List ℕ
+countMembers classes = labelled (λ l. get_or classes l 0) (λ l counts. memberCount counts (get_or classes l 0) l)
+
+-- the part of label l, where none is kept for its former class or one with fewer labels, else the part that is kept
+abbrev pub largerPart : List ℕ → List ℕ → ℕ → ℕ → ℕ → ℕ
+largerPart counts kept class l part =
+    let first = get_or kept class 0 in pick (eqb class l) part (pick (ltb (get_or counts first 0) (get_or counts part 0)) part first)
+
+abbrev pub keepLargest : List ℕ → List ℕ → List ℕ → ℕ → List ℕ → List ℕ
+keepLargest classes next counts =
+    labelled (λ l. get_or classes l 0) (λ l kept. largerPart counts kept (get_or classes l 0) l (get_or next l 0))
+
+-- 2 for a label whose part is not the one that is kept, else 0
+abbrev pub markOf : ℕ → ℕ → ℕ
+markOf part kept = pick (eqb part kept) 0 2
+
+abbrev pub markOthers : List ℕ → List ℕ → List ℕ → ℕ → List ℕ → List ℕ
+markOthers classes next kept = labelled (λ l. l) (λ l _. markOf (get_or next l 0) (get_or kept (get_or classes l 0) 0))
+
+-- what the three buffers then hold
+pub record PartsMarked (classes next marks₀ counts₀ kept₀ : List ℕ) (n : ℕ) (marks counts kept : List ℕ) : Type 0 where
+  pub counted : counts ≡ countMembers next n counts₀
+  pub largest : kept ≡ keepLargest classes next counts n kept₀
+  pub others : marks ≡ markOthers classes next kept n marks₀

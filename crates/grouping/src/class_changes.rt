@@ -1,0 +1,19 @@
+// Whether a round changed a class.
+ghost use Rattle.std.specs.Prelude.{◌≡◌, ◌≤◌, length};
+ghost use Rattle.words.specs.lists.Numbers.{any};
+ghost use Rattle.grouping.specs.inner.GroupingContracts.{classDiffers};
+
+// Whether the first n classes of two lists differ somewhere.
+pub fn differ(classes: &[u8], next: &[u8], n: usize) -> bool
+    requires { (n ≤ length classes.now) × (n ≤ length next.now) }
+    ensures { result ≡ any (classDiffers classes.now next.now) 0 n }
+{
+    let mut l: usize = 0;
+    while l < n {
+        if classes[l] != next[l] {
+            return true;
+        }
+        l += 1;
+    }
+    false
+}

@@ -1,0 +1,59 @@
+// The classes before the first round: labels that hold the same.
+ghost use Rattle.std.specs.Prelude.{◌≡◌, ◌<◌, length};
+ghost use Rattle.words.specs.lists.Numbers.{lowest};
+ghost use Rattle.tables.specs.inner.Asked.{Whole};
+ghost use Rattle.tables.specs.inner.Labels.{asLabel};
+ghost use Rattle.text.specs.frames.Sizes.{LABELS};
+ghost use Rattle.grouping.specs.Classes.{sameFields};
+ghost use Rattle.grouping.specs.inner.GroupingContracts.{After, holdsSameOn};
+
+use tables::{Label, label_of, last_label};
+
+// Whether two labels hold the same.
+fn is_same(x: Label, y: Label) -> bool
+    ensures { result ≡ sameFields (asLabel x) (asLabel y) }
+{
+    if x.kind != y.kind {
+        return false;
+    }
+    if x.called != y.called {
+        return false;
+    }
+    if x.owner != y.owner {
+        return false;
+    }
+    if x.result != y.result {
+        return false;
+    }
+    x.mask == y.mask
+}
+
+// The lowest label that holds the same as label l.
+fn lowest_same(table: &[u8], l: usize) -> usize
+    requires whole { Whole table.now }
+    requires l_bound { l < LABELS }
+    ensures { result ≡ lowest (λ m. holdsSameOn table.now m l) 0 l }
+{
+    let label = label_of(table, l as u8);
+    let mut m: usize = 0;
+    while m < l {
+        if is_same(label_of(table, m as u8), label) {
+            return m;
+        }
+        m += 1;
+    }
+    m
+}
+
+pub fn first_classes(table: &[u8], classes: &mut [u8])
+    requires whole { Whole table.now }
+    requires classes_len { length classes.old ≡ LABELS }
+    ensures { After table.now 0 classes.new }
+{
+    let last = last_label(table) as usize;
+    let mut l: usize = 0;
+    while l <= last {
+        classes[l] = lowest_same(table, l) as u8;
+        l += 1;
+    }
+}

@@ -1,0 +1,117 @@
+// Whether rows of two labels part them: they match one word and bit and lead to different classes.
+ghost use Rattle.std.specs.Prelude.{◌&&◌, ◌≡◌, ◌≤◌, ◌<◌, length, get_or};
+ghost use Rattle.text.specs.frames.Sizes.{LABELS};
+ghost use Rattle.text.specs.frames.Frame.{size, field};
+ghost use Rattle.tables.specs.inner.Labels.{Framed};
+ghost use Rattle.grouping.specs.inner.GroupingContracts.{parts_in, partsAny, isMarked, partedBy, partedOn, Marks};
+ghost use Rattle.image.specs.Layout.{NEXT};
+
+use covering::are_together;
+use image::byte;
+use image::layout::NEXT;
+use rows::{end_of, first_of};
+
+// Whether the rows in frames f and g part their labels; the one in f leads to that class. Classes are compared first: that decides soonest.
+fn parts(table: &[u8], classes: &[u8], class: u8, f: usize, g: usize) -> bool
+    requires f_bound { (f < size table.now) × (g < size table.now) }
+    requires classes_len { (length classes.now ≡ LABELS) × (class ≡ get_or classes.now (field table.now f NEXT) 0) }
+    ensures { result ≡ parts_in table.now classes.now f g }
+{
+    let next = byte(table, g, NEXT) as usize;
+    if class == classes[next] {
+        return false;
+    }
+    are_together(table, f, g)
+}
+
+// Whether the row in frame f parts its label from the one whose rows stand from frame first up to end.
+fn parts_any(table: &[u8], classes: &[u8], f: usize, first: usize, end: usize) -> bool
+    requires f_bound { (f < size table.now) × (end ≤ size table.now) }
+    requires classes_len { length classes.now ≡ LABELS }
+    ensures { result ≡ partsAny table.now classes.now f first end }
+{
+    let next = byte(table, f, NEXT) as usize;
+    let class = classes[next];
+    let mut g = first;
+    while g < end {
+        if parts(table, classes, class, f, g) {
+            return true;
+        }
+        g += 1;
+    }
+    false
+}
+
+// Whether the row in frame f leads to a label with at least this mark and parts its label from the other.
+fn parts_marked(
+    table: &[u8],
+    classes: &[u8],
+    marks: &[u8],
+    least: u8,
+    f: usize,
+    first: usize,
+    end: usize,
+) -> bool
+    requires f_bound { (f < size table.now) × (end ≤ size table.now) }
+    requires classes_len { (length classes.now ≡ LABELS) × (length marks.now ≡ LABELS) }
+    ensures { result ≡ (isMarked table.now marks.now least f
+        && partsAny table.now classes.now f first end) }
+{
+    let next = byte(table, f, NEXT) as usize;
+    if marks[next] < least {
+        return false;
+    }
+    parts_any(table, classes, f, first, end)
+}
+
+// Whether a row of label m that leads to a label with at least this mark parts m from l. Of each label only its own rows are looked at.
+fn are_parted_by(
+    table: &[u8],
+    schemes: u8,
+    classes: &[u8],
+    marks: &[u8],
+    touched: &[u8],
+    least: u8,
+    m: usize,
+    l: usize,
+) -> bool
+    requires framed { (Framed table.now schemes m) × (Framed table.now schemes l) × (m < LABELS) × (1 ≤ least) }
+    requires classes_len { (length classes.now ≡ LABELS) × (Marks table.now classes.now marks.now touched.now) }
+    ensures { result ≡ partedBy table.now classes.now marks.now least m l }
+{
+    if touched[m] == 0 {
+        return false;
+    }
+    let first = first_of(table, schemes, l);
+    let end = end_of(table, schemes, l);
+    let last = end_of(table, schemes, m);
+    let mut f = first_of(table, schemes, m);
+    while f < last {
+        if parts_marked(table, classes, marks, least, f, first, end) {
+            return true;
+        }
+        f += 1;
+    }
+    false
+}
+
+// Whether rows of labels m and l, of one class, part these.
+pub fn are_parted(
+    table: &[u8],
+    schemes: u8,
+    classes: &[u8],
+    marks: &[u8],
+    touched: &[u8],
+    m: usize,
+    l: usize,
+) -> bool
+    requires framed { (Framed table.now schemes m) × (Framed table.now schemes l) × (m < LABELS) × (l < LABELS) }
+    requires m_value { get_or classes.now m 0 ≡ get_or classes.now l 0 }
+    requires classes_len { (length classes.now ≡ LABELS) × (Marks table.now classes.now marks.now touched.now) }
+    ensures { result ≡ partedOn table.now classes.now m l }
+{
+    if are_parted_by(table, schemes, classes, marks, touched, 1, m, l) {
+        return true;
+    }
+    are_parted_by(table, schemes, classes, marks, touched, 2, l, m)
+}

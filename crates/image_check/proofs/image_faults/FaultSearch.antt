@@ -1,0 +1,88 @@
+-- The search for a frame that 12 or 13 refuses: part by part, and the verdict by it.
+use mathlib.Core.Path.{◌≡◌, refl, sym, ◌∙◌, ap}
+use mathlib.Core.Bool.{Bool, true, false, ◌||◌}
+use mathlib.Core.List.{List}
+use Prim.Native.Nat.{ℕ, zero, suc, ◌+◌, ◌-◌, ◌≤◌, ◌<◌}
+use native.Mathlib.Nat.{zero-add}
+use native.Mathlib.Omega.{arith}
+use Rattle.words.specs.lists.Numbers.{lowest}
+use Rattle.words.proofs.lists.Searches.{lowest-on, lowest_start}
+use Rattle.text.specs.frames.Frame.{size}
+use Rattle.image.specs.Decode.{labels_from, rows_from, labelIn, row_in}
+use Rattle.image.specs.Check.{Position, entryPosition, labelPosition, rowPosition, position_of, strayFrame}
+use Rattle.image.specs.Check.{stray, badEntry, badLabel, badRow, badFrame, badContent}
+use Rattle.image_check.specs.image_faults.inner.FaultyFrames.{faulty}
+use Rattle.image.proofs.Accepted.{position-of-entry, position-of-label, position-of-row}
+
+-- ---- two tests in turn, the first that holds settles it
+module _ (x s t u : Bool) (is : x ≡ s) (both : (s || t) ≡ u) where
+  pub first_holds : x ≡ true → u ≡ true
+  first_holds h = sym both ∙ ap (λ (a : Bool). a || t) (sym is ∙ h)
+
+  module _ (h : x ≡ false) (y : Bool) (two : y ≡ t) where
+    second : t ≡ u
+    second = sym (ap (λ (a : Bool). a || t) (sym is ∙ h)) ∙ both
+
+    pub second-tells : (a : Bool) → y ≡ a → u ≡ a
+    second-tells a e = sym (two ∙ second) ∙ e
+
+-- ---- the two tests of a frame
+at_place : (b : List ℕ) (f : ℕ) (p : Position) → position_of b f ≡ p → (strayFrame b f p || badFrame b f p) ≡ faulty b f
+unfolding stray badContent
+at_place b f p e = sym (ap (λ (p : Position). strayFrame b f p || badFrame b f p) e)
+
+module _ (b : List ℕ) (f : ℕ) where
+  pub entry-tests : 1 ≤ f → f < labels_from b → (strayFrame b f (entryPosition f) || badEntry b f) ≡ faulty b f
+  entry-tests l m = at_place b f (entryPosition f) (position-of-entry b f l (omega arith))
+
+  pub label-tests : (y : ℕ) → y ≡ labels_from b → y ≤ f → f < rows_from b
+      → (strayFrame b (labels_from b + (f - y)) (labelPosition (f - y)) || badLabel b (f - y) (labelIn b (f - y))) ≡ faulty b f
+  label-tests y q l m =
+      at_place b (labels_from b + (f - y)) (labelPosition (f - y)) (position-of-label b (f - y) (omega arith)) ∙ ap (faulty b) (omega arith)
+
+  pub row-tests : (y : ℕ) → y ≡ rows_from b → y ≤ f
+      → (strayFrame b (rows_from b + (f - y)) (rowPosition (f - y)) || badRow b (rows_from b + (f - y)) (row_in b (f - y))) ≡ faulty b f
+  row-tests y q l = at_place b (rows_from b + (f - y)) (rowPosition (f - y)) (position-of-row b (f - y)) ∙ ap (faulty b) (omega arith)
+
+-- ---- the parts together
+next-sum : (k m : ℕ) → suc k + m ≡ suc (k + m)
+next-sum k m = omega arith
+
+more-found : (p : ℕ → Bool) (i k m : ℕ) → lowest p i k < i + k → lowest p i (k + m) ≡ lowest p i k
+unfolding lowest
+more-found p i zero m h = absurd (omega arith)
+more-found p i (suc k) m h = ap (λ (j : ℕ). lowest p i j) (next-sum k m) ∙ go (p i) refl h (more-found p (suc i) k m)
+  where
+    go : (t : Bool) → p i ≡ t → lowest p i (suc k) < i + suc k
+        → (lowest p (suc i) k < suc i + k → lowest p (suc i) (k + m) ≡ lowest p (suc i) k)
+        → lowest p i (suc (k + m)) ≡ lowest p i (suc k)
+    go true e h ih = rw (lowest, e)
+    go false e h ih = rw (lowest, e) (ih (omega (arith, rw (lowest, e) at h)))
+
+more-past : (p : ℕ → Bool) (i k m : ℕ) → i + k ≤ lowest p i k → lowest p i (k + m) ≡ lowest p (i + k) m
+unfolding lowest
+more-past p i zero m h = ap (λ (j : ℕ). lowest p i j) (zero-add m) ∙ ap (λ (j : ℕ). lowest p j m) (let e : i ≡ i + 0 = omega arith in e)
+more-past p i (suc k) m h = ap (λ (j : ℕ). lowest p i j) (next-sum k m) ∙ go (p i) refl h (more-past p (suc i) k m)
+  where
+    go : (t : Bool) → p i ≡ t → i + suc k ≤ lowest p i (suc k)
+        → (suc i + k ≤ lowest p (suc i) k → lowest p (suc i) (k + m) ≡ lowest p (suc i + k) m)
+        → lowest p i (suc (k + m)) ≡ lowest p (i + suc k) m
+    go true e h ih = absurd (omega (arith, rw (lowest, e) at h))
+    go false e h ih = rw (lowest, e) (ih (omega (arith, rw (lowest, e) at h))
+        ∙ ap (λ (j : ℕ). lowest p j m) (let e : suc i + k ≡ i + suc k = omega arith in e))
+
+module _ (p : ℕ → Bool) (i m n r : ℕ) (low : i ≤ m) (high : m ≤ n) (e : r ≡ lowest p i (m - i)) where
+  longer : lowest p i (n - i) ≡ lowest p i ((m - i) + (n - m))
+  longer = ap (λ (k : ℕ). lowest p i k) (omega arith)
+
+  pub part-found : r < m → r ≡ lowest p i (n - i)
+  part-found h = e ∙ sym (longer ∙ more-found p i (m - i) (n - m) (omega arith))
+
+  pub part-past : m ≤ r → lowest p m (n - m) ≡ lowest p i (n - i)
+  part-past h = sym (longer ∙ more-past p i (m - i) (n - m) (omega arith) ∙ ap (λ (k : ℕ). lowest p k (n - m)) (omega arith))
+
+-- the header is never at fault
+module _ (b : List ℕ) (some : 0 < size b) where
+  pub all-entries : lowest (faulty b) 1 (size b - 1) ≡ lowest (faulty b) 0 (size b)
+  unfolding stray badContent position_of
+  all-entries = sym (lowest-on (faulty b) (size b) 0 some refl) ∙ lowest_start (faulty b) (size b)

@@ -1,0 +1,158 @@
+// Refusal 13: the fields of entries, labels and rows.
+ghost use Rattle.std.specs.Prelude.{◌≡◌, not, ◌+◌, ◌<◌, ◌≤◌};
+ghost use Rattle.text.specs.frames.Frame.{size};
+ghost use Rattle.image.specs.Decode.{labelIn, row_in, lastLabel, labels_from, rows_from};
+ghost use Rattle.image.specs.Check.{within, badEntry, isLabel, badLabel, badBit, badRow};
+ghost use Rattle.image_check.specs.image_fields.inner.FieldTests.{badKind, badTest};
+
+use image::layout::*;
+use image::{byte, filled_to, label_byte, label_mask, row_byte, row_pair, rows_from};
+use text::frames::sizes::FRAME;
+
+// Label l is of the image, and scheme h owns it or ends with it.
+fn is_within(table: &[u8], h: usize, l: usize) -> bool
+    requires { rows_from table.now ≤ size table.now }
+    ensures { result ≡ within table.now h l }
+{
+    if (byte(table, 0, LAST_LABEL) as usize) < l {
+        return false;
+    }
+    if (label_byte(table, l, OWNER) as usize) == h {
+        return true;
+    }
+    if h == 1 {
+        return l == 0;
+    }
+    l == 1
+}
+
+// The entry of scheme h.
+pub fn bad_entry(table: &[u8], h: usize) -> bool
+    requires { (rows_from table.now ≤ size table.now) × (h < size table.now) }
+    ensures { result ≡ badEntry table.now h }
+{
+    if filled_to(table, h, 3, FRAME) {
+        return true;
+    }
+    !is_within(table, h, byte(table, h, ENTRY_LABEL) as usize)
+}
+
+// Label l, which no chart can change, is not of this kind and owner, or has a further field.
+fn unlike(table: &[u8], l: usize, kind: u8, owner: u8) -> bool
+    requires { labels_from table.now + l < size table.now }
+    ensures { result ≡ not (isLabel kind owner (labelIn table.now l)) }
+{
+    if label_byte(table, l, TICK_KIND) != kind {
+        return true;
+    }
+    if label_byte(table, l, CALLED) != 0 {
+        return true;
+    }
+    if label_byte(table, l, OWNER) != owner {
+        return true;
+    }
+    if label_byte(table, l, LABEL_RESULT) != 0 {
+        return true;
+    }
+    label_mask(table, l) != 0
+}
+
+// The tick kind of label l is above 2, or the scheme called does not suit it: kind 0 calls none, 1 and 2 one of 2 to H.
+fn bad_kind(table: &[u8], l: usize) -> bool
+    requires { labels_from table.now + l < size table.now }
+    ensures { result ≡ badKind table.now (labelIn table.now l) }
+{
+    let called = label_byte(table, l, CALLED);
+    let kind = label_byte(table, l, TICK_KIND);
+    match kind {
+        PLAIN => called != 0,
+        OPERATION_CALL..=FUNCTION_CALL => {
+            if called < 2 {
+                return true;
+            }
+            byte(table, 0, SCHEME_COUNT) < called
+        }
+        _ => true,
+    }
+}
+
+// Label l of 2 up.
+fn bad_numbered(table: &[u8], l: usize) -> bool
+    requires { (labels_from table.now + l < size table.now) × (2 ≤ l) }
+    ensures { result ≡ badLabel table.now l (labelIn table.now l) }
+{
+    if bad_kind(table, l) {
+        return true;
+    }
+    let owner = label_byte(table, l, OWNER);
+    if owner == 0 {
+        return true;
+    }
+    if byte(table, 0, SCHEME_COUNT) < owner {
+        return true;
+    }
+    2 < label_byte(table, l, LABEL_RESULT)
+}
+
+// Label l.
+pub fn bad_label(table: &[u8], l: usize) -> bool
+    requires { labels_from table.now + l < size table.now }
+    ensures { result ≡ badLabel table.now l (labelIn table.now l) }
+{
+    match l {
+        0 => unlike(table, 0, HOME, 1),
+        1 => unlike(table, 1, RETURN, 0),
+        _ => bad_numbered(table, l),
+    }
+}
+
+// The function bit of row k.
+fn bad_bit(table: &[u8], k: usize) -> bool
+    requires { (rows_from table.now + k < size table.now) × ((row_in table.now k).from ≤ lastLabel table.now) }
+    ensures { result ≡ badBit table.now (row_in table.now k) }
+{
+    let bit = row_byte(table, k, FUNCTION_BIT);
+    if NO_BIT < bit {
+        return true;
+    }
+    if bit == NO_BIT {
+        return false;
+    }
+    let from = row_byte(table, k, FROM) as usize;
+    label_byte(table, from, TICK_KIND) != FUNCTION_CALL
+}
+
+// Row k leaves a label that is none of 2 to M, or tests values outside its care mask.
+fn bad_test(table: &[u8], k: usize) -> bool
+    requires { rows_from table.now + k < size table.now }
+    ensures { result ≡ badTest table.now (row_in table.now k) }
+{
+    let from = row_byte(table, k, FROM);
+    if from < 2 {
+        return true;
+    }
+    if byte(table, 0, LAST_LABEL) < from {
+        return true;
+    }
+    let values = row_pair(table, k, VALUES);
+    values & row_pair(table, k, CARE) != values
+}
+
+// Row k.
+pub fn bad_row(table: &[u8], k: usize) -> bool
+    requires { rows_from table.now + k < size table.now }
+    ensures { result ≡ badRow table.now (rows_from table.now + k) (row_in table.now k) }
+{
+    if bad_test(table, k) {
+        return true;
+    }
+    if bad_bit(table, k) {
+        return true;
+    }
+    let from = row_byte(table, k, FROM) as usize;
+    let owner = label_byte(table, from, OWNER) as usize;
+    if !is_within(table, owner, row_byte(table, k, NEXT) as usize) {
+        return true;
+    }
+    filled_to(table, rows_from(table) + k, 8, FRAME)
+}

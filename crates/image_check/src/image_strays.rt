@@ -1,0 +1,44 @@
+// Refusal 12: the kind and the number of one frame, and the order of rows.
+ghost use Rattle.std.specs.Prelude.{◌≡◌, ◌+◌, ◌<◌};
+ghost use Rattle.text.specs.frames.Frame.{size};
+ghost use Rattle.image.specs.Decode.{labels_from, rows_from};
+ghost use Rattle.image.specs.Check.{entryPosition, labelPosition, rowPosition, strayFrame};
+
+use image::layout::*;
+use image::{byte, label_byte, row_byte};
+
+// The frame of scheme h's entry has another kind or number.
+pub fn stray_entry(table: &[u8], h: usize) -> bool
+    requires { h < size table.now }
+    ensures { result ≡ strayFrame table.now h (entryPosition h) }
+{
+    if byte(table, h, FRAME_KIND) != ENTRY {
+        return true;
+    }
+    (byte(table, h, NUMBER) as usize) != h
+}
+
+// The frame of label l has another kind or number.
+pub fn stray_label(table: &[u8], l: usize) -> bool
+    requires { labels_from table.now + l < size table.now }
+    ensures { result ≡ strayFrame table.now (labels_from table.now + l) (labelPosition l) }
+{
+    if label_byte(table, l, FRAME_KIND) != LABEL {
+        return true;
+    }
+    (label_byte(table, l, NUMBER) as usize) != l
+}
+
+// The frame of row k has another kind, or the row leaves a label below that of the row before it.
+pub fn stray_row(table: &[u8], k: usize) -> bool
+    requires { rows_from table.now + k < size table.now }
+    ensures { result ≡ strayFrame table.now (rows_from table.now + k) (rowPosition k) }
+{
+    if row_byte(table, k, FRAME_KIND) != ROW {
+        return true;
+    }
+    if k == 0 {
+        return false;
+    }
+    row_byte(table, k, FROM) < row_byte(table, k - 1, FROM)
+}

@@ -1,9 +1,0 @@
--- `label_text::put_fixed`: two frames, one after the other.
-use mathlib.Core.Path.{refl}
-use Rattle.label_text.proofs.LabelPuts.{fixed-done}
-use Rattle.label_text.proofs.label_frames.put_fixed.Goals as goal
-
-pub returns : goal.returns
-returns c =
-    fixed-done _ _ _ _ _ _ refl c.requires c.put_bytes.ensures
-    c.put_bytes-2.ensures

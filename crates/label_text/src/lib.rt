@@ -1,6 +1,0 @@
-// The labels of an image, written as frames of ten bytes.
-#![tactic(auto)]
-
-mod label_frames;
-
-pub use label_frames::{put_fixed, put_labels};

@@ -1,3 +1,0 @@
-pub mod Pick
-pub mod Numbers
-pub mod Sequences

@@ -1,2 +1,0 @@
-// Definitions and laws on lists, on ranges of numbers and on lent buffers; no function.
-#![tactic(auto)]

@@ -1,0 +1,60 @@
+-- What is tried of the first records is read from them alone.
+use Prim.Native.Nat.{ℕ, zero, suc, ◌+◌, ◌*◌, ◌≤◌, ◌<◌}
+use mathlib.Core.Bool.{Bool}
+use mathlib.Core.Path.{◌≡◌, refl, sym, ap}
+use mathlib.Core.List.{List, ◌++◌}
+use native.Mathlib.Omega.{arith}
+use lib.Dec.{eqb}
+use lib.ListN.{length, get_or-append}
+use Rattle.words.specs.lists.Numbers.{any}
+use Rattle.words.proofs.lists.Searches.{any-alike}
+use Rattle.text.specs.frames.Frame.{field}
+use Rattle.charts.specs.Chart.{Chart, is}
+use Rattle.little_charts.specs.little_search.inner.Search.{has, arcLeads, clashes, barredNode, missingEnds, firstTried, past}
+
+-- the first v nodes have the same fields
+pub record SameFields (c d : Chart) (v : ℕ) : Type 0 where
+  pub same : (u k : ℕ) → u < v → k < 10 → field c u k ≡ field d u k
+
+module _ (c d : Chart) where
+  pub has-alike : (k v : ℕ) → SameFields c d v → has c k v ≡ has d k v
+  has-alike k v a = any-alike (is c k) (is d k) 0 v (λ u x y. ap (λ (z : ℕ). eqb z k) (a.same u 0 (omega arith) (omega arith)))
+
+  leads-alike : (u t v : ℕ) → u < v → SameFields c d v → arcLeads c u t ≡ arcLeads d u t
+  leads-alike u t v l a =
+      let e : field c u 0 ≡ field d u 0 = a.same u 0 l (omega arith) in
+      let f : field c u 3 ≡ field d u 3 = a.same u 3 l (omega arith) in
+      let g : field c u 4 ≡ field d u 4 = a.same u 4 l (omega arith) in
+      cc
+
+  pub barred-alike : (v : ℕ) → SameFields c d (v + 1) → barredNode c v ≡ barredNode d v
+  unfolding barredNode
+  barred-alike v a =
+      let e : field c v 0 ≡ field d v 0 = a.same v 0 (omega arith) (omega arith) in
+      let h : has c 1 v ≡ has d 1 v = has-alike 1 v (record { same = λ u k l m. a.same u k (omega arith) m }) in
+      let s : arcLeads c v v ≡ arcLeads d v v = leads-alike v v (v + 1) (omega arith) a in
+      let k : any (clashes c v) 0 (v + 1) ≡ any (clashes d v) 0 (v + 1) = any-alike (clashes c v) (clashes d v) 0 (v + 1) (λ u x y.
+      let f : field c u 0 ≡ field d u 0 = a.same u 0 (omega arith) (omega arith) in
+      let g : arcLeads c u v ≡ arcLeads d u v = leads-alike u v (v + 1) (omega arith) a in
+      let i : arcLeads c v u ≡ arcLeads d v u = leads-alike v u (v + 1) (omega arith) a in
+      cc) in
+      cc
+
+  pub missing-alike : (v : ℕ) → SameFields c d v → missingEnds c v ≡ missingEnds d v
+  missing-alike v a =
+      let b : has c 0 v ≡ has d 0 v = has-alike 0 v a in
+      let e : has c 1 v ≡ has d 1 v = has-alike 1 v a in
+      cc
+
+  pub first_alike : (n v : ℕ) → SameFields c d v → firstTried n c v ≡ firstTried n d v
+  first_alike n v a =
+      let b : has c 0 v ≡ has d 0 v = has-alike 0 v a in
+      let e : has c 1 v ≡ has d 1 v = has-alike 1 v a in
+      cc
+
+  pub past-alike : (n v : ℕ) → SameFields c d v → past n c v ≡ past n d v
+  past-alike n v a = let m : missingEnds c v ≡ missingEnds d v = missing-alike v a in cc
+
+-- a list's front and the whole
+pub front-alike : (xs ys : List ℕ) (v : ℕ) → 10 * v ≤ length xs → SameFields xs (xs ++ ys) v
+front-alike xs ys v l = record { same = λ u k a b. sym (get_or-append xs ys 0 (10 * u + k) (omega arith)) }

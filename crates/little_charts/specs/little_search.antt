@@ -1,0 +1,2 @@
+-- The search for little charts.
+pub mod inner

@@ -1,0 +1,2 @@
+-- How many little charts there are; no function.
+pub mod inner

@@ -1,0 +1,22 @@
+-- `little_fetch::fetching::fetch` meets its contract: the number is past the last chart, there is no room, or the text is written.
+use mathlib.Core.Path.{refl}
+use Rattle.words.proofs.lists.Tests.{not-true, not-false}
+use Rattle.little_fetch.proofs.fetching.LittleChartCases.{past-last, too_short, fetched}
+use Rattle.little_fetch.proofs.fetching.fetch.Goals as goal
+
+pub returns-then-not-sought : goal.returns-then-not-sought
+returns-then-not-sought c =
+    past-last _ _ _ _ c.requires c.seek-sought.auto.records c.seek-sought.ensures _
+    (not-true _ c.if-not-sought.true) _ c.refused.ensures
+
+pub returns-then-text-count : goal.returns-then-text-count
+returns-then-text-count c =
+    too_short _ _ _ _ c.requires c.seek-sought.auto.records c.seek-sought.ensures _
+    (not-false _ c.if-not-sought.false) _ refl c.if-text-count.true _
+    c.refused-then-text-count.ensures
+
+pub returns : goal.returns
+returns c =
+    fetched _ _ _ _ c.requires c.seek-sought.auto.records c.seek-sought.ensures _
+    (not-false _ c.if-not-sought.false) _ refl c.if-text-count.false _
+    c.put_text.ensures

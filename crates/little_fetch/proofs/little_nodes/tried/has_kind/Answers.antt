@@ -1,0 +1,25 @@
+use mathlib.Core.Path.{sym, ◌∙◌, ap}
+use lib.Dec.{eqb}
+use borrow.Author.Tests.{eq-eqb, ne_eqb}
+use Rattle.words.proofs.lists.Searches.{any_here, any-on, any-over}
+use Rattle.std.proofs.Common.{rules}
+use Rattle.little_fetch.proofs.little_nodes.tried.has_kind.Goals as goal
+
+pub returns-then-field-kind : goal.returns-then-field-kind
+returns-then-field-kind c =
+    sym (any_here _ _ _ (search rules)
+    (ap (λ x. eqb x c.args.kind) (sym c.field.ensures)
+    ∙ eq-eqb _ _ c.if-field-kind.true))
+    ∙ c.loop-u.invariant.1
+
+pub loop-u-preserved : goal.loop-u-preserved
+loop-u-preserved c = (
+  search rules,
+  sym (any-on _ _ _ (search rules)
+      (ap (λ x. eqb x c.args.kind) (sym c.field.ensures)
+      ∙ ne_eqb _ _ c.if-field-kind.false))
+      ∙ c.loop-u.invariant.1,
+)
+
+pub returns : goal.returns
+returns c = sym (any-over _ _ _ (search rules)) ∙ c.loop-u.invariant.1

@@ -1,0 +1,25 @@
+use mathlib.Core.Bool.{true, false}
+use mathlib.Core.Path.{refl, sym, ◌∙◌}
+use Rattle.words.proofs.lists.Searches.{any_here, any-on, any-over}
+use Rattle.little_fetch.proofs.little_nodes.Tests.{lonely-by}
+use Rattle.std.proofs.Common.{rules}
+use Rattle.little_fetch.proofs.little_nodes.tried.is_lonely.Goals as goal
+
+pub returns-then-leads_other : goal.returns-then-leads_other
+returns-then-leads_other c =
+    let a = c.args in
+    lonely-by a.records.now a.v _ c.field.ensures true c.if-field-eq-BEGIN.false
+    (sym (any_here _ _ _ (search rules) (sym c.leads_other.ensures ∙ c.if-leads_other.true)) ∙ c.loop-u.invariant.2)
+
+pub loop-u-preserved : goal.loop-u-preserved
+loop-u-preserved c = (
+  search rules,
+  refl,
+  sym (any-on _ _ _ (search rules) (sym c.leads_other.ensures ∙ c.if-leads_other.false)) ∙ c.loop-u.invariant.2,
+)
+
+pub returns : goal.returns
+returns c =
+    let a = c.args in
+    lonely-by a.records.now a.v _ c.field.ensures false c.if-field-eq-BEGIN.false
+    (sym (any-over _ _ _ (search rules)) ∙ c.loop-u.invariant.2)

@@ -1,0 +1,111 @@
+-- All records stand: what is found then; and a record put in its place.
+use Prim.Native.Nat.{ℕ, zero, suc, ◌+◌, ◌*◌, ◌-◌, ◌<◌}
+use mathlib.Core.Bool.{Bool, true, false, ◌&&◌, not}
+use mathlib.Core.Path.{◌≡◌, refl, sym, ◌∙◌, ap, ap₂, subst}
+use mathlib.Core.List.{List, [], ◌∷◌}
+use native.Mathlib.Omega.{arith}
+use lib.Dec.{ltb, eqb}
+use lib.ListN.{length, get_or, take}
+use lib.Seq.{take_all, take-length}
+use borrow.Author.Tests.{lt-ltb, le-ltb}
+use Rattle.words.specs.lists.Pick.{pick}
+use Rattle.words.specs.lists.Numbers.{any}
+use Rattle.words.specs.lists.Sequences.{written}
+use Rattle.words.proofs.lists.Written.{written-take}
+use Rattle.text.specs.frames.Frame.{size}
+use Rattle.text.specs.frames.Verdict.{Verdict}
+use Rattle.text.specs.frames.Answer.{reply, judged}
+use Rattle.text.proofs.frames.Chains.{done-fine, refused-verdict}
+use Rattle.text.specs.declared.frames.Answer.{Answer}
+use Rattle.text.specs.declared.frames.Answer.TheVariants.{Done, Refused}
+use Rattle.charts.specs.Chart.{Chart}
+use Rattle.charts.specs.Check.{chartVerdict}
+use Rattle.little_charts.specs.Little.{beginNode, endNode, passes}
+use Rattle.little_charts.specs.little_search.inner.Search.{operationAt, conditionAt, nodeAt, lonely, searched}
+use Rattle.little_fetch.specs.declared.little_seek.Sought.{Sought}
+use Rattle.little_fetch.specs.little_seek.inner.SeekContracts.{FewFrames, RecordPlaced, SoughtCount, GivesSought, accepts}
+
+-- ---- accepted or not
+pub lonely-out : (c : Chart) (t : Bool) → t ≡ any (lonely c) 0 (size c) → t ≡ true → false ≡ accepts c
+lonely-out c t e q = ap (λ (b : Bool). not b && passes (chartVerdict c)) (sym q ∙ e)
+
+module _ (c : Chart) (t : Bool) (e : t ≡ any (lonely c) 0 (size c)) (q : t ≡ false) (a : Answer)
+    (f : reply a ≡ judged (chartVerdict c) 0) where
+  pub refused-out : (k i n : ℕ) → a ≡ Refused k i n → false ≡ accepts c
+  refused-out k i n h = ap₂ (λ (b : Bool) (v : Verdict). not b && passes v) (sym q ∙ e)
+      (sym (refused-verdict a (chartVerdict c) 0 f k i n h).0)
+
+  pub done-in : (k : ℕ) → a ≡ Done k → true ≡ accepts c
+  done-in k h = ap₂ (λ (b : Bool) (v : Verdict). not b && passes v) (sym q ∙ e) (sym (done-fine a (chartVerdict c) 0 f k h).0)
+
+-- ---- counted
+searched-leaf : (n : ℕ) (c : Chart) → searched n 0 c ≡ pick (accepts c) (c ∷ []) []
+unfolding searched
+searched-leaf n c = go (any (lonely c) 0 (size c)) (passes (chartVerdict c))
+  where
+    go : (t s : Bool) → ◌≡◌ {A = List Chart} (elim t [ true ↦ [] | false ↦ elim s [ true ↦ c ∷ [] | false ↦ [] ] ])
+        (pick (not t && s) (c ∷ []) [])
+    go true true = refl
+    go true false = refl
+    go false true = refl
+    go false false = refl
+
+module _ (n : ℕ) (c : Chart) (left : ℕ) (r : Bool) (e : r ≡ accepts c) where
+  found-by : (b : Bool) → r ≡ b → searched n 0 c ≡ pick b (c ∷ []) []
+  found-by b q = searched-leaf n c ∙ ap (λ (t : Bool). pick t (c ∷ []) []) (sym e ∙ q)
+
+  pub count_none : r ≡ false → SoughtCount (searched n 0 c) left (record { found = false; left = left })
+  count_none q = subst (λ (xs : List Chart). SoughtCount xs left (record { found = false; left = left })) (sym (found-by false q))
+      (record { told = sym (le-ltb left 0 (omega arith)); passed = omega arith })
+
+  pub count-here : r ≡ true → left ≡ 0 → SoughtCount (searched n 0 c) left (record { found = true; left = left })
+  count-here q z = subst (λ (xs : List Chart). SoughtCount xs left (record { found = true; left = left })) (sym (found-by true q))
+      (record { told = sym (lt-ltb left 1 (omega arith)); passed = omega arith })
+
+  pub count-on : r ≡ true → (left ≡ 0 → ⊥) → SoughtCount (searched n 0 c) left (record { found = false; left = left - 1 })
+  count-on q z = subst (λ (xs : List Chart). SoughtCount xs left (record { found = false; left = left - 1 })) (sym (found-by true q))
+      (record { told = sym (le-ltb left 1 (omega arith)); passed = refl })
+
+-- the one that is found is the chart itself
+leaf-chart : (n : ℕ) (c : Chart) (left : ℕ) → left < length (searched n 0 c) → c ≡ get_or (searched n 0 c) left []
+leaf-chart n c left l = go (accepts c) (searched-leaf n c) left l
+  where
+    go : (t : Bool) → searched n 0 c ≡ pick t (c ∷ []) [] → (k : ℕ) → k < length (searched n 0 c) → c ≡ get_or (searched n 0 c) k []
+    go true q k h = subst (λ (xs : List Chart). k < length xs → c ≡ get_or xs k []) (sym q) (one k) h
+      where
+        one : (k : ℕ) → k < 1 → c ≡ get_or (c ∷ []) k []
+        one zero h = refl
+        one (suc k) h = absurd (omega arith)
+    go false q k h = absurd (omega (arith, ap length q))
+
+pub leaf-seeks : (rs : List ℕ) (v left : ℕ) (r : Sought) → FewFrames rs → v ≡ size rs → SoughtCount (searched (size rs) 0 rs) left r
+    → GivesSought (searched (size rs) (size rs - v) (take (10 * v) rs)) (take (10 * v) rs) left r rs
+leaf-seeks rs v left r f e c =
+    let w : length rs ≡ 10 * size rs = f.whole in
+    let t : take (10 * v) rs ≡ rs = take_all (10 * v) rs (omega arith) in
+    let z : size rs - v ≡ 0 = omega arith in
+    subst (λ (front : List ℕ). GivesSought (searched (size rs) (size rs - v) front) front left r rs) (sym t)
+    (subst (λ (m : ℕ). GivesSought (searched (size rs) m rs) rs left r rs) (sym z)
+    (record { counted = c; chart = leaf-chart (size rs) rs left; kept = λ l. take-length rs }))
+
+-- ---- a record in its place
+pub node-ten : (n i : ℕ) → length (nodeAt n i) ≡ 10
+unfolding nodeAt
+node-ten n i = go (ltb i n) (eqb i n) (ltb i (3 * n + 1))
+  where
+    go : (s t u : Bool) → length
+        (pick s (beginNode i) (pick t endNode (pick u (operationAt (i - (n + 1))) (conditionAt n (i - (3 * n + 1)))))) ≡ 10
+    go true t u = refl
+    go false true u = refl
+    go false false true = refl
+    go false false false = refl
+
+pub placed : (rs out : List ℕ) (v : ℕ) (r : List ℕ) → FewFrames rs → v < size rs → length r ≡ 10 → length out ≡ length rs
+    → out ≡ written rs (10 * v) r → RecordPlaced rs v r out
+placed rs out v r f l t n e =
+    let w : length rs ≡ 10 * size rs = f.whole in
+    let q : 10 * v + 10 ≡ 10 * v + length r = omega arith in
+    record {
+      long = n;
+      front = ap₂ (λ (k : ℕ) (x : List ℕ). take k x) q e ∙ written-take rs (10 * v) r (omega arith);
+    }

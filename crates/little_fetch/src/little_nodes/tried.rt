@@ -1,0 +1,141 @@
+// What no accepted chart has: a second Begin or End, an arc to a Begin, a condition's arc to itself, a node that no other leads to.
+ghost use Rattle.std.specs.Prelude.{◌≡◌, ◌+◌, ◌*◌, ◌≤◌, ◌<◌, length};
+ghost use Rattle.words.specs.lists.Numbers.{any};
+ghost use Rattle.text.specs.frames.Sizes.{RECORD};
+ghost use Rattle.text.specs.frames.Frame.{size};
+ghost use Rattle.little_charts.specs.little_search.inner.Search.{has, arcLeads, enters, clashes, repeats, barredNode, leadsOther, lonely};
+
+use charts::field;
+use charts::layout::*;
+use text::frames::sizes::RECORD;
+
+// A node below v is of this kind.
+pub fn has_kind(records: &[u8], kind: u8, v: usize) -> bool
+    requires { RECORD * v ≤ length records.now }
+    ensures { result ≡ has records.now kind v }
+{
+    let mut u: usize = 0;
+    while u < v {
+        if field(records, u, KIND) == kind {
+            return true;
+        }
+        u += 1;
+    }
+    false
+}
+
+// An arc of node u leads to t.
+fn leads_to(records: &[u8], u: usize, t: usize) -> bool
+    requires { RECORD * u + RECORD ≤ length records.now }
+    ensures { result ≡ arcLeads records.now u t }
+{
+    let kind = field(records, u, KIND);
+    if kind == END {
+        return false;
+    }
+    if field(records, u, NEXT0) as usize == t {
+        return true;
+    }
+    if kind != CONDITION {
+        return false;
+    }
+    field(records, u, NEXT1) as usize == t
+}
+
+// Node v is a Begin that an arc of node u leads to.
+fn enters_begin(records: &[u8], u: usize, v: usize) -> bool
+    requires { (RECORD * u + RECORD ≤ length records.now) × (RECORD * v + RECORD ≤ length records.now) }
+    ensures { result ≡ enters records.now u v }
+{
+    if field(records, v, KIND) != BEGIN {
+        return false;
+    }
+    leads_to(records, u, v)
+}
+
+// Node v clashes with one up to it.
+fn any_clash(records: &[u8], v: usize) -> bool
+    requires { RECORD * v + RECORD ≤ length records.now }
+    ensures { result ≡ any (clashes records.now v) 0 (v + 1) }
+{
+    let end = v + 1;
+    let mut u: usize = 0;
+    while u < end {
+        if enters_begin(records, u, v) {
+            return true;
+        }
+        if enters_begin(records, v, u) {
+            return true;
+        }
+        u += 1;
+    }
+    false
+}
+
+// Node v is a second End, or a condition with an arc to itself.
+fn repeats(records: &[u8], v: usize) -> bool
+    requires { RECORD * v + RECORD ≤ length records.now }
+    ensures { result ≡ repeats records.now v }
+{
+    match field(records, v, KIND) {
+        END => has_kind(records, END, v),
+        CONDITION => leads_to(records, v, v),
+        _ => false,
+    }
+}
+
+// No accepted chart has such a node v after such records.
+pub fn is_barred(records: &[u8], v: usize) -> bool
+    requires { RECORD * v + RECORD ≤ length records.now }
+    ensures { result ≡ barredNode records.now v }
+{
+    if repeats(records, v) {
+        return true;
+    }
+    any_clash(records, v)
+}
+
+// Node u is another one than v, and an arc of it leads there.
+fn leads_other(records: &[u8], v: usize, u: usize) -> bool
+    requires { RECORD * u + RECORD ≤ length records.now }
+    ensures { result ≡ leadsOther records.now v u }
+{
+    if u == v {
+        return false;
+    }
+    leads_to(records, u, v)
+}
+
+// No arc of another node leads to node v, and it is no Begin.
+fn is_lonely(records: &[u8], v: usize) -> bool
+    requires { v < size records.now }
+    ensures { result ≡ lonely records.now v }
+{
+    if field(records, v, KIND) == BEGIN {
+        return false;
+    }
+    let n = records.len() / RECORD;
+    let mut u: usize = 0;
+    while u < n {
+        if leads_other(records, v, u) {
+            return false;
+        }
+        u += 1;
+    }
+    true
+}
+
+// Some node is such a one.
+pub fn any_lonely(records: &[u8]) -> bool
+    ensures { result ≡ any (lonely records.now) 0 (size records.now) }
+{
+    let n = records.len() / RECORD;
+    let mut v: usize = 0;
+    while v < n {
+        if is_lonely(records, v) {
+            return true;
+        }
+        v += 1;
+    }
+    false
+}

@@ -1,0 +1,73 @@
+// Node records by number, and the numbers that are tried at a place.
+ghost use Rattle.std.specs.Prelude.{◌≡◌, ◌+◌, ◌*◌, ◌≤◌, ◌<◌, length};
+ghost use Rattle.text.specs.frames.Sizes.{RECORD};
+ghost use Rattle.text.specs.frames.Frame.{size};
+ghost use Rattle.little_charts.specs.little_search.inner.Search.{nodeCount, nodeAt, absent, missingEnds, firstTried, past};
+
+use crate::little_nodes::has_kind;
+use charts::layout::*;
+use text::frames::sizes::RECORD;
+
+// Record i of those that nodes of a chart of n frames can have.
+pub fn node(n: usize, i: usize) -> [u8; RECORD]
+    requires { (1 ≤ n) × (n ≤ 4) × (i < nodeCount n) }
+    ensures { result ≡ nodeAt n i }
+{
+    if i < n {
+        return [BEGIN, 1, 0, i as u8, 0, 0, 0, 0, 0, 0];
+    }
+    if i == n {
+        return [END, 1, 0, 0, 0, 0, 0, 0, 0, 0];
+    }
+    if i < 3 * n + 1 {
+        let j = i - (n + 1);
+        return [OPERATION, 1, 0, (j / 2) as u8, 0, 0, 0, 0, 0, (j % 2) as u8];
+    }
+    let j = i - (3 * n + 1);
+    [CONDITION, 1, 0, (j / n) as u8, (j % n) as u8, 0, 0, 0, 0, 0]
+}
+
+// The first number to try at place v.
+pub fn first_number(records: &[u8], v: usize) -> usize
+    requires { RECORD * v ≤ length records.now }
+    ensures { result ≡ firstTried (size records.now) records.now v }
+{
+    if has_kind(records, BEGIN, v) {
+        return records.len() / RECORD;
+    }
+    0
+}
+
+// 1 where no node below v is of this kind.
+fn absent(records: &[u8], kind: u8, v: usize) -> usize
+    requires { RECORD * v ≤ length records.now }
+    ensures { result ≡ absent records.now kind v }
+{
+    if has_kind(records, kind, v) {
+        return 0;
+    }
+    1
+}
+
+// How many of Begin and End no node below v is.
+fn missing_count(records: &[u8], v: usize) -> usize
+    requires { RECORD * v ≤ length records.now }
+    ensures { result ≡ missingEnds records.now v }
+{
+    let begins = absent(records, BEGIN, v);
+    let ends = absent(records, END, v);
+    begins + ends
+}
+
+// The number after the last one.
+pub fn past_number(records: &[u8], v: usize) -> usize
+    requires { (RECORD * v ≤ length records.now) × (size records.now ≤ 4) }
+    ensures { result ≡ past (size records.now) records.now v }
+{
+    let n = records.len() / RECORD;
+    let left = n - v;
+    if left <= missing_count(records, v) {
+        return n + 1;
+    }
+    n * n + 3 * n + 1
+}

@@ -1,0 +1,90 @@
+// A little chart sought by its number: node records are tried place by place, and the charts that are found are counted down.
+ghost use Rattle.std.specs.Prelude.{◌≡◌, ◌*◌, ◌-◌, ◌≤◌, ◌<◌, take};
+ghost use Rattle.text.specs.frames.Sizes.{RECORD};
+ghost use Rattle.text.specs.frames.Frame.{size};
+ghost use Rattle.little_charts.specs.little_search.inner.Search.{nodeCount, nodeAt, searched};
+ghost use Rattle.little_fetch.specs.little_seek.inner.SeekContracts.{FewFrames, RecordPlaced, SoughtCount, GivesSought, accepts};
+
+use crate::little_nodes::{any_lonely, is_barred};
+use crate::little_numbers::{first_number, node, past_number};
+use chart_check::check_chart;
+use text::frames::sizes::RECORD;
+use text::frames::{Answer, put_bytes};
+
+// Whether the chart was found, and else how many are still to be passed over.
+#[derive(Drop)]
+pub struct Sought {
+    pub found: bool,
+    pub left: usize,
+}
+
+// The records are an accepted chart. A node that no other leads to is looked for first, which takes less time.
+fn accepts(records: &[u8]) -> bool
+    requires { FewFrames records.now }
+    ensures { result ≡ accepts records.now }
+{
+    if any_lonely(records) {
+        return false;
+    }
+    let answer = check_chart(records);
+    let Answer::Done(_) = answer else {
+        return false;
+    };
+    true
+}
+
+// All records stand: the chart is the one sought, or one to pass over, or none.
+fn count_chart(records: &[u8], left: usize) -> Sought
+    requires { FewFrames records.now }
+    ensures { SoughtCount (searched (size records.now) 0 records.now) left result }
+{
+    if !accepts(records) {
+        return Sought { found: false, left };
+    }
+    if left == 0 {
+        return Sought { found: true, left };
+    }
+    Sought {
+        found: false,
+        left: left - 1,
+    }
+}
+
+// Record i at place v.
+fn place(records: &mut [u8], v: usize, i: usize)
+    requires { (FewFrames records.old) × (v < size records.old) × (i < nodeCount (size records.old)) }
+    ensures { RecordPlaced records.old v (nodeAt (size records.old) i) records.new }
+{
+    let ten = node(records.len() / RECORD, i);
+    put_bytes(records, RECORD * v, &ten);
+}
+
+// From place v on all records are tried that may stand there, and the rest after each.
+pub fn seek(records: &mut [u8], v: usize, left: usize) -> Sought
+    requires { (FewFrames records.old) × (v ≤ size records.old) }
+    ensures { GivesSought (searched (size records.old) (size records.old - v)
+        (take (RECORD * v) records.old)) (take (RECORD * v) records.old) left result records.new }
+{
+    let n = records.len() / RECORD;
+    if v == n {
+        return count_chart(records, left);
+    }
+    let past = past_number(records, v);
+    let mut i = first_number(records, v);
+    let mut rest = left;
+    while i < past {
+        place(records, v, i);
+        i += 1;
+        if !is_barred(records, v) {
+            let sought = seek(records, v + 1, rest);
+            if sought.found {
+                return sought;
+            }
+            rest = sought.left;
+        }
+    }
+    Sought {
+        found: false,
+        left: rest,
+    }
+}

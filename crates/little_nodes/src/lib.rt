@@ -1,6 +1,0 @@
-// What a search for little charts tries of the first records.
-#![tactic(auto)]
-
-mod tried;
-
-pub use tried::{any_lonely, has_kind, is_barred};

@@ -1,0 +1,262 @@
+-- The numbers of the groups, and that the image with one label a group is sound.
+use Prim.Native.Nat.{ℕ, zero, suc, ◌+◌, ◌-◌, ◌≤◌, ◌<◌}
+use mathlib.Core.Bool.{Bool, true, false}
+use mathlib.Core.Path.{◌≡◌, refl, sym, ◌∙◌, ap, subst}
+use mathlib.Core.Logic.{◌⊎◌, inl, inr}
+use mathlib.Core.List.{List, [], ◌∷◌, map}
+use native.Mathlib.Nat.{zero-add}
+use native.Mathlib.Omega.{arith}
+use lib.Dec.{eqb}
+use lib.ListN.{length, get_or, length-map}
+use borrow.Author.Tests.{eqb-true, eq-eqb}
+use Rattle.words.specs.lists.Pick.{pick}
+use Rattle.words.specs.lists.Numbers.{range, count}
+use Rattle.words.specs.lists.Sequences.{filter, All}
+use Rattle.words.proofs.lists.Tests.{split, yes-pick}
+use Rattle.words.proofs.lists.Counts.{count-snoc, count-le, count-mono, count-below}
+use Rattle.words.proofs.lists.Ranges.{length-filter, getD-filter, get_d_map, filter-yes, filter-no}
+use Rattle.words.proofs.lists.Filters.{filter_none}
+use Rattle.words.proofs.lists.Joins.{all-at, all-places, all_map, all_of, all_filter}
+use Rattle.image.specs.Image.{Image, Label, Row, no_row, nthRow}
+use Rattle.image.specs.inner.Sound.{no_label, nthLabel, end_of, Reaches, SoundLabel, SoundRow, SoundImage}
+use Rattle.image.proofs.Rising.{Rising, rising-at}
+use Rattle.state.specs.State.{label_at}
+use Rattle.grouping.specs.Classes.{class_of, isFirst}
+use Rattle.minimising.specs.group_numbers.Smaller.{renumbered, renumberedRow, joinedLabels}
+use Rattle.grouping.proofs.Onward.{low_same}
+use Rattle.grouping.proofs.Rounds.{ClassRound}
+
+-- ---- the number that passes with k others below it
+pub record Nth (p : ℕ → Bool) (n k : ℕ) : Type 0 where
+  pub member : ℕ
+  pub inside : member < n
+  pub passes : p member ≡ true
+  pub number : count p 0 member ≡ k
+
+pub nth : (p : ℕ → Bool) (n k : ℕ) → k < count p 0 n → Nth p n k
+nth p zero k h = absurd (omega (arith, count-le p 0 0))
+nth p (suc n) k h = go (p n) refl (split k (count p 0 n)) (nth p n k)
+  where
+    wider : Nth p n k → Nth p (suc n) k
+    wider x = record { member = x.member; inside = omega (arith, x.inside); passes = x.passes; number = x.number }
+
+    tail : (t : Bool) → p n ≡ t → count p 0 (suc n) ≡ count p 0 n + pick t 1 0
+    tail t e = count-snoc p 0 n ∙ ap (λ (x : Bool). count p 0 n + pick x 1 0) (ap p (zero-add n) ∙ e)
+
+    go : (t : Bool) → p n ≡ t → (k < count p 0 n) ⊎ (count p 0 n ≤ k) → (k < count p 0 n → Nth p n k) → Nth p (suc n) k
+    go t e (inl x) ih = wider (ih x)
+    go true e (inr x) ih = record { member = n; inside = omega arith; passes = e; number = omega (arith, tail true e) }
+    go false e (inr x) ih = absurd (omega (arith, tail false e))
+
+-- ---- rows in rising order
+rising-of : (m : ℕ) (rs : List Row) → (0 < length rs → m ≤ (get_or rs 0 no_row).from)
+    → ((k : ℕ) → suc k < length rs → (get_or rs k no_row).from ≤ (get_or rs (suc k) no_row).from) → Rising m rs
+rising-of m [] h each = tt
+rising-of m (r ∷ rs) h each = (h (omega arith), rising-of r.from rs (λ l. each 0 (omega arith)) (λ k l. each (suc k) (omega arith)))
+
+pub length-filtered : {A : Type 0} (p : A → Bool) (xs : List A) → length (filter p xs) ≤ length xs
+length-filtered p [] = omega (arith, ap (λ ys. length ys) (filter_none p))
+length-filtered p (x ∷ xs) = go (p x) refl (length-filtered p xs)
+  where
+    go : (t : Bool) → p x ≡ t → length (filter p xs) ≤ length xs → length (filter p (x ∷ xs)) ≤ suc (length xs)
+    go true e ih = omega (arith, ap (λ ys. length ys) (filter-yes p x xs e))
+    go false e ih = omega (arith, ap (λ ys. length ys) (filter-no p x xs e))
+
+module _ (i : Image) (S : SoundImage i) (c : List ℕ) (R : ClassRound i c) where
+  abbrev n : ℕ
+  n = length i.labels
+
+  abbrev new : ℕ → ℕ
+  new = renumbered c
+
+  class-inside : (l : ℕ) → l < n → class_of c l < n
+  class-inside l h = omega (arith, R.below l h)
+
+  pub class-first : (l : ℕ) → l < n → isFirst c (class_of c l) ≡ true
+  class-first l h = eq-eqb (class_of c (class_of c l)) (class_of c l) (R.own l h)
+
+  pub class-label : (l : ℕ) → l < n → label_at i (class_of c l) ≡ label_at i l
+  class-label l h = R.same (class_of c l) l (class-inside l h) h (R.own l h)
+
+  -- labels 0 and 1 are alone in their groups
+  pub class_low : (l : ℕ) → l < n → class_of c l < 2 → class_of c l ≡ l
+  class_low l h low = low_same i S (class_of c l) l (class-inside l h) h (class-label l h) low
+
+  pub class-high : (l : ℕ) → l < n → 2 ≤ l → 2 ≤ class_of c l
+  class-high l h k = go (split (class_of c l) 2)
+    where
+      go : (class_of c l < 2) ⊎ (2 ≤ class_of c l) → 2 ≤ class_of c l
+      go (inl x) = absurd (omega (arith, class_low l h x))
+      go (inr x) = x
+
+  class-zero : class_of c 0 ≡ 0
+  class-zero = omega (arith, R.below 0 (omega (arith, S.two)))
+
+  class-one : class_of c 1 ≡ 1
+  class-one = class_low 1 (omega (arith, S.two)) (omega (arith, R.below 1 (omega (arith, S.two))))
+
+  count-zero : count (isFirst c) 0 0 ≡ 0
+  count-zero = omega (arith, count-le (isFirst c) 0 0)
+
+  next-first : (k : ℕ) → class_of c k ≡ k → count (isFirst c) 0 (suc k) ≡ suc (count (isFirst c) 0 k)
+  next-first k e = count-snoc (isFirst c) 0 k
+      ∙ ap (λ (x : ℕ). count (isFirst c) 0 k + x) (ap (λ (x : ℕ). pick (isFirst c x) 1 0) (zero-add k)
+      ∙ yes-pick (isFirst c k) 1 0 (eq-eqb (class_of c k) k e)) ∙ omega arith
+
+  pub new-zero : new 0 ≡ 0
+  new-zero = ap (λ (x : ℕ). count (isFirst c) 0 x) class-zero ∙ count-zero
+
+  pub new-one : new 1 ≡ 1
+  new-one = ap (λ (x : ℕ). count (isFirst c) 0 x) class-one ∙ next-first 0 class-zero ∙ ap suc count-zero
+
+  count-two : count (isFirst c) 0 2 ≡ 2
+  count-two = next-first 1 class-one ∙ ap suc (next-first 0 class-zero) ∙ ap (λ (x : ℕ). suc (suc x)) count-zero
+
+  count-rises : (k l : ℕ) → k ≤ l → count (isFirst c) 0 k ≤ count (isFirst c) 0 l
+  count-rises k l h =
+      let e : count (isFirst c) 0 (k + (l - k)) ≡ count (isFirst c) 0 l = ap (λ (x : ℕ). count (isFirst c) 0 x) (omega arith) in
+      omega (arith, count-mono (isFirst c) k (l - k))
+
+  pub new-high : (l : ℕ) → l < n → 2 ≤ l → 2 ≤ new l
+  new-high l h k = omega (arith, count-two, count-rises 2 (class_of c l) (class-high l h k))
+
+  -- a label that is the lowest of its group
+  pub new-first : (l : ℕ) → isFirst c l ≡ true → new l ≡ count (isFirst c) 0 l
+  new-first l t = ap (λ (x : ℕ). count (isFirst c) 0 x) (eqb-true (class_of c l) l t)
+
+  -- ---- the smaller image by number
+  pub labels-count : length (joinedLabels i c).labels ≡ count (isFirst c) 0 n
+  unfolding joinedLabels
+  labels-count = length-map (filter (isFirst c) (range 0 n)) (label_at i) ∙ length-filter (isFirst c) 0 n
+
+  pub entries-count : length (joinedLabels i c).entries ≡ length i.entries
+  unfolding joinedLabels
+  entries-count = length-map i.entries new
+
+  pub new-inside : (l : ℕ) → l < n → new l < length (joinedLabels i c).labels
+  new-inside l h = omega (arith, labels-count, count-below (isFirst c) (class_of c l) n (class-inside l h) (class-first l h))
+
+  pub label-new : (l : ℕ) → l < n → label_at (joinedLabels i c) (new l) ≡ label_at i l
+  unfolding joinedLabels
+  label-new l h =
+      getD-filter (label_at i) no_label (isFirst c) 0 n (class_of c l) (class-inside l h)
+      (ap (isFirst c) (zero-add (class_of c l)) ∙ class-first l h)
+      ∙ ap (label_at i) (zero-add (class_of c l)) ∙ class-label l h
+
+  pub entry_new : (h : ℕ) → h < length i.entries → get_or (joinedLabels i c).entries h 0 ≡ new (get_or i.entries h 0)
+  unfolding joinedLabels
+  entry_new h l = get_d_map new i.entries h 0 0 l
+
+  -- ---- it is sound
+  end-new : (h : ℕ) → new (end_of h) ≡ end_of h
+  end-new h = go (eqb h 1)
+    where
+      go : (t : Bool) → new (pick t 0 1) ≡ pick t 0 1
+      go true = new-zero
+      go false = new-one
+
+  pub reaches-new : (h l : ℕ) → Reaches i h l → Reaches (joinedLabels i c) h (new l)
+  reaches-new h l r = record { inside = new-inside l r.inside; belongs = go r.belongs }
+    where
+      go : ((nthLabel i l).owner ≡ h) ⊎ (l ≡ end_of h) → ((nthLabel (joinedLabels i c) (new l)).owner ≡ h) ⊎ (new l ≡ end_of h)
+      go (inl e) = inl (ap (λ (x : Label). x.owner) (label-new l r.inside) ∙ e)
+      go (inr e) = inr (ap new e ∙ end-new h)
+
+  row-sound : (r : Row) → SoundRow i r × (isFirst c r.from ≡ true) → SoundRow (joinedLabels i c) (renumberedRow c r)
+  row-sound r x =
+      let s : SoundRow i r = x.0 in
+      let e : label_at (joinedLabels i c) (new r.from) ≡ label_at i r.from = label-new r.from s.high in
+      record {
+        low = new-high r.from s.high s.low;
+        high = new-inside r.from s.high;
+        cares = s.cares;
+        small = s.small;
+        within = s.within;
+        bits = s.bits;
+        function = λ b. ap (λ (y : Label). y.kind) e ∙ s.function b;
+        leading = subst (λ (h : ℕ). Reaches (joinedLabels i c) h (new r.next)) (sym (ap (λ (y : Label). y.owner) e))
+            (reaches-new (label_at i r.from).owner r.next s.leading);
+      }
+
+  rows-sound : All (SoundRow (joinedLabels i c)) (map (renumberedRow c) (filter (λ r. isFirst c r.from) i.rows))
+  rows-sound =
+      all_map (SoundRow (joinedLabels i c)) (renumberedRow c) (filter (λ r. isFirst c r.from) i.rows)
+      (all_of (λ r. SoundRow i r × (isFirst c r.from ≡ true)) (λ r. SoundRow (joinedLabels i c) (renumberedRow c r)) row-sound
+      (filter (λ r. isFirst c r.from) i.rows)
+      (all_filter (SoundRow i) (λ r. isFirst c r.from) i.rows (all-places (SoundRow i) no_row i.rows S.each)))
+
+  rising-led : (m k : ℕ) (rs : List Row) → Rising m rs → ((x : ℕ) → m ≤ x → isFirst c x ≡ true → k ≤ new x)
+      → Rising k (map (renumberedRow c) (filter (λ r. isFirst c r.from) rs))
+  rising-led m k [] a h = subst (λ (rs : List Row). Rising k (map (renumberedRow c) rs)) (sym (filter_none (λ r. isFirst c r.from))) tt
+  rising-led m k (r ∷ rs) a h = go (isFirst c r.from) refl (rising-led r.from (new r.from) rs a.1)
+      (rising-led r.from k rs a.1)
+    where
+      test : Row → Bool
+      test = λ s. isFirst c s.from
+
+      go : (t : Bool) → isFirst c r.from ≡ t
+          → (((x : ℕ) → r.from ≤ x → isFirst c x ≡ true → new r.from ≤ new x)
+          → Rising (new r.from) (map (renumberedRow c) (filter (λ s. isFirst c s.from) rs)))
+          → (((x : ℕ) → r.from ≤ x → isFirst c x ≡ true → k ≤ new x)
+          → Rising k (map (renumberedRow c) (filter (λ s. isFirst c s.from) rs)))
+          → Rising k (map (renumberedRow c) (filter (λ s. isFirst c s.from) (r ∷ rs)))
+      go true e ih _ = subst (λ (ss : List Row). Rising k (map (renumberedRow c) ss)) (sym (filter-yes (λ s. isFirst c s.from) r rs e))
+          (h r.from a.0 e, ih (λ x l t. omega (arith, new-first r.from e, new-first x t, count-rises r.from x l)))
+      go false e _ ih = subst (λ (ss : List Row). Rising k (map (renumberedRow c) ss)) (sym (filter-no (λ s. isFirst c s.from) r rs e))
+          (ih (λ x l t. h x (omega (arith, a.0)) t))
+
+  rows-rising : (k : ℕ) → suc k < length (joinedLabels i c).rows
+      → (nthRow (joinedLabels i c) k).from ≤ (nthRow (joinedLabels i c) (suc k)).from
+  unfolding joinedLabels
+  rows-rising = rising-at 0 (map (renumberedRow c) (filter (λ r. isFirst c r.from) i.rows))
+      (rising-led 0 0 i.rows (rising-of 0 i.rows (λ l. omega arith) S.rising) (λ x l t. omega arith))
+
+  pub rows-fewer : length (joinedLabels i c).rows ≤ length i.rows
+  unfolding joinedLabels
+  rows-fewer = omega (
+    arith,
+    length-map (filter (λ r. isFirst c r.from) i.rows) (renumberedRow c),
+    length-filtered (λ (r : Row). isFirst c r.from) i.rows,
+  )
+
+  each-sound : (k : ℕ) → k < length (joinedLabels i c).rows → SoundRow (joinedLabels i c) (nthRow (joinedLabels i c) k)
+  unfolding joinedLabels
+  each-sound k h = all-at (SoundRow (joinedLabels i c)) no_row
+      (map (renumberedRow c) (filter (λ r. isFirst c r.from) i.rows)) rows-sound k h
+
+  -- a member with at least two groups below it is from 2 up
+  member-high : (m : ℕ) → 2 ≤ count (isFirst c) 0 m → 2 ≤ m
+  member-high m h = omega (arith, count-le (isFirst c) 0 m)
+
+  label-sound : (l : ℕ) → 2 ≤ l → l < length (joinedLabels i c).labels
+      → SoundLabel (length (joinedLabels i c).entries) (nthLabel (joinedLabels i c) l)
+  label-sound l low high =
+      let x : Nth (isFirst c) n l = nth (isFirst c) n l (omega (arith, labels-count)) in
+      let e : new x.member ≡ l = new-first x.member x.passes ∙ x.number in
+      let big : 2 ≤ x.member = member-high x.member (omega (arith, x.number)) in
+      subst (λ (k : ℕ). SoundLabel (length (joinedLabels i c).entries) (nthLabel (joinedLabels i c) k)) e
+      (subst (λ (y : Label). SoundLabel (length (joinedLabels i c).entries) y) (sym (label-new x.member x.inside))
+      (subst (λ (k : ℕ). SoundLabel k (label_at i x.member)) (sym entries-count) (S.others x.member big x.inside)))
+
+  handler-new : ((joinedLabels i c).handler ≡ 0 → ⊥) → (2 ≤ (joinedLabels i c).handler)
+      × ((joinedLabels i c).handler ≤ length (joinedLabels i c).entries)
+  unfolding joinedLabels
+  handler-new z = ((S.handled z).0, omega (arith, (S.handled z).1, entries-count))
+
+  pub joined-sound : SoundImage (joinedLabels i c)
+  joined-sound = record {
+    first = omega (arith, entries-count, S.first);
+    most = omega (arith, entries-count, S.most);
+    two = omega (arith, labels-count, count-two, count-rises 2 n S.two);
+    last = omega (arith, labels-count, count-le (isFirst c) 0 n, S.last);
+    few = omega (arith, rows-fewer, S.few);
+    handled = handler-new;
+    starts = λ h l. let m : h < length i.entries = omega (arith, entries-count) in
+        subst (λ (x : ℕ). Reaches (joinedLabels i c) (suc h) x) (sym (entry_new h m))
+        (reaches-new (suc h) (get_or i.entries h 0) (S.starts h m));
+    home = ap (nthLabel (joinedLabels i c)) (sym new-zero) ∙ label-new 0 (omega (arith, S.two)) ∙ S.home;
+    back = ap (nthLabel (joinedLabels i c)) (sym new-one) ∙ label-new 1 (omega (arith, S.two)) ∙ S.back;
+    others = label-sound;
+    each = each-sound;
+    rising = rows-rising;
+  }

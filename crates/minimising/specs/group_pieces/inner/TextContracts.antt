@@ -1,0 +1,13 @@
+-- What the functions that write the smaller image ask.
+use Rattle.std.specs.Prelude.{ℕ, ◌≤◌, ◌≡◌, List, length, get_or}
+use Rattle.text.specs.frames.Sizes.{LABELS}
+use Rattle.image.specs.Decode.{lastLabel}
+use Rattle.covering.specs.inner.CoveringContracts.{SoundTable}
+use Rattle.minimising.specs.group_numbers.Smaller.{renumbered}
+
+-- a table, the classes of its labels, and the numbers of their groups
+pub record NumberedGroups (b c numbers : List ℕ) : Type 0 where
+  pub table : SoundTable b
+  pub long : length c ≡ LABELS
+  pub room : length numbers ≡ LABELS
+  pub at : (l : ℕ) → l ≤ lastLabel b → get_or numbers l 0 ≡ renumbered c l

@@ -1,0 +1,32 @@
+// The smaller image of labels that are grouped: written where there is room for all of it.
+ghost use Rattle.std.specs.Prelude.{◌≡◌, length};
+ghost use Rattle.text.specs.frames.Sizes.{LABELS};
+ghost use Rattle.text.specs.frames.Verdict.{fine};
+ghost use Rattle.text.specs.frames.Answer.{GivesBuffer};
+ghost use Rattle.minimising.specs.group_image.inner.WriteContracts.{Grouped, smallerOutcome};
+
+use crate::group_numbers::{count_kept, number_groups};
+use crate::group_text::put_pieces;
+use image::layout::{LAST_LABEL, SCHEME_COUNT};
+use image::{byte, rows_from};
+use text::frames::refusals::NO_ROOM;
+use text::frames::sizes::*;
+use text::frames::{Answer, refused};
+
+// 16, else all of it is written.
+pub fn write_groups(table: &[u8], classes: &[u8], numbers: &mut [u8], out: &mut [u8]) -> Answer
+    requires grouped { Grouped table.now classes.now }
+    requires numbers_len { length numbers.old ≡ LABELS }
+    ensures { GivesBuffer (smallerOutcome table.now fine out.old) result out.new }
+{
+    let schemes = byte(table, 0, SCHEME_COUNT) as usize;
+    let last = byte(table, 0, LAST_LABEL) as usize;
+    let groups = number_groups(classes, numbers, last + 1);
+    let rows = count_kept(table, classes, rows_from(table), table.len() / FRAME);
+    let need = LINE * (1 + schemes + groups + rows);
+    if out.len() < need {
+        return refused(NO_ROOM, 0);
+    }
+    put_pieces(table, classes, numbers, groups, rows, out);
+    Answer::Done(need)
+}

@@ -1,0 +1,54 @@
+// One label or row of the given image, written as a frame of the smaller one where it is kept.
+ghost use Rattle.std.specs.Prelude.{◌+◌, ◌≤◌, ◌<◌, length};
+ghost use Rattle.text.specs.frames.Frame.{size};
+ghost use Rattle.image.specs.Decode.{labels_from, rows_from};
+ghost use Rattle.translator.specs.label_text.inner.LabelBytes.{Put};
+ghost use Rattle.minimising.specs.group_pieces.inner.Pieces.{piece};
+ghost use Rattle.minimising.specs.group_pieces.inner.TextContracts.{NumberedGroups};
+
+use crate::group_frames::{put_label, put_row};
+use image::layout::FROM;
+use image::{byte, labels_from};
+use text::frames::sizes::LINE;
+
+pub fn put_kept_label(
+    table: &[u8],
+    classes: &[u8],
+    numbers: &[u8],
+    f: usize,
+    out: &mut [u8],
+    at: usize,
+) -> usize
+    requires numbered_groups { NumberedGroups table.now classes.now numbers.now }
+    requires table_bound { (labels_from table.now ≤ f) × (f < rows_from table.now) }
+    requires f_in_bounds { at + length (piece table.now classes.now f) ≤ length out.old }
+    ensures { Put out.old at (piece table.now classes.now f) result out.new }
+{
+    let l = f - labels_from(table);
+    if classes[l] as usize != l {
+        return at;
+    }
+    put_label(table, f, numbers[l], out, at);
+    at + LINE
+}
+
+pub fn put_kept_row(
+    table: &[u8],
+    classes: &[u8],
+    numbers: &[u8],
+    f: usize,
+    out: &mut [u8],
+    at: usize,
+) -> usize
+    requires numbered_groups { NumberedGroups table.now classes.now numbers.now }
+    requires table_bound { (rows_from table.now ≤ f) × (f < size table.now) }
+    requires f_in_bounds { at + length (piece table.now classes.now f) ≤ length out.old }
+    ensures { Put out.old at (piece table.now classes.now f) result out.new }
+{
+    let from = byte(table, f, FROM) as usize;
+    if classes[from] as usize != from {
+        return at;
+    }
+    put_row(table, numbers, f, out, at);
+    at + LINE
+}

@@ -1,0 +1,65 @@
+// The smaller image, written frame by frame of the given one.
+ghost use Rattle.std.specs.Prelude.{◌≡◌, ◌+◌, ◌≤◌, ◌<◌, length};
+ghost use Rattle.words.specs.lists.Sequences.{written};
+ghost use Rattle.text.specs.frames.Sizes.{LABELS, ROWS};
+ghost use Rattle.text.specs.frames.Frame.{size};
+ghost use Rattle.translator.specs.label_text.inner.LabelBytes.{Put};
+ghost use Rattle.minimising.specs.group_pieces.inner.Pieces.{groupsIn, rowsKept, piece, allPieces};
+ghost use Rattle.minimising.specs.group_pieces.inner.TextContracts.{NumberedGroups};
+
+use crate::group_frames::{put_entry, put_header};
+use crate::group_pieces::{put_kept_label, put_kept_row};
+use image::layout::*;
+use image::{byte, labels_from, rows_from};
+use text::frames::sizes::{FRAME, LINE};
+
+// The piece of a frame after the header, and the offset after it.
+fn put_piece(
+    table: &[u8],
+    classes: &[u8],
+    numbers: &[u8],
+    f: usize,
+    out: &mut [u8],
+    at: usize,
+) -> usize
+    requires numbered_groups { NumberedGroups table.now classes.now numbers.now }
+    requires le_f { (1 ≤ f) × (f < size table.now) }
+    requires f_in_bounds { at + length (piece table.now classes.now f) ≤ length out.old }
+    ensures { Put out.old at (piece table.now classes.now f) result out.new }
+{
+    if f < labels_from(table) {
+        let entry = byte(table, f, ENTRY_LABEL) as usize;
+        put_entry(out, at, f as u8, numbers[entry]);
+        return at + LINE;
+    }
+    if f < rows_from(table) {
+        return put_kept_label(table, classes, numbers, f, out, at);
+    }
+    put_kept_row(table, classes, numbers, f, out, at)
+}
+
+pub fn put_pieces(
+    table: &[u8],
+    classes: &[u8],
+    numbers: &[u8],
+    groups: usize,
+    rows: usize,
+    out: &mut [u8],
+)
+    requires numbered_groups { NumberedGroups table.now classes.now numbers.now }
+    requires groups_value { (groups ≡ groupsIn table.now classes.now) × (rows ≡ rowsKept table.now classes.now) }
+    requires le_groups { (1 ≤ groups) × (groups ≤ LABELS) × (rows ≤ ROWS) }
+    requires classes_in_bounds { length (allPieces table.now classes.now) ≤ length out.old }
+    ensures { out.new ≡ written out.old 0 (allPieces table.now classes.now) }
+{
+    let n = table.len() / FRAME;
+    let schemes = byte(table, 0, SCHEME_COUNT);
+    let handler = byte(table, 0, HANDLER);
+    put_header(out, schemes, groups, rows, handler);
+    let mut place: usize = LINE;
+    let mut f: usize = 1;
+    while f < n {
+        place = put_piece(table, classes, numbers, f, out, place);
+        f += 1;
+    }
+}

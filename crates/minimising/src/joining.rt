@@ -1,0 +1,42 @@
+// The labels of a table joined: 23, the grouping, and the smaller image of its groups.
+ghost use Rattle.std.specs.Prelude.{◌≡◌, false, length};
+ghost use Rattle.text.specs.frames.Sizes.{LABELS};
+ghost use Rattle.text.specs.frames.Refusals.{UNEVEN};
+ghost use Rattle.text.specs.frames.Verdict.{fine, when};
+ghost use Rattle.text.specs.frames.Answer.{GivesBuffer};
+ghost use Rattle.image.specs.Decode.{decoded};
+ghost use Rattle.covering.specs.Matched.{uneven};
+ghost use Rattle.minimising.specs.group_image.inner.WriteContracts.{smallerOutcome};
+ghost use Rattle.minimising.specs.joining.inner.JoiningContracts.{ReadableTable};
+
+use crate::group_image::write_groups;
+use covering::is_uneven;
+use grouping::refining::group;
+use text::frames::refusals::UNEVEN;
+use text::frames::sizes::LABELS;
+use text::frames::{Answer, refused};
+
+// The grouping, then what it gives.
+fn minimise_in(table: &[u8], classes: &mut [u8], numbers: &mut [u8], out: &mut [u8]) -> Answer
+    requires readable_table { (ReadableTable table.now) × (uneven (decoded table.now) ≡ false) }
+    requires classes_len { (length classes.old ≡ LABELS) × (length numbers.old ≡ LABELS) }
+    ensures { GivesBuffer (smallerOutcome table.now fine out.old) result out.new }
+{
+    group(table, classes);
+    write_groups(table, classes, numbers, out)
+}
+
+// 23, then 16.
+pub fn minimise_table(table: &[u8], out: &mut [u8]) -> Answer
+    requires { ReadableTable table.now }
+    ensures { GivesBuffer (smallerOutcome table.now
+        (when UNEVEN (uneven (decoded table.now))) out.old)
+        result out.new }
+{
+    if is_uneven(table) {
+        return refused(UNEVEN, 0);
+    }
+    let mut classes = [0u8; LABELS];
+    let mut numbers = [0u8; LABELS];
+    minimise_in(table, &mut classes, &mut numbers, out)
+}

@@ -1,0 +1,4 @@
+pub mod printing
+pub mod output_lines
+pub mod translate_output
+pub mod run_output

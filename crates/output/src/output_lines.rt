@@ -1,0 +1,29 @@
+// Lines put into a lent buffer.
+ghost use Rattle.std.specs.Prelude.{◌≡◌, ◌+◌, ◌*◌, ◌≤◌, length};
+ghost use Rattle.words.specs.lists.Sequences.{concatMap, written};
+ghost use Rattle.text.specs.frames.Sizes.{LINE};
+ghost use Rattle.output.specs.printing.Lines.{codeLine, refusalLine};
+
+use text::frames::put_bytes;
+
+// A line for each code, from the front on.
+pub fn put_codes(out: &mut [u8], codes: &[u8])
+    requires { 3 * length codes.now ≤ length out.old }
+    ensures { out.new ≡ written out.old 0 (concatMap codeLine codes.now) }
+{
+    let mut i: usize = 0;
+    while i < codes.len() {
+        let line = crate::printing::code_line(codes[i]);
+        put_bytes(out, i * 3, &line);
+        i += 1;
+    }
+}
+
+// The frame of a refusal, from an offset on.
+pub fn put_refusal(out: &mut [u8], at: usize, number: u8, index: usize)
+    requires { at + LINE ≤ length out.old }
+    ensures { out.new ≡ written out.old at (refusalLine number index) }
+{
+    let line = crate::printing::refusal_line(number, index);
+    put_bytes(out, at, &line);
+}

@@ -1,0 +1,37 @@
+// What the programs print: the frame that tells a refusal, and the line of a tick's code.
+ghost use Rattle.std.specs.Prelude.{◌≡◌};
+ghost use Rattle.output.specs.printing.Lines.{codeLine, refusalLine};
+
+use text::digits::character;
+use text::frames::put_frame;
+use text::frames::sizes::{LINE, LINE_FEED};
+
+// FF, the number and the index as a frame.
+pub fn refusal_line(number: u8, index: usize) -> [u8; LINE]
+    ensures { result ≡ refusalLine number index }
+{
+    let mut line = [0u8; LINE];
+    let bytes = [
+        255,
+        number,
+        (index / 256 % 256) as u8,
+        (index % 256) as u8,
+        0,
+        0,
+        0,
+        0,
+        0,
+        0,
+    ];
+    put_frame(&mut line, 0, &bytes);
+    line
+}
+
+// Two digits and a line feed.
+pub fn code_line(code: u8) -> [u8; 3]
+    ensures { result ≡ codeLine code }
+{
+    let high = character(code / 16);
+    let low = character(code % 16);
+    [high, low, LINE_FEED]
+}

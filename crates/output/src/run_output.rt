@@ -1,0 +1,85 @@
+// The run program between its input and its output.
+ghost use Rattle.std.specs.Prelude.{◌≡◌, ◌≤◌, length};
+ghost use Rattle.text.specs.frames.Answer.{reply, replyCount};
+ghost use Rattle.output.specs.output_lines.Prints.{Prints};
+ghost use Rattle.output.specs.run_output.RunProgram.{programWords, runLines, runOutput};
+ghost use Rattle.console.specs.Outcome.{PrintsFor};
+
+use crate::output_lines::{put_codes, put_refusal};
+use console::{Input, Outcome};
+use state::State;
+use std::io::{Read, Write};
+use text::frames::Answer;
+use text::frames::sizes::{IMAGE_TEXT, LINE};
+
+// One character more than the longest image: of a longer text no more needs to be read.
+pub const IMAGE_READ: usize = IMAGE_TEXT + 1;
+
+// A line for each of 64 ticks, and the frame of a refusal.
+pub const RUN_PRINTS: usize = 64 * 3 + LINE;
+
+// The words 0 to 63.
+fn count_up() -> [u16; 64]
+    ensures { result ≡ programWords }
+{
+    let mut all = [0u16; 64];
+    let mut i: usize = 0;
+    while i < 64 {
+        all[i] = i as u16;
+        i += 1;
+    }
+    all
+}
+
+// The codes of the finished ticks, then the refusal if there is one.
+fn put_run(answer: Answer, codes: &[u8], out: &mut [u8; RUN_PRINTS]) -> usize
+    requires { (replyCount (reply answer) ≤ length codes.now) × (length codes.now ≤ 64) }
+    ensures { Prints (runLines (reply answer) codes.now) result out.old out.new }
+{
+    match answer {
+        Answer::Done(n) => {
+            put_codes(out, &codes[..n]);
+            n * 3
+        }
+        Answer::Refused {
+            number,
+            index,
+            count,
+        } => {
+            put_codes(out, &codes[..count]);
+            put_refusal(out, count * 3, number, index);
+            count * 3 + LINE
+        }
+    }
+}
+
+// What a run of the words 0 to 63 from a fresh state with 32 places prints; how many characters that is.
+pub fn run_text(input: &[u8], out: &mut [u8; RUN_PRINTS]) -> usize
+    ensures { Prints (runOutput input.now) result out.old out.new }
+{
+    let all = count_up();
+    let mut masks = [0u32; 64];
+    let mut codes = [0u8; 64];
+    let fresh = State::fresh(State::PLACES);
+    let state = fresh.state;
+    let ran = runs::state_runs::run(input, state, &all, &mut masks, &mut codes);
+    let answer = ran.answer;
+    put_run(answer, &codes, out)
+}
+
+// Reads an image and prints what its run prints.
+pub fn run_image<R: Read, W: Write>(reader: &mut R, writer: &mut W) -> Outcome
+    ensures { PrintsFor runOutput (R.remaining reader.old) (W.contents writer.old) (W.contents writer.new) result }
+{
+    let mut text = [0u8; IMAGE_READ];
+    let n = match console::read_input(reader, &mut text) {
+        Input::Text(n) => n,
+        Input::Failed(error) => return Outcome::NotRead(error),
+    };
+    let mut out = [0u8; RUN_PRINTS];
+    let count = run_text(&text[..n], &mut out);
+    match console::write_output(writer, &out[..count]) {
+        Ok(()) => Outcome::Printed,
+        Err(error) => Outcome::NotWritten(error),
+    }
+}

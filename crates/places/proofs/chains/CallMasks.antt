@@ -1,0 +1,251 @@
+-- The masks of the calls: one node more, and the rounds over them.
+use Prim.Native.Nat.{ℕ, zero, suc, ◌+◌, ◌-◌, ◌^◌, ◌≤◌, ◌<◌}
+use mathlib.Core.Bool.{Bool, true, false, ◌&&◌, ◌||◌, not}
+use mathlib.Core.Path.{◌≡◌, refl, sym, ◌∙◌, ap, ap₂}
+use mathlib.Core.Logic.{⊎_elim}
+use mathlib.Core.List.{List}
+use native.Mathlib.Decide.{ℕ_discrete}
+use native.Mathlib.Numerals.{add-one}
+use native.Mathlib.Omega.{arith}
+use lib.Bits.{bit_or, or_zero_r}
+use lib.Dec.{ltb, eqb}
+use lib.ListN.{length, get_or, set, replicate}
+use borrow.Author.Tests.{eq-eqb, ne_eqb, lt-ltb, le-ltb}
+use Rattle.words.specs.lists.Pick.{pick}
+use Rattle.words.specs.lists.Numbers.{any, lowest}
+use Rattle.words.specs.lists.Sequences.{some}
+use Rattle.words.proofs.lists.Tests.{cases, and-true, and_no, or_true_r, yes-pick, no-pick}
+use Rattle.words.proofs.lists.Searches.{any_snoc, lowest-alike, lowest-none, lowest-most, Searching}
+use Rattle.words.proofs.lists.Searches.{searching-first, searching-found, searching-next, searching-over}
+use Rattle.words.proofs.lists.Tabulated.{length-tabulate, get_d_tabulate, tabulate-alike, tabulate-set, tabulate-none}
+use Rattle.words.specs.bits.Word.{bit}
+use Rattle.words.specs.graph.Reach.{marked}
+use Rattle.text.specs.frames.Frame.{size}
+use Rattle.charts.specs.Chart.{Chart, kind, scheme, argument}
+use Rattle.walk.proofs.Facts.{Facts}
+use Rattle.places.specs.chains.Calls.{holdsCall, isCallOf, calls, circular, endsOf, noEnd, places}
+use Rattle.places.specs.chains.Chains.{Calls}
+use Rattle.places.specs.chains.inner.Masks.{calledAt, mask_of, callMasks, calledBy, endsBy, longestBy, longestChain}
+use Rattle.places.proofs.chains.CallLaws.{holds-function, holds-operation, called-range}
+use Rattle.places.proofs.chains.Longest.{ends-suc}
+use Rattle.places.proofs.chains.Circles.{circle-told, circle-long, no-circle-short}
+use Rattle.places.proofs.chains.Masks.{mask-bit, mask-alike, mask-or, mask-more, mask-empty}
+
+any_next : (p : ℕ → Bool) (n : ℕ) → any p 0 (n + 1) ≡ (any p 0 n || p n)
+any_next p n = ap (any p 0) (add-one n) ∙ any_snoc p 0 n ∙ ap (λ (k : ℕ). any p 0 n || p k) (omega arith)
+
+or_right : (a b : Bool) → b ≡ false → a ≡ (a || b)
+or_right true b e = refl
+or_right false b e = sym e
+
+-- the last number tried, where it passes
+lowest-last : (p : ℕ → Bool) (i n : ℕ) → p (i + n) ≡ true → lowest p i (suc n) ≡ lowest p i n
+unfolding lowest
+lowest-last p i zero e = ap (λ (b : Bool). elim b [ true ↦ i | false ↦ suc i ]) (ap p (omega arith) ∙ e)
+lowest-last p i (suc n) e = ap (λ (k : ℕ). elim (p i) [ true ↦ i | false ↦ k ]) (lowest-last p (suc i) n (ap p (omega arith) ∙ e))
+
+pick-zero : (b : Bool) (x : ℕ) → x ≡ 0 → x ≡ pick b x 0
+pick-zero true x e = refl
+pick-zero false x e = e
+
+-- ---- the call of a node, by its kind
+module _ (c : Chart) (v k r : ℕ) (ek : k ≡ kind c v) where
+  pub at-operation : k ≡ 2 → r ≡ argument c v → r ≡ calledAt c v
+  at-operation e q = q ∙ go (ℕ_discrete (argument c v) 0)
+    where
+      two : kind c v ≡ 2
+      two = sym ek ∙ e
+
+      go : Dec (argument c v ≡ 0) → argument c v ≡ calledAt c v
+      go (yes z) = pick-zero (holdsCall c v) (argument c v) z
+      go (no z) = sym (ap (λ (b : Bool). pick b (argument c v) 0) (holds-operation c v two z))
+
+  pub at-function : k ≡ 4 → r ≡ argument c v → r ≡ calledAt c v
+  at-function e q = q ∙ sym (ap (λ (b : Bool). pick b (argument c v) 0) (holds-function c v (sym ek ∙ e)))
+
+  pub at_other : (k ≡ 2 → ⊥) → (k ≡ 4 → ⊥) → 0 ≡ calledAt c v
+  at_other n m = sym (ap₂ (λ (a b : Bool). pick (a || (b && not (eqb (argument c v) 0))) (argument c v) 0)
+      (ne_eqb (kind c v) 4 (λ z. m (ek ∙ z))) (ne_eqb (kind c v) 2 (λ z. n (ek ∙ z))))
+
+module _ (c : Chart) (v r : ℕ) (e : r ≡ calledAt c v) where
+  pub call-some : (r ≡ 0 → ⊥) → (holdsCall c v ≡ true) × (r ≡ argument c v)
+  call-some n = go (holdsCall c v) refl
+    where
+      go : (b : Bool) → holdsCall c v ≡ b → (holdsCall c v ≡ true) × (r ≡ argument c v)
+      go true q = (q, e ∙ ap (λ (b : Bool). pick b (argument c v) 0) q)
+      go false q = absurd (n (e ∙ ap (λ (b : Bool). pick b (argument c v) 0) q))
+
+  pub call_none : Facts c → v < size c → r ≡ 0 → holdsCall c v ≡ false
+  call_none f l z = ⊎_elim
+      (λ (q : holdsCall c v ≡ true).
+      let k : Calls c (scheme c v) (argument c v) = record { node = v; inside = l; holds = q; owner = refl; called = refl } in
+      absurd (omega (arith, called-range c f (scheme c v) (argument c v) k, sym z ∙ e ∙ ap (λ (b : Bool). pick b (argument c v) 0) q)))
+      (λ q. q) (cases (holdsCall c v))
+
+  pub call-low : Facts c → v < size c → (r ≡ 0 → ⊥) → (scheme c v < 17) × (r < 17)
+  call-low f l n =
+      let s = call-some n in
+      let k : Calls c (scheme c v) (argument c v) = record { node = v; inside = l; holds = s.0; owner = refl; called = refl } in
+      let t = called-range c f (scheme c v) (argument c v) k in
+      (omega (arith, t), omega (arith, t, s.1))
+
+-- ---- one node more
+module _ (c : Chart) where
+  pub masks-start : (masks : List ℕ) → masks ≡ replicate 17 0 → masks ≡ callMasks c 0
+  unfolding any
+  masks-start masks e = e ∙ tabulate-none (λ g. mask_of (λ h. any (isCallOf c g h) 0 0) 17) 17 (λ g. unfold mask_of in refl)
+
+  module _ (v : ℕ) (masks : List ℕ) (e : masks ≡ callMasks c v) where
+    pub masks-long : length masks ≡ 17
+    masks-long = ap (λ (xs : List ℕ). length xs) e ∙ length-tabulate (λ g. mask_of (λ h. any (isCallOf c g h) 0 v) 17) 17
+
+    masks-at : (g : ℕ) → g < 17 → get_or masks g 0 ≡ mask_of (λ h. any (isCallOf c g h) 0 v) 17
+    masks-at g l = ap (λ (xs : List ℕ). get_or xs g 0) e ∙ get_d_tabulate (λ g. mask_of (λ h. any (isCallOf c g h) 0 v) 17) 17 g l
+
+    no_more : (g h : ℕ) → isCallOf c g h v ≡ false → any (isCallOf c g h) 0 v ≡ any (isCallOf c g h) 0 (v + 1)
+    no_more g h n = or_right (any (isCallOf c g h) 0 v) (isCallOf c g h v) n ∙ sym (any_next (isCallOf c g h) v)
+
+    -- a node with no call
+    pub masks-same : holdsCall c v ≡ false → masks ≡ callMasks c (v + 1)
+    masks-same n = e ∙ tabulate-alike (λ g. mask_of (λ h. any (isCallOf c g h) 0 v) 17)
+        (λ g. mask_of (λ h. any (isCallOf c g h) 0 (v + 1)) 17) 17
+        (λ g l. mask-alike _ _ 17 (λ h m. no_more g h (ap (λ (b : Bool). b && (eqb (scheme c v) g && eqb (argument c v) h)) n)))
+
+    -- a node of scheme g that calls scheme k
+    pub masks-more : (g k : ℕ) → holdsCall c v ≡ true → g ≡ scheme c v → k ≡ argument c v → g < 17 → k < 17
+        → set masks g (bit_or (get_or masks g 0) (2 ^ k)) ≡ callMasks c (v + 1)
+    masks-more g k holds eg ek lg lk =
+        ap (λ (xs : List ℕ). set xs g (bit_or (get_or masks g 0) (2 ^ k))) e
+        ∙ tabulate-set (λ g. mask_of (λ h. any (isCallOf c g h) 0 v) 17) (λ g. mask_of (λ h. any (isCallOf c g h) 0 (v + 1)) 17) 17 g
+        (bit_or (get_or masks g 0) (2 ^ k)) lg
+        (ap (λ (x : ℕ). bit_or x (2 ^ k)) (masks-at g lg)
+        ∙ mask-more (λ h. any (isCallOf c g h) 0 v) (λ h. any (isCallOf c g h) 0 (v + 1)) 17 k lk
+        (any_next (isCallOf c g k) v ∙ or_true_r (any (isCallOf c g k) 0 v) (isCallOf c g k v) here)
+        (λ h n. no_more g h (and_no (holdsCall c v) (eqb (scheme c v) g && eqb (argument c v) h)
+        (and_no (eqb (scheme c v) g) (eqb (argument c v) h) (ne_eqb (argument c v) h (λ z. n (ek ∙ z)))))))
+        (λ u n. mask-alike _ _ 17 (λ h m. no_more u h (and_no (holdsCall c v) (eqb (scheme c v) u && eqb (argument c v) h)
+        (ap (λ (b : Bool). b && eqb (argument c v) h) (ne_eqb (scheme c v) u (λ z. n (sym z ∙ sym eg)))))))
+      where
+        here : isCallOf c g k v ≡ true
+        here = and-true (holdsCall c v) (eqb (scheme c v) g && eqb (argument c v) k) holds
+            (and-true (eqb (scheme c v) g) (eqb (argument c v) k) (eq-eqb (scheme c v) g (sym eg)) (eq-eqb (argument c v) k (sym ek)))
+
+-- ---- one call more
+module _ (p : ℕ → ℕ → Bool) (s : ℕ → Bool) (masks : List ℕ) (are : (g : ℕ) → g < 17 → get_or masks g 0 ≡ mask_of (p g) 17) where
+  -- one of the first n schemes of the set calls scheme h
+  abbrev by : ℕ → ℕ → Bool
+  by n h = any (λ g. s g && p g h) 0 n
+
+  called-by : (n : ℕ) → n ≤ 17 → calledBy masks (mask_of s 17) n ≡ mask_of (by n) 17
+  unfolding calledBy
+  called-by zero l = unfold mask_of any in refl
+  called-by (suc n) l = go (s n) refl (called-by n (omega arith))
+    where
+      bit_is : (b : Bool) → s n ≡ b → eqb (bit (mask_of s 17) n) 1 ≡ b
+      bit_is true e = eq-eqb (bit (mask_of s 17) n) 1 (mask-bit s 17 n (omega arith) ∙ ap (λ (b : Bool). pick b 1 0) e)
+      bit_is false e = ne_eqb (bit (mask_of s 17) n) 1
+          (λ z. let o : bit (mask_of s 17) n ≡ 0 = mask-bit s 17 n (omega arith) ∙ ap (λ (b : Bool). pick b 1 0) e in omega arith)
+
+      with-one : (b : Bool) → s n ≡ b → (h : ℕ) → by (suc n) h ≡ (by n h || (b && p n h))
+      with-one b e h = any_snoc (λ g. s g && p g h) 0 n ∙ ap (λ (k : ℕ). by n h || (s k && p k h)) (omega arith)
+          ∙ ap (λ (b : Bool). by n h || (b && p n h)) e
+
+      go : (b : Bool) → s n ≡ b → calledBy masks (mask_of s 17) n ≡ mask_of (by n) 17
+          → bit_or (calledBy masks (mask_of s 17) n) (pick (eqb (bit (mask_of s 17) n) 1) (get_or masks n 0) 0) ≡ mask_of (by (suc n)) 17
+      go true e ih =
+          ap₂ bit_or ih (ap (λ (b : Bool). pick b (get_or masks n 0) 0) (bit_is true e) ∙ are n (omega arith)) ∙ mask-or (by n) (p n) 17
+          ∙ mask-alike (λ h. by n h || p n h) (by (suc n)) 17 (λ h m. sym (with-one true e h))
+      go false e ih =
+          ap₂ bit_or ih (ap (λ (b : Bool). pick b (get_or masks n 0) 0) (bit_is false e)) ∙ or_zero_r (mask_of (by n) 17)
+          ∙ mask-alike (by n) (by (suc n)) 17 (λ h m. or_right (by n h) false refl ∙ sym (with-one false e h))
+
+-- ---- the loops over the masks
+module _ (masks : List ℕ) where
+  pub called-yes : (set g x : ℕ) → x ≡ calledBy masks set g → bit set g ≡ 1 → bit_or x (get_or masks g 0) ≡ calledBy masks set (g + 1)
+  unfolding calledBy
+  called-yes set g x e o =
+      ap₂ bit_or e (sym (ap (λ (b : Bool). pick b (get_or masks g 0) 0) (eq-eqb (bit set g) 1 o))) ∙ sym (ap (calledBy masks set) (add-one g))
+
+  pub called-no : (set g x : ℕ) → x ≡ calledBy masks set g → (bit set g ≡ 1 → ⊥) → x ≡ calledBy masks set (g + 1)
+  unfolding calledBy
+  called-no set g x e n =
+      e ∙ sym (or_zero_r (calledBy masks set g))
+      ∙ ap (bit_or (calledBy masks set g)) (sym (ap (λ (b : Bool). pick b (get_or masks g 0) 0) (ne_eqb (bit set g) 1 n)))
+      ∙ sym (ap (calledBy masks set) (add-one g))
+
+  -- chains of k calls end nowhere
+  abbrev pub emptyBy : ℕ → Bool
+  emptyBy k = eqb (endsBy masks k) 0
+
+  -- the chains of fewer than s calls end somewhere, those of s - 1 in these schemes
+  pub record MaskRound (ends s : ℕ) : Type 0 where
+    pub some : 1 ≤ s
+    pub search : Searching emptyBy 17 s (lowest emptyBy 0 17)
+    pub held : ends ≡ endsBy masks (s - 1)
+
+  pub round-first : MaskRound 2 1
+  unfolding endsBy
+  round-first = record {
+    some = omega arith;
+    search =
+        searching-next emptyBy 17 0 (lowest emptyBy 0 17) (searching-first emptyBy 17) (omega arith) refl;
+    held = refl;
+  }
+
+  module _ (ends s r : ℕ) (h : MaskRound ends s) (e : r ≡ calledBy masks ends 17) where
+    round-ends : r ≡ endsBy masks s
+    unfolding endsBy
+    round-ends =
+        e ∙ ap (λ (set : ℕ). calledBy masks set 17) h.held ∙ ap (endsBy masks) (let z : suc (s - 1) ≡ s = omega (arith, h.some) in z)
+
+    pub round-found : s < 17 → r ≡ 0 → s ≡ longestBy masks
+    unfolding longestBy
+    round-found l z =
+        let q : s ≡ lowest emptyBy 0 17 = searching-found emptyBy 17 s _ h.search l (eq-eqb (endsBy masks s) 0 (sym round-ends ∙ z)) in
+        q ∙ sym (yes-pick (ltb (lowest emptyBy 0 17) 17) (lowest emptyBy 0 17) 0 (lt-ltb (lowest emptyBy 0 17) 17 (omega arith)))
+
+    pub round-next : s < 17 → (r ≡ 0 → ⊥) → MaskRound r (s + 1)
+    round-next l n = record {
+      some = omega arith;
+      search = searching-next emptyBy 17 s _ h.search l (ne_eqb (endsBy masks s) 0 (λ z. n (round-ends ∙ z)));
+      held = round-ends ∙ ap (endsBy masks) (omega arith);
+    }
+
+  pub round-over : (ends s : ℕ) → MaskRound ends s → 17 ≤ s → 0 ≡ longestBy masks
+  unfolding longestBy
+  round-over ends s h l =
+      let q : s ≡ lowest emptyBy 0 17 = searching-over emptyBy 17 s _ h.search l in
+      sym (no-pick (ltb (lowest emptyBy 0 17) 17) (lowest emptyBy 0 17) 0 (le-ltb (lowest emptyBy 0 17) 17 (omega arith)))
+
+-- ---- the rounds
+places-lowest : (c : Chart) → lowest (noEnd c) 0 16 ≡ places c
+unfolding places
+places-lowest c = refl
+
+module _ (c : Chart) (masks : List ℕ) (e : masks ≡ callMasks c (size c)) where
+  pub ends_by : (k : ℕ) → endsBy masks k ≡ mask_of (marked (endsOf c k)) 17
+  unfolding endsBy
+  ends_by zero = unfold mask_of endsOf some in refl
+  ends_by (suc k) =
+      ap (λ (set : ℕ). calledBy masks set 17) (ends_by k)
+      ∙ called-by (calls c) (marked (endsOf c k)) masks (λ g l. masks-at c (size c) masks e g l ∙ (unfold calls in refl)) 17 (omega arith)
+      ∙ mask-alike (λ h. any (λ g. marked (endsOf c k) g && calls c g h) 0 17)
+      (marked (endsOf c (suc k))) 17 (λ h l. sym (ends-suc c k h l))
+
+  none-by : (k : ℕ) → eqb (endsBy masks k) 0 ≡ noEnd c k
+  none-by k = ap (λ (x : ℕ). eqb x 0) (ends_by k) ∙ mask-empty (marked (endsOf c k)) 17
+
+  pub longest-by : Facts c → longestBy masks ≡ longestChain c
+  unfolding longestBy
+  longest-by f = ap (λ (k : ℕ). pick (ltb k 17) k 0) (lowest-alike (λ k. eqb (endsBy masks k) 0) (noEnd c) 0 17 (λ k a b. none-by k))
+      ∙ go (circular c) refl
+    where
+      go : (b : Bool) → circular c ≡ b → pick (ltb (lowest (noEnd c) 0 17) 17) (lowest (noEnd c) 0 17) 0 ≡ longestChain c
+      go true q =
+          let k : lowest (noEnd c) 0 17 ≡ 17 = lowest-none (noEnd c) 0 17 (λ k l. circle-long c f (circle-told c q) (0 + k)) in
+          ap (λ (k : ℕ). pick (ltb k 17) k 0) k ∙ sym (ap (λ (b : Bool). pick b 0 (places c)) q)
+      go false q =
+          let k : lowest (noEnd c) 0 17 ≡ lowest (noEnd c) 0 16 = lowest-last (noEnd c) 0 16 (no-circle-short c f q) in
+          ap (λ (b : Bool). pick b (lowest (noEnd c) 0 17) 0)
+          (lt-ltb (lowest (noEnd c) 0 17) 17 (omega (arith, lowest-most (noEnd c) 0 16))) ∙ k
+          ∙ places-lowest c ∙ sym (ap (λ (b : Bool). pick b 0 (places c)) q)

@@ -1,0 +1,11 @@
+-- `places::chains::chain::called_by`: the masks of the schemes below g are joined.
+use mathlib.Core.Path.{◌≡◌}
+use Prim.Native.Nat.{◌-◌, ◌≤◌}
+use Rattle.places.specs.chains.inner.Masks.{calledBy}
+use Rattle.places.proofs.chains.chain.called_by.Given as goal
+
+abbrev pub invariant-loop-g : goal.invariant-loop-g
+invariant-loop-g l = (l.g ≤ 17) × (l.called ≡ calledBy l.masks l.set l.g)
+
+abbrev pub decreases-loop-g : goal.decreases-loop-g
+decreases-loop-g l = 17 - l.g

@@ -1,0 +1,47 @@
+// The calls of a chart's nodes: for each scheme a mask of the schemes that it calls, bit h for scheme h.
+ghost use Rattle.std.specs.Prelude.{◌≡◌, ◌+◌, ◌<◌, replicate};
+ghost use Rattle.text.specs.frames.Frame.{size};
+ghost use Rattle.chart_rows.specs.chart_labels.inner.ChartContracts.{Ready, Inner};
+ghost use Rattle.places.specs.chains.inner.Masks.{calledAt, callMasks, CallsAsked};
+
+use charts::field;
+use charts::layout::*;
+use text::frames::sizes::RECORD;
+
+// The scheme that node v calls, 0 where it holds no call.
+fn called_at(records: &[u8], v: usize) -> u8
+    requires { Inner records.now v }
+    ensures { result ≡ calledAt records.now v }
+{
+    match field(records, v, KIND) {
+        OPERATION => field(records, v, ARGUMENT),
+        FUNCTION => field(records, v, ARGUMENT),
+        _ => 0,
+    }
+}
+
+// Node v's call is added to those of its scheme.
+fn note_call(records: &[u8], v: usize, masks: &mut [u32])
+    requires { CallsAsked records.now v masks.old }
+    ensures { masks.new ≡ callMasks records.now (v + 1) }
+{
+    let called = called_at(records, v);
+    if called != 0 {
+        let scheme = field(records, v, SCHEME) as usize;
+        masks[scheme] |= 1 << called;
+    }
+}
+
+// The calls of all nodes.
+pub fn note_calls(records: &[u8], masks: &mut [u32])
+    requires ready { Ready records.now }
+    requires masks_value { masks.old ≡ replicate 17 0 }
+    ensures { masks.new ≡ callMasks records.now (size records.now) }
+{
+    let n = records.len() / RECORD;
+    let mut v: usize = 0;
+    while v < n {
+        note_call(records, v, masks);
+        v += 1;
+    }
+}

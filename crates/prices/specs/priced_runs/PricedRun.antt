@@ -1,0 +1,57 @@
+-- A priced run: a run of at most 65,536 words, and the price of the masks that its ticks have.
+use Rattle.std.specs.Prelude.{ℕ, Bool, ◌≡◌, List, ltb, length}
+use Rattle.text.specs.frames.Sizes.{WORDS}
+use Rattle.text.specs.frames.Refusals.{UNFIT, NO-ROOM, MANY-WORDS}
+use Rattle.text.specs.frames.Frame.{contents}
+use Rattle.text.specs.frames.Verdict.{Verdict, fine, refused, next, when}
+use Rattle.text.specs.frames.Answer.{reply}
+use Rattle.image.specs.Decode.{decoded}
+use Rattle.image.specs.Check.{imageVerdict}
+use Rattle.state.specs.declared.State.{State}
+use Rattle.fitness.specs.Fitness.{unfit}
+use Rattle.runs.specs.Run.{MachineRun, ticks, RunOutcome, noRoom, runOn}
+use Rattle.prices.specs.Prices.{price}
+use Rattle.prices.specs.declared.priced_runs.PricedStateReport.{PricedStateReport}
+
+-- more words than are priced
+abbrev pub tooManyWords : List ℕ → Bool
+tooManyWords words = ltb WORDS (length words)
+
+-- what a run tries before 16, then 27, then 16
+abbrev pub in_turn : Verdict → Bool → Bool → Bool → Verdict
+in_turn first unfit many short =
+    next first λ _.
+    next (when UNFIT unfit) λ _.
+    next (when MANY-WORDS many) λ _.
+    when NO-ROOM short
+
+unfoldable pub pricedVerdict : List ℕ → State → List ℕ → List ℕ → List ℕ → Verdict
+pricedVerdict t s words masks codes =
+    in_turn (imageVerdict t) (unfit (decoded (contents t)) s) (tooManyWords words) (noRoom words masks codes)
+
+-- the same where there are more words than are priced: 27 ends it
+unfoldable pub manyVerdict : List ℕ → State → Verdict
+manyVerdict t s = next (imageVerdict t) λ _. next (when UNFIT (unfit (decoded (contents t)) s)) λ _. refused MANY-WORDS 0
+
+pub record PricedOutcome : Type 0 where
+  pub run : RunOutcome
+  pub price : ℕ
+
+-- in cents, of the finished ticks; 0 where a run is refused before its first
+abbrev pub priceOn : List ℕ → Verdict → (Unit {0} → MachineRun) → ℕ
+priceOn prices (refused k i) go = 0
+priceOn prices fine go = price prices (go tt).masks
+
+unfoldable pub pricedRun : List ℕ → State → List ℕ → List ℕ → List ℕ → List ℕ → PricedOutcome
+pricedRun t s prices words masks codes =
+    let v = pricedVerdict t s words masks codes in
+    let go : Unit {0} → MachineRun = λ _. ticks (decoded (contents t)) s words in
+    record { run = runOn v go s masks codes; price = priceOn prices v go }
+
+-- what a function that prices a run promises: its answer, the price, the state handed back, and what the two buffers then hold
+pub record GivesPricedRun (x : PricedOutcome) (r : PricedStateReport) (ms ks : List ℕ) : Type 0 where
+  pub answered : reply r.answer ≡ x.run.reply
+  pub price : r.price ≡ x.price
+  pub state : r.state ≡ x.run.state
+  pub masks : ms ≡ x.run.masks
+  pub codes : ks ≡ x.run.codes

@@ -1,6 +1,0 @@
-// The bytes of an image's rows, written as frames of ten bytes.
-#![tactic(auto)]
-
-mod row_frames;
-
-pub use row_frames::put_rows;

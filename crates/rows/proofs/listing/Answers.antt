@@ -1,0 +1,74 @@
+-- What success of the entry point says: the image is accepted, all its labels are counted, and the buffers hold the rows of each.
+use Prim.Native.Nat.{ℕ, ◌+◌, ◌≤◌, ◌<◌}
+use mathlib.Core.Bool.{Bool, true, false}
+use mathlib.Core.Path.{◌≡◌, refl, sym, ◌∙◌, subst}
+use mathlib.Core.Logic.{◌↔◌}
+use mathlib.Core.List.{List}
+use native.Mathlib.Omega.{arith}
+use lib.ListN.{length, get_or, drop, get_or-append}
+use Rattle.words.specs.lists.Numbers.{tabulate}
+use Rattle.words.specs.lists.Sequences.{over}
+use Rattle.words.proofs.lists.Tabulated.{length-tabulate, get_d_tabulate}
+use Rattle.text.specs.frames.Frame.{contents}
+use Rattle.text.specs.frames.Verdict.{Verdict, fine, refused, next, when}
+use Rattle.text.specs.frames.Answer.{success}
+use Rattle.text.proofs.frames.Chains.{no-success}
+use Rattle.image.specs.Image.{Image}
+use Rattle.image.specs.Decode.{lastLabel, decoded}
+use Rattle.image.specs.Check.{imageVerdict}
+use Rattle.rows.specs.listing.Listing.{howMany, first_of, firstRows, rowCounts, ListingOutcome, listingOn, noRoomFor, list}
+use Rattle.rows.specs.listing.Exact.{Own, Exactly, Held}
+use Rattle.rows.proofs.listing.Laws.{exactly}
+
+front : (f : ℕ → ℕ) (n : ℕ) (old : List ℕ) (l : ℕ) → l < n → get_or (over (tabulate f n) old) l 0 ≡ f l
+front f n old l h =
+    get_or-append (tabulate f n) (drop (length (tabulate f n)) old) 0 l (omega (arith, length-tabulate f n)) ∙ get_d_tabulate f n l h
+
+-- the image check's verdict, and whether a buffer has too little room
+abbrev answer : Image → List ℕ → List ℕ → Verdict → Bool → ListingOutcome
+answer i xs ys v u = listingOn (next v λ _. when 16 u) (λ _. i) xs ys
+
+record Succeeded (i : Image) (v : Verdict) (x : ListingOutcome) (n : ℕ) : Type 0 where
+  passes : v ≡ fine
+  labels : n ≡ length i.labels
+  first : (l : ℕ) → l < n → get_or x.firsts l 0 ≡ first_of i l
+  number : (l : ℕ) → l < n → get_or x.counts l 0 ≡ howMany i l
+
+succeeded : (i : Image) (xs ys : List ℕ) (v : Verdict) (u : Bool) (n : ℕ) → (answer i xs ys v u).reply ≡ success n
+    → Succeeded i v (answer i xs ys v u) n
+unfolding firstRows rowCounts
+succeeded i xs ys (refused k j) u n e = no-success k j 0 n e
+succeeded i xs ys fine true n e = no-success 16 0 0 n e
+succeeded i xs ys fine false n e =
+    let m : ℕ = length i.labels in
+    let same : n ≡ m = cc in
+    record {
+      passes = refl;
+      labels = same;
+      first = λ l h. front (first_of i) m xs l (omega arith);
+      number = λ l h. front (howMany i) m ys l (omega arith);
+    }
+
+module _ (t xs ys : List ℕ) (n : ℕ) where
+  abbrev i : Image
+  i = decoded (contents t)
+
+  succeeds : (list t xs ys).reply ≡ success n → Succeeded i (imageVerdict t) (list t xs ys) n
+  unfolding list
+  succeeds e = succeeded i xs ys (imageVerdict t) (noRoomFor (lastLabel (contents t) + 1) xs ys) n e
+
+  own : imageVerdict t ≡ fine → (l k : ℕ) → Own i l k ↔ ((first_of i l ≤ k) × (k < first_of i l + howMany i l))
+  unfolding Exactly
+  own = exactly t
+
+  pub held : (list t xs ys).reply ≡ success n → Held t (list t xs ys).firsts (list t xs ys).counts n
+  held e =
+      let x = succeeds e in
+      record {
+        accepted = x.passes;
+        labels = x.labels;
+        first = x.first;
+        number = x.number;
+        exactly = λ l k h. subst (λ (f : ℕ). Own i l k ↔ ((f ≤ k) × (k < f + get_or (list t xs ys).counts l 0))) (sym (x.first l h))
+            (subst (λ (m : ℕ). Own i l k ↔ ((first_of i l ≤ k) × (k < first_of i l + m))) (sym (x.number l h)) (own x.passes l k));
+      }

@@ -1,0 +1,98 @@
+-- The listing of a table, one label after the other into two buffers, and 16 before it.
+use Prim.Native.Nat.{ℕ, ◌+◌, ◌≤◌, ◌<◌}
+use mathlib.Core.Bool.{Bool, true, false}
+use mathlib.Core.Path.{◌≡◌, sym, ◌∙◌, ap, subst}
+use mathlib.Core.List.{List, map}
+use native.Mathlib.Nat.{zero-add}
+use native.Mathlib.Omega.{arith}
+use lib.Dec.{ltb}
+use lib.ListN.{length, set}
+use borrow.Author.Tests.{lt-ltb, le-ltb}
+use Rattle.words.specs.lists.Numbers.{range, tabulate}
+use Rattle.words.specs.lists.Sequences.{over}
+use Rattle.words.proofs.lists.Tests.{or-true-l, or_true_r, or-none}
+use Rattle.words.proofs.lists.Written.{written-front}
+use Rattle.words.proofs.lists.Fills.{ValuesFrom, values-none, values-turn, values-all}
+use Rattle.text.specs.frames.Verdict.{when}
+use Rattle.text.specs.frames.Answer.{reply, success}
+use Rattle.text.specs.declared.frames.Answer.{Answer}
+use Rattle.text.specs.declared.frames.Answer.TheVariants.{Done, Refused}
+use Rattle.image.specs.Image.{Image}
+use Rattle.image.specs.Decode.{lastLabel}
+use Rattle.tables.specs.Table.{tableImage}
+use Rattle.tables.proofs.TableReads.{labels-count}
+use Rattle.rows.specs.listing.Listing.{howMany, first_of, firstRows, rowCounts, ListingOutcome, listingOn, noRoomFor, GivesListing}
+use Rattle.rows.specs.listing.inner.ListingContracts.{RowsOf, listTable}
+use Rattle.rows.specs.declared.listing.Rows.{Rows}
+
+-- the first l of n labels stand in both buffers
+pub record FillingRows (i : Image) (n : ℕ) (xs₀ ys₀ xs ys : List ℕ) (l : ℕ) : Type 0 where
+  pub first : ValuesFrom (first_of i) xs₀ xs 0 n l
+  pub number : ValuesFrom (howMany i) ys₀ ys 0 n l
+
+module _ (b xs₀ ys₀ : List ℕ) where
+  abbrev i : Image
+  i = tableImage b
+
+  abbrev n : ℕ
+  n = lastLabel b + 1
+
+  pub filling-start : FillingRows i n xs₀ ys₀ xs₀ ys₀ 0
+  filling-start = record { first = values-none (first_of i) xs₀ 0 n; number = values-none (howMany i) ys₀ 0 n }
+
+  pub filling-on : n ≤ length xs₀ → n ≤ length ys₀ → (xs ys : List ℕ) (l : ℕ)
+      → FillingRows i n xs₀ ys₀ xs ys l → l < n → (r : Rows) → RowsOf i l r
+      → FillingRows i n xs₀ ys₀ (set xs l r.first) (set ys l r.count) (l + 1)
+  filling-on p q xs ys l t h r w = record {
+    first = subst (λ (k : ℕ). ValuesFrom (first_of i) xs₀ (set xs k r.first) 0 n (l + 1)) (zero-add l)
+        (values-turn (first_of i) xs₀ 0 n xs l r.first (omega arith) t.first h w.first);
+    number = subst (λ (k : ℕ). ValuesFrom (howMany i) ys₀ (set ys k r.count) 0 n (l + 1)) (zero-add l)
+        (values-turn (howMany i) ys₀ 0 n ys l r.count (omega arith) t.number h w.count);
+  }
+
+  pub filling-all : (xs ys : List ℕ) (l : ℕ) → FillingRows i n xs₀ ys₀ xs ys l → n ≤ l
+      → (xs ≡ over (firstRows i) xs₀) × (ys ≡ over (rowCounts i) ys₀)
+  unfolding firstRows rowCounts tabulate
+  filling-all xs ys l t h = (
+    values-all (first_of i) xs₀ 0 n xs l t.first h ∙ written-front xs₀ (map (first_of i) (range 0 n))
+        ∙ ap (λ (m : ℕ). over (map (first_of i) (range 0 m)) xs₀) (sym (labels-count b)),
+    values-all (howMany i) ys₀ 0 n ys l t.number h ∙ written-front ys₀ (map (howMany i) (range 0 n))
+        ∙ ap (λ (m : ℕ). over (map (howMany i) (range 0 m)) ys₀) (sym (labels-count b)),
+  )
+
+-- ---- 16
+module _ (b xs ys : List ℕ) (n : ℕ) (is : n ≡ lastLabel b + 1) where
+  abbrev image : Image
+  image = tableImage b
+
+  count : n ≡ length image.labels
+  count = is ∙ sym (labels-count b)
+
+  by-room : (t : Bool) → noRoomFor n xs ys ≡ t → listTable b xs ys ≡ listingOn (when 16 t) (λ _. image) xs ys
+  unfolding listTable
+  by-room t e =
+      ap (λ (m : ℕ). listingOn (when 16 (noRoomFor m xs ys)) (λ _. image) xs ys) (sym count)
+      ∙ ap (λ (u : Bool). listingOn (when 16 u) (λ _. image) xs ys) e
+
+  full : noRoomFor n xs ys ≡ true → (a : Answer) → a ≡ Refused 16 0 0 → GivesListing (listTable b xs ys) a xs ys
+  full e a q = let g = by-room true e in record {
+    answered = ap reply q ∙ sym (ap (λ (x : ListingOutcome). x.reply) g);
+    firsts = sym (ap (λ (x : ListingOutcome). x.firsts) g);
+    counts = sym (ap (λ (x : ListingOutcome). x.counts) g);
+  }
+
+  pub firsts-short : length xs < n → (a : Answer) → a ≡ Refused 16 0 0 → GivesListing (listTable b xs ys) a xs ys
+  firsts-short h = full (or-true-l (ltb (length xs) n) (ltb (length ys) n) (lt-ltb (length xs) n h))
+
+  pub counts-short : length ys < n → (a : Answer) → a ≡ Refused 16 0 0 → GivesListing (listTable b xs ys) a xs ys
+  counts-short h = full (or_true_r (ltb (length xs) n) (ltb (length ys) n) (lt-ltb (length ys) n h))
+
+  pub listed : n ≤ length xs → n ≤ length ys → (xs' ys' : List ℕ) → (xs' ≡ over (firstRows image) xs) × (ys' ≡ over (rowCounts image) ys)
+      → GivesListing (listTable b xs ys) (Done n) xs' ys'
+  listed p q xs' ys' (x, y) =
+      let g = by-room false (or-none (ltb (length xs) n) (ltb (length ys) n) (le-ltb (length xs) n p) (le-ltb (length ys) n q)) in
+      record {
+        answered = ap success count ∙ sym (ap (λ (x : ListingOutcome). x.reply) g);
+        firsts = x ∙ sym (ap (λ (x : ListingOutcome). x.firsts) g);
+        counts = y ∙ sym (ap (λ (x : ListingOutcome). x.counts) g);
+      }

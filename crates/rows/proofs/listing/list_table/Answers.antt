@@ -1,0 +1,17 @@
+-- `rows::listing::list_table` meets its contract: no room in a buffer, or both are filled.
+use mathlib.Core.Path.{ap}
+use Prim.Native.Nat.{ℕ, ◌+◌}
+use Rattle.rows.proofs.listing.FillCases.{firsts-short, counts-short, listed}
+use Rattle.std.proofs.Common.{rules}
+use Rattle.rows.proofs.listing.list_table.Goals as goal
+
+pub returns-then-firsts-labels : goal.returns-then-firsts-labels
+returns-then-firsts-labels c = firsts-short _ _ _ _ (ap (λ (n : ℕ). n + 1) c.last_label.ensures) (search rules) _ c.refused.ensures
+
+pub returns-then-counts-labels : goal.returns-then-counts-labels
+returns-then-counts-labels c =
+    counts-short _ _ _ _ (ap (λ (n : ℕ). n + 1) c.last_label.ensures) (search rules) _ c.refused-then-counts-labels.ensures
+
+pub returns : goal.returns
+returns c =
+    listed _ _ _ _ (ap (λ (n : ℕ). n + 1) c.last_label.ensures) (search rules) (search rules) _ _ c.fill_listing.ensures

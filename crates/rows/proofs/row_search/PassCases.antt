@@ -1,0 +1,103 @@
+-- Rows that a search passed over, and a pass that keeps the one row that matched.
+use Prim.Native.Nat.{ℕ, zero, suc, ◌+◌, ◌-◌, ◌≤◌, ◌<◌}
+use mathlib.Core.Bool.{Bool, true, false}
+use mathlib.Core.Path.{◌≡◌, refl, sym, ◌∙◌, ap, subst}
+use mathlib.Core.List.{List}
+use native.Mathlib.Decide.{ℕ_discrete}
+use native.Mathlib.Omega.{arith}
+use Rattle.text.specs.frames.Frame.{size}
+use Rattle.tables.specs.Table.{firstOn, endOn}
+use Rattle.rows.specs.inner.Search.{swap, matchingFrame, found_at, NO-FRAME, chosenFrame, Chosen, Deciding}
+use Rattle.rows.proofs.SearchCases.{Searched, search-start, search-over, search-other, search-own, better-only, frame-named, none_named}
+use Rattle.rows.specs.row_search.inner.Skipped.{Unmatched, Skipped}
+
+-- ---- rows that a search passed over, none of which matches
+module _ (b : List ℕ) (w bit from end f : ℕ) (s : Unmatched b w bit from end f)
+    (t : Bool) (q : t ≡ matchingFrame b w bit f) (n : t ≡ false) where
+  pub skip-one : f + 1 ≤ end → Unmatched b w bit from end (f + 1)
+  skip-one h = record { on = omega (arith, s.on); within = λ _. h; none = none }
+    where
+      none : (k : ℕ) → from ≤ k → k < f + 1 → matchingFrame b w bit k ≡ false
+      none k g m = go (ℕ_discrete k f)
+        where
+          go : Dec (k ≡ f) → matchingFrame b w bit k ≡ false
+          go (yes e) = ap (matchingFrame b w bit) e ∙ sym q ∙ n
+          go (no e) = s.none k g (omega arith)
+
+pub skip-two : (b : List ℕ) (w bit from end f : ℕ) → Unmatched b w bit from end f → (t v : Bool) → t ≡ matchingFrame b w bit f
+    → v ≡ matchingFrame b w bit (f + 1) → t ≡ false → v ≡ false → f + 1 < end → Unmatched b w bit from end (f + 2)
+skip-two b w bit from end f s t v p q n m h =
+    subst (Unmatched b w bit from end) (let e : f + 1 + 1 ≡ f + 2 = omega arith in e)
+    (skip-one b w bit from end (f + 1) (skip-one b w bit from end f s t p n (omega arith)) v q m (omega arith))
+
+pub skip-start : (b : List ℕ) (w bit from end : ℕ) → Unmatched b w bit from end from
+skip-start b w bit from end = record { on = omega arith; within = λ h. absurd (omega arith); none = λ k g h. absurd (omega arith) }
+
+-- ---- one pass that keeps the row that matched: as long as no second one does, it is the best so far
+pub record PassedRows (b : List ℕ) (l w bit first end f found : ℕ) : Type 0 where
+  pub table : size b < NO-FRAME
+  pub named : chosenFrame (found_at b l found) ≡ found
+  pub one : Searched b l w bit first end f found
+
+module _ (b : List ℕ) (l w bit first end : ℕ) where
+  pub pass-start : size b < NO-FRAME → PassedRows b l w bit first end first NO-FRAME
+  pass-start few = record {
+    table = few;
+    named = none_named b l (omega arith);
+    one = search-start b l w bit first end NO-FRAME (omega arith);
+  }
+
+  pub pass-over : (f found : ℕ) → PassedRows b l w bit first end f found → end ≤ f → first ≡ firstOn b l → end ≡ endOn b l
+      → Chosen b l w bit found
+  pass-over f found s h p q = sym s.named ∙ ap chosenFrame (search-over b l w bit first end f found s.one h p q)
+
+  module _ (d : Deciding b l bit) (swapped : ℕ) (e : swapped ≡ swap w) (small : w < 65536) where
+    -- by the test that was made of frame f
+    module _ (f found : ℕ) (s : PassedRows b l w bit first end f found) (h : f < end) (t : Bool)
+        (q : t ≡ matchingFrame b (swap swapped) bit f) where
+      pub pass-other : t ≡ false → PassedRows b l w bit first end (f + 1) found
+      pass-other n = record {
+        table = s.table;
+        named = s.named;
+        one = search-other b l w bit first end f found s.one d h swapped e small t q n;
+      }
+
+      pub pass-own : t ≡ true → f < size b → NO-FRAME ≤ found → PassedRows b l w bit first end (f + 1) f
+      pass-own y inside k = record {
+        table = s.table;
+        named = frame-named b f l inside;
+        one = search-own b l w bit first end f found s.one d h swapped e small t q y f
+            (better-only b found f inside (omega (arith, s.table)));
+      }
+
+    -- over n rows that do not match
+    pass_on : (found n f r : ℕ) → r ≡ f + n → (f < r → r ≤ end)
+        → ((k : ℕ) → f ≤ k → k < r → matchingFrame b (swap swapped) bit k ≡ false)
+        → PassedRows b l w bit first end f found → PassedRows b l w bit first end r found
+    pass_on found zero f r z h none s = subst (λ (x : ℕ). PassedRows b l w bit first end x found) (let y : f ≡ r = omega arith in y) s
+    pass_on found (suc n) f r z h none s =
+        pass_on found n (f + 1) r (omega arith) (λ _. h (omega arith)) (λ k g m. none k (omega arith) m)
+        (pass-other f found s (omega (arith, h (omega arith))) false (sym (none f (omega arith) (omega arith))) refl)
+
+    pub pass-skip : (found f r : ℕ) → Skipped b (swap swapped) bit f end r → PassedRows b l w bit first end f found
+        → PassedRows b l w bit first end r found
+    pass-skip found f r k s = pass_on found (r - f) f r (omega (arith, k.passed.on)) k.passed.within k.passed.none s
+
+    -- a label with two rows, one of which matches
+    module _ (few : size b < NO-FRAME) (p : first ≡ firstOn b l) (q : end ≡ endOn b l) (two : end ≡ first + 2) (within : end ≤ size b)
+        (t v : Bool) (x : t ≡ matchingFrame b (swap swapped) bit first) (y : v ≡ matchingFrame b (swap swapped) bit (first + 1)) where
+      begun : PassedRows b l w bit first end first NO-FRAME
+      begun = pass-start few
+
+      pub first-of-two : t ≡ true → v ≡ false → Chosen b l w bit first
+      first-of-two g n =
+          pass-over (first + 1 + 1) first
+          (pass-other (first + 1) first (pass-own first NO-FRAME begun (omega arith) t x g (omega arith) (omega arith)) (omega arith) v y n)
+          (omega arith) p q
+
+      pub second-of-two : t ≡ false → v ≡ true → Chosen b l w bit (first + 1)
+      second-of-two n g =
+          pass-over (first + 1 + 1) (first + 1)
+          (pass-own (first + 1) NO-FRAME (pass-other first NO-FRAME begun (omega arith) t x n) (omega arith) v y g
+          (omega arith) (omega arith))
+          (omega arith) p q

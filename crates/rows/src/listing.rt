@@ -1,0 +1,74 @@
+// The rows of each label of a prepared table: the number of the first and how many there are, read off the frames at which a tick looks.
+ghost use Rattle.std.specs.Prelude.{◌≡◌, ◌<◌, length};
+ghost use Rattle.words.specs.lists.Sequences.{over};
+ghost use Rattle.image.specs.Decode.{lastLabel};
+ghost use Rattle.tables.specs.Table.{tableImage};
+ghost use Rattle.rows.specs.listing.Listing.{firstRows, rowCounts, GivesListing};
+ghost use Rattle.rows.specs.listing.inner.ListingContracts.{Listable, ListingAsked, RowsOf, listTable};
+
+use crate::{end_of, first_of};
+use image::rows_from;
+use tables::{last_label, scheme_count};
+use text::frames::refusals::NO_ROOM;
+use text::frames::{Answer, refused};
+
+// The number of a label's first row and how many it has.
+#[derive(Drop)]
+struct Rows {
+    first: u16,
+    count: u16,
+}
+
+// The rows of label l, 0 and 0 where there are none; labels 0 and 1 have none.
+fn rows_of(table: &[u8], schemes: u8, l: usize) -> Rows
+    requires { ListingAsked table.now schemes l }
+    ensures { RowsOf (tableImage table.now) l result }
+{
+    if l < 2 {
+        return Rows { first: 0, count: 0 };
+    }
+    let frame = first_of(table, schemes, l);
+    let end = end_of(table, schemes, l);
+    let before = rows_from(table);
+    if frame == end {
+        return Rows { first: 0, count: 0 };
+    }
+    let first = (frame - before) as u16;
+    let count = (end - frame) as u16;
+    Rows { first, count }
+}
+
+// The rows of the labels 0 to M.
+fn fill_listing(table: &[u8], firsts: &mut [u16], counts: &mut [u16])
+    requires listable { Listable table.now }
+    requires table_in_bounds { (lastLabel table.now < length firsts.old) × (lastLabel table.now < length counts.old) }
+    ensures { (firsts.new ≡ over (firstRows (tableImage table.now)) firsts.old)
+        × (counts.new ≡ over (rowCounts (tableImage table.now)) counts.old) }
+{
+    let schemes = scheme_count(table);
+    let last = last_label(table) as usize;
+    let mut l: usize = 0;
+    while l <= last {
+        let rows = rows_of(table, schemes, l);
+        firsts[l] = rows.first;
+        counts[l] = rows.count;
+        l += 1;
+    }
+}
+
+// 16, then the listing; counts the labels.
+pub fn list_table(table: &[u8], firsts: &mut [u16], counts: &mut [u16]) -> Answer
+    requires { Listable table.now }
+    ensures { GivesListing (listTable table.now firsts.old counts.old)
+        result firsts.new counts.new }
+{
+    let labels = last_label(table) as usize + 1;
+    if firsts.len() < labels {
+        return refused(NO_ROOM, 0);
+    }
+    if counts.len() < labels {
+        return refused(NO_ROOM, 0);
+    }
+    fill_listing(table, firsts, counts);
+    Answer::Done(labels)
+}

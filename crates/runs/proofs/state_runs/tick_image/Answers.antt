@@ -1,0 +1,13 @@
+-- `runs::state_runs::tick_image` meets its contract: the tick in place on the bytes of the state, read back.
+use mathlib.Core.Path.{◌≡◌}
+use lib.ListN.{length}
+use Rattle.state.specs.State.{Sized}
+use Rattle.runs.proofs.state_runs.Values.{tick-value}
+use Rattle.std.proofs.Common.{rules}
+use Rattle.runs.proofs.state_runs.tick_image.Goals as goal
+
+pub returns : goal.returns
+returns c =
+    let sized : Sized c.args.state = record { places = search rules; serving = search rules; numbers = search rules; servers = search rules } in
+    let all-bits : length c.args.state.bits ≡ 16 = search rules in
+    tick-value _ sized all-bits _ c.bytes_of-bytes.ensures _ _ _ _ _ c.state_of-after.ensures c.tick_bytes-report.ensures

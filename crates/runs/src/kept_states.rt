@@ -1,0 +1,16 @@
+// A tick on a state behind a reference, for a caller that keeps the state.
+ghost use Rattle.runs.specs.TickOutcome.{imageTick, GivesTick};
+
+use crate::TickReport;
+use crate::state_runs::tick_image;
+use state::State;
+
+// One tick on a state that the caller keeps: a refused tick leaves it as it was.
+pub fn tick(state: &mut State, image: &[u8], word: u16) -> TickReport
+    ensures { GivesTick (imageTick image.now state.old word) result state.new }
+{
+    let old = *state;
+    let done = tick_image(image, old, word);
+    *state = done.state;
+    done.report
+}

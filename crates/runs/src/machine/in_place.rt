@@ -1,0 +1,88 @@
+// Runs and ticks on the bytes of a state that the caller keeps: on an image, and live on a prepared table.
+ghost use Rattle.state.specs.Bytes.{state_of};
+ghost use Rattle.runs.specs.Run.{run};
+ghost use Rattle.runs.specs.TickOutcome.{imageTick};
+ghost use Rattle.runs.specs.machine.Live.{liveRun, liveTick};
+ghost use Rattle.runs.specs.InPlace.{GivesRunOn, GivesTickOn};
+
+use super::TickReport;
+use crate::table_runs::{run_table, tick_table};
+use state::layout::STATE_BYTES;
+use tables::preparing::prepare_table;
+use tables::{bad_table, table_length};
+use text::frames::refusals::BAD_HEADER;
+use text::frames::sizes::{FRAME, LINE, TABLE};
+use text::frames::{Answer, refused};
+
+// What the image check tries, 15 and 16 before the first tick, 17 and 18 tick by tick.
+pub fn run_bytes(
+    image: &[u8],
+    bytes: &mut [u8; STATE_BYTES],
+    words: &[u16],
+    masks: &mut [u32],
+    codes: &mut [u8],
+) -> Answer
+    ensures { GivesRunOn (run image.now (state_of bytes.old) words.now masks.old
+        codes.old) bytes.old result bytes.new masks.new codes.new }
+{
+    let mut table = [0u8; TABLE];
+    let answer = prepare_table(image, &mut table);
+    let Answer::Done(_) = answer else {
+        return answer;
+    };
+    let n = FRAME * (image.len() / LINE);
+    run_table(&table[..n], bytes, words, masks, codes)
+}
+
+// One tick: what a run tries but 16.
+pub fn tick_bytes(image: &[u8], bytes: &mut [u8; STATE_BYTES], word: u16) -> TickReport
+    ensures { GivesTickOn (imageTick image.now (state_of bytes.old) word)
+        bytes.old result bytes.new }
+{
+    let mut table = [0u8; TABLE];
+    let answer = prepare_table(image, &mut table);
+    let Answer::Done(_) = answer else {
+        return TickReport {
+            answer,
+            mask: 0,
+            code: 0,
+        };
+    };
+    let n = FRAME * (image.len() / LINE);
+    tick_table(&table[..n], bytes, word)
+}
+
+// A run on a prepared table: 11, then as any run.
+pub fn live_run_bytes(
+    table: &[u8],
+    bytes: &mut [u8; STATE_BYTES],
+    words: &[u16],
+    masks: &mut [u32],
+    codes: &mut [u8],
+) -> Answer
+    ensures { GivesRunOn (liveRun table.now (state_of bytes.old) words.now masks.old
+        codes.old) bytes.old result bytes.new masks.new codes.new }
+{
+    if bad_table(table) {
+        return refused(BAD_HEADER, 0);
+    }
+    let n = table_length(table);
+    run_table(&table[..n], bytes, words, masks, codes)
+}
+
+// One tick on a prepared table.
+pub fn live_tick_bytes(table: &[u8], bytes: &mut [u8; STATE_BYTES], word: u16) -> TickReport
+    ensures { GivesTickOn (liveTick table.now (state_of bytes.old) word)
+        bytes.old result bytes.new }
+{
+    if bad_table(table) {
+        let answer = refused(BAD_HEADER, 0);
+        return TickReport {
+            answer,
+            mask: 0,
+            code: 0,
+        };
+    }
+    let n = table_length(table);
+    tick_table(&table[..n], bytes, word)
+}

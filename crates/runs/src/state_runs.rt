@@ -1,0 +1,82 @@
+// Runs and ticks that take a state and hand one back.
+ghost use Rattle.runs.specs.Run.{run, GivesRun};
+ghost use Rattle.runs.specs.TickOutcome.{imageTick, GivesTick};
+ghost use Rattle.runs.specs.machine.Live.{liveRun, liveTick};
+
+use crate::TickReport;
+use crate::machine::{live_run_bytes, live_tick_bytes, run_bytes, tick_bytes};
+use state::state_bytes::{bytes_of, state_of};
+use state::{State, StateReport};
+
+// A tick's report, and the state after it.
+#[derive(Drop)]
+pub struct TickStateReport {
+    pub report: TickReport,
+    pub state: State,
+}
+
+// A run: what the image check tries, 15 and 16 before the first tick, 17 and 18 tick by tick.
+pub fn run(
+    image: &[u8],
+    state: State,
+    words: &[u16],
+    masks: &mut [u32],
+    codes: &mut [u8],
+) -> StateReport
+    ensures { GivesRun (run image.now state words.now masks.old codes.old)
+        result masks.new codes.new }
+{
+    let mut bytes = bytes_of(state);
+    let answer = run_bytes(image, &mut bytes, words, masks, codes);
+    let after = state_of(bytes);
+    StateReport {
+        answer,
+        state: after,
+    }
+}
+
+// A run of one word; refused, it hands back mask 0, code 0 and the state as it was.
+pub fn tick_image(image: &[u8], state: State, word: u16) -> TickStateReport
+    ensures { GivesTick (imageTick image.now state word) result.report result.state }
+{
+    let mut bytes = bytes_of(state);
+    let report = tick_bytes(image, &mut bytes, word);
+    let after = state_of(bytes);
+    TickStateReport {
+        report,
+        state: after,
+    }
+}
+
+// A run on a prepared table: 11, then 15 to 18 as in any run.
+pub fn live_run(
+    table: &[u8],
+    state: State,
+    words: &[u16],
+    masks: &mut [u32],
+    codes: &mut [u8],
+) -> StateReport
+    ensures { GivesRun (liveRun table.now state words.now masks.old codes.old)
+        result masks.new codes.new }
+{
+    let mut bytes = bytes_of(state);
+    let answer = live_run_bytes(table, &mut bytes, words, masks, codes);
+    let after = state_of(bytes);
+    StateReport {
+        answer,
+        state: after,
+    }
+}
+
+// One tick on a prepared table.
+pub fn live_tick(table: &[u8], state: State, word: u16) -> TickStateReport
+    ensures { GivesTick (liveTick table.now state word) result.report result.state }
+{
+    let mut bytes = bytes_of(state);
+    let report = live_tick_bytes(table, &mut bytes, word);
+    let after = state_of(bytes);
+    TickStateReport {
+        report,
+        state: after,
+    }
+}

@@ -1,6 +1,0 @@
--- `runs_for_c::run` meets its contract: the run in place, and its answer told.
-use Rattle.runs_for_c.proofs.CallLaws.{run-told}
-use Rattle.runs_for_c.proofs.run.Goals as goal
-
-pub returns : goal.returns
-returns c = run-told c.run_bytes-answer.ensures c.tell.ensures

@@ -1,6 +1,0 @@
--- `runs_for_c::tick` meets its contract: the tick in place, and its report told.
-use Rattle.runs_for_c.proofs.CallLaws.{tick-told}
-use Rattle.runs_for_c.proofs.tick.Goals as goal
-
-pub returns : goal.returns
-returns c = tick-told c.tick_bytes-report.ensures c.tell_tick.ensures

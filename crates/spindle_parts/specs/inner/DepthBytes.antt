@@ -1,7 +1,0 @@
--- The number of states that bytes hold, as the functions read it.
-use Rattle.std.specs.Prelude.{ℕ, eqb}
-use Rattle.lists.specs.Pick.{pick}
-use Rattle.spindles.specs.Layout.{SPINDLES, HEAD-BYTES}
-
-abbrev pub stateCount : ℕ → ℕ
-stateCount n = pick (eqb n HEAD-BYTES) SPINDLES 0

@@ -1,2 +1,0 @@
-// What holds over every list of calls of four spindles: laws alone.
-#![tactic(auto)]

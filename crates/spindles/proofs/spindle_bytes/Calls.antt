@@ -1,0 +1,167 @@
+-- A call on bytes, from a head that is refused or from the turn of the part that is the spindle's state.
+use Prim.Native.Nat.{ℕ, ◌*◌, ◌≤◌, ◌<◌}
+use mathlib.Core.Path.{◌≡◌, refl, sym, ◌∙◌, ap, ap₂, subst}
+use mathlib.Core.Bool.{Bool, true, false}
+use mathlib.Core.List.{List}
+use native.Mathlib.Omega.{arith}
+use lib.Dec.{ltb, eqb}
+use lib.ListN.{length}
+use lib.Seq.{get_or-set_same}
+use borrow.Author.Tests.{ne_eqb, eqb-true}
+use Rattle.words.specs.lists.Pick.{pick}
+use Rattle.words.specs.lists.Sequences.{written}
+use Rattle.words.proofs.lists.Tests.{yes-pick, no-pick}
+use Rattle.text.specs.frames.Verdict.{Verdict, fine, refused, next, when}
+use Rattle.text.specs.frames.Answer.{replyNumber, reply}
+use Rattle.text.proofs.frames.Refuses.{next-refuses, when-refuses}
+use Rattle.image.specs.Check.{imageVerdict}
+use Rattle.tables.specs.Table.{badTable}
+use Rattle.state.specs.declared.State.{State}
+use Rattle.state.specs.State.{noState}
+use Rattle.state.specs.Bytes.{state_of, bytesOf}
+use Rattle.runs.specs.TickOutcome.{TickOutcome, imageTick}
+use Rattle.runs.specs.machine.Live.{liveTick}
+use Rattle.spindles.specs.declared.SpinReport.{SpinReport}
+use Rattle.spindles.specs.Spindles.{stateAt, SpinOutcome, spin, liveSpin}
+use Rattle.spindles.specs.inner.HeadAndTurn.{badSpinCall, refusedHead, GivesRefusedHead, TurnOutcome, turn}
+use Rattle.spindles.specs.inner.HeadAndTurn.{GivesTurnOn, fourDepths, headSpun, turnSpun, in_parts}
+use Rattle.spindles.proofs.InParts.{call-four, call-named, depth-most, head-refused, spin-parts, live-spin-parts}
+use Rattle.spindles.proofs.turning.Settled.{NumberedVerdict, image-numbered, table-numbered}
+use Rattle.spindles.specs.spindle_parts.FourStates.{part_of, statesOf, depthsIn}
+use Rattle.spindles.specs.spindle_bytes.Bytes.{bytesSpun, GivesSpinOn}
+use Rattle.spindles.specs.spindle_parts.inner.DepthBytes.{stateCount}
+use Rattle.spindles.proofs.spindle_parts.States.{count-is, state-is, part_length, depths-are, part-back}
+
+-- ---- what a call that is no bad one tells of the bytes
+module _ (b : List ℕ) (n k : ℕ) (counted : n ≡ stateCount (length b)) (t : Bool) (tested : t ≡ badSpinCall n k) (good : t ≡ false) where
+  pub bytes-long : length b ≡ 520
+  bytes-long = go (eqb (length b) 520) refl (sym counted ∙ call-four n k (sym tested ∙ good))
+    where
+      go : (u : Bool) → eqb (length b) 520 ≡ u → ◌≡◌ {A = ℕ} (pick u 4 0) 4 → length b ≡ 520
+      go true e q = eqb-true (length b) 520 e
+      go false e q = absurd (omega arith)
+
+  pub bytes-named : k < 4
+  bytes-named = call-named n k (sym tested ∙ good)
+
+  pub turn-deep : (sum : ℕ) (part : List ℕ) → sum ≡ depthsIn b → part ≡ part_of b k → (state_of part).depth ≤ sum
+  turn-deep sum part e f =
+      let m : (stateAt (statesOf b) k).depth ≤ fourDepths (statesOf b) = depth-most (statesOf b) k bytes-named in
+      let d : (state_of part).depth ≡ (state_of (part_of b k)).depth = ap (λ (l : List ℕ). (state_of l).depth) f in
+      omega (arith, ap (λ (s : State). s.depth) (state-is b bytes-long k bytes-named), depths-are b bytes-long)
+
+-- a turn leaves as many bytes
+pub part-full : (b : List ℕ) → length b ≡ 520 → (k : ℕ) → k < 4
+    → (y : TurnOutcome) (part part' : List ℕ) (r : SpinReport) → part ≡ part_of b k
+    → GivesTurnOn y part r part'
+    → 130 ≡ length part'
+unfolding bytesOf
+part-full b long k l y part part' r e z = sym (ap length z.bytes ∙ go (eqb (replyNumber y.reply) 0))
+  where
+    go : (t : Bool) → length (pick t (bytesOf y.state) part) ≡ 130
+    go true = refl
+    go false = ap length e ∙ part_length b long k l
+
+-- ---- a head that is refused
+head-numbered : (v : Verdict) (k : ℕ) → NumberedVerdict v → NumberedVerdict (refusedHead v k)
+unfolding refusedHead
+head-numbered v k l =
+    next-refuses (λ m. 1 ≤ m) (when 25 (ltb 3 k)) (λ _. next v λ _. refused 15 0) (when-refuses (λ m. 1 ≤ m) 25 (ltb 3 k) (omega arith))
+    (next-refuses (λ m. 1 ≤ m) v (λ _. refused 15 0) l (omega arith))
+
+module _ (b : List ℕ) (taken k : ℕ) (r : SpinReport) where
+  head-spins : (u : Verdict) → NumberedVerdict u → (u ≡ fine → ⊥) → GivesRefusedHead u taken r
+      → GivesSpinOn (headSpun u (statesOf b) taken) b k r b
+  unfolding bytesSpun
+  head-spins fine l told z = absurd (told refl)
+  head-spins (refused n i) l told z = record {
+    answered = z.answered;
+    mask = z.mask;
+    code = z.code;
+    taken = z.taken;
+    bytes = sym (no-pick (eqb n 0) (written b (130 * k) (bytesOf (stateAt (statesOf b) k))) b (ne_eqb n 0 (λ m. omega arith)));
+  }
+
+  -- with the count of states as it is read
+  module _ (n : ℕ) (counted : n ≡ stateCount (length b)) (t : Bool) (tested : t ≡ badSpinCall n k) where
+    test-is : badSpinCall (length (statesOf b)) k ≡ t
+    test-is = ap (λ (m : ℕ). badSpinCall m k) (count-is b ∙ sym counted) ∙ sym tested
+
+    head-by : t ≡ true → (v : Verdict) → NumberedVerdict v → (x : TickOutcome) → GivesRefusedHead (refusedHead v k) taken r
+        → GivesSpinOn (in_parts v (statesOf b) taken k x) b k r b
+    head-by bad v l x z =
+        subst (λ (y : SpinOutcome). GivesSpinOn y b k r b)
+        (sym (yes-pick (badSpinCall (length (statesOf b)) k) (headSpun (refusedHead v k) (statesOf b) taken)
+        (turnSpun (statesOf b) k (turn v (stateAt (statesOf b) k) (fourDepths (statesOf b)) taken x)) (test-is ∙ bad)))
+        (head-spins (refusedHead v k) (head-numbered v k l) (head-refused v k) z)
+
+    pub image-refused : t ≡ true → (image : List ℕ) (w : ℕ) → GivesRefusedHead (refusedHead (imageVerdict image) k) taken r
+        → GivesSpinOn (spin image (statesOf b) taken k w) b k r b
+    image-refused bad image w z =
+        subst (λ (y : SpinOutcome). GivesSpinOn y b k r b) (sym (spin-parts image (statesOf b) taken k w))
+        (head-by bad (imageVerdict image) (image-numbered image) (imageTick image (stateAt (statesOf b) k) w) z)
+
+    pub table-refused : t ≡ true → (table : List ℕ) (w : ℕ) → GivesRefusedHead (refusedHead (when 11 (badTable table)) k) taken r
+        → GivesSpinOn (liveSpin table (statesOf b) taken k w) b k r b
+    table-refused bad table w z =
+        subst (λ (y : SpinOutcome). GivesSpinOn y b k r b) (sym (live-spin-parts table (statesOf b) taken k w))
+        (head-by bad (when 11 (badTable table)) (table-numbered table) (liveTick table (stateAt (statesOf b) k) w) z)
+
+    -- ---- the turn, put into the bytes
+    module _ (good : t ≡ false) (sum : ℕ) (summed : sum ≡ depthsIn b) (part part' after : List ℕ) (parted : part ≡ part_of b k)
+        (put : after ≡ written b (130 * k) part') where
+      long : length b ≡ 520
+      long = bytes-long b n k counted t tested good
+
+      low : k < 4
+      low = bytes-named b n k counted t tested good
+
+      abbrev s : State
+      s = stateAt (statesOf b) k
+
+      is_held : state_of part ≡ s
+      is_held = ap state_of parted ∙ sym (state-is b long k low)
+
+      -- what is written of a turn
+      put-by : (y : TurnOutcome) → part' ≡ pick (eqb (replyNumber y.reply) 0) (bytesOf y.state) part
+          → after ≡ pick (eqb (replyNumber y.reply) 0) (written b (130 * k) (bytesOf y.state)) b
+      put-by y e = put ∙ ap (written b (130 * k)) e ∙ go (eqb (replyNumber y.reply) 0)
+        where
+          go : (u : Bool) → written b (130 * k) (pick u (bytesOf y.state) part) ≡ pick u (written b (130 * k) (bytesOf y.state)) b
+          go true = refl
+          go false = ap (written b (130 * k)) parted ∙ part-back b long k low
+
+      turn-spins : (y : TurnOutcome) → GivesTurnOn y part r part' → GivesSpinOn (turnSpun (statesOf b) k y) b k r after
+      unfolding bytesSpun
+      turn-spins y z = record {
+        answered = z.answered;
+        mask = z.mask;
+        code = z.code;
+        taken = z.taken;
+        bytes = put-by y z.bytes ∙ ap (λ (u : State). pick (eqb (replyNumber y.reply) 0) (written b (130 * k) (bytesOf u)) b)
+            (sym (get_or-set_same (statesOf b) k y.state noState
+            (omega (arith, count-is b, counted, call-four n k (sym tested ∙ good), low))));
+      }
+
+      turn_by : (v : Verdict) (go : State → TickOutcome) → GivesTurnOn (turn v (state_of part) sum taken (go (state_of part))) part r part'
+          → GivesSpinOn (in_parts v (statesOf b) taken k (go s)) b k r after
+      turn_by v go z =
+          subst (λ (y : SpinOutcome). GivesSpinOn y b k r after)
+          (ap₂ (λ (u : State) (m : ℕ). turnSpun (statesOf b) k (turn v u m taken (go u))) is_held (summed ∙ sym (depths-are b long))
+          ∙ sym (no-pick (badSpinCall (length (statesOf b)) k) (headSpun (refusedHead v k) (statesOf b) taken)
+          (turnSpun (statesOf b) k (turn v s (fourDepths (statesOf b)) taken (go s))) (test-is ∙ good)))
+          (turn-spins (turn v (state_of part) sum taken (go (state_of part))) z)
+
+      pub image-spins : (image : List ℕ) (w : ℕ)
+          → GivesTurnOn (turn (imageVerdict image) (state_of part) sum taken (imageTick image (state_of part) w)) part r part'
+          → GivesSpinOn (spin image (statesOf b) taken k w) b k r after
+      image-spins image w z =
+          subst (λ (y : SpinOutcome). GivesSpinOn y b k r after) (sym (spin-parts image (statesOf b) taken k w))
+          (turn_by (imageVerdict image) (λ u. imageTick image u w) z)
+
+      pub table-spins : (table : List ℕ) (w : ℕ)
+          → GivesTurnOn (turn (when 11 (badTable table)) (state_of part) sum taken (liveTick table (state_of part) w)) part r part'
+          → GivesSpinOn (liveSpin table (statesOf b) taken k w) b k r after
+      table-spins table w z =
+          subst (λ (y : SpinOutcome). GivesSpinOn y b k r after) (sym (live-spin-parts table (statesOf b) taken k w))
+          (turn_by (when 11 (badTable table)) (λ u. liveTick table u w) z)

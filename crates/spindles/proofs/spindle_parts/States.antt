@@ -1,0 +1,78 @@
+-- Four states in 520 bytes: how many there are, their parts and their depths.
+use Prim.Native.Nat.{ℕ, zero, suc, ◌+◌, ◌*◌, ◌<◌}
+use mathlib.Core.Path.{◌≡◌, refl, sym, ◌∙◌, ap, ap₂}
+use mathlib.Core.Bool.{Bool, true, false}
+use mathlib.Core.List.{List, [], ◌∷◌, ◌++◌, map}
+use native.Mathlib.Omega.{arith}
+use lib.Dec.{eqb}
+use lib.ListN.{length, get_or, take, drop, length-take, length-drop, take-append-drop}
+use lib.Seq.{get_or-take, get_or-drop, drop-drop}
+use borrow.Author.Tests.{eq-eqb}
+use Rattle.words.specs.lists.Pick.{pick}
+use Rattle.words.specs.lists.Numbers.{range}
+use Rattle.words.specs.lists.Sequences.{written}
+use Rattle.words.proofs.lists.Tests.{yes-pick}
+use Rattle.words.proofs.lists.Ranges.{map-count}
+use Rattle.state.specs.declared.State.{State}
+use Rattle.state.specs.Bytes.{state_of}
+use Rattle.spindles.specs.Spindles.{stateAt}
+use Rattle.spindles.specs.inner.HeadAndTurn.{fourDepths}
+use Rattle.spindles.specs.spindle_parts.FourStates.{part_of, statesOf, depthsIn}
+use Rattle.spindles.specs.spindle_parts.inner.DepthBytes.{stateCount}
+
+abbrev four : List ℕ → List State
+four b = state_of (part_of b 0) ∷ state_of (part_of b 1) ∷ state_of (part_of b 2) ∷ state_of (part_of b 3) ∷ []
+
+pub count-is : (b : List ℕ) → length (statesOf b) ≡ stateCount (length b)
+unfolding statesOf
+count-is b = go (eqb (length b) 520)
+  where
+    go : (t : Bool) → length (pick t (four b) []) ≡ pick t 4 0
+    go true = refl
+    go false = refl
+
+module _ (b : List ℕ) (long : length b ≡ 520) where
+  four_are : statesOf b ≡ four b
+  unfolding statesOf
+  four_are = yes-pick (eqb (length b) 520) (four b) [] (eq-eqb (length b) 520 long)
+
+  pub state-is : (k : ℕ) → k < 4 → stateAt (statesOf b) k ≡ state_of (part_of b k)
+  state-is k l = ap (λ (ss : List State). stateAt ss k) four_are ∙ go k l
+    where
+      go : (j : ℕ) → j < 4 → stateAt (four b) j ≡ state_of (part_of b j)
+      go zero m = refl
+      go (suc zero) m = refl
+      go (suc (suc zero)) m = refl
+      go (suc (suc (suc zero))) m = refl
+      go (suc (suc (suc (suc j)))) m = absurd (omega arith)
+
+  pub part_length : (k : ℕ) → k < 4 → length (part_of b k) ≡ 130
+  part_length k l = simp (length-take, length-drop) (omega arith)
+
+  part_at : (k j : ℕ) → j < 130 → get_or (part_of b k) j 0 ≡ get_or b (130 * k + j) 0
+  part_at k j l = get_or-take 130 (drop (130 * k) b) j 0 l ∙ get_or-drop (130 * k) b j 0
+
+  -- the bytes, one by one
+  pub part-is : (k : ℕ) → k < 4 → map (λ (j : ℕ). get_or b (130 * k + j) 0) (range 0 130) ≡ part_of b k
+  part-is k l = map-count (λ (j : ℕ). get_or b (130 * k + j) 0) 0 (part_of b k) 0 130 (sym (part_length k l))
+      (λ j m. ap (λ (i : ℕ). get_or b (130 * k + i) 0) (let e : 0 + j ≡ j = omega arith in e)
+      ∙ sym (part_at k j (omega (arith, part_length k l))))
+
+  depth_is : (k : ℕ) → (state_of (part_of b k)).depth ≡ get_or b (130 * k + 1) 0
+  unfolding state_of
+  depth_is k = part_at k 1 (omega arith)
+
+  pub depths-are : fourDepths (statesOf b) ≡ depthsIn b
+  depths-are =
+      ap fourDepths four_are
+      ∙ ap₂ (λ (x y : ℕ). x + y + (state_of (part_of b 2)).depth + (state_of (part_of b 3)).depth) (depth_is 0) (depth_is 1)
+      ∙ ap₂ (λ (x y : ℕ). get_or b 1 0 + get_or b 131 0 + x + y) (depth_is 2) (depth_is 3)
+
+  -- a part written back as it was
+  pub part-back : (k : ℕ) → k < 4 → written b (130 * k) (part_of b k) ≡ b
+  unfolding written
+  part-back k l =
+      ap (λ (n : ℕ). take (130 * k) b ++ (part_of b k ++ drop n b)) (ap (λ (n : ℕ). 130 * k + n) (part_length k l))
+      ∙ ap (λ (rest : List ℕ). take (130 * k) b ++ (part_of b k ++ rest)) (sym (drop-drop 130 (130 * k) b))
+      ∙ ap (λ (rest : List ℕ). take (130 * k) b ++ rest) (take-append-drop 130 (drop (130 * k) b))
+      ∙ take-append-drop (130 * k) b

@@ -1,0 +1,88 @@
+-- A turn by value, by what the bytes hold after the turn on them.
+use Prim.Native.Nat.{ℕ, ◌+◌, ◌-◌, ◌≤◌}
+use mathlib.Core.Path.{◌≡◌, refl, ◌∙◌, ap, subst}
+use mathlib.Core.Bool.{Bool, true, false}
+use mathlib.Core.List.{List}
+use native.Mathlib.Omega.{arith}
+use lib.Dec.{eqb}
+use lib.ListN.{length}
+use Rattle.words.specs.lists.Pick.{pick}
+use Rattle.text.specs.frames.Verdict.{Verdict, fine, refused, next, when}
+use Rattle.text.specs.frames.Answer.{replyNumber}
+use Rattle.image.specs.Check.{imageVerdict}
+use Rattle.tables.specs.Table.{badTable}
+use Rattle.state.specs.declared.State.{State}
+use Rattle.state.specs.State.{Sized}
+use Rattle.state.specs.Bytes.{state_of, bytesOf}
+use Rattle.state.proofs.ResultBytes.{state-back, held_back}
+use Rattle.runs.specs.TickOutcome.{TickOutcome, imageTick}
+use Rattle.runs.specs.machine.Live.{liveTick}
+use Rattle.spindles.specs.declared.SpinReport.{SpinReport}
+use Rattle.spindles.specs.Spindles.{findsNone}
+use Rattle.spindles.specs.inner.HeadAndTurn.{badRecord, stayed, turnOn, turn, GivesTurn, GivesTurnOn}
+use Rattle.spindles.proofs.turning.Settled.{Held, image-held, table-held}
+
+-- the bytes are those of the state, and what they then hold is handed back
+module _ (b : List ℕ) (v : Verdict) (sum taken : ℕ) (x : TickOutcome) (held : Held b x) where
+  left : (n : ℕ) → state_of (pick (eqb n 0) (bytesOf (state_of b)) b) ≡ state_of b
+  left n = go (eqb n 0)
+    where
+      go : (t : Bool) → state_of (pick t (bytesOf (state_of b)) b) ≡ state_of b
+      go true = held_back b
+      go false = refl
+
+  turn-held : let y = turn v (state_of b) sum taken x in state_of (pick (eqb (replyNumber y.reply) 0) (bytesOf y.state) b) ≡ y.state
+  unfolding turn
+  turn-held = go (next v λ _. when 15 (badRecord sum taken))
+    where
+      by : (t : Bool) → let y = pick t (stayed 26 0 (state_of b) taken)
+          (record {
+            reply = x.reply;
+            mask = x.mask;
+            code = x.code;
+            taken =
+                taken + x.state.depth - (state_of b).depth;
+            state = x.state;
+          }) in
+          state_of (pick (eqb (replyNumber y.reply) 0) (bytesOf y.state) b) ≡ y.state
+      by true = refl
+      by false = held
+
+      go : (u : Verdict)
+          → let y = turnOn u (state_of b) taken x in state_of (pick (eqb (replyNumber y.reply) 0) (bytesOf y.state) b) ≡ y.state
+      go (refused n i) = left n
+      go fine = by (findsNone taken (state_of b) x)
+
+-- with the sum as the function has it
+module _ (state : State) (sized : Sized state) (bits : length state.bits ≡ 16) (bytes : List ℕ) (e : bytes ≡ bytesOf state)
+    (sum depths : ℕ) (summed : sum ≡ depths) where
+  holds : state_of bytes ≡ state
+  holds = ap state_of e ∙ state-back state sized bits
+
+  pub start-deep : state.depth ≤ depths → (state_of bytes).depth ≤ sum
+  start-deep l = omega (arith, ap (λ (s : State). s.depth) holds)
+
+  value-turn : (v : Verdict) (go : State → TickOutcome) → Held bytes (go (state_of bytes))
+      → (taken : ℕ) (r : SpinReport) (after : List ℕ) (u : State)
+      → u ≡ state_of after → GivesTurnOn (turn v (state_of bytes) sum taken (go (state_of bytes))) bytes r after
+      → GivesTurn (turn v state depths taken (go state)) r u
+  value-turn v go held taken r after u q z =
+      subst (λ (s : State). GivesTurn (turn v s depths taken (go s)) r u) holds
+      (subst (λ (n : ℕ). GivesTurn (turn v (state_of bytes) n taken (go (state_of bytes))) r u) summed
+      (record {
+        answered = z.answered;
+        mask = z.mask;
+        code = z.code;
+        taken = z.taken;
+        state = q ∙ ap state_of z.bytes ∙ turn-held bytes v sum taken (go (state_of bytes)) held;
+      }))
+
+  pub image-value : (t : List ℕ) (taken w : ℕ) (r : SpinReport) (after : List ℕ) (u : State) → u ≡ state_of after
+      → GivesTurnOn (turn (imageVerdict t) (state_of bytes) sum taken (imageTick t (state_of bytes) w)) bytes r after
+      → GivesTurn (turn (imageVerdict t) state depths taken (imageTick t state w)) r u
+  image-value t taken w = value-turn (imageVerdict t) (λ s. imageTick t s w) (image-held t bytes w) taken
+
+  pub table-value : (b : List ℕ) (taken w : ℕ) (r : SpinReport) (after : List ℕ) (u : State) → u ≡ state_of after
+      → GivesTurnOn (turn (when 11 (badTable b)) (state_of bytes) sum taken (liveTick b (state_of bytes) w)) bytes r after
+      → GivesTurn (turn (when 11 (badTable b)) state depths taken (liveTick b state w)) r u
+  table-value b taken w = value-turn (when 11 (badTable b)) (λ s. liveTick b s w) (table-held b bytes w) taken

@@ -1,0 +1,20 @@
+-- `spindles::state_turns::turn_state` meets its contract: the turn on the bytes of the state, read back.
+use mathlib.Core.Path.{◌≡◌}
+use lib.ListN.{length}
+use Rattle.state.specs.State.{Sized}
+use Rattle.spindles.proofs.state_turns.Values.{start-deep, image-value}
+use borrow.Author.Rules.{rules}
+use Rattle.spindles.proofs.state_turns.turn_state.Goals as goal
+
+pub turn_bytes-report-requires : goal.turn_bytes-report-requires
+turn_bytes-report-requires c =
+    let sized : Sized c.args.state = record { places = search rules; serving = search rules; numbers = search rules; servers = search rules } in
+    let bits : length c.args.state.bits ≡ 16 = search rules in
+    start-deep _ sized bits _ c.bytes_of-bytes.ensures _ _ c.depths_sum-sum.ensures c.requires
+
+pub returns : goal.returns
+returns c =
+    let sized : Sized c.args.state = record { places = search rules; serving = search rules; numbers = search rules; servers = search rules } in
+    let bits : length c.args.state.bits ≡ 16 = search rules in
+    image-value _ sized bits _ c.bytes_of-bytes.ensures _ _ c.depths_sum-sum.ensures
+    c.args.image.now _ _ _ _ _ c.state_of-after.ensures c.turn_bytes-report.ensures

@@ -1,0 +1,3 @@
+-- What holds over every list of calls of four spindles: laws alone.
+pub mod Calls
+pub mod PlacesBalance

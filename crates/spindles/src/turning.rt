@@ -1,0 +1,88 @@
+// The turn of one spindle on the bytes of its state, on an image and live on a prepared table: its tick, unless the head is refused or a
+// call finds no place.
+ghost use Rattle.std.specs.Prelude.{◌≤◌};
+ghost use Rattle.text.specs.frames.Refusals.{BAD-HEADER};
+ghost use Rattle.text.specs.frames.Verdict.{when};
+ghost use Rattle.image.specs.Check.{imageVerdict};
+ghost use Rattle.tables.specs.Table.{badTable};
+ghost use Rattle.state.specs.Bytes.{state_of};
+ghost use Rattle.runs.specs.TickOutcome.{imageTick};
+ghost use Rattle.runs.specs.machine.Live.{liveTick};
+ghost use Rattle.spindles.specs.inner.HeadAndTurn.{turn, GivesTurnOn};
+ghost use Rattle.spindles.specs.turning.inner.TurnContracts.{GivesSettled};
+ghost use Rattle.spindles.specs.Layout.{STORE};
+
+use crate::spindle_heads::{live_refuse_head, refuse_head};
+use crate::{SpinReport, bad_record, none_left, turned_back};
+use runs::machine::{TickReport, live_tick_bytes, tick_bytes};
+use state::layout::STATE_BYTES;
+use state::state_places::depth_of;
+use text::frames::refusals::NO_PLACE;
+use text::frames::refused;
+
+// After the tick: where it ended deeper than it began and no place is left, it is undone and refused with 26.
+fn settle(
+    old: [u8; STATE_BYTES],
+    bytes: &mut [u8; STATE_BYTES],
+    report: TickReport,
+    taken: usize,
+) -> SpinReport
+    requires bound { (state_of old).depth ≤ taken }
+    requires taken_bound { taken ≤ STORE }
+    ensures { GivesSettled old bytes.old report taken result bytes.new }
+{
+    let before = depth_of(&old) as usize;
+    let after = depth_of(bytes) as usize;
+    if none_left(before, after, taken) {
+        *bytes = old;
+        let full = refused(NO_PLACE, 0);
+        return turned_back(full, taken);
+    }
+    let answer = report.answer;
+    SpinReport {
+        answer,
+        mask: report.mask,
+        code: report.code,
+        taken: taken + after - before,
+    }
+}
+
+// A spindle's turn, with the sum of the four depths: what the image check tries, 15, 17, 26, 18.
+pub fn turn_bytes(
+    image: &[u8],
+    bytes: &mut [u8; STATE_BYTES],
+    sum: usize,
+    taken: usize,
+    word: u16,
+) -> SpinReport
+    requires { (state_of bytes.old).depth ≤ sum }
+    ensures { GivesTurnOn (turn (imageVerdict image.now) (state_of bytes.old) sum taken
+        (imageTick image.now (state_of bytes.old) word)) bytes.old result bytes.new }
+{
+    if bad_record(sum, taken) {
+        return refuse_head(image, 0, taken);
+    }
+    let old = *bytes;
+    let report = tick_bytes(image, bytes, word);
+    settle(old, bytes, report, taken)
+}
+
+// The same on a prepared table: 11, 15, 17, 26, 18.
+pub fn live_turn_bytes(
+    table: &[u8],
+    bytes: &mut [u8; STATE_BYTES],
+    sum: usize,
+    taken: usize,
+    word: u16,
+) -> SpinReport
+    requires { (state_of bytes.old).depth ≤ sum }
+    ensures { GivesTurnOn (turn (when BAD-HEADER (badTable table.now)) (state_of bytes.old) sum taken
+        (liveTick table.now (state_of bytes.old) word)) bytes.old result bytes.new }
+{
+    if bad_record(sum, taken) {
+        return live_refuse_head(table, 0, taken);
+    }
+    let old = *bytes;
+    let report = live_tick_bytes(table, bytes, word);
+    settle(old, bytes, report, taken)
+}

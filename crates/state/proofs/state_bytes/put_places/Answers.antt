@@ -1,0 +1,11 @@
+-- `state::state_bytes::put_places` meets its contract: the elements passed stand in place.
+use borrow.Author.Rules.{rules}
+use mathlib.Core.Path.{refl}
+use Rattle.words.proofs.lists.Fills.{values-none, values-turn}
+use Rattle.state.proofs.state_bytes.put_places.Goals as goal
+
+pub loop-k-init : goal.loop-k-init
+loop-k-init c = values-none _ _ _ _
+
+pub loop-k-preserved : goal.loop-k-preserved
+loop-k-preserved c = values-turn _ _ _ _ _ _ _ (search rules) c.loop-k.invariant (search rules) (refl)

@@ -1,0 +1,11 @@
+-- `state::state_bytes::put_places` meets its contract: the elements passed stand in place.
+use Prim.Native.Nat.{ℕ, ◌-◌}
+use Rattle.words.proofs.lists.Fills.{ValuesFrom}
+use lib.ListN.{get_or}
+use Rattle.state.proofs.state_bytes.put_places.Given as goal
+
+abbrev pub invariant-loop-k : goal.invariant-loop-k
+invariant-loop-k l = ValuesFrom (λ (j : ℕ). get_or l.values j 0) l.initial.out l.out l.from 32 l.k
+
+abbrev pub decreases-loop-k : goal.decreases-loop-k
+decreases-loop-k l = 32 - l.k

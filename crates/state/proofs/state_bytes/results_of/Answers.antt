@@ -1,0 +1,7 @@
+-- `state::state_bytes::results_of` meets its contract: the elements passed stand in place.
+use borrow.Author.Rules.{rules}
+use Rattle.words.proofs.lists.Arrays.{filled-all}
+use Rattle.state.proofs.state_bytes.results_of.Goals as goal
+
+pub returns : goal.returns
+returns c = filled-all _ _ _ _ _ c.loop-k.invariant (search rules)

@@ -1,0 +1,10 @@
+-- `state::state_results::tidy_bytes` meets its contract: the loop keeps which result bytes were written.
+use Prim.Native.Nat.{◌-◌}
+use Rattle.state.proofs.state_results.TidyTurns.{Tidied}
+use Rattle.state.proofs.state_results.tidy_bytes.Given as goal
+
+abbrev pub invariant-loop-k : goal.invariant-loop-k
+invariant-loop-k l = Tidied l.fn.bytes l.bytes l.k
+
+abbrev pub decreases-loop-k : goal.decreases-loop-k
+decreases-loop-k l = 16 - l.k

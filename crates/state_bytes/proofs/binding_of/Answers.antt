@@ -1,7 +1,0 @@
--- `state_bytes::binding_of` meets its contract: the elements passed stand in place.
-use borrow.Author.Rules.{rules}
-use Rattle.lists.proofs.Arrays.{filled-all}
-use Rattle.state_bytes.proofs.binding_of.Goals as goal
-
-pub returns : goal.returns
-returns c = filled-all _ _ _ _ _ c.loop-k.invariant (search rules)

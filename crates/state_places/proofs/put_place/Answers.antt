@@ -1,9 +1,0 @@
--- `state_places::put_place` meets its contract: place k is byte 2 + k.
-use mathlib.Core.Path.{ap, ◌∙◌}
-use Rattle.state.specs.Bytes.{state_of}
-use Rattle.state.proofs.ByteParts.{place_set}
-use Rattle.std.proofs.Common.{rules}
-use Rattle.state_places.proofs.put_place.Goals as goal
-
-pub returns : goal.returns
-returns c = ap state_of c.put_byte.ensures ∙ place_set _ (search rules) _ _ (search rules)

@@ -1,0 +1,82 @@
+// An image prepared once for all its ticks: checked, decoded, and where the rows of each label end noted in its frame.
+ghost use Rattle.std.specs.Prelude.{◌≡◌, ◌≤◌, ◌-◌, length};
+ghost use Rattle.text.specs.frames.Sizes.{TABLE};
+ghost use Rattle.text.specs.frames.Answer.{GivesBuffer};
+ghost use Rattle.tables.specs.Prepare.{prepare, rowReached, noted};
+ghost use Rattle.tables.specs.inner.Prepares.{GivesPrepared};
+ghost use Rattle.words.specs.lists.Numbers.{lowest};
+ghost use Rattle.text.specs.frames.Frame.{size};
+ghost use Rattle.text.specs.frames.Verdict.{fine};
+ghost use Rattle.image.specs.Check.{tableVerdict};
+
+use image::layout::{FROM, LAST_LABEL, SCHEME_COUNT};
+use image::{byte, rows_from};
+use image_check::read_image;
+use text::frames::refusals::NO_ROOM;
+use text::frames::sizes::{FRAME, LINE, TABLE};
+use text::frames::{Answer, put_bytes, refused};
+
+// The lowest frame from first up to end whose row leaves label l or one above it, or end.
+fn skip_below(table: &[u8], first: usize, end: usize, l: usize) -> usize
+    requires { (first ≤ end) × (end ≤ size table.now) }
+    ensures { result ≡ lowest (rowReached table.now l) first (end - first) }
+{
+    let mut f = first;
+    while f < end {
+        if l <= byte(table, f, FROM) as usize {
+            return f;
+        }
+        f += 1;
+    }
+    f
+}
+
+// Into the frame of each label goes the first frame of rows of a label above it.
+fn note_rows(table: &mut [u8])
+    requires { tableVerdict table.old ≡ fine }
+    ensures { table.new ≡ noted table.old }
+{
+    let end = table.len() / FRAME;
+    let labels = 1 + (byte(table, 0, SCHEME_COUNT) as usize);
+    let last = byte(table, 0, LAST_LABEL) as usize;
+    let mut f = rows_from(table);
+    let mut l: usize = 0;
+    while l <= last {
+        f = skip_below(table, f, end, l + 1);
+        let at = FRAME * (labels + l);
+        table[at] = (f % 256) as u8;
+        table[at + 1] = (f / 256) as u8;
+        l += 1;
+    }
+}
+
+// In a buffer with room for any table, which a refusal leaves with what was read: no entry point.
+pub fn prepare_table(text: &[u8], table: &mut [u8]) -> Answer
+    requires { TABLE ≤ length table.old }
+    ensures { GivesPrepared text.now table.old result table.new }
+{
+    let answer = read_image(text, table);
+    let Answer::Done(_) = answer else {
+        return answer;
+    };
+    let n = FRAME * (text.len() / LINE);
+    note_rows(&mut table[..n]);
+    Answer::Done(0)
+}
+
+// What the image check tries, then 16; counts the bytes of the table. A refusal leaves the buffer as it was.
+pub fn prepare(image: &[u8], table: &mut [u8]) -> Answer
+    ensures { GivesBuffer (prepare image.now table.old) result table.new }
+{
+    let mut made = [0u8; TABLE];
+    let answer = prepare_table(image, &mut made);
+    let Answer::Done(_) = answer else {
+        return answer;
+    };
+    let n = FRAME * (image.len() / LINE);
+    if table.len() < n {
+        return refused(NO_ROOM, 0);
+    }
+    put_bytes(table, 0, &made[..n]);
+    Answer::Done(n)
+}

@@ -1,0 +1,195 @@
+-- Digits and characters: each of the sixteen digits has one character, its capital where it is a letter.
+use Prim.Native.Nat.{ℕ, zero, suc, ◌+◌, ◌*◌, ◌-◌, ◌/◌, ◌%◌, ◌≤◌, ◌<◌}
+use mathlib.Core.Bool.{Bool, true, false, ◌&&◌}
+use mathlib.Core.Path.{◌≡◌, refl, sym, ◌∙◌, ap}
+use mathlib.Core.Logic.{⊎_elim, ◌⊎◌, inl, inr}
+use mathlib.Core.List.{List, [], ◌∷◌, ◌++◌, map}
+use native.Mathlib.Omega.{arith}
+use mir.Val.{bool_byte}
+use lib.Bits.{bit_and, and_le_r}
+use lib.Dec.{leb, ltb}
+use lib.ListN.{get_or, replicate}
+use borrow.Author.Tests.{le-ltb, lt-ltb, le-leb, lt-leb, leb-true}
+use Rattle.words.specs.lists.Pick.{pick}
+use Rattle.words.specs.lists.Numbers.{range, tabulate}
+use Rattle.words.proofs.lists.Tests.{and_l, and_r, split, cases, no-pick}
+use Rattle.words.proofs.lists.Tabulated.{get_d_tabulate}
+use Rattle.text.specs.digits.Digit.{numeralOf, letterOf, digitOf, charOf, capital}
+
+-- what each of the 256 characters gives, computed:
+-- 48 of them nothing, then 0 to 9, 7 nothing, A to F, 26 nothing, a to f, the others nothing
+pub digit-each : tabulate digitOf 256
+    ≡ replicate 48 255 ++ (range 0 10 ++ (replicate 7 255 ++ (range 10 6 ++ (replicate 26 255 ++ (range 10 6 ++ replicate 153 255)))))
+unfolding tabulate digitOf
+digit-each = refl
+
+-- functions that give the same of each of the 256
+each : (f g : ℕ → ℕ) → tabulate f 256 ≡ tabulate g 256 → (c : ℕ) → c < 256 → f c ≡ g c
+each f g e c h = sym (get_d_tabulate f 256 c h) ∙ ap (λ (xs : List ℕ). get_or xs c 0) e ∙ get_d_tabulate g 256 c h
+
+-- a letter's digit by its capital: without the bit of 32 none but the twelve letters are between A and F; each of the 256 computed
+abbrev masked : ℕ → ℕ
+masked c = let letter = bit_and c 223 in pick (leb 65 letter && leb letter 70) (letter - 55) 255
+
+masked-each : tabulate masked 256 ≡ tabulate letterOf 256
+unfolding tabulate
+masked-each = refl
+
+pub masked-is : (c : ℕ) → c < 256 → masked c ≡ letterOf c
+masked-is = each masked letterOf masked-each
+
+-- what numerals and letters give, joined: no character is both
+abbrev joined : ℕ → ℕ
+joined c = bit_and (numeralOf c) (letterOf c)
+
+joined-each : tabulate joined 256 ≡ tabulate digitOf 256
+unfolding tabulate digitOf
+joined-each = refl
+
+pub joined_is : (c : ℕ) → c < 256 → joined c ≡ digitOf c
+joined_is = each joined digitOf joined-each
+
+-- a test of two bounds
+pub within : (a b c : ℕ) → (leb a c && leb c b) ≡ true → (a ≤ c) × (c ≤ b)
+within a b c h = (leb-true a c (and_l (leb a c) (leb c b) h), leb-true c b (and_r (leb a c) (leb c b) h))
+
+pub above : (k a b c : ℕ) → (leb a c && leb c b) ≡ true → leb k a ≡ true → k ≤ c
+above k a b c h l = omega (arith, (within a b c h).0, leb-true k a l)
+
+pub digit_low : (c : ℕ) → 48 ≤ c → c ≤ 57 → digitOf c ≡ c - 48
+unfolding digitOf
+digit_low c h l = simp (le-leb 48 c h, le-leb c 57 l)
+
+pub digit-high : (c : ℕ) → 65 ≤ c → c ≤ 70 → digitOf c ≡ c - 55
+unfolding digitOf
+digit-high c h l = simp (lt-leb c 57 (omega arith), le-leb 48 c (omega arith), le-leb 65 c h, le-leb c 70 l)
+
+pub digit-of-small : (c : ℕ) → 97 ≤ c → c ≤ 102 → digitOf c ≡ c - 87
+unfolding digitOf
+digit-of-small c h l =
+    simp (
+      lt-leb c 57 (omega arith),
+      le-leb 48 c (omega arith),
+      le-leb 65 c (omega arith),
+      lt-leb c 70 (omega arith),
+      le-leb 97 c h,
+      le-leb c 102 l,
+    )
+
+pub capital-of-small : (c : ℕ) → 97 ≤ c → c ≤ 102 → capital c ≡ c - 32
+unfolding capital
+capital-of-small c h l = simp (le-leb 97 c h, le-leb c 102 l)
+
+pub capital-same : (c : ℕ) → c < 97 → capital c ≡ c
+unfolding capital
+capital-same c h = simp (lt-leb 97 c h)
+
+-- a text in capitals, by place; past its end too
+pub capital-at : (t : List ℕ) (i : ℕ) → get_or (map capital t) i 0 ≡ capital (get_or t i 0)
+capital-at [] i = sym (capital-same 0 (omega arith))
+capital-at (c ∷ t) zero = refl
+capital-at (c ∷ t) (suc i) = capital-at t i
+
+-- the four classes of characters
+pub data Class (c : ℕ) : Type 0 where
+  numeral : 48 ≤ c → c ≤ 57 → Class c
+  large : 65 ≤ c → c ≤ 70 → Class c
+  small : 97 ≤ c → c ≤ 102 → Class c
+  other : digitOf c ≡ 255 → capital c ≡ c → Class c
+
+pub class_of : (c : ℕ) → Class c
+unfolding digitOf capital
+class_of c = go (cases (leb 48 c && leb c 57)) (cases (leb 65 c && leb c 70)) (cases (leb 97 c && leb c 102))
+  where
+    go : ((leb 48 c && leb c 57) ≡ true) ⊎ ((leb 48 c && leb c 57) ≡ false)
+        → ((leb 65 c && leb c 70) ≡ true) ⊎ ((leb 65 c && leb c 70) ≡ false)
+        → ((leb 97 c && leb c 102) ≡ true) ⊎ ((leb 97 c && leb c 102) ≡ false) → Class c
+    go (inl e) _ _ = numeral (within 48 57 c e).0 (within 48 57 c e).1
+    go (inr _) (inl e) _ = large (within 65 70 c e).0 (within 65 70 c e).1
+    go (inr _) (inr _) (inl e) = small (within 97 102 c e).0 (within 97 102 c e).1
+    go (inr d) (inr e) (inr f) = other (no-pick _ _ _ d ∙ no-pick _ _ _ e ∙ no-pick _ _ _ f) (no-pick _ _ _ f)
+
+-- a character and its capital stand for the same digit
+pub digit-capital : (c : ℕ) → digitOf (capital c) ≡ digitOf c
+digit-capital c = go (class_of c)
+  where
+    go : Class c → digitOf (capital c) ≡ digitOf c
+    go (numeral h l) = ap digitOf (capital-same c (omega arith))
+    go (large h l) = ap digitOf (capital-same c (omega arith))
+    go (small h l) =
+        let e : c - 32 - 55 ≡ c - 87 = omega arith in
+        ap digitOf (capital-of-small c h l) ∙ digit-high (c - 32) (omega arith) (omega arith) ∙ e ∙ sym (digit-of-small c h l)
+    go (other d s) = ap digitOf s
+
+pub char-low : (d : ℕ) → d < 10 → charOf d ≡ 48 + d
+unfolding charOf
+char-low d h = simp (lt-ltb d 10 h)
+
+pub char-high : (d : ℕ) → 10 ≤ d → charOf d ≡ 55 + d
+unfolding charOf
+char-high d h = simp (le-ltb d 10 h)
+
+-- a test as a number, and the character of a digit by it
+pub test-small : (b : Bool) → bool_byte b ≤ 1
+test-small true = omega arith
+test-small false = omega arith
+
+pub char_made : (d : ℕ) → d + 48 + 7 * bool_byte (ltb 9 d) ≡ charOf d
+char_made d =
+    ⊎_elim (λ (l : d < 10). ap (λ (b : Bool). d + 48 + 7 * bool_byte b) (le-ltb 9 d (omega arith)) ∙ omega arith ∙ sym (char-low d l))
+    (λ (l : 10 ≤ d). ap (λ (b : Bool). d + 48 + 7 * bool_byte b) (lt-ltb 9 d (omega arith)) ∙ omega arith ∙ sym (char-high d l))
+    (split d 10)
+
+pub char-small : (d : ℕ) → d < 16 → charOf d < 128
+char-small d h =
+    ⊎_elim (λ (l : d < 10). omega (arith, char-low d l)) (λ (l : 10 ≤ d). omega (arith, char-high d l)) (split d 10)
+
+-- both characters of a byte by one sum: of each of the 256 computed
+abbrev pub bothDigits : ℕ → ℕ
+bothDigits b = b / 16 + b % 16 * 256
+
+abbrev pub letters : ℕ → ℕ
+letters b = bit_and ((bothDigits b + 1542) / 16) 257
+
+pub letters-few : (b : ℕ) → letters b ≤ 257
+letters-few b = and_le_r ((bothDigits b + 1542) / 16) 257
+
+abbrev summed : ℕ → ℕ
+summed b = bothDigits b + 12336 + 7 * letters b
+
+abbrev pair : ℕ → ℕ
+pair b = charOf (b / 16) + 256 * charOf (b % 16)
+
+pair-each : tabulate summed 256 ≡ tabulate pair 256
+unfolding tabulate charOf
+pair-each = refl
+
+pub pair_made : (b : ℕ) → b < 256 → summed b ≡ pair b
+pair_made = each summed pair pair-each
+
+-- each of the two again
+module _ (b r : ℕ) (small : b < 256) (e : r ≡ pair b) where
+  pub pair-first : r % 256 ≡ charOf (b / 16)
+  pair-first = omega (arith, char-small (b / 16) (omega arith))
+
+  pub pair-second : r / 256 ≡ charOf (b % 16)
+  pair-second = omega (arith, char-small (b / 16) (omega arith))
+
+pub digit_char : (d : ℕ) → d < 16 → digitOf (charOf d) ≡ d
+digit_char d h =
+    ⊎_elim (λ (l : d < 10). ap digitOf (char-low d l) ∙ digit_low (48 + d) (omega arith) (omega arith) ∙ omega arith)
+    (λ (l : 10 ≤ d). ap digitOf (char-high d l) ∙ digit-high (55 + d) (omega arith) (omega arith) ∙ omega arith)
+    (split d 10)
+
+-- the character of a character's digit is its capital
+pub char-digit : (c : ℕ) → digitOf c < 16 → charOf (digitOf c) ≡ capital c
+char-digit c h = go (class_of c)
+  where
+    go : Class c → charOf (digitOf c) ≡ capital c
+    go (numeral a b) =
+        ap charOf (digit_low c a b) ∙ char-low (c - 48) (omega arith) ∙ omega (arith, capital-same c (omega arith))
+    go (large a b) =
+        ap charOf (digit-high c a b) ∙ char-high (c - 55) (omega arith) ∙ omega (arith, capital-same c (omega arith))
+    go (small a b) =
+        ap charOf (digit-of-small c a b) ∙ char-high (c - 87) (omega arith) ∙ omega (arith, capital-of-small c a b)
+    go (other d s) = absurd (omega arith)

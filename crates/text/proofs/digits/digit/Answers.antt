@@ -1,0 +1,11 @@
+-- `text::digits::digit` meets its contract: what the two give, joined, was computed for every character.
+use mathlib.Core.Path.{◌∙◌, ap₂}
+use lib.Bits.{bit_and}
+use Rattle.text.proofs.digits.Digits.{joined_is}
+use Rattle.std.proofs.Common.{rules}
+use Rattle.text.proofs.digits.digit.Goals as goal
+
+pub returns : goal.returns
+returns c =
+    ap₂ bit_and c.numeral_digit.ensures c.letter_digit.ensures
+    ∙ joined_is c.args.c (search rules)

@@ -1,0 +1,189 @@
+-- A frame that is read: the digits of its characters, its bytes and their sum.
+use mathlib.Core.Path.{◌≡◌, refl, sym, ◌∙◌, ap, ap₂}
+use mathlib.Core.Logic.{◌⊎◌, inl, inr, ⊎_elim}
+use mathlib.Core.Bool.{Bool, true, false, not, ◌||◌}
+use mathlib.Core.List.{List, map}
+use Prim.Native.Nat.{ℕ, ◌+◌, ◌-◌, ◌*◌, ◌%◌, ◌≤◌, ◌<◌}
+use native.Mathlib.Nat.{zero-add}
+use native.Mathlib.Numerals.{add-one}
+use native.Mathlib.Omega.{arith}
+use borrow.Author.Count.{below_more}
+use borrow.Author.Tests.{lt-ltb, le-ltb}
+use lib.Dec.{leb, ltb, eqb}
+use lib.ListN.{length, get_or, set, length-set}
+use lib.Seq.{get_or-set_same, get_or-set_other}
+use Rattle.words.specs.lists.Numbers.{any, sum, range}
+use Rattle.words.specs.lists.Sequences.{written}
+use Rattle.words.proofs.lists.Tests.{cases, split, yes-pick, no-pick, or-true-l, or_true_r, or-none}
+use Rattle.words.proofs.lists.Ranges.{getD-map-range}
+use Rattle.words.proofs.lists.Searches.{any_some, any-true, any_false, any_none, any_snoc, sum-turn}
+use Rattle.words.proofs.lists.Fills.{ValuesFrom, values-none, values-turn, values-all}
+use Rattle.text.specs.digits.Digit.{digitOf}
+use Rattle.text.specs.frames.Frame.{byte_at}
+use Rattle.text.specs.frames.Check.{badForm, badSum}
+use Rattle.text.specs.frame_reading.inner.FrameReads.{storedOf, digitAt, DigitsRead, place_of, value_of}
+use Rattle.text.specs.declared.frame_reading.FrameDigits.{FrameDigits}
+
+-- ---- its digits
+-- character k from an offset on is no digit
+abbrev pub noDigit : List ℕ → ℕ → ℕ → Bool
+noDigit t from k = leb 16 (digitAt t from k)
+
+-- one test more in each of two searches
+or-both : (a b x y : Bool) → (((a || b) || x) || y) ≡ ((a || x) || (b || y))
+or-both true b x y = refl
+or-both false true true y = refl
+or-both false true false y = refl
+or-both false false x y = refl
+
+-- 0 to 15 and 6 to 21 are 0 to 21
+any-whole : (p : ℕ → Bool) → (any p 0 16 || any p 6 16) ≡ any p 0 22
+any-whole p = go (cases (any p 0 22))
+  where
+    go : (any p 0 22 ≡ true) ⊎ (any p 0 22 ≡ false) → (any p 0 16 || any p 6 16) ≡ any p 0 22
+    go (inl t) =
+        let r = any_some p 0 22 t in
+        ⊎_elim (λ (l : r.0 < 16). or-true-l (any p 0 16) (any p 6 16) (any-true p 0 16 r.0 (omega arith) (omega arith) r.3))
+        (λ (l : 16 ≤ r.0). or_true_r (any p 0 16) (any p 6 16) (any-true p 6 16 r.0 (omega arith) (omega (arith, r.2)) r.3))
+        (split r.0 16)
+        ∙ sym t
+    go (inr n) =
+        or-none (any p 0 16) (any p 6 16) (any_none p 0 16 (λ k l. any_false p 0 22 n (0 + k) (omega arith) (omega arith)))
+        (any_none p 6 16 (λ k l. any_false p 0 22 n (6 + k) (omega arith) (omega arith)))
+        ∙ sym n
+
+-- i characters of sixteen are taken, from 0 on and from 6 on
+pub record Taken (t : List ℕ) (from : ℕ) (digits : List ℕ) (bad : Bool) (i : ℕ) : Type 0 where
+  pub low : i ≤ 16
+  pub size : length digits ≡ 32
+  pub front : (j : ℕ) → j < i → get_or digits j 0 ≡ digitAt t from j
+  pub back : (j : ℕ) → j < i → get_or digits (16 + j) 0 ≡ digitAt t from (6 + j)
+  pub form : bad ≡ (any (noDigit t from) 0 i || any (noDigit t from) 6 i)
+
+pub taken_none : (t : List ℕ) (from : ℕ) (digits : List ℕ) → length digits ≡ 32 → Taken t from digits false 0
+unfolding any
+taken_none t from digits e = record {
+  low = omega arith;
+  size =
+      e;
+  front = λ j h. absurd (omega arith);
+  back = λ j h. absurd (omega arith);
+  form = refl;
+}
+
+module _ (t : List ℕ) (from : ℕ) (digits : List ℕ) (bad : Bool) (i : ℕ) (done : Taken t from digits bad i) where
+  pub taken-turn : (x y : ℕ) → i < 16 → x ≡ digitAt t from i → y ≡ digitAt t from (6 + i)
+      → Taken t from (set (set digits i x) (16 + i) y) ((bad || leb 16 x) || leb 16 y) (i + 1)
+  taken-turn x y h e q =
+      let p : ℕ → Bool = noDigit t from in
+      let one : List ℕ = set digits i x in
+      let more : (m : ℕ) → any p m (i + 1) ≡ (any p m i || p (m + i)) = λ m. ap (any p m) (add-one i) ∙ any_snoc p m i in
+      record {
+        low = omega arith;
+        size = length-set one (16 + i) y ∙ length-set digits i x ∙ done.size;
+        front = below_more (λ (j : ℕ). get_or (set one (16 + i) y) j 0 ≡ digitAt t from j) i
+            (λ j l. get_or-set_other one (16 + i) j y 0 (λ r. omega arith)
+            ∙ get_or-set_other digits i j x 0 (λ r. omega arith) ∙ done.front j l)
+            (get_or-set_other one (16 + i) i y 0 (λ r. omega arith) ∙ get_or-set_same digits i x 0 (omega (arith, done.size)) ∙ e);
+        back = below_more (λ (j : ℕ). get_or (set one (16 + i) y) (16 + j) 0 ≡ digitAt t from (6 + j)) i
+            (λ j l. get_or-set_other one (16 + i) (16 + j) y 0 (λ r. omega arith)
+            ∙ get_or-set_other digits i (16 + j) x 0 (λ r. omega arith) ∙ done.back j l)
+            (get_or-set_same one (16 + i) y 0 (omega (arith, done.size, length-set digits i x)) ∙ q);
+        form = ap₂ (λ (u v : ℕ). (bad || leb 16 u) || leb 16 v) e q ∙ ap (λ (b : Bool). (b || p i) || p (6 + i)) done.form
+            ∙ or-both (any p 0 i) (any p 6 i) (p i) (p (6 + i))
+            ∙ sym (ap₂ ◌||◌ (more 0 ∙ ap (λ (k : ℕ). any p 0 i || p k) (zero-add i)) (more 6));
+      }
+
+  pub taken-all : 16 ≤ i → DigitsRead t from (record { digits = digits; form = bad })
+  taken-all h =
+      let all : i ≡ 16 = omega (arith, done.low) in
+      record {
+        size = done.size;
+        front = λ j l. done.front j (omega arith);
+        back = λ j l. done.back j (omega arith);
+        form = done.form ∙ ap (λ (k : ℕ). any (noDigit t from) 0 k || any (noDigit t from) 6 k) all ∙ any-whole (noDigit t from);
+      }
+
+-- ---- its bytes
+-- byte k of frame f, as it is stored
+abbrev pub stored : List ℕ → ℕ → ℕ → ℕ
+stored t f k = byte_at t f k % 256
+
+place-low : (k : ℕ) → k < 8 → place_of k ≡ 2 * k
+place-low k h = yes-pick (ltb k 8) (2 * k) (2 * k + 10) (lt-ltb k 8 h)
+
+place-high : (k : ℕ) → 8 ≤ k → place_of k ≡ 2 * k + 10
+place-high k h = no-pick (ltb k 8) (2 * k) (2 * k + 10) (le-ltb k 8 h)
+
+pub value_made : (digits : List ℕ) (k i : ℕ) → i ≡ place_of k → (16 * get_or digits i 0 + get_or digits (i + 1) 0) % 256 ≡ value_of digits k
+value_made digits k i e = ap (λ (j : ℕ). (16 * get_or digits j 0 + get_or digits (j + 1) 0) % 256) e
+
+-- the value of byte k is made of its own two characters
+module _ (t : List ℕ) (f : ℕ) (r : FrameDigits) (read : DigitsRead t (23 * f) r) where
+  value-is : (k i : ℕ) → place_of k ≡ i → get_or r.digits i 0 ≡ digitAt t (23 * f) (2 * k)
+      → get_or r.digits (i + 1) 0 ≡ digitAt t (23 * f) (2 * k + 1)
+      → value_of r.digits k ≡ stored t f k
+  value-is k i p high low =
+      sym (value_made r.digits k i (sym p))
+      ∙ ap₂ (λ (a b : ℕ). (16 * a + b) % 256) high (low ∙ ap (λ (j : ℕ). digitOf (get_or t j 0)) (omega arith))
+
+  pub value-stored : (k : ℕ) → k < 11 → value_of r.digits k ≡ stored t f k
+  value-stored k h = ⊎_elim low high (split k 8)
+    where
+      low : k < 8 → value_of r.digits k ≡ stored t f k
+      low l = value-is k (2 * k) (place-low k l) (read.front (2 * k) (omega arith)) (read.front (2 * k + 1) (omega arith))
+
+      back : (i j : ℕ) → i ≡ 16 + j → j < 16 → get_or r.digits i 0 ≡ digitAt t (23 * f) (6 + j)
+      back i j e g = ap (λ (m : ℕ). get_or r.digits m 0) e ∙ read.back j g
+
+      high : 8 ≤ k → value_of r.digits k ≡ stored t f k
+      high l =
+          value-is k (2 * k + 10) (place-high k l)
+          (back (2 * k + 10) (2 * k - 6) (omega arith) (omega arith) ∙ ap (digitAt t (23 * f)) (omega arith))
+          (back (2 * k + 10 + 1) (2 * k - 5) (omega arith) (omega arith) ∙ ap (digitAt t (23 * f)) (omega arith))
+
+  pub values-at : (values : List ℕ) → values ≡ map (value_of r.digits) (range 0 11) → (k : ℕ) → k < 11 → get_or values k 0 ≡ stored t f k
+  values-at values e k h =
+      ap (λ (xs : List ℕ). get_or xs k 0) e ∙ getD-map-range (value_of r.digits) 0 0 11 k h
+      ∙ ap (value_of r.digits) (zero-add k) ∙ value-stored k h
+
+  pub form-end : (r.form || not (eqb (get_or t (23 * f + 22) 0) 10)) ≡ badForm t f
+  unfolding badForm
+  form-end = ap (λ (x : Bool). x || not (eqb (get_or t (23 * f + 22) 0) 10)) read.form
+
+-- k bytes of ten are added and stored
+pub record Stored (t : List ℕ) (f : ℕ) (out₀ out : List ℕ) (total k : ℕ) : Type 0 where
+  pub small : total ≤ k * 255
+  pub added : total % 256 ≡ sum (byte_at t f) 0 k % 256
+  pub values : ValuesFrom (stored t f) out₀ out (10 * f) 10 k
+
+pub stored-none : (t : List ℕ) (f : ℕ) (out₀ : List ℕ) → Stored t f out₀ out₀ 0 0
+unfolding sum
+stored-none t f out₀ = record { small = omega arith; added = refl; values = values-none _ _ _ _ }
+
+-- the sum of the bytes as stored is that of the bytes, modulo 256
+sum_more : (g : ℕ → ℕ) (s k v : ℕ) → s % 256 ≡ sum g 0 k % 256 → v ≡ g k % 256 → (s + v) % 256 ≡ sum g 0 (k + 1) % 256
+sum_more g s k v e q =
+    let w : sum g 0 k + g k ≡ sum g 0 (k + 1) = sum-turn g (sum g 0 k) k (g k) refl refl in
+    omega arith
+
+module _ (t : List ℕ) (f : ℕ) (out₀ out : List ℕ) (total k : ℕ) (done : Stored t f out₀ out total k) where
+  pub stored-turn : (v : ℕ) → 10 * f + 10 ≤ length out₀ → k < 10 → v ≡ stored t f k
+      → Stored t f out₀ (set out (10 * f + k) v) (total + v) (k + 1)
+  stored-turn v room h e = record {
+    small = omega (arith, done.small);
+    added = sum_more (byte_at t f) total k v done.added e;
+    values = values-turn (stored t f) out₀ (10 * f) 10 out k v room done.values h e;
+  }
+
+  module _ (h : 10 ≤ k) where
+    ten : k ≡ 10
+    ten = omega (arith, done.values.low)
+
+    pub sum-end : (v : ℕ) → v ≡ stored t f 10 → not (eqb ((total + v) % 256) 0) ≡ badSum t f
+    unfolding badSum
+    sum-end v e =
+        ap (λ (n : ℕ). not (eqb n 0)) (sum_more (byte_at t f) total 10 v (done.added ∙ ap (λ (i : ℕ). sum (byte_at t f) 0 i % 256) ten) e)
+
+    pub stored-end : out ≡ written out₀ (10 * f) (storedOf t f)
+    stored-end = values-all (stored t f) out₀ (10 * f) 10 out k done.values h

@@ -1,0 +1,80 @@
+-- A text and the same text in capitals are read alike, whatever its characters are and however long it is.
+use Prim.Native.Nat.{ℕ, ◌+◌, ◌*◌, ◌/◌, ◌%◌}
+use mathlib.Core.Bool.{Bool, ◌||◌, not}
+use mathlib.Core.Path.{◌≡◌, sym, ◌∙◌, ap, ap₂, fun_ext}
+use mathlib.Core.List.{List, map}
+use native.Mathlib.Omega.{arith}
+use lib.Dec.{leb, eqb}
+use lib.ListN.{length, get_or, length-map}
+use borrow.Author.Tests.{ne_eqb}
+use Rattle.words.specs.lists.Pick.{pick}
+use Rattle.words.specs.lists.Numbers.{range, any, sum}
+use Rattle.words.specs.lists.Sequences.{concatMap, over}
+use Rattle.text.specs.digits.Digit.{digitOf, capital}
+use Rattle.text.proofs.digits.Digits.{Class, numeral, large, small, other, class_of, capital-same, capital-of-small, capital-at, digit-capital}
+use Rattle.text.specs.frames.Frame.{byte_at, contents}
+use Rattle.text.specs.frames.Verdict.{next, when, atLowest}
+use Rattle.text.specs.frames.Check.{badLength, badForm, badSum, textVerdict}
+use Rattle.text.specs.frames.inner.Read.{readInto}
+
+-- all that is read of a text
+pub record ReadAlike (t u : List ℕ) : Type 0 where
+  pub verdict : (most : ℕ) → textVerdict most t ≡ textVerdict most u
+  pub contents : contents t ≡ contents u
+  pub buffer : (most : ℕ) (old : List ℕ) → readInto most t old ≡ readInto most u old
+
+-- a capital is no line feed where the character is none
+feed-capital : (c : ℕ) → eqb (capital c) 10 ≡ eqb c 10
+feed-capital c = go (class_of c)
+  where
+    go : Class c → eqb (capital c) 10 ≡ eqb c 10
+    go (numeral h l) = ap (λ (x : ℕ). eqb x 10) (capital-same c (omega arith))
+    go (large h l) = ap (λ (x : ℕ). eqb x 10) (capital-same c (omega arith))
+    go (small h l) =
+        ne_eqb (capital c) 10 (λ e. omega (arith, capital-of-small c h l)) ∙ sym (ne_eqb c 10 (λ e. omega arith))
+    go (other d s) = ap (λ (x : ℕ). eqb x 10) s
+
+module _ (t : List ℕ) where
+  abbrev capitals : List ℕ
+  capitals = map capital t
+
+  digit-same : (i : ℕ) → digitOf (get_or capitals i 0) ≡ digitOf (get_or t i 0)
+  digit-same i = ap digitOf (capital-at t i) ∙ digit-capital (get_or t i 0)
+
+  byte-same : (f k : ℕ) → byte_at capitals f k ≡ byte_at t f k
+  byte-same f k = ap₂ (λ (x y : ℕ). 16 * x + y) (digit-same (23 * f + 2 * k)) (digit-same (23 * f + 2 * k + 1))
+
+  form-same : (f : ℕ) → badForm capitals f ≡ badForm t f
+  unfolding badForm
+  form-same f =
+      ap₂ (λ (p : ℕ → Bool) (b : Bool). any p 0 22 || not b) (fun_ext λ k. ap (leb 16) (digit-same (23 * f + k)))
+      (ap (λ (c : ℕ). eqb c 10) (capital-at t (23 * f + 22)) ∙ feed-capital (get_or t (23 * f + 22) 0))
+
+  sum_same : (f : ℕ) → badSum capitals f ≡ badSum t f
+  unfolding badSum
+  sum_same f = ap (λ (b : ℕ → ℕ). not (eqb (sum b 0 11 % 256) 0)) (fun_ext (byte-same f))
+
+  contents-same : contents capitals ≡ contents t
+  unfolding contents
+  contents-same =
+      ap₂ (λ (b : ℕ → ℕ → ℕ) (n : ℕ). concatMap (λ f. map (b f) (range 0 10)) (range 0 (n / 23)))
+      (fun_ext λ f. fun_ext (byte-same f)) (length-map t capital)
+
+  verdict-same : (most : ℕ) → textVerdict most capitals ≡ textVerdict most t
+  unfolding textVerdict
+  verdict-same most =
+      ap₂ (λ (form : ℕ → Bool) (sum : ℕ → Bool).
+      next (when 1 (badLength 23 most (length capitals))) λ _. next
+      (atLowest 2 form (length capitals / 23)) λ _. atLowest 3 sum (length capitals / 23))
+      (fun_ext form-same) (fun_ext sum_same)
+      ∙ ap (λ (n : ℕ).
+      next (when 1 (badLength 23 most n)) λ _. next (atLowest 2 (badForm t) (n / 23)) λ _. atLowest 3 (badSum t) (n / 23))
+      (length-map t capital)
+
+  buffer-same : (most : ℕ) (old : List ℕ) → readInto most capitals old ≡ readInto most t old
+  unfolding readInto
+  buffer-same most old =
+      ap₂ (λ (n : ℕ) (b : List ℕ). pick (badLength 23 most n) old (over (map (λ x. x % 256) b) old)) (length-map t capital) contents-same
+
+  pub capitals-alike : ReadAlike capitals t
+  capitals-alike = record { verdict = verdict-same; contents = contents-same; buffer = buffer-same }

@@ -1,0 +1,74 @@
+-- How a function answers by a chain of verdicts: one law for each way that a link can go, and what an answer tells of its verdict.
+use mathlib.Core.Path.{◌≡◌, refl, sym, ◌∙◌, ap}
+use mathlib.Core.Bool.{Bool, true, false}
+use Prim.Native.Nat.{ℕ, ◌≤◌, ◌<◌}
+use native.Mathlib.Omega.{arith}
+use lib.Dec.{ltb}
+use borrow.Author.Tests.{lt-ltb, le-ltb}
+use Rattle.words.specs.lists.Numbers.{lowest}
+use Rattle.words.proofs.lists.Tests.{yes-pick, no-pick}
+use Rattle.text.specs.frames.Verdict.{Verdict, fine, refused, next, when, atLowest}
+use Rattle.text.specs.frames.Answer.{success, refusal, replyCount, reply, replied, judged}
+use Rattle.text.specs.declared.frames.Answer.{Answer}
+use Rattle.text.specs.declared.frames.Answer.TheVariants.{Done, Refused}
+
+-- ---- one link
+pub when-holds : (k : ℕ) (b : Bool) → b ≡ true → when k b ≡ refused k 0
+when-holds k b e = ap (when k) e
+
+pub when-fails : (k : ℕ) (b : Bool) → b ≡ false → when k b ≡ fine
+when-fails k b e = ap (when k) e
+
+-- a search that ended at r, before the end or not
+module _ (k : ℕ) (p : ℕ → Bool) (n r : ℕ) (found : r ≡ lowest p 0 n) where
+  pub lowest-refused : r < n → atLowest k p n ≡ refused k r
+  lowest-refused h =
+      yes-pick (ltb (lowest p 0 n) n) (refused k (lowest p 0 n)) fine (lt-ltb (lowest p 0 n) n (omega arith)) ∙ ap (refused k) (sym found)
+
+  pub lowest-fine : n ≤ r → atLowest k p n ≡ fine
+  lowest-fine h = no-pick (ltb (lowest p 0 n) n) (refused k (lowest p 0 n)) fine (le-ltb (lowest p 0 n) n (omega arith))
+
+-- ---- the chain
+module _ (v : Verdict) (rest : Unit {0} → Verdict) where
+  -- the first link refuses, and so does the chain
+  pub next-refused : (k i : ℕ) → v ≡ refused k i → next v rest ≡ refused k i
+  next-refused k i e = ap (λ w. next w rest) e
+
+  -- the first link passes, and the rest decides
+  pub next-on : v ≡ fine → next v rest ≡ rest tt
+  next-on e = ap (λ w. next w rest) e
+
+-- ---- replies: a refusal is no success, and the count is the one given
+pub no-success : {A : Type 0} (k i m n : ℕ) → refusal k i m ≡ success n → A
+no-success k i m n e = absurd (let z : ◌≡◌ {A = ℕ} 0 1 = cc in omega arith)
+
+pub replied-count : (v : Verdict) (n : ℕ) → replyCount (replied v n) ≡ n
+replied-count fine n = refl
+replied-count (refused k i) n = refl
+
+-- ---- the answer
+pub judged-refused : (v : Verdict) (k i n : ℕ) → v ≡ refused k i → refusal k i 0 ≡ judged v n
+judged-refused v k i n e = sym (ap (λ w. judged w n) e)
+
+-- the same through the function that makes a refusal
+pub refused-judged : (a : Answer) (v : Verdict) (k i n : ℕ) → a ≡ Refused k i 0 → v ≡ refused k i → reply a ≡ judged v n
+refused-judged a v k i n e q = ap reply e ∙ judged-refused v k i n q
+
+pub judged-fine : (v : Verdict) (n : ℕ) → v ≡ fine → success n ≡ judged v n
+judged-fine v n e = sym (ap (λ w. judged w n) e)
+
+-- an answer that is Done, or Refused: what it tells of the verdict
+module _ (a : Answer) (v : Verdict) (n : ℕ) (gives : reply a ≡ judged v n) where
+  pub done-fine : (m : ℕ) → a ≡ Done m → (v ≡ fine) × (m ≡ n)
+  done-fine m e = go v (sym (ap reply e) ∙ gives)
+    where
+      go : (w : Verdict) → success m ≡ judged w n → (w ≡ fine) × (m ≡ n)
+      go fine q = (refl, cc)
+      go (refused k i) q = absurd (let z : ◌≡◌ {A = ℕ} 0 1 = cc in omega arith)
+
+  pub refused-verdict : (k i m : ℕ) → a ≡ Refused k i m → (v ≡ refused k i) × (m ≡ 0)
+  refused-verdict k i m e = go v (sym (ap reply e) ∙ gives)
+    where
+      go : (w : Verdict) → refusal k i m ≡ judged w n → (w ≡ refused k i) × (m ≡ 0)
+      go fine q = absurd (let z : ◌≡◌ {A = ℕ} 0 1 = cc in omega arith)
+      go (refused l j) q = (cc, cc)

@@ -1,0 +1,137 @@
+-- One frame: ten bytes and their sum byte as 23 characters, and a text that holds it at a place.
+use Prim.Native.Nat.{ℕ, zero, suc, ◌+◌, ◌*◌, ◌/◌, ◌%◌, ◌≤◌, ◌<◌}
+use mathlib.Core.Bool.{Bool, false, ◌||◌, not}
+use mathlib.Core.Path.{◌≡◌, refl, sym, ◌∙◌, ap, ap₂, subst}
+use mathlib.Core.Logic.{⊎_elim}
+use mathlib.Core.List.{List, [], ◌∷◌, ◌++◌, append_assoc}
+use native.Mathlib.Omega.{arith}
+use lib.ListN.{length, get_or, length-append, get_or-append, get_or-eq_default}
+use lib.Seq.{get_or-append-add}
+use lib.Dec.{leb}
+use borrow.Author.Tests.{lt-leb, eq-eqb}
+use Rattle.words.specs.lists.Numbers.{sum}
+use Rattle.words.specs.lists.Sequences.{concatMap, All}
+use Rattle.words.proofs.lists.Tests.{split}
+use Rattle.words.proofs.lists.Searches.{any_none}
+use Rattle.words.proofs.lists.Joins.{all-at, all-every, concat-append, length-concat, getD-concat}
+use Rattle.text.specs.digits.Digit.{digitOf}
+use Rattle.text.proofs.digits.Digits.{digit_char}
+use Rattle.text.specs.frames.Frame.{byte_at, byteText, total, sumByte, frameText}
+use Rattle.text.specs.frames.Check.{badForm, badSum}
+
+-- the two characters of a byte
+pair-digit : (b t : ℕ) → b < 256 → t < 2 → digitOf (get_or (byteText b) t 0) < 16
+pair-digit b zero h l = omega (arith, digit_char (b / 16) (omega arith))
+pair-digit b (suc zero) h l = omega (arith, digit_char (b % 16) (omega arith))
+pair-digit b (suc (suc t)) h l = absurd (omega arith)
+
+pair-byte : (b : ℕ) → b < 256 → 16 * digitOf (get_or (byteText b) 0 0) + digitOf (get_or (byteText b) 1 0) ≡ b
+pair-byte b h = omega (arith, digit_char (b / 16) (omega arith), digit_char (b % 16) (omega arith))
+
+-- ten bytes
+pub record Frame (bs : List ℕ) : Type 0 where
+  pub ten : length bs ≡ 10
+  pub bytes : (k : ℕ) → get_or bs k 0 < 256
+
+pub frame-by : (bs : List ℕ) → length bs ≡ 10 → All (λ b. b < 256) bs → Frame bs
+frame-by bs n a = record {
+  ten = n;
+  bytes = λ k. ⊎_elim (λ (h : k < length bs). all-at (λ b. b < 256) 0 bs a k h)
+      (λ (h : length bs ≤ k). subst (λ (x : ℕ). x < 256) (sym (get_or-eq_default bs 0 h)) (omega arith)) (split k (length bs));
+}
+
+-- with the sum byte
+abbrev pub eleven : List ℕ → List ℕ
+eleven bs = bs ++ (sumByte bs ∷ [])
+
+pub total-snoc : (xs : List ℕ) (b : ℕ) → total (xs ++ (b ∷ [])) ≡ total xs + b
+unfolding total
+total-snoc [] b = omega arith
+total-snoc (x ∷ xs) b = omega (arith, total-snoc xs b)
+
+pub sum-places : (f : ℕ → ℕ) (xs : List ℕ) (a : ℕ) → ((i : ℕ) → i < length xs → f (a + i) ≡ get_or xs i 0) → sum f a (length xs) ≡ total xs
+unfolding sum total
+sum-places f [] a h = refl
+sum-places f (x ∷ xs) a h =
+    ap₂ ◌+◌ (ap f (omega arith) ∙ h 0 (omega arith)) (sum-places f xs (suc a) (λ i l. ap f (omega arith) ∙ h (suc i) (omega arith)))
+
+pub frame-as : (bs : List ℕ) → frameText bs ≡ concatMap byteText (eleven bs) ++ (10 ∷ [])
+unfolding frameText concatMap
+frame-as bs =
+    sym (append_assoc (concatMap byteText bs) (byteText (sumByte bs)) (10 ∷ []))
+    ∙ ap (λ (xs : List ℕ). xs ++ (10 ∷ [])) (sym (concat-append byteText bs (sumByte bs ∷ [])))
+
+pairs-two : (es : List ℕ) → All (λ x. length (byteText x) ≡ 2) es
+pairs-two es = all-every (λ x. length (byteText x) ≡ 2) (λ x. refl) es
+
+pub sum-small : (bs : List ℕ) → sumByte bs < 256
+sum-small bs = omega arith
+
+module _ (bs : List ℕ) (F : Frame bs) where
+  pub eleven-length : length (eleven bs) ≡ 11
+  eleven-length = length-append bs (sumByte bs ∷ []) ∙ omega (arith, F.ten)
+
+  pairs-length : length (concatMap byteText (eleven bs)) ≡ 22
+  pairs-length = length-concat byteText 2 (eleven bs) (pairs-two (eleven bs)) ∙ omega (arith, eleven-length)
+
+  pub frame-length : length (frameText bs) ≡ 23
+  frame-length = ap length (frame-as bs) ∙ length-append (concatMap byteText (eleven bs)) (10 ∷ []) ∙ omega (arith, pairs-length)
+
+  pub eleven-at : (k : ℕ) → k < 10 → get_or (eleven bs) k 0 ≡ get_or bs k 0
+  eleven-at k h = get_or-append bs (sumByte bs ∷ []) 0 k (omega (arith, F.ten))
+
+  pub eleven-last : get_or (eleven bs) 10 0 ≡ sumByte bs
+  eleven-last = ap (λ (k : ℕ). get_or (eleven bs) k 0) (omega (arith, F.ten)) ∙ get_or-append-add bs (sumByte bs ∷ []) 0 0
+
+  pub eleven-small : (k : ℕ) → k < 11 → get_or (eleven bs) k 0 < 256
+  eleven-small k h =
+      ⊎_elim (λ (l : k < 10). omega (arith, eleven-at k l, F.bytes k))
+      (λ (l : 10 ≤ k).
+      let e : get_or (eleven bs) k 0 ≡ sumByte bs = ap (λ (j : ℕ). get_or (eleven bs) j 0) (omega arith) ∙ eleven-last in
+      omega (arith, e, sum-small bs))
+      (split k 10)
+
+  pub frame-char : (k t : ℕ) → k < 11 → t < 2 → get_or (frameText bs) (2 * k + t) 0 ≡ get_or (byteText (get_or (eleven bs) k 0)) t 0
+  frame-char k t h l =
+      ap (λ (xs : List ℕ). get_or xs (2 * k + t) 0) (frame-as bs)
+      ∙ get_or-append (concatMap byteText (eleven bs)) (10 ∷ []) 0 (2 * k + t) (omega (arith, pairs-length))
+      ∙ getD-concat byteText 2 0 0 (eleven bs) (pairs-two (eleven bs)) k t (omega (arith, eleven-length)) l
+
+  pub frame-feed : get_or (frameText bs) 22 0 ≡ 10
+  frame-feed =
+      ap (λ (xs : List ℕ). get_or xs 22 0) (frame-as bs)
+      ∙ ap (λ (k : ℕ). get_or (concatMap byteText (eleven bs) ++ (10 ∷ [])) k 0) (omega (arith, pairs-length))
+      ∙ get_or-append-add (concatMap byteText (eleven bs)) (10 ∷ []) 0 0
+
+  -- a text that has this frame at f
+  module _ (t : List ℕ) (f : ℕ) (here : (k : ℕ) → k < 23 → get_or t (23 * f + k) 0 ≡ get_or (frameText bs) k 0) where
+    text-char : (k s : ℕ) → k < 11 → s < 2 → get_or t (23 * f + (2 * k + s)) 0 ≡ get_or (byteText (get_or (eleven bs) k 0)) s 0
+    text-char k s h l = here (2 * k + s) (omega arith) ∙ frame-char k s h l
+
+    pub byte-is : (k : ℕ) → k < 11 → byte_at t f k ≡ get_or (eleven bs) k 0
+    byte-is k h =
+        ap₂ (λ (a b : ℕ). 16 * digitOf a + digitOf b)
+        (ap (λ (m : ℕ). get_or t m 0) (omega arith) ∙ text-char k 0 h (omega arith))
+        (ap (λ (m : ℕ). get_or t m 0) (omega arith) ∙ text-char k 1 h (omega arith))
+        ∙ pair-byte (get_or (eleven bs) k 0) (eleven-small k h)
+
+    char-small : (k : ℕ) → k < 22 → digitOf (get_or t (23 * f + k) 0) < 16
+    char-small k h =
+        subst (λ (c : ℕ). digitOf c < 16)
+        (sym (ap (λ (m : ℕ). get_or t m 0) (omega arith) ∙ text-char (k / 2) (k % 2) (omega arith) (omega arith)))
+        (pair-digit (get_or (eleven bs) (k / 2) 0) (k % 2) (eleven-small (k / 2) (omega arith)) (omega arith))
+
+    pub good-form : badForm t f ≡ false
+    unfolding badForm
+    good-form =
+        let p : ℕ → Bool = λ k. leb 16 (digitOf (get_or t (23 * f + k) 0)) in
+        ap₂ ◌||◌
+        (any_none p 0 22 (λ k h. ap p (omega arith) ∙ lt-leb 16 (digitOf (get_or t (23 * f + k) 0)) (char-small k h)))
+        (ap not (eq-eqb (get_or t (23 * f + 22) 0) 10 (here 22 (omega arith) ∙ frame-feed)))
+
+    pub good-sum : badSum t f ≡ false
+    unfolding badSum
+    good-sum =
+        let e : sum (byte_at t f) 0 11 ≡ total (eleven bs) = ap (sum (byte_at t f) 0) (sym eleven-length)
+        ∙ sum-places (byte_at t f) (eleven bs) 0 (λ k h. ap (byte_at t f) (omega arith) ∙ byte-is k (omega (arith, eleven-length))) in
+        ap not (eq-eqb (sum (byte_at t f) 0 11 % 256) 0 (omega (arith, e, total-snoc bs (sumByte bs))))

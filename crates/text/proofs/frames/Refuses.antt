@@ -1,0 +1,39 @@
+-- Which numbers a chain of verdicts can refuse with.
+use Prim.Native.Nat.{ℕ}
+use mathlib.Core.Bool.{Bool, true, false}
+use mathlib.Core.List.{List}
+use lib.Dec.{ltb}
+use lib.ListN.{length}
+use Rattle.words.specs.lists.Pick.{pick}
+use Rattle.words.specs.lists.Numbers.{lowest}
+use Rattle.text.specs.frames.Frame.{frameCount}
+use Rattle.text.specs.frames.Verdict.{Verdict, fine, refused, next, when, atLowest}
+use Rattle.text.specs.frames.Check.{badLength, badForm, badSum, textVerdict}
+
+-- a refusal has a number with the property P
+abbrev pub RefusesWith : (ℕ → Type 0) → Verdict → Type 0
+RefusesWith P fine = Unit {0}
+RefusesWith P (refused k i) = P k
+
+module _ (P : ℕ → Type 0) where
+  pub next-refuses : (v : Verdict) (rest : Unit {0} → Verdict) → RefusesWith P v → RefusesWith P (rest tt) → RefusesWith P (next v rest)
+  next-refuses fine rest p q = q
+  next-refuses (refused k i) rest p q = p
+
+  pub when-refuses : (k : ℕ) (b : Bool) → P k → RefusesWith P (when k b)
+  when-refuses k true h = h
+  when-refuses k false h = tt
+
+  pub lowest-refuses : (k : ℕ) (p : ℕ → Bool) (n : ℕ) → P k → RefusesWith P (atLowest k p n)
+  lowest-refuses k p n h = go (ltb (lowest p 0 n) n)
+    where
+      go : (b : Bool) → RefusesWith P (pick b (refused k (lowest p 0 n)) fine)
+      go true = h
+      go false = tt
+
+  pub text-refuses : P 1 → P 2 → P 3 → (most : ℕ) (t : List ℕ) → RefusesWith P (textVerdict most t)
+  unfolding textVerdict
+  text-refuses a b c most t =
+      next-refuses (when 1 (badLength 23 most (length t))) _ (when-refuses 1 (badLength 23 most (length t)) a)
+      (next-refuses (atLowest 2 (badForm t) (frameCount t)) _ (lowest-refuses 2 (badForm t) (frameCount t) b)
+      (lowest-refuses 3 (badSum t) (frameCount t) c))

@@ -1,0 +1,11 @@
+-- `text::frames::write::ten_at` meets its contract: each of the ten stands at its place.
+use Prim.Native.Nat.{◌-◌}
+use Rattle.words.proofs.lists.Arrays.{Filled}
+use Rattle.text.specs.frames.Frame.{field}
+use Rattle.text.proofs.frames.write.ten_at.Given as goal
+
+abbrev pub invariant-loop-k : goal.invariant-loop-k
+invariant-loop-k l = Filled (field l.bytes l.f) 0 l.ten 10 l.k
+
+abbrev pub decreases-loop-k : goal.decreases-loop-k
+decreases-loop-k l = 10 - l.k

@@ -1,0 +1,57 @@
+-- What an entry point answers and leaves in the buffer lent to it, in the paper's numbers.
+use Rattle.std.specs.Prelude.{ℕ, ◌/◌, ◌≡◌, List, ltb, length}
+use Rattle.words.specs.lists.Pick.{pick}
+use Rattle.words.specs.lists.Sequences.{over}
+use Rattle.text.specs.frames.Refusals.{NO-ROOM}
+use Rattle.text.specs.frames.Verdict.{Verdict, fine, refused}
+use Rattle.text.specs.declared.frames.Answer.{Answer}
+use Rattle.text.specs.declared.frames.Answer.TheVariants.{Done, Refused}
+
+-- success with the count written; or a refusal's number, index and count
+pub data Reply : Type 0 where
+  success : ℕ → Reply
+  refusal : ℕ → ℕ → ℕ → Reply
+
+-- what each case of the enum stands for; every promise about an answer goes through this
+abbrev pub reply : Answer → Reply
+reply (Done n) = success n
+reply (Refused k i n) = refusal k i n
+
+-- the number that C gets, 0 for success, and the values beside it
+abbrev pub replyNumber : Reply → ℕ
+replyNumber (success n) = 0
+replyNumber (refusal k i n) = k
+
+abbrev pub replyIndex : Reply → ℕ
+replyIndex (success n) = 0
+replyIndex (refusal k i n) = i
+
+abbrev pub replyCount : Reply → ℕ
+replyCount (success n) = n
+replyCount (refusal k i n) = n
+
+-- a verdict with the count that goes with it, be it refused or not
+abbrev pub replied : Verdict → ℕ → Reply
+replied fine n = success n
+replied (refused k i) n = refusal k i n
+
+-- a verdict with the count of success; a refusal that comes before any tick counts 0
+abbrev pub judged : Verdict → ℕ → Reply
+judged fine n = success n
+judged (refused k i) n = refusal k i 0
+
+pub record BufferOutcome : Type 0 where
+  pub reply : Reply
+  pub buffer : List ℕ
+
+-- what a function with one lent buffer promises: its answer, and what the buffer then holds
+pub record GivesBuffer (x : BufferOutcome) (answer : Answer) (after : List ℕ) : Type 0 where
+  pub answered : reply answer ≡ x.reply
+  pub written : after ≡ x.buffer
+
+-- a refusal leaves the buffer as it was; else its front is written, counted by units, or there is no room: 16
+abbrev pub bufferOn : Verdict → ℕ → (Unit {0} → List ℕ) → List ℕ → BufferOutcome
+bufferOn (refused k i) unit new old = record { reply = refusal k i 0; buffer = old }
+bufferOn fine unit new old = let xs = new tt in pick (ltb (length old) (length xs))
+    (record { reply = refusal NO-ROOM 0 0; buffer = old })
+    (record { reply = success (length xs / unit); buffer = over xs old })

@@ -1,0 +1,12 @@
+-- What a lent buffer holds after a text was read into it, refused or not.
+use Rattle.std.specs.Prelude.{ℕ, ◌%◌, List, map, length}
+use Rattle.words.specs.lists.Pick.{pick}
+use Rattle.words.specs.lists.Sequences.{over}
+use Rattle.text.specs.frames.Sizes.{LINE}
+use Rattle.text.specs.frames.Frame.{contents}
+use Rattle.text.specs.frames.Check.{badLength}
+
+-- the contents, modulo 256, at the front of the buffer; where 1 refuses, nothing is stored. The buffer is scratch space, which a
+-- later refusal leaves changed: a function that promises this is no entry point
+unfoldable pub readInto : ℕ → List ℕ → List ℕ → List ℕ
+readInto most t old = pick (badLength LINE most (length t)) old (over (map (λ x. x % 256) (contents t)) old)

@@ -1,0 +1,98 @@
+// Bytes and frames written into a lent buffer.
+ghost use Rattle.std.specs.Prelude.{◌≡◌, ◌+◌, ◌*◌, ◌≤◌, ◌<◌, length};
+ghost use Rattle.words.specs.lists.Sequences.{written};
+ghost use Rattle.text.specs.frames.Sizes.{LINE, FRAME};
+ghost use Rattle.text.specs.frames.Frame.{byteText, frameText, tenAt, text_of, size};
+
+use crate::digits::{character, characters};
+use crate::frames::sizes::*;
+
+// Bytes as they are, from an offset on.
+pub fn put_bytes(out: &mut [u8], at: usize, bytes: &[u8])
+    requires { at + length bytes.now ≤ length out.old }
+    ensures { out.new ≡ written out.old at bytes.now }
+{
+    let n = bytes.len();
+    let mut k: usize = 0;
+    while k < n {
+        out[at + k] = bytes[k];
+        k += 1;
+    }
+}
+
+// The two characters of a byte, from an offset on.
+fn put_byte(out: &mut [u8], at: usize, b: u8)
+    requires { at + 2 ≤ length out.old }
+    ensures { out.new ≡ written out.old at (byteText b) }
+{
+    let both = characters(b);
+    out[at] = (both % 256) as u8;
+    out[at + 1] = (both / 256) as u8;
+}
+
+// The same for the byte of a sum. Each character is made by a comparison of its own: by a sum of both, the compiler would no longer add
+// eight bytes of a frame at once.
+fn put_sum(out: &mut [u8], at: usize, b: u8)
+    requires { at + 2 ≤ length out.old }
+    ensures { out.new ≡ written out.old at (byteText b) }
+{
+    out[at] = character(b / 16);
+    out[at + 1] = character(b % 16);
+}
+
+// Ten bytes as a frame, from an offset on. The loop goes by the slice's length, so that it is compiled into each caller, and the bytes of
+// a frame just made need not go through memory.
+pub fn put_frame(out: &mut [u8], at: usize, bytes: &[u8])
+    requires at_in_bounds { at + LINE ≤ length out.old }
+    requires bytes_len { length bytes.now ≡ FRAME }
+    ensures { out.new ≡ written out.old at (frameText bytes.now) }
+{
+    let n = bytes.len();
+    let mut sum: u32 = 0;
+    let mut k: usize = 0;
+    while k < n {
+        let b = bytes[k];
+        put_byte(out, at + k * 2, b);
+        sum += b as u32;
+        k += 1;
+    }
+    put_sum(out, at + 2 * FRAME, ((256 - sum % 256) % 256) as u8);
+    out[at + DIGITS] = LINE_FEED;
+}
+
+// The ten bytes of frame f of contents.
+pub fn ten_at(bytes: &[u8], f: usize) -> [u8; FRAME]
+    requires { FRAME * f + FRAME ≤ length bytes.now }
+    ensures { result ≡ tenAt bytes.now f }
+{
+    let mut ten = [0u8; FRAME];
+    let mut k: usize = 0;
+    while k < FRAME {
+        ten[k] = bytes[FRAME * f + k];
+        k += 1;
+    }
+    ten
+}
+
+// Frame f of contents. All ten bytes are taken before a character is written, so that the compiler takes several at once.
+fn put_nth(out: &mut [u8], at: usize, bytes: &[u8], f: usize)
+    requires at_in_bounds { at + LINE ≤ length out.old }
+    requires f_in_bounds { FRAME * f + FRAME ≤ length bytes.now }
+    ensures { out.new ≡ written out.old at (frameText (tenAt bytes.now f)) }
+{
+    let ten = ten_at(bytes, f);
+    put_frame(out, at, &ten);
+}
+
+// The text of contents, from an offset on.
+pub fn put_text(out: &mut [u8], at: usize, bytes: &[u8])
+    requires { at + LINE * size bytes.now ≤ length out.old }
+    ensures { out.new ≡ written out.old at (text_of bytes.now) }
+{
+    let n = bytes.len() / FRAME;
+    let mut f: usize = 0;
+    while f < n {
+        put_nth(out, at + f * LINE, bytes, f);
+        f += 1;
+    }
+}

@@ -1,0 +1,65 @@
+// A text read in one pass: refusals 1 to 3, and the bytes of its frames, ten of each, into a lent buffer.
+ghost use Rattle.std.specs.Prelude.{◌≡◌, ◌*◌, ◌≤◌, length};
+ghost use Rattle.text.specs.frames.Sizes.{LINE, FRAME};
+ghost use Rattle.text.specs.frames.Frame.{frameCount};
+ghost use Rattle.text.specs.frames.Check.{textVerdict};
+ghost use Rattle.text.specs.frames.inner.Read.{readInto};
+ghost use Rattle.text.specs.frames.Answer.{reply, judged};
+ghost use Rattle.text.specs.reading.inner.Reads.{FramesRead};
+
+use crate::frame_reading::read_frame;
+use crate::frames::refusals::{BAD_CHARACTER, BAD_LENGTH, BAD_SUM};
+use crate::frames::sizes::LINE;
+use crate::frames::{Answer, bad_length, refused};
+
+// The lowest frame that 2 refuses and the lowest that 3 refuses, or the number of frames.
+#[derive(Drop)]
+struct Lowest {
+    form: usize,
+    sum: usize,
+}
+
+// Each of n frames, from the last one down: the fault found last is the lowest.
+fn read_frames(text: &[u8], n: usize, out: &mut [u8]) -> Lowest
+    requires n_in_bounds { LINE * n ≤ length text.now }
+    requires n_in_bounds_2 { FRAME * n ≤ length out.old }
+    ensures { FramesRead text.now n out.old result out.new }
+{
+    let mut form = n;
+    let mut sum = n;
+    let mut f = n;
+    while 0 < f {
+        f -= 1;
+        let faults = read_frame(text, f, out);
+        if faults.form {
+            form = f;
+        }
+        if faults.sum {
+            sum = f;
+        }
+    }
+    Lowest { form, sum }
+}
+
+// 1 to 3, else the number of frames. A fault of form in any frame goes before a wrong sum in any.
+// No entry point: the caller lends scratch space, which 2 and 3 leave changed.
+pub fn read_text(text: &[u8], most: usize, out: &mut [u8]) -> Answer
+    requires { FRAME * most ≤ LINE * length out.old }
+    ensures result_value { reply result ≡ judged (textVerdict most text.now) (frameCount text.now) }
+    ensures out_after { out.new ≡ readInto most text.now out.old }
+{
+    if bad_length(LINE, most, text.len()) {
+        return refused(BAD_LENGTH, 0);
+    }
+    let frames = text.len() / LINE;
+    let found = read_frames(text, frames, out);
+    let form = found.form;
+    if form < frames {
+        return refused(BAD_CHARACTER, form);
+    }
+    let sum = found.sum;
+    if sum < frames {
+        return refused(BAD_SUM, sum);
+    }
+    Answer::Done(frames)
+}

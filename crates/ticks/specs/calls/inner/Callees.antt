@@ -1,0 +1,13 @@
+-- What the functions that find the callee of a call hand back.
+use Rattle.std.specs.Prelude.{ℕ, ◌≡◌, List}
+use Rattle.bindings.specs.Binding.{served}
+use Rattle.tables.specs.Table.{tableImage}
+use Rattle.state.specs.declared.State.{State}
+use Rattle.state.specs.State.{entry_at}
+use Rattle.ticks.specs.declared.calls.Callee.{Callee}
+
+-- r is the callee of a call of number h
+pub record IsCallee (b : List ℕ) (s : State) (h : ℕ) (r : Callee) : Type 0 where
+  pub number : r.number ≡ h
+  pub server : r.server ≡ served s.serving h
+  pub entry : r.entry ≡ entry_at (tableImage b) r.server

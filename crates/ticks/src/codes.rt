@@ -1,0 +1,54 @@
+// Tick codes: which code a tick has, and what a code stands for.
+ghost use Rattle.std.specs.Prelude.{◌≡◌, ◌≤◌};
+ghost use Rattle.text.specs.frames.Sizes.{SCHEMES};
+ghost use Rattle.image.specs.Layout.{tickKind};
+ghost use Rattle.ticks.specs.codes.Codes.{code_of, meaningOf};
+
+use image::layout::*;
+use text::frames::codes::*;
+
+// What is told in the place of a tick kind: a drop, and a code that no tick has.
+pub const DROP: u8 = 5;
+
+pub const UNKNOWN: u8 = 255;
+
+// What a code stands for, a call with the number called; Drop is a call that dropped all open schemes, Unknown a code that no tick has.
+#[derive(Drop)]
+pub enum Meaning {
+    Plain,
+    OperationCall(u8),
+    FunctionCall(u8),
+    Return,
+    Home,
+    Drop,
+    Unknown,
+}
+
+// The code of a tick, by its kind and the number that it calls.
+pub fn code_of(kind: u8, called: u8) -> u8
+    requires { called ≤ SCHEMES }
+    ensures { result ≡ code_of (tickKind kind) called }
+{
+    match kind {
+        PLAIN => PLAIN_CODE,
+        OPERATION_CALL => OPERATION_CALL_CODE + called,
+        FUNCTION_CALL => FUNCTION_CALL_CODE + called,
+        RETURN => RETURN_CODE,
+        _ => HOME_CODE,
+    }
+}
+
+// Only schemes 2 to 16 can be called.
+pub fn meaning_of(code: u8) -> Meaning
+    ensures { result ≡ meaningOf code }
+{
+    match code {
+        PLAIN_CODE => Meaning::Plain,
+        RETURN_CODE => Meaning::Return,
+        HOME_CODE => Meaning::Home,
+        0x12..=0x20 => Meaning::OperationCall(code - OPERATION_CALL_CODE),
+        0x42..=0x50 => Meaning::FunctionCall(code - FUNCTION_CALL_CODE),
+        DROP_CODE => Meaning::Drop,
+        _ => Meaning::Unknown,
+    }
+}

@@ -1,0 +1,62 @@
+// A call that finds the stack full: it drops all open schemes for the handler, or is refused.
+ghost use Rattle.std.specs.Prelude.{◌≡◌};
+ghost use Rattle.image.specs.Decode.{schemeCount};
+ghost use Rattle.tables.specs.Table.{tableImage};
+ghost use Rattle.tables.specs.inner.Asked.{Whole};
+ghost use Rattle.state.specs.Bytes.{state_of};
+ghost use Rattle.ticks.specs.Tick.{keepsFull};
+ghost use Rattle.ticks.specs.inner.TickContracts.{TopFull, GivesTickEnd};
+
+use crate::TickEnd;
+use state::layout::STATE_BYTES;
+use state::state_places::{depth_of, number_of, place_of, put_alone};
+use state::state_results::put_result;
+use tables::{entry_of, handler_of, label_of, label_read};
+use text::frames::codes::DROP_CODE;
+use text::frames::refusals::FULL;
+
+// Whether a full stack is kept: there is no handler, or it is at the bottom.
+fn keeps_full(table: &[u8], bytes: &[u8; STATE_BYTES]) -> bool
+    requires { Whole table.now }
+    ensures { result ≡ keepsFull (tableImage table.now) (state_of bytes.now) }
+{
+    let handler = handler_of(table);
+    if handler == 0 {
+        return true;
+    }
+    let l = place_of(bytes, 0);
+    if l == 1 {
+        return true;
+    }
+    let bottom = label_of(table, l);
+    bottom.owner == handler
+}
+
+// A call at depth Σ: the caller's result is written, then the handler's bit cleared, and its entry is all that the stack holds; a
+// stack that is kept refuses the call.
+pub fn tick_full(table: &[u8], schemes: u8, bytes: &mut [u8; STATE_BYTES], word: u16) -> TickEnd
+    requires top_full { TopFull table.now (state_of bytes.old) }
+    requires schemes_value { schemes ≡ schemeCount table.now }
+    ensures { GivesTickEnd table.now bytes.old word result bytes.new }
+{
+    if keeps_full(table, bytes) {
+        return TickEnd {
+            number: FULL,
+            mask: 0,
+            code: 0,
+        };
+    }
+    let top = (depth_of(bytes) as usize) - 1;
+    let label = label_read(table, schemes, place_of(bytes, top) as usize);
+    let handler = handler_of(table);
+    let entry = entry_of(table, handler);
+    let caller = number_of(bytes, top);
+    put_result(bytes, label.result, caller);
+    put_result(bytes, 1, handler);
+    put_alone(bytes, entry, handler);
+    TickEnd {
+        number: 0,
+        mask: label.mask,
+        code: DROP_CODE,
+    }
+}

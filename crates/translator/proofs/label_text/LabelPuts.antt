@@ -1,0 +1,147 @@
+-- The steps of the functions that write entries and labels, at plain values.
+use mathlib.Core.Path.{◌≡◌, refl, sym, ◌∙◌, ap, ap₂}
+use mathlib.Core.Bool.{Bool, true, false, ◌&&◌, not}
+use mathlib.Core.List.{List, [], ◌∷◌, ◌++◌}
+use Prim.Native.Nat.{ℕ, ◌+◌, ◌*◌, ◌≤◌, ◌<◌}
+use native.Mathlib.Omega.{arith}
+use lib.Dec.{eqb}
+use lib.ListN.{length, get_or}
+use borrow.Author.Tests.{ne_eqb}
+use Rattle.words.specs.lists.Pick.{pick}
+use Rattle.words.specs.lists.Sequences.{written}
+use Rattle.words.proofs.lists.Tests.{yes-pick, no-pick}
+use Rattle.words.proofs.lists.Written.{written-more}
+use Rattle.words.proofs.lists.Fills.{Pieces, pieces-turn}
+use Rattle.text.specs.frames.Frame.{size, quad}
+use Rattle.charts.specs.Chart.{Chart, kind, scheme, argument, next0, result, mask, begin}
+use Rattle.walk.specs.Stops.{stops, start}
+use Rattle.walk.proofs.Facts.{Facts}
+use Rattle.image.specs.Image.{entryFrame, labelFrame}
+use Rattle.chart_rows.specs.chart_labels.Labels.{numbered, label, entry, stopLabel}
+use Rattle.chart_rows.specs.chart_labels.inner.ChartContracts.{Labelled, OfKind, AtNode}
+use Rattle.translator.specs.label_text.inner.LabelContracts.{OfScheme}
+use Rattle.translator.specs.label_text.inner.LabelBytes.{entryBytes, nodeLabelBytes, Put}
+use Rattle.chart_rows.proofs.chart_labels.ReadyLaws.{ready-facts}
+use Rattle.chart_rows.proofs.chart_labels.LabelSteps.{own-label, no-own-label}
+use Rattle.chart_rows.proofs.chart_labels.LabelKinds.{label-operation, label-function, label-bare}
+
+-- ---- entries
+pub numbered-stop : (c : Chart) (v : ℕ) → (kind c v ≡ 1 → ⊥) → numbered c v ≡ stops c v
+numbered-stop c v n = ap (λ x. stops c v && not x) (ne_eqb (kind c v) 1 n) ∙ unit (stops c v)
+  where
+    unit : (b : Bool) → (b && true) ≡ b
+    unit true = refl
+    unit false = refl
+
+module _ {c : Chart} {labels : List ℕ} {h v : ℕ} (s : OfScheme c labels h) (e : v ≡ begin c h) where
+  known_facts : Facts c
+  known_facts = ready-facts s.chart.ready
+
+  ok : Labelled c labels
+  ok = s.chart.labelled
+
+  begin-inside : v < size c
+  begin-inside = omega (arith, (known_facts.begins h s.low s.high).0)
+
+  begin-kind : kind c v ≡ 0
+  begin-kind = ap (kind c) e ∙ (known_facts.begins h s.low s.high).1
+
+  next-inside : next0 c v < size c
+  next-inside = (known_facts.arc0 v begin-inside (λ z. omega (arith, begin-kind))).inside
+
+  pub entry_read : v < length labels
+  entry_read = omega (arith, ok.long, begin-inside)
+
+  pub entry-field : 10 * v + 3 < length c
+  entry-field = omega (arith, known_facts.whole, begin-inside)
+
+  pub entry_next : (w : ℕ) → w ≡ next0 c v → w < length labels
+  entry_next w q = omega (arith, ok.long, next-inside)
+
+  starts : (b : Bool) → stops c v ≡ b → start c h ≡ pick b v (next0 c v)
+  unfolding start
+  starts b q = ap (λ (x : ℕ). pick (stops c x) x (next0 c x)) (sym e) ∙ ap (λ y. pick y v (next0 c v)) q
+
+  stop-by : numbered c v ≡ stops c v
+  stop-by = numbered-stop c v (λ z. omega (arith, begin-kind))
+
+  pub entry-own : 2 ≤ get_or labels v 0 → get_or labels v 0 ≡ entry c h
+  entry-own g =
+      let m : get_or labels v 0 ≡ label c v = ok.at v begin-inside in
+      m ∙ ap (label c) (sym (starts true (sym stop-by ∙ own-label c v (omega arith))))
+
+  pub entry_other : get_or labels v 0 < 2 → (w : ℕ) → w ≡ next0 c v → get_or labels w 0 ≡ entry c h
+  entry_other g w q =
+      let m : get_or labels v 0 ≡ label c v = ok.at v begin-inside in
+      ap (λ (x : ℕ). get_or labels x 0) q ∙ ok.at (next0 c v) next-inside
+      ∙ ap (label c) (sym (starts false (sym stop-by ∙ no-own-label c v (omega arith))))
+
+pub entries-turn : (c : Chart) (out₀ out out' : List ℕ) (at n k place l : ℕ) → Pieces (entryBytes c) 10 out₀ out at n k → k < n
+    → place ≡ at + 10 * k → at + 10 * n ≤ length out₀
+    → length out' ≡ length out → l ≡ entry c (k + 1) → out' ≡ written out place (entryFrame (k + 1) l)
+    → Pieces (entryBytes c) 10 out₀ out' at n (k + 1)
+entries-turn c out₀ out out' at n k place l w h p room s m e =
+    pieces-turn (entryBytes c) 10 out₀ at n (λ j. refl) out out' k place w h p (omega arith) s
+    (e ∙ ap (λ (x : ℕ). written out place (entryFrame (k + 1) x)) m)
+
+-- ---- labels
+pub fixed-done : (out out₁ out₂ a b : List ℕ) (at : ℕ) → length a ≡ 10 → at + 20 ≤ length out
+    → out₁ ≡ written out at a → out₂ ≡ written out₁ (at + 10) b → out₂ ≡ written out at (a ++ b)
+fixed-done out out₁ out₂ a b at n h e₁ e₂ = written-more out at a b out₁ out₂ (at + 10) (omega arith) (omega arith) e₁ e₂
+
+quad-bytes : (a b d e : ℕ) → a < 256 → b < 256 → d < 256 → e < 256 → quad ((a * 256 + b) * 65536 + (d * 256 + e)) ≡ a ∷ b ∷ d ∷ e ∷ []
+quad-bytes a b d e ha hb hd he =
+    ap₂ (λ (x : ℕ) (xs : List ℕ). x ∷ xs) (omega arith) (ap₂ (λ (x : ℕ) (xs : List ℕ). x ∷ xs) (omega arith)
+    (ap₂ (λ (x : ℕ) (xs : List ℕ). x ∷ xs) (omega arith) (ap₂ (λ (x : ℕ) (xs : List ℕ). x ∷ xs) (omega arith) refl)))
+
+module _ (c : Chart) (v l : ℕ) where
+  pub operation-bytes : OfKind c 2 v → (t g o r m0 m1 m2 m3 : ℕ) → t ≡ pick (eqb g 0) 0 1 → g ≡ argument c v
+      → o ≡ scheme c v → r ≡ result c v
+      → m0 ≡ get_or c (10 * v + 6) 0 → m1 ≡ get_or c (10 * v + 7) 0 → m2 ≡ get_or c (10 * v + 8) 0 → m3 ≡ get_or c (10 * v + 9) 0
+      → (17 ∷ l ∷ t ∷ g ∷ o ∷ r ∷ m0 ∷ m1 ∷ m2 ∷ m3 ∷ []) ≡ labelFrame l (stopLabel c v)
+  operation-bytes node t g o r m0 m1 m2 m3 et eg eo er e0 e1 e2 e3 =
+      let B : (j : ℕ) → get_or c j 0 < 256 = node.ready.bytes in
+      let q : quad (mask c v) ≡ m0 ∷ m1 ∷ m2 ∷ m3 ∷ [] =
+      quad-bytes (get_or c (10 * v + 6) 0) (get_or c (10 * v + 7) 0) (get_or c (10 * v + 8) 0) (get_or c (10 * v + 9) 0) (B _) (B _) (B _) (B _)
+      ∙ ap₂ (λ (x : ℕ) (xs : List ℕ). x ∷ xs) (sym e0)
+      (ap₂ (λ (x : ℕ) (xs : List ℕ). x ∷ xs) (sym e1) (ap₂ (λ (x y : ℕ). x ∷ y ∷ []) (sym e2) (sym e3))) in
+      let p : t ≡ pick (eqb (argument c v) 0) 0 1 = et ∙ ap (λ (x : ℕ). pick {A = ℕ} (eqb x 0) 0 1) eg in
+      ap (λ (xs : List ℕ). 17 ∷ l ∷ t ∷ g ∷ o ∷ r ∷ xs) (sym q)
+      ∙ ap₂ (λ (x y : ℕ). 17 ∷ l ∷ x ∷ y ∷ o ∷ r ∷ quad (mask c v)) p eg
+      ∙ ap₂ (λ (x y : ℕ). 17 ∷ l ∷ pick (eqb (argument c v) 0) 0 1 ∷ argument c v ∷ x ∷ y ∷ quad (mask c v)) eo er
+      ∙ ap (labelFrame l) (sym (label-operation c v node.kind))
+
+  pub function-bytes : kind c v ≡ 4 → (g o : ℕ) → g ≡ argument c v → o ≡ scheme c v
+      → (17 ∷ l ∷ 2 ∷ g ∷ o ∷ 0 ∷ 0 ∷ 0 ∷ 0 ∷ 0 ∷ []) ≡ labelFrame l (stopLabel c v)
+  function-bytes k g o eg eo =
+      ap₂ (λ (x y : ℕ). 17 ∷ l ∷ 2 ∷ x ∷ y ∷ 0 ∷ 0 ∷ 0 ∷ 0 ∷ 0 ∷ []) eg eo ∙ ap (labelFrame l) (sym (label-function c v k))
+
+  pub other-bytes : (kind c v ≡ 2 → ⊥) → (kind c v ≡ 4 → ⊥) → (o : ℕ) → o ≡ scheme c v
+      → (17 ∷ l ∷ 0 ∷ 0 ∷ o ∷ 0 ∷ 0 ∷ 0 ∷ 0 ∷ 0 ∷ []) ≡ labelFrame l (stopLabel c v)
+  other-bytes n m o eo = ap (λ (x : ℕ). 17 ∷ l ∷ 0 ∷ 0 ∷ x ∷ 0 ∷ 0 ∷ 0 ∷ 0 ∷ 0 ∷ []) eo ∙ ap (labelFrame l) (sym (label-bare c v n m))
+
+module _ {c : Chart} {labels : List ℕ} {v : ℕ} (node : AtNode c labels v) where
+  read : get_or labels v 0 ≡ label c v
+  read = node.chart.labelled.at v node.inside
+
+  pub label-none : get_or labels v 0 < 2 → nodeLabelBytes c v ≡ []
+  label-none h =
+      no-pick (numbered c v) (labelFrame (label c v) (stopLabel c v)) [] (no-own-label c v (omega (arith, read)))
+
+  label-one : 2 ≤ get_or labels v 0 → nodeLabelBytes c v ≡ labelFrame (label c v) (stopLabel c v)
+  label-one h =
+      yes-pick (numbered c v) (labelFrame (label c v) (stopLabel c v)) [] (own-label c v (omega (arith, read)))
+
+  label-long : 2 ≤ get_or labels v 0 → length (nodeLabelBytes c v) ≡ 10
+  label-long h = ap (λ (x : List ℕ). length x) (label-one h)
+
+  pub label-room : 2 ≤ get_or labels v 0 → (at n : ℕ) → at + length (nodeLabelBytes c v) ≤ n → at + 10 ≤ n
+  label-room h at n r = omega (arith, label-long h)
+
+  pub label-done : 2 ≤ get_or labels v 0 → (out out' : List ℕ) (at : ℕ)
+      → out' ≡ written out at (labelFrame (get_or labels v 0) (stopLabel c v))
+      → Put out at (nodeLabelBytes c v) (at + 10) out'
+  label-done h out out' at e = record {
+    ends = omega (arith, label-long h);
+    holds = e ∙ ap (λ (x : ℕ). written out at (labelFrame x (stopLabel c v))) read ∙ ap (written out at) (sym (label-one h));
+  }

@@ -1,0 +1,11 @@
+-- `translator::label_text::put_labels`: the labels of the nodes before v stand in the buffer.
+use Prim.Native.Nat.{◌-◌}
+use Rattle.translator.specs.label_text.inner.LabelBytes.{nodeLabelBytes}
+use Rattle.translator.proofs.label_text.Puts.{Appended}
+use Rattle.translator.proofs.label_text.label_frames.put_labels.Given as goal
+
+abbrev pub invariant-loop-v : goal.invariant-loop-v
+invariant-loop-v l = Appended (nodeLabelBytes l.records) l.initial.out l.out l.at l.place l.n l.v
+
+abbrev pub decreases-loop-v : goal.decreases-loop-v
+decreases-loop-v l = l.n - l.v

@@ -1,0 +1,37 @@
+-- `translator::translating::translate` meets its contract: the reader's refusal, or what the table's text gives for the chart that it read.
+use mathlib.Core.Path.{sym}
+use Rattle.translator.proofs.EntrySteps.{Read, zeros-long, read-refused, read_told, read-long, read-ready, translated}
+use native.Mathlib.Omega.{arith}
+use Rattle.translator.proofs.translating.translate.Goals as goal
+
+pub returns-in_default : goal.returns-in_default
+returns-in_default c =
+    read-refused _ _ zeros-long _ c.read_chart-read.ensures.answered _ c.in_default.field-0
+    c.in_default.field-1 c.in_default.field-2 c.in_default.is
+
+pub overflow_mul-end : goal.overflow_mul-end
+overflow_mul-end c =
+    let done : Read c.args.text.now c.read_chart-read.new.out c.in-Done.count = let told = c.read_chart-read.ensures in read_told _ _ _ _ _ told.answered c.in-Done.is told.written in
+    omega (arith, done.few)
+
+pub slice_bounds-held-end : goal.slice_bounds-held-end
+slice_bounds-held-end c =
+    let done : Read c.args.text.now c.read_chart-read.new.out c.in-Done.count = let told = c.read_chart-read.ensures in read_told _ _ _ _ _ told.answered c.in-Done.is told.written in
+    omega (arith, done.few, c.read_chart-read.auto.out)
+
+pub slice_bounds-records-end : goal.slice_bounds-records-end
+slice_bounds-records-end c =
+    let done : Read c.args.text.now c.read_chart-read.new.out c.in-Done.count = let told = c.read_chart-read.ensures in read_told _ _ _ _ _ told.answered c.in-Done.is told.written in
+    sym (read-long _ _ _ done)
+
+pub write_image-requires : goal.write_image-requires
+write_image-requires c =
+    let done : Read c.args.text.now c.read_chart-read.new.out c.in-Done.count = let told = c.read_chart-read.ensures in read_told _ _ _ _ _ told.answered c.in-Done.is told.written in record {
+      ready = read-ready _ _ _ done;
+      highest_value = c.highest_scheme-highest.ensures;
+    }
+
+pub returns : goal.returns
+returns c =
+    let done : Read c.args.text.now c.read_chart-read.new.out c.in-Done.count = let told = c.read_chart-read.ensures in read_told _ _ _ _ _ told.answered c.in-Done.is told.written in
+    translated _ _ _ done _ _ _ c.write_image.ensures

@@ -1,0 +1,42 @@
+-- `translator::translating::write_image`: 10 or 16, else the whole image.
+use mathlib.Core.Path.{refl}
+use Prim.Native.Nat.{◌+◌, ◌≤◌}
+use Rattle.chart_rows.proofs.chart_labels.ReadyLaws.{ready-facts}
+use Rattle.chart_rows.proofs.chart_labels.LabelSteps.{few-numbered}
+use Rattle.translator.proofs.ImageSteps.{image-refused, image-few, image-room, image-fits}
+use native.Mathlib.Omega.{arith}
+use Rattle.translator.proofs.translating.write_image.Goals as goal
+
+pub overflow_add-highest-2 : goal.overflow_add-highest-2
+overflow_add-highest-2 c =
+    let small : c.note_nodes-own.result + 2 ≤ 256 = let ready = c.requires.ready in omega (arith, few-numbered _ (ready-facts ready), ready.few, c.note_nodes-own.ensures.0) in
+    omega (arith, small)
+
+pub size_refusal-number-requires : goal.size_refusal-number-requires
+size_refusal-number-requires c =
+    let small : c.note_nodes-own.result + 2 ≤ 256 = let ready = c.requires.ready in omega (arith, few-numbered _ (ready-facts ready), ready.few, c.note_nodes-own.ensures.0) in record {
+      noted = c.note_nodes-own.ensures.1;
+      before_bound = omega (arith, small, c.well_formed.1.0);
+    }
+
+pub returns-then-number-ne0 : goal.returns-then-number-ne0
+returns-then-number-ne0 c =
+    rw c.refused.ensures
+    (image-refused _ _ _ _ _ c.requires.highest_value c.note_nodes-own.ensures.0 c.size_refusal-number.ensures c.if-number-ne0.true)
+
+pub put_image-requires : goal.put_image-requires
+put_image-requires c =
+    let schemed = c.requires.highest_value in
+    let owned = c.note_nodes-own.ensures.0 in
+    let settled = c.size_refusal-number.ensures in
+    record {
+      noted = c.note_nodes-own.ensures.1;
+      sizes = record { schemed = schemed; owned = owned; rowed = refl };
+      few = image-few _ c.args.out.now _ _ _ schemed owned settled c.if-number-ne0.false;
+      room = image-room _ c.args.out.now _ _ _ schemed owned settled c.if-number-ne0.false;
+    }
+
+pub returns : goal.returns
+returns c =
+    image-fits _ _ _ _ _ c.requires.highest_value c.note_nodes-own.ensures.0 c.size_refusal-number.ensures c.if-number-ne0.false _ _
+    c.put_image.ensures

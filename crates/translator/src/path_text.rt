@@ -1,0 +1,97 @@
+// The rows of the paths on from a node, written as frames of ten bytes. Functions return the offset after what they wrote.
+ghost use Rattle.std.specs.Prelude.{◌+◌, ◌≤◌, length};
+ghost use Rattle.text.specs.frames.Sizes.{FRAME};
+ghost use Rattle.text.specs.frames.Frame.{size};
+ghost use Rattle.image.specs.Image.{rowFrame, row};
+ghost use Rattle.chart_rows.specs.inner.PathContracts.{PathAt};
+ghost use Rattle.chart_rows.specs.inner.NodeRows.{pathsFrom};
+ghost use Rattle.translator.specs.label_text.inner.LabelBytes.{Put};
+ghost use Rattle.translator.specs.path_text.inner.RowBytes.{rowsBytes};
+
+use chart_rows::settle;
+use charts::field;
+use charts::layout::*;
+use image::layout::ROW;
+use text::frames::put_bytes;
+use text::frames::sizes::{FRAME, NODES};
+use words::bits::with_bit;
+
+// One row; the offset after it.
+fn put_row(out: &mut [u8], at: usize, from: u8, care: u16, values: u16, bit: u8, next: u8) -> usize
+    requires { at + FRAME ≤ length out.old }
+    ensures { Put out.old at (rowFrame (row from care values bit next)) result out.new }
+{
+    let care0 = (care / 256) as u8;
+    let care1 = (care % 256) as u8;
+    let values0 = (values / 256) as u8;
+    let values1 = (values % 256) as u8;
+    let bytes = [ROW, from, care0, care1, values0, values1, bit, next, 0, 0];
+    put_bytes(out, at, &bytes);
+    at + FRAME
+}
+
+// The paths on from a node, the 0 side of each new condition first: those of a 0 side by recursion, unless it ends at once; then the path
+// goes on along the 1 side.
+fn put_forks(
+    records: &[u8],
+    notes: &[u8],
+    node: u8,
+    care: u16,
+    values: u16,
+    from: u8,
+    bit: u8,
+    out: &mut [u8],
+    at: usize,
+) -> usize
+    requires path_at { PathAt records.now notes.now care values node }
+    requires node_in_bounds { at + length (rowsBytes (pathsFrom (size records.now) records.now from bit care values node)) ≤ length out.old }
+    ensures { Put out.old at
+        (rowsBytes (pathsFrom (size records.now) records.now from bit care values node)) result out.new }
+{
+    let mut place = at;
+    let mut tested = care;
+    let mut valued = values;
+    let mut next = node;
+    loop {
+        let v = settle(records, notes, next, tested, valued) as usize;
+        let i = notes[NODES + v];
+        if i > 15 {
+            return put_row(out, place, from, tested, valued, bit, notes[v]);
+        }
+        tested = with_bit(tested, i);
+        let side = with_bit(valued, i);
+        next = field(records, v, NEXT1);
+        let low = field(records, v, NEXT0);
+        let end = low as usize;
+        if notes[NODES + end] > 15 {
+            place = put_row(out, place, from, tested, valued, bit, notes[end]);
+        } else {
+            place = put_forks(records, notes, low, tested, valued, from, bit, out, place);
+        }
+        valued = side;
+    }
+}
+
+// The paths on from a node: one row where it is a stop.
+pub fn put_paths(
+    records: &[u8],
+    notes: &[u8],
+    node: u8,
+    care: u16,
+    values: u16,
+    from: u8,
+    bit: u8,
+    out: &mut [u8],
+    at: usize,
+) -> usize
+    requires path_at { PathAt records.now notes.now care values node }
+    requires node_in_bounds { at + length (rowsBytes (pathsFrom (size records.now) records.now from bit care values node)) ≤ length out.old }
+    ensures { Put out.old at
+        (rowsBytes (pathsFrom (size records.now) records.now from bit care values node)) result out.new }
+{
+    let v = node as usize;
+    if notes[NODES + v] > 15 {
+        return put_row(out, at, from, care, values, bit, notes[v]);
+    }
+    put_forks(records, notes, node, care, values, from, bit, out, at)
+}

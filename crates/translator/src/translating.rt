@@ -1,0 +1,44 @@
+// The translator: a chart's text to the text of its image.
+ghost use Rattle.std.specs.Prelude.{◌≡◌};
+ghost use Rattle.text.specs.frames.Answer.{GivesBuffer};
+ghost use Rattle.charts.specs.Chart.{schemes};
+ghost use Rattle.chart_rows.specs.chart_labels.inner.ChartContracts.{Ready};
+ghost use Rattle.translator.specs.Entry.{translate};
+ghost use Rattle.translator.specs.inner.ImageBytes.{imageOutcome};
+
+use crate::{put_image, size_refusal};
+use chart_check::chart_counts::highest_scheme;
+use chart_rows::{NOTES, note_nodes};
+use chart_text::read_chart;
+use text::frames::sizes::{RECORD, RECORDS};
+use text::frames::{Answer, refused};
+
+// The image of an accepted chart: 10 and 16 are settled before anything is written.
+fn write_image(records: &[u8], highest: u8, out: &mut [u8]) -> Answer
+    requires ready { Ready records.now }
+    requires highest_value { highest ≡ schemes records.now }
+    ensures { GivesBuffer (imageOutcome records.now out.old) result out.new }
+{
+    let mut notes = [0u8; NOTES];
+    let own = note_nodes(records, &mut notes);
+    let number = size_refusal(records, &notes, 3 + highest as usize + own, out.len());
+    if number != 0 {
+        return refused(number, 0);
+    }
+    Answer::Done(put_image(records, &notes, highest, own, out))
+}
+
+// Refusals 1 to 10, 19 after 5, and 16, else the number of characters. Nothing is written before every refusal is settled.
+pub fn translate(text: &[u8], out: &mut [u8]) -> Answer
+    ensures { GivesBuffer (translate text.now out.old) result out.new }
+{
+    let mut held = [0u8; RECORDS];
+    let read = read_chart(text, &mut held);
+    let Answer::Done(count) = read else {
+        return read;
+    };
+    let end = RECORD * count;
+    let records = &held[..end];
+    let highest = highest_scheme(records);
+    write_image(records, highest, out)
+}

@@ -1,0 +1,167 @@
+-- As many rounds as there are nodes give the least set of marks that no arc leaves.
+use mathlib.Core.Path.{◌≡◌, refl, sym, ◌∙◌, ap, subst}
+use mathlib.Core.Logic.{◌⊎◌, inl, inr, ⊎_elim}
+use mathlib.Core.Bool.{Bool, true, false, ◌&&◌, ◌||◌}
+use mathlib.Core.List.{List, map}
+use Prim.Native.Nat.{ℕ, zero, suc, ◌≤◌, ◌<◌}
+use native.Mathlib.Nat.{zero-add}
+use native.Mathlib.Decide.{dec_le, dec_lt}
+use native.Mathlib.Omega.{arith}
+use lib.ListN.{length, get_or-eq_default}
+use lib.Seq.{ext_get_or}
+use Rattle.words.specs.lists.Numbers.{range, any, count}
+use Rattle.words.proofs.lists.Tests.{no_both, or_cases, or-true-l, or_true_r, and_l, and_r, and-true}
+use Rattle.words.proofs.lists.Searches.{any-true, any_some}
+use Rattle.words.proofs.lists.Counts.{count-le, count_same}
+use Rattle.words.proofs.lists.Ranges.{length-map-range, getD-map-range}
+use Rattle.words.specs.graph.Reach.{member, marked, only, spread, reach, joinedFrom}
+
+-- ---- marks
+pub marks-at : (f : ℕ → Bool) (n v : ℕ) → v < n → marked (map f (range 0 n)) v ≡ f v
+marks-at f n v l = getD-map-range f false 0 n v l ∙ ap f (zero-add v)
+
+-- a mark stands below the length
+pub marked-below : (n : ℕ) (ms : List Bool) (v : ℕ) → length ms ≡ n → marked ms v ≡ true → v < n
+marked-below n ms v e t = go (dec_lt v n)
+  where
+    go : Dec (v < n) → v < n
+    go (yes l) = l
+    go (no l) = no_both (marked ms v) t (get_or-eq_default ms false {n = v} (omega arith))
+
+pub only-long : (n : ℕ) (vs : List ℕ) → length (only n vs) ≡ n
+only-long n vs = length-map-range (λ v. member v vs) 0 n
+
+pub only_at : (n : ℕ) (vs : List ℕ) (v : ℕ) → v < n → marked (only n vs) v ≡ member v vs
+only_at n vs v l = marks-at (λ v. member v vs) n v l
+
+module _ (n : ℕ) (arcs : ℕ → List ℕ) where
+  -- ---- one round
+  abbrev pub from : List Bool → ℕ → ℕ → Bool
+  from ms v u = marked ms u && member v (arcs u)
+
+  pub spread_at : (ms : List Bool) (v : ℕ) → v < n → marked (spread n arcs ms) v ≡ (marked ms v || any (from ms v) 0 n)
+  spread_at ms v l = marks-at (λ v. marked ms v || any (from ms v) 0 n) n v l
+
+  pub spread-long : (ms : List Bool) → length (spread n arcs ms) ≡ n
+  spread-long ms = length-map-range (λ v. marked ms v || any (from ms v) 0 n) 0 n
+
+  pub spread-grow : (ms : List Bool) → length ms ≡ n → (v : ℕ) → marked ms v ≡ true → marked (spread n arcs ms) v ≡ true
+  spread-grow ms e v t = spread_at ms v (marked-below n ms v e t) ∙ or-true-l (marked ms v) (any (from ms v) 0 n) t
+
+  pub spread-arc : (ms : List Bool) (u v : ℕ) → u < n → v < n → marked ms u ≡ true → member v (arcs u) ≡ true
+      → marked (spread n arcs ms) v ≡ true
+  spread-arc ms u v lu lv m s = spread_at ms v lv ∙ or_true_r (marked ms v) (any (from ms v) 0 n)
+      (any-true (from ms v) 0 n u (omega arith) (omega arith) (and-true (marked ms u) (member v (arcs u)) m s))
+
+  -- a node that one round marks was marked, or an arc of a marked one leads to it
+  pub record Before (ms : List Bool) (v : ℕ) : Type 0 where
+    pub node : ℕ
+    pub inside : node < n
+    pub was : marked ms node ≡ true
+    pub leads : member v (arcs node) ≡ true
+
+  pub spread-back : (ms : List Bool) (v : ℕ) → marked (spread n arcs ms) v ≡ true → (v < n) × ((marked ms v ≡ true) ⊎ Before ms v)
+  spread-back ms v m =
+      let l : v < n = marked-below n (spread n arcs ms) v (spread-long ms) m in (
+        l,
+        ⊎_elim inl
+            (λ (x : any (from ms v) 0 n ≡ true).
+            let r = any_some (from ms v) 0 n x in
+            let u : ℕ = r.0 in
+            inr (record {
+              node = u;
+              inside = omega (arith, r.2);
+              was = and_l (marked ms u) (member v (arcs u)) r.3;
+              leads =
+                  and_r (marked ms u) (member v (arcs u)) r.3;
+            }))
+            (or_cases (marked ms v) (any (from ms v) 0 n) (sym (spread_at ms v l) ∙ m)),
+      )
+
+  -- ---- all rounds
+  -- a test that goes on over every arc
+  pub record Closed (t : ℕ → Bool) : Type 0 where
+    pub goes : (u v : ℕ) → u < n → v < n → t u ≡ true → member v (arcs u) ≡ true → t v ≡ true
+
+  pub reach-long : (k : ℕ) (ms : List Bool) → length ms ≡ n → length (reach n arcs k ms) ≡ n
+  unfolding reach
+  reach-long zero ms e = e
+  reach-long (suc k) ms e = spread-long (reach n arcs k ms)
+
+  pub reach-grow : (k : ℕ) (ms : List Bool) → length ms ≡ n → (v : ℕ) → marked ms v ≡ true → marked (reach n arcs k ms) v ≡ true
+  unfolding reach
+  reach-grow zero ms e v m = m
+  reach-grow (suc k) ms e v m = spread-grow (reach n arcs k ms) (reach-long k ms e) v (reach-grow k ms e v m)
+
+  pub reach-least : (t : ℕ → Bool) → Closed t → (k : ℕ) (ms : List Bool) → ((v : ℕ) → marked ms v ≡ true → t v ≡ true)
+      → (v : ℕ) → marked (reach n arcs k ms) v ≡ true → t v ≡ true
+  unfolding reach
+  reach-least t c zero ms h v m = h v m
+  reach-least t c (suc k) ms h v m = let b = spread-back (reach n arcs k ms) v m in go b (reach-least t c k ms h)
+    where
+      go : (v < n) × ((marked (reach n arcs k ms) v ≡ true) ⊎ Before (reach n arcs k ms) v)
+          → ((u : ℕ) → marked (reach n arcs k ms) u ≡ true → t u ≡ true) → t v ≡ true
+      go (l, inl x) ih = ih v x
+      go (l, inr x) ih = c.goes x.node v x.inside l (ih x.node x.was) x.leads
+
+  abbrev many : List Bool → ℕ
+  many ms = count (marked ms) 0 n
+
+  -- a round that adds nothing changes nothing
+  same-marks : (ms : List Bool) → length ms ≡ n → many (spread n arcs ms) ≤ many ms → spread n arcs ms ≡ ms
+  same-marks ms e l = ext_get_or false (spread n arcs ms) ms (spread-long ms ∙ sym e)
+      (λ v h. count_same (marked ms) (marked (spread n arcs ms)) 0 n (λ v x y m. spread-grow ms e v m)
+      l v (omega arith) (omega (arith, spread-long ms)))
+
+  reach-suc : (k : ℕ) (ms : List Bool) → reach n arcs (suc k) ms ≡ spread n arcs (reach n arcs k ms)
+  unfolding reach
+  reach-suc k ms = refl
+
+  -- each round adds a node, or no later one does
+  progress : (ms : List Bool) → length ms ≡ n → (k : ℕ)
+      → (spread n arcs (reach n arcs k ms) ≡ reach n arcs k ms) ⊎ (k ≤ many (reach n arcs k ms))
+  progress ms e zero = inr (omega arith)
+  progress ms e (suc k) =
+      ⊎_elim (λ f. inl (same f))
+      (λ (h : k ≤ many (reach n arcs k ms)). go h (dec_le (many (spread n arcs (reach n arcs k ms))) (many (reach n arcs k ms))))
+      (progress ms e k)
+    where
+      same : spread n arcs (reach n arcs k ms) ≡ reach n arcs k ms → spread n arcs (reach n arcs (suc k) ms) ≡ reach n arcs (suc k) ms
+      same f = ap (λ (t : List Bool). spread n arcs t) (reach-suc k ms ∙ f) ∙ sym (reach-suc k ms)
+
+      go : k ≤ many (reach n arcs k ms) → Dec (many (spread n arcs (reach n arcs k ms)) ≤ many (reach n arcs k ms))
+          → (spread n arcs (reach n arcs (suc k) ms) ≡ reach n arcs (suc k) ms) ⊎ (suc k ≤ many (reach n arcs (suc k) ms))
+      go h (yes l) = inl (same (same-marks (reach n arcs k ms) (reach-long k ms e) l))
+      go h (no l) = let q : many (reach n arcs (suc k) ms) ≡ many (spread n arcs (reach n arcs k ms)) =
+          ap (λ (t : List Bool). many t) (reach-suc k ms) in inr (omega arith)
+
+  pub reach-fixed : (ms : List Bool) → length ms ≡ n → spread n arcs (reach n arcs n ms) ≡ reach n arcs n ms
+  reach-fixed ms e =
+      ⊎_elim (λ f. f)
+      (λ (h : n ≤ many (reach n arcs n ms)). same-marks (reach n arcs n ms) (reach-long n ms e)
+      (omega (arith, count-le (marked (spread n arcs (reach n arcs n ms))) 0 n)))
+      (progress ms e n)
+
+  pub reach-closed : (ms : List Bool) → length ms ≡ n → Closed (marked (reach n arcs n ms))
+  reach-closed ms e = record {
+    goes = λ u v lu lv m s. subst (λ (t : List Bool). marked t v ≡ true) (reach-fixed ms e) (spread-arc (reach n arcs n ms) u v lu lv m s);
+  }
+
+  -- ---- the nodes joined from a list of nodes
+  module _ (vs : List ℕ) where
+    pub joined-long : length (joinedFrom n arcs vs) ≡ n
+    joined-long = reach-long n (only n vs) (only-long n vs)
+
+    pub joined-below : (v : ℕ) → marked (joinedFrom n arcs vs) v ≡ true → v < n
+    joined-below v m = marked-below n (joinedFrom n arcs vs) v joined-long m
+
+    pub joined-first : (v : ℕ) → v < n → member v vs ≡ true → marked (joinedFrom n arcs vs) v ≡ true
+    joined-first v l s = reach-grow n (only n vs) (only-long n vs) v (only_at n vs v l ∙ s)
+
+    pub joined-closed : Closed (marked (joinedFrom n arcs vs))
+    joined-closed = reach-closed (only n vs) (only-long n vs)
+
+    pub joined-least : (t : ℕ → Bool) → Closed t → ((v : ℕ) → v < n → member v vs ≡ true → t v ≡ true)
+        → (v : ℕ) → marked (joinedFrom n arcs vs) v ≡ true → t v ≡ true
+    joined-least t c h = reach-least t c n (only n vs)
+        (λ v m. let l : v < n = marked-below n (only n vs) v (only-long n vs) m in h v l (sym (only_at n vs v l) ∙ m))

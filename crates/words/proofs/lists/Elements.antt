@@ -1,0 +1,78 @@
+-- Lists mapped, filtered and joined, by what holds of each element and by ranges of numbers.
+use Prim.Native.Nat.{ℕ, zero, suc, ◌+◌, ◌-◌, ◌≤◌, ◌<◌}
+use mathlib.Core.Bool.{Bool, true, false}
+use mathlib.Core.Path.{◌≡◌, refl, sym, ◌∙◌, ap, ap₂}
+use mathlib.Core.List.{List, [], ◌∷◌, ◌++◌, map, append-nil}
+use native.Mathlib.Omega.{arith}
+use Rattle.words.specs.lists.Numbers.{range}
+use Rattle.words.specs.lists.Sequences.{filter, concatMap, All}
+use Rattle.words.proofs.lists.Ranges.{map-append, filter-yes, filter-no}
+use Rattle.words.proofs.lists.Filters.{filter-append, filter_none}
+use Rattle.words.proofs.lists.Joins.{all-every, concat-split}
+
+-- ---- mapped
+pub map-all : {A B : Type 0} (f g : A → B) (xs : List A) → All (λ x. f x ≡ g x) xs → map f xs ≡ map g xs
+map-all f g [] a = refl
+map-all f g (x ∷ xs) a = ap₂ (λ y ys. y ∷ ys) a.0 (map-all f g xs a.1)
+
+pub map-alike : {A B : Type 0} (f g : A → B) → ((x : A) → f x ≡ g x) → (xs : List A) → map f xs ≡ map g xs
+map-alike f g e xs = map-all f g xs (all-every (λ x. f x ≡ g x) e xs)
+
+pub map-own : {A : Type 0} (f : A → A) (xs : List A) → All (λ x. f x ≡ x) xs → map f xs ≡ xs
+map-own f [] a = refl
+map-own f (x ∷ xs) a = ap₂ (λ y ys. y ∷ ys) a.0 (map-own f xs a.1)
+
+pub map-map : {A B C : Type 0} (f : A → B) (g : B → C) (xs : List A) → map g (map f xs) ≡ map (λ x. g (f x)) xs
+map-map f g [] = refl
+map-map f g (x ∷ xs) = ap (λ ys. g (f x) ∷ ys) (map-map f g xs)
+
+-- ---- filtered
+pub filter-all : {A : Type 0} (p q : A → Bool) (xs : List A) → All (λ x. p x ≡ q x) xs → filter p xs ≡ filter q xs
+filter-all p q [] a = filter_none p ∙ sym (filter_none q)
+filter-all p q (x ∷ xs) a = go (p x) refl (filter-all p q xs a.1)
+  where
+    go : (t : Bool) → p x ≡ t → filter p xs ≡ filter q xs → filter p (x ∷ xs) ≡ filter q (x ∷ xs)
+    go true e ih = filter-yes p x xs e ∙ ap (λ ys. x ∷ ys) ih ∙ sym (filter-yes q x xs (sym a.0 ∙ e))
+    go false e ih = filter-no p x xs e ∙ ih ∙ sym (filter-no q x xs (sym a.0 ∙ e))
+
+pub filter-own : {A : Type 0} (p : A → Bool) (xs : List A) → All (λ x. p x ≡ true) xs → filter p xs ≡ xs
+filter-own p [] a = filter_none p
+filter-own p (x ∷ xs) a = filter-yes p x xs a.0 ∙ ap (λ ys. x ∷ ys) (filter-own p xs a.1)
+
+pub filter-nothing : {A : Type 0} (p : A → Bool) (xs : List A) → All (λ x. p x ≡ false) xs → filter p xs ≡ []
+filter-nothing p [] a = filter_none p
+filter-nothing p (x ∷ xs) a = filter-no p x xs a.0 ∙ filter-nothing p xs a.1
+
+-- ---- joined
+pub filter-concat : {A B C : Type 0} (p : C → Bool) (g : B → C) (h : A → List B) (xs : List A)
+    → filter p (map g (concatMap h xs)) ≡ concatMap (λ x. filter p (map g (h x))) xs
+unfolding concatMap
+filter-concat p g h [] = filter_none p
+filter-concat p g h (x ∷ xs) =
+    ap (filter p) (map-append g (h x) (concatMap h xs)) ∙ filter-append p (map g (h x)) (map g (concatMap h xs))
+    ∙ ap (λ ys. filter p (map g (h x)) ++ ys) (filter-concat p g h xs)
+
+pub concat-each : {A B : Type 0} (f g : A → List B) → ((x : A) → f x ≡ g x) → (xs : List A) → concatMap f xs ≡ concatMap g xs
+unfolding concatMap
+concat-each f g e [] = refl
+concat-each f g e (x ∷ xs) = ap₂ (λ a b. a ++ b) (e x) (concat-each f g e xs)
+
+module _ {B : Type 0} (f : ℕ → List B) where
+  pub concat-empty : (i n : ℕ) → ((k : ℕ) → i ≤ k → k < i + n → f k ≡ []) → concatMap f (range i n) ≡ []
+  unfolding concatMap
+  concat-empty i zero e = refl
+  concat-empty i (suc n) e = ap₂ (λ a b. a ++ b) (e i (omega arith) (omega arith))
+      (concat-empty (suc i) n (λ k a b. e k (omega arith) (omega arith)))
+
+  -- numbers below a and from b on give nothing
+  pub concat-within : (a b n : ℕ) → a ≤ b → b ≤ n → ((k : ℕ) → k < a → f k ≡ []) → ((k : ℕ) → b ≤ k → k < n → f k ≡ [])
+      → concatMap f (range 0 n) ≡ concatMap f (range a (b - a))
+  concat-within a b n l m low high =
+      let e : n ≡ a + (b - a) + (n - b) = omega arith in
+      let g : ℕ → ℕ → List B = λ i k. concatMap f (range i k) in
+      ap (g 0) e ∙ concat-split f 0 (a + (b - a)) (n - b)
+      ∙ ap₂ (λ x y. x ++ y) (concat-split f 0 a (b - a))
+      (concat-empty (0 + (a + (b - a))) (n - b) (λ k x y. high k (omega arith) (omega arith)))
+      ∙ append-nil (g 0 a ++ g (0 + a) (b - a))
+      ∙ ap (λ x. x ++ g (0 + a) (b - a)) (concat-empty 0 a (λ k x y. low k (omega arith)))
+      ∙ ap (λ (i : ℕ). g i (b - a)) (omega arith)

@@ -1,0 +1,77 @@
+-- Loops that write: one value after the other, or one piece after the other, from a place of a buffer on.
+use mathlib.Core.Path.{◌≡◌, refl, sym, ◌∙◌, ap}
+use mathlib.Core.List.{List, [], ◌∷◌, ◌++◌, map}
+use Prim.Native.Nat.{ℕ, ◌+◌, ◌*◌, ◌≤◌, ◌<◌}
+use native.Mathlib.Numerals.{add-one}
+use native.Mathlib.Omega.{arith}
+use lib.ListN.{length, set, get_or, length-set}
+use Rattle.words.specs.lists.Numbers.{range}
+use Rattle.words.specs.lists.Sequences.{concatMap, written}
+use Rattle.words.proofs.lists.Joins.{concat-range-snoc, length-concat-range}
+use Rattle.words.proofs.lists.Ranges.{map-range-snoc, length-map-range, map-places}
+use Rattle.words.proofs.lists.Written.{written_none, written-snoc, written-more}
+
+-- the values of f at 0 to k - 1, of n in all, stand from `at` on
+pub record ValuesFrom (f : ℕ → ℕ) (out₀ out : List ℕ) (at n k : ℕ) : Type 0 where
+  pub low : k ≤ n
+  pub size : length out ≡ length out₀
+  pub buffer : out ≡ written out₀ at (map f (range 0 k))
+
+module _ (f : ℕ → ℕ) (out₀ : List ℕ) (at n : ℕ) where
+  pub values-none : ValuesFrom f out₀ out₀ at n 0
+  values-none = record { low = omega arith; size = refl; buffer = sym (written_none out₀ at) }
+
+  pub values-turn : (out : List ℕ) (k v : ℕ) → at + n ≤ length out₀ → ValuesFrom f out₀ out at n k → k < n
+      → v ≡ f k → ValuesFrom f out₀ (set out (at + k) v) at n (k + 1)
+  values-turn out k v room w h e =
+      let l : length (map f (range 0 k)) ≡ k = length-map-range f 0 k in
+      let place : at + k ≡ at + length (map f (range 0 k)) = omega arith in
+      let z : f (0 + k) ≡ f k = ap f (omega arith) in
+      record {
+        low = omega arith;
+        size = length-set out (at + k) v ∙ w.size;
+        buffer = ap (λ (o : List ℕ). set o (at + k) v) w.buffer ∙ ap (λ (p : ℕ). set (written out₀ at (map f (range 0 k))) p v) place
+            ∙ written-snoc out₀ at (map f (range 0 k)) v (omega arith)
+            ∙ ap (λ (x : ℕ). written out₀ at (map f (range 0 k) ++ (x ∷ []))) (e ∙ sym z)
+            ∙ ap (λ (vs : List ℕ). written out₀ at vs) (sym (map-range-snoc f 0 k))
+            ∙ ap (λ (j : ℕ). written out₀ at (map f (range 0 j))) (sym (add-one k));
+      }
+
+  pub values-all : (out : List ℕ) (k : ℕ) → ValuesFrom f out₀ out at n k → n ≤ k → out ≡ written out₀ at (map f (range 0 n))
+  values-all out k w h = let e : k ≡ n = omega arith in w.buffer ∙ ap (λ (j : ℕ). written out₀ at (map f (range 0 j))) e
+
+-- the pieces f 0 to f (k - 1), of n in all and each of m elements, stand from `at` on
+pub record Pieces (f : ℕ → List ℕ) (m : ℕ) (out₀ out : List ℕ) (at n k : ℕ) : Type 0 where
+  pub low : k ≤ n
+  pub size : length out ≡ length out₀
+  pub buffer : out ≡ written out₀ at (concatMap f (range 0 k))
+
+module _ (f : ℕ → List ℕ) (m : ℕ) (out₀ : List ℕ) (at n : ℕ) where
+  pub pieces_none : Pieces f m out₀ out₀ at n 0
+  unfolding concatMap
+  pieces_none = record { low = omega arith; size = refl; buffer = sym (written_none out₀ at) }
+
+  pub pieces-turn : ((k : ℕ) → length (f k) ≡ m) → (out out' : List ℕ) (k place : ℕ) → Pieces f m out₀ out at n k
+      → k < n → place ≡ at + m * k → place ≤ length out₀
+      → length out' ≡ length out → out' ≡ written out place (f k) → Pieces f m out₀ out' at n (k + 1)
+  pieces-turn each out out' k place w h p room s e =
+      let z : f (0 + k) ≡ f k = ap f (omega arith) in
+      record {
+        low = omega arith;
+        size = s ∙ w.size;
+        buffer = written-more out₀ at (concatMap f (range 0 k)) (f k) out out' place
+            (omega (arith, length-concat-range f m 0 k each)) room w.buffer e
+            ∙ ap (λ (x : List ℕ). written out₀ at (concatMap f (range 0 k) ++ x)) (sym z)
+            ∙ ap (λ (vs : List ℕ). written out₀ at vs) (sym (concat-range-snoc f 0 k))
+            ∙ ap (λ (j : ℕ). written out₀ at (concatMap f (range 0 j))) (sym (add-one k));
+      }
+
+  pub pieces-all : (out : List ℕ) (k : ℕ) → Pieces f m out₀ out at n k → n ≤ k → out ≡ written out₀ at (concatMap f (range 0 n))
+  pieces-all out k w h = let e : k ≡ n = omega arith in w.buffer ∙ ap (λ (j : ℕ). written out₀ at (concatMap f (range 0 j))) e
+
+-- the values are those of a list
+pub values-list : (xs out₀ out : List ℕ) (at k : ℕ) → ValuesFrom (λ i. get_or xs i 0) out₀ out at (length xs) k
+    → length xs ≤ k → out ≡ written out₀ at xs
+values-list xs out₀ out at k w h =
+    values-all (λ i. get_or xs i 0) out₀ at (length xs) out k w h
+    ∙ ap (written out₀ at) (map-places (λ i. get_or xs i 0) 0 xs 0 (λ i l. ap (λ (j : ℕ). get_or xs j 0) (omega arith)))

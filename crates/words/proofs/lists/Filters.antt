@@ -1,0 +1,119 @@
+-- Laws of filters over any elements: over joined lists, where nothing passes, and where just one does.
+use mathlib.Core.Path.{◌≡◌, refl, sym, ◌∙◌, ap, ap₂, subst}
+use mathlib.Core.Logic.{◌⊎◌, inl, inr}
+use mathlib.Core.Bool.{Bool, true, false}
+use mathlib.Core.List.{List, [], ◌∷◌, ◌++◌, append-nil}
+use Prim.Native.Nat.{ℕ, zero, suc, ◌+◌, ◌≤◌, ◌<◌}
+use native.Mathlib.Nat.{eq-or-lt_of_le}
+use native.Mathlib.Omega.{arith}
+use lib.ListN.{length, get_or}
+use Rattle.words.specs.lists.Numbers.{range}
+use Rattle.words.specs.lists.Sequences.{filter, concatMap}
+use Rattle.words.proofs.lists.Tests.{no_both, cases}
+use Rattle.words.proofs.lists.Ranges.{filter-yes, filter-no}
+use Rattle.words.proofs.lists.Joins.{concat-cons}
+
+module _ {A : Type 0} (p : A → Bool) where
+  pub filter_none : filter p [] ≡ []
+  unfolding filter
+  filter_none = refl
+
+  pub filter-append : (xs ys : List A) → filter p (xs ++ ys) ≡ filter p xs ++ filter p ys
+  filter-append [] ys = ap (λ zs. zs ++ filter p ys) (sym filter_none)
+  filter-append (x ∷ xs) ys = go (filter-append xs ys) (p x) refl
+    where
+      go : filter p (xs ++ ys) ≡ filter p xs ++ filter p ys → (b : Bool) → p x ≡ b
+          → filter p (x ∷ (xs ++ ys)) ≡ filter p (x ∷ xs) ++ filter p ys
+      go ih true e = filter-yes p x (xs ++ ys) e ∙ ap (λ zs. x ∷ zs) ih ∙ ap (λ zs. zs ++ filter p ys) (sym (filter-yes p x xs e))
+      go ih false e = filter-no p x (xs ++ ys) e ∙ ih ∙ ap (λ zs. zs ++ filter p ys) (sym (filter-no p x xs e))
+
+  -- nothing is kept, so none passes
+  pub none_passes : (d : A) (xs : List A) → length (filter p xs) ≡ 0 → (i : ℕ) → i < length xs → p (get_or xs i d) ≡ false
+  none_passes d [] e i l = absurd (omega arith)
+  none_passes d (x ∷ xs) e i l = go (p x) refl i l (none_passes d xs)
+    where
+      go : (b : Bool) → p x ≡ b → (i : ℕ) → i < length (x ∷ xs)
+          → (length (filter p xs) ≡ 0 → (i : ℕ) → i < length xs → p (get_or xs i d) ≡ false) → p (get_or (x ∷ xs) i d) ≡ false
+      go true q i l ih = absurd (omega (arith, e, ap (λ (zs : List A). length zs) (filter-yes p x xs q)))
+      go false q zero l ih = q
+      go false q (suc i) l ih = ih (omega (arith, e, ap (λ (zs : List A). length zs) (filter-no p x xs q))) i (omega arith)
+
+  -- where at most one is kept, two places that pass are the same
+  pub one_passes : (d : A) (xs : List A) → length (filter p xs) ≤ 1 → (i j : ℕ) → i < length xs → j < length xs
+      → p (get_or xs i d) ≡ true → p (get_or xs j d) ≡ true → i ≡ j
+  one_passes d [] e i j li lj a b = absurd (omega arith)
+  one_passes d (x ∷ xs) e i j li lj a b = go (p x) refl i j li lj a b (one_passes d xs)
+    where
+      go : (t : Bool) → p x ≡ t → (i j : ℕ) → i < length (x ∷ xs) → j < length (x ∷ xs)
+          → p (get_or (x ∷ xs) i d) ≡ true → p (get_or (x ∷ xs) j d) ≡ true
+          → (length (filter p xs) ≤ 1 → (i j : ℕ) → i < length xs → j < length xs → p (get_or xs i d) ≡ true → p (get_or xs j d) ≡ true → i ≡ j)
+          → i ≡ j
+      go t q zero zero li lj a b ih = refl
+      go true q (suc i) j li lj a b ih =
+          no_both (p (get_or xs i d)) a (none_passes d xs
+          (omega (arith, e, ap (λ (zs : List A). length zs) (filter-yes p x xs q))) i (omega arith))
+      go true q zero (suc j) li lj a b ih =
+          no_both (p (get_or xs j d)) b (none_passes d xs
+          (omega (arith, e, ap (λ (zs : List A). length zs) (filter-yes p x xs q))) j (omega arith))
+      go false q zero (suc j) li lj a b ih = no_both (p x) a q
+      go false q (suc i) zero li lj a b ih = no_both (p x) b q
+      go false q (suc i) (suc j) li lj a b ih =
+          ap suc (ih (omega (arith, e, ap (λ (zs : List A). length zs) (filter-no p x xs q))) i j (omega arith) (omega arith) a b)
+
+-- ---- lists joined over the numbers that pass, where all but one of them are empty
+module _ {B : Type 0} (f : ℕ → List B) (p : ℕ → Bool) where
+  kept : (i n : ℕ) → p i ≡ true → concatMap f (filter p (range i (suc n))) ≡ f i ++ concatMap f (filter p (range (suc i) n))
+  kept i n e = ap (concatMap f) (filter-yes p i (range (suc i) n) e) ∙ concat-cons f i (filter p (range (suc i) n))
+
+  left : (i n : ℕ) → p i ≡ false → concatMap f (filter p (range i (suc n))) ≡ concatMap f (filter p (range (suc i) n))
+  left i n e = ap (concatMap f) (filter-no p i (range (suc i) n) e)
+
+  pub concat-nothing : (i n : ℕ) → ((u : ℕ) → i ≤ u → u < i + n → p u ≡ true → f u ≡ []) → concatMap f (filter p (range i n)) ≡ []
+  concat-nothing i zero h = unfold filter concatMap in refl
+  concat-nothing i (suc n) h = go (cases (p i)) (concat-nothing (suc i) n (λ u a b. h u (omega arith) (omega arith)))
+    where
+      go : (p i ≡ true) ⊎ (p i ≡ false) → concatMap f (filter p (range (suc i) n)) ≡ [] → concatMap f (filter p (range i (suc n))) ≡ []
+      go (inl e) ih = kept i n e ∙ ap₂ ◌++◌ (h i (omega arith) (omega arith) e) ih
+      go (inr e) ih = left i n e ∙ ih
+
+  pub concat-only : (v i n : ℕ) → i ≤ v → v < i + n → p v ≡ true
+      → ((u : ℕ) → i ≤ u → u < i + n → p u ≡ true → (u ≡ v → ⊥) → f u ≡ []) → concatMap f (filter p (range i n)) ≡ f v
+  concat-only v i zero lo hi t h = absurd (omega arith)
+  concat-only v i (suc n) lo hi t h =
+      go (cases (p i)) (eq-or-lt_of_le lo)
+      (λ (q : suc i ≤ v). concat-only v (suc i) n q (omega arith) t (λ u a b. h u (omega arith) (omega arith)))
+    where
+      go : (p i ≡ true) ⊎ (p i ≡ false) → (i ≡ v) ⊎ (i < v) → (suc i ≤ v → concatMap f (filter p (range (suc i) n)) ≡ f v)
+          → concatMap f (filter p (range i (suc n))) ≡ f v
+      go (inl e) (inl q) ih =
+          kept i n e ∙ ap₂ ◌++◌ (ap f q) (concat-nothing (suc i) n (λ u a b y. h u (omega arith) (omega arith) y (λ z. omega arith)))
+          ∙ append-nil (f v)
+      go (inl e) (inr q) ih = kept i n e
+          ∙ ap (λ (zs : List B). zs ++ concatMap f (filter p (range (suc i) n))) (h i (omega arith) (omega arith) e (λ z. omega arith))
+          ∙ ih q
+      go (inr e) (inl q) ih = no_both (p v) t (subst (λ (u : ℕ). p u ≡ false) q e)
+      go (inr e) (inr q) ih = left i n e ∙ ih q
+
+-- ---- at most one passes
+module _ {A : Type 0} (p : A → Bool) (d : A) where
+  none_pass : (xs : List A) → ((j : ℕ) → j < length xs → p (get_or xs j d) ≡ true → ⊥) → length (filter p xs) ≡ 0
+  none_pass [] h = ap (λ ys. length ys) (filter_none p)
+  none_pass (x ∷ xs) h = go (p x) refl (none_pass xs (λ j a. h (suc j) (omega arith)))
+    where
+      go : (t : Bool) → p x ≡ t → length (filter p xs) ≡ 0 → length (filter p (x ∷ xs)) ≡ 0
+      go true e ih = absurd (h 0 (omega arith) e)
+      go false e ih = ap (λ ys. length ys) (filter-no p x xs e) ∙ ih
+
+  pub few-pass : (xs : List A) → ((j k : ℕ) → j < length xs → k < j → p (get_or xs j d) ≡ true → p (get_or xs k d) ≡ true → ⊥)
+      → length (filter p xs) ≤ 1
+  few-pass [] h = omega (arith, ap (λ ys. length ys) (filter_none p))
+  few-pass (x ∷ xs) h = go (p x) refl (few-pass xs (λ j k a b. h (suc j) (suc k) (omega arith) (omega arith)))
+    where
+      go : (t : Bool) → p x ≡ t → length (filter p xs) ≤ 1 → length (filter p (x ∷ xs)) ≤ 1
+      go true e ih = omega (
+        arith,
+        ap (λ ys. length ys) (filter-yes p x xs e),
+        none_pass xs
+            (λ j a q. h (suc j) 0 (omega arith) (omega arith) q e),
+      )
+      go false e ih = omega (arith, ap (λ ys. length ys) (filter-no p x xs e))

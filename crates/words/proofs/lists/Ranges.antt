@@ -1,0 +1,121 @@
+-- Laws of ranges of numbers, what a map puts at each place, and filters.
+use mathlib.Core.Path.{◌≡◌, refl, sym, ◌∙◌, ap, ap₂}
+use mathlib.Core.Bool.{Bool, true, false}
+use mathlib.Core.List.{List, [], ◌∷◌, ◌++◌, map}
+use Prim.Native.Nat.{ℕ, zero, suc, ◌+◌, ◌<◌}
+use native.Mathlib.Nat.{add-zero, zero-add}
+use native.Mathlib.Omega.{arith}
+use lib.ListN.{length, get_or, length-map}
+use Rattle.words.specs.lists.Numbers.{range, count}
+use Rattle.words.specs.lists.Sequences.{filter, mapFrom}
+use Rattle.words.proofs.lists.Counts.{count-suc}
+
+pub length-range : (a n : ℕ) → length (range a n) ≡ n
+length-range a zero = refl
+length-range a (suc n) = ap suc (length-range (suc a) n)
+
+pub length-map-range : {B : Type 0} (f : ℕ → B) (a n : ℕ) → length (map f (range a n)) ≡ n
+length-map-range f a n = length-map (range a n) f ∙ length-range a n
+
+pub getD-map-range : {B : Type 0} (f : ℕ → B) (d : B) (a n k : ℕ) → k < n → get_or (map f (range a n)) k d ≡ f (a + k)
+getD-map-range f d a zero k h = absurd (omega arith)
+getD-map-range f d a (suc n) zero h = ap f (omega arith)
+getD-map-range f d a (suc n) (suc k) h = getD-map-range f d (suc a) n k (omega arith) ∙ ap f (omega arith)
+
+pub getD-range : (a n i d : ℕ) → i < n → get_or (range a n) i d ≡ a + i
+getD-range a zero i d h = absurd (omega arith)
+getD-range a (suc n) zero d h = omega arith
+getD-range a (suc n) (suc i) d h = getD-range (suc a) n i d (omega arith) ∙ omega arith
+
+pub get_d_map : {A B : Type 0} (f : A → B) (xs : List A) (i : ℕ) (d : A) (e : B) → i < length xs → get_or (map f xs) i e ≡ f (get_or xs i d)
+get_d_map f [] i d e h = absurd (omega arith)
+get_d_map f (x ∷ xs) zero d e h = refl
+get_d_map f (x ∷ xs) (suc i) d e h = get_d_map f xs i d e (omega arith)
+
+-- a list is what its places hold
+pub map-places : {A : Type 0} (f : ℕ → A) (d : A) (xs : List A) (a : ℕ) → ((i : ℕ) → i < length xs → f (a + i) ≡ get_or xs i d)
+    → map f (range a (length xs)) ≡ xs
+map-places f d [] a h = refl
+map-places f d (x ∷ xs) a h =
+    ap₂ (λ y ys. y ∷ ys) (ap f (omega arith) ∙ h 0 (omega arith))
+    (map-places f d xs (suc a) (λ i l. ap f (omega arith) ∙ h (suc i) (omega arith)))
+
+pub map-count : {A : Type 0} (f : ℕ → A) (d : A) (xs : List A) (a n : ℕ) → n ≡ length xs
+    → ((i : ℕ) → i < length xs → f (a + i) ≡ get_or xs i d)
+    → map f (range a n) ≡ xs
+map-count f d xs a n e h = ap (λ (m : ℕ). map f (range a m)) e ∙ map-places f d xs a h
+
+-- ---- filter
+pub filter-yes : {A : Type 0} (p : A → Bool) (x : A) (xs : List A) → p x ≡ true → filter p (x ∷ xs) ≡ x ∷ filter p xs
+unfolding filter
+filter-yes p x xs e = rw (filter, e)
+
+pub filter-no : {A : Type 0} (p : A → Bool) (x : A) (xs : List A) → p x ≡ false → filter p (x ∷ xs) ≡ filter p xs
+unfolding filter
+filter-no p x xs e = rw (filter, e)
+
+pub length-filter : (p : ℕ → Bool) (i n : ℕ) → length (filter p (range i n)) ≡ count p i n
+length-filter p i zero = unfold filter count in refl
+length-filter p i (suc n) = go (p i) refl (length-filter p (suc i) n)
+  where
+    go : (b : Bool) → p i ≡ b → length (filter p (range (suc i) n)) ≡ count p (suc i) n
+        → length (filter p (range i (suc n))) ≡ count p i (suc n)
+    go true e h = ap (λ (l : List ℕ). length l) (filter-yes p i (range (suc i) n) e) ∙ rw (count-suc, e) (omega arith)
+    go false e h = ap (λ (l : List ℕ). length l) (filter-no p i (range (suc i) n) e) ∙ rw (count-suc, e) (omega arith)
+
+-- the place of a number that passes is the count below it
+pub getD-filter : {B : Type 0} (f : ℕ → B) (d : B) (p : ℕ → Bool) (i n k : ℕ) → k < n → p (i + k) ≡ true
+    → get_or (map f (filter p (range i n))) (count p i k) d ≡ f (i + k)
+getD-filter f d p i zero k h e = absurd (omega arith)
+getD-filter f d p i (suc n) zero h e =
+    let q : p i ≡ true = ap p (omega arith) ∙ e in
+    ap (λ (l : List ℕ). get_or (map f l) (count p i 0) d) (filter-yes p i (range (suc i) n) q) ∙ (unfold count in ap f (omega arith))
+getD-filter f d p i (suc n) (suc k) h e =
+    go (p i) refl (getD-filter f d p (suc i) n k (omega arith) (ap p (omega arith) ∙ e))
+  where
+    go : (b : Bool) → p i ≡ b → get_or (map f (filter p (range (suc i) n))) (count p (suc i) k) d ≡ f (suc i + k)
+        → get_or (map f (filter p (range i (suc n)))) (count p i (suc k)) d ≡ f (i + suc k)
+    go true q ih =
+        let c : count p i (suc k) ≡ suc (count p (suc i) k) = rw (count-suc, q) (omega arith) in
+        ap (λ (l : List ℕ). get_or (map f l) (count p i (suc k)) d) (filter-yes p i (range (suc i) n) q)
+        ∙ ap (λ (m : ℕ). get_or (f i ∷ map f (filter p (range (suc i) n))) m d) c ∙ ih ∙ ap f (omega arith)
+    go false q ih =
+        let c : count p i (suc k) ≡ count p (suc i) k = rw (count-suc, q) (omega arith) in
+        ap (λ (l : List ℕ). get_or (map f l) (count p i (suc k)) d) (filter-no p i (range (suc i) n) q)
+        ∙ ap (λ (m : ℕ). get_or (map f (filter p (range (suc i) n))) m d) c ∙ ih ∙ ap f (omega arith)
+
+-- ---- one more at the far end
+pub range_snoc : (i n : ℕ) → range i (suc n) ≡ range i n ++ ((i + n) ∷ [])
+range_snoc i zero = ap (λ (k : ℕ). k ∷ []) (omega arith)
+range_snoc i (suc n) = ap (λ (ks : List ℕ). i ∷ ks) (range_snoc (suc i) n ∙ ap (λ (k : ℕ). range (suc i) n ++ (k ∷ [])) (omega arith))
+
+-- a range and the one behind it
+pub range-append : (a m n : ℕ) → range a (m + n) ≡ range a m ++ range (a + m) n
+range-append a zero n = ap₂ (λ (i k : ℕ). range i k) (sym (add-zero a)) (zero-add n)
+range-append a (suc m) n =
+    ap (range a) (let e : suc m + n ≡ suc (m + n) = omega arith in e)
+    ∙ ap (λ (xs : List ℕ). a ∷ xs) (range-append (suc a) m n ∙ ap (λ (i : ℕ). range (suc a) m ++ range i n) (omega arith))
+
+pub map-append : {A B : Type 0} (f : A → B) (xs ys : List A) → map f (xs ++ ys) ≡ map f xs ++ map f ys
+map-append f [] ys = refl
+map-append f (x ∷ xs) ys = ap (λ zs. f x ∷ zs) (map-append f xs ys)
+
+pub map-range-snoc : {B : Type 0} (f : ℕ → B) (i n : ℕ) → map f (range i (suc n)) ≡ map f (range i n) ++ (f (i + n) ∷ [])
+map-range-snoc f i n = ap (map f) (range_snoc i n) ∙ map-append f (range i n) ((i + n) ∷ [])
+
+pub mapFrom-cons : {A B : Type 0} (f : ℕ → A → B) (i : ℕ) (x : A) (xs : List A) → mapFrom f i (x ∷ xs) ≡ f i x ∷ mapFrom f (suc i) xs
+unfolding mapFrom
+mapFrom-cons f i x xs = refl
+
+-- ---- numbered elements
+pub length-mapFrom : {A B : Type 0} (f : ℕ → A → B) (i : ℕ) (xs : List A) → length (mapFrom f i xs) ≡ length xs
+unfolding mapFrom
+length-mapFrom f i [] = refl
+length-mapFrom f i (x ∷ xs) = ap suc (length-mapFrom f (suc i) xs)
+
+pub getD-mapFrom : {A B : Type 0} (f : ℕ → A → B) (i : ℕ) (xs : List A) (d : A) (e : B) (k : ℕ) → k < length xs
+    → get_or (mapFrom f i xs) k e ≡ f (i + k) (get_or xs k d)
+unfolding mapFrom
+getD-mapFrom f i [] d e k h = absurd (omega arith)
+getD-mapFrom f i (x ∷ xs) d e zero h = ap (λ (j : ℕ). f j x) (omega arith)
+getD-mapFrom f i (x ∷ xs) d e (suc k) h = getD-mapFrom f (suc i) xs d e k (omega arith) ∙ ap (λ (j : ℕ). f j (get_or xs k d)) (omega arith)

@@ -1,0 +1,296 @@
+-- Laws of the lowest number that passes a test, of whether any does, and of the highest value; of an element that passes.
+use mathlib.Core.Path.{◌≡◌, refl, sym, ◌∙◌, ap, ap₂, subst}
+use mathlib.Core.Logic.{◌⊎◌, inl, inr, ⊎_elim}
+use mathlib.Core.Bool.{Bool, true, false, ◌||◌}
+use mathlib.Core.List.{List, [], ◌∷◌}
+use Prim.Native.Nat.{ℕ, zero, suc, ◌+◌, ◌-◌, ◌≤◌, ◌<◌, max}
+use native.Mathlib.Nat.{eq-or-lt_of_le, sub-zero, zero-add}
+use native.Mathlib.Numerals.{add-one}
+use native.Mathlib.Omega.{arith}
+use Rattle.words.specs.lists.Pick.{pick}
+use Rattle.words.specs.lists.Numbers.{lowest, any, sum, highest}
+use Rattle.words.specs.lists.Sequences.{some}
+use Rattle.words.proofs.lists.Tests.{no_both, or_l, or_r, or_cases, cases, yes-pick, no-pick}
+
+-- ---- the lowest that passes
+pub lowest-hit : (p : ℕ → Bool) (i n : ℕ) → lowest p i n < i + n → p (lowest p i n) ≡ true
+unfolding lowest
+lowest-hit p i zero l = absurd (omega arith)
+lowest-hit p i (suc n) l = go (p i) refl l (lowest-hit p (suc i) n)
+  where
+    go : (b : Bool) → p i ≡ b → lowest p i (suc n) < i + suc n → (lowest p (suc i) n < suc i + n → p (lowest p (suc i) n) ≡ true)
+        → p (lowest p i (suc n)) ≡ true
+    go true e l ih = rw (lowest, e) e
+    go false e l ih = rw (lowest, e) (ih (omega (arith, rw (lowest, e) at l)))
+
+-- nothing is found, so none passes
+pub lowest-past : (p : ℕ → Bool) (i n : ℕ) → i + n ≤ lowest p i n → (k : ℕ) → i ≤ k → k < i + n → p k ≡ false
+unfolding lowest
+lowest-past p i zero l k a b = absurd (omega arith)
+lowest-past p i (suc n) l k a b = go (p i) refl l (lowest-past p (suc i) n)
+  where
+    go : (b : Bool) → p i ≡ b → i + suc n ≤ lowest p i (suc n)
+        → (suc i + n ≤ lowest p (suc i) n → (k : ℕ) → suc i ≤ k → k < suc i + n → p k ≡ false) → p k ≡ false
+    go true e l ih = absurd (omega (arith, rw (lowest, e) at l))
+    go false e l ih = ⊎_elim (λ (q : i ≡ k). ap p (sym q) ∙ e)
+        (λ (q : i < k). ih (omega (arith, rw (lowest, e) at l)) k q (omega arith)) (eq-or-lt_of_le a)
+
+pub lowest-none : (p : ℕ → Bool) (i n : ℕ) → ((k : ℕ) → k < n → p (i + k) ≡ false) → lowest p i n ≡ i + n
+unfolding lowest
+lowest-none p i zero h = omega arith
+lowest-none p i (suc n) h =
+    let e : p i ≡ false = ap p (omega arith) ∙ h 0 (omega arith) in
+    rw (lowest, e) (lowest-none p (suc i) n (λ k l. ap p (omega arith) ∙ h (suc k) (omega arith)) ∙ omega arith)
+
+pub lowest-above : (p : ℕ → Bool) (i n : ℕ) → i ≤ lowest p i n
+unfolding lowest
+lowest-above p i zero = omega arith
+lowest-above p i (suc n) = go (lowest-above p (suc i) n) (p i) refl
+  where
+    go : suc i ≤ lowest p (suc i) n → (b : Bool) → p i ≡ b → i ≤ lowest p i (suc n)
+    go ih true e = rw (lowest, e) (omega arith)
+    go ih false e = rw (lowest, e) (omega arith)
+
+-- ---- any
+pub any_false : (p : ℕ → Bool) (i n : ℕ) → any p i n ≡ false → (k : ℕ) → i ≤ k → k < i + n → p k ≡ false
+unfolding any
+any_false p i zero e k a b = absurd (omega arith)
+any_false p i (suc n) e k a b =
+    ⊎_elim (λ (q : i ≡ k). ap p (sym q) ∙ or_l (p i) (any p (suc i) n) e)
+    (λ (q : i < k). any_false p (suc i) n (or_r (p i) (any p (suc i) n) e) k q (omega arith))
+    (eq-or-lt_of_le a)
+
+pub any-true : (p : ℕ → Bool) (i n k : ℕ) → i ≤ k → k < i + n → p k ≡ true → any p i n ≡ true
+any-true p i n k a b t = go (any p i n) refl
+  where
+    go : (x : Bool) → any p i n ≡ x → any p i n ≡ true
+    go true e = e
+    go false e = no_both (p k) t (any_false p i n e k a b)
+
+pub any_none : (p : ℕ → Bool) (i n : ℕ) → ((k : ℕ) → k < n → p (i + k) ≡ false) → any p i n ≡ false
+unfolding any
+any_none p i zero h = refl
+any_none p i (suc n) h =
+    ap₂ ◌||◌ (ap p (omega arith) ∙ h 0 (omega arith)) (any_none p (suc i) n (λ k l. ap p (omega arith) ∙ h (suc k) (omega arith)))
+
+-- a test at the far end
+pub any_snoc : (p : ℕ → Bool) (i n : ℕ) → any p i (suc n) ≡ (any p i n || p (i + n))
+unfolding any
+any_snoc p i zero = go (p i) refl
+  where
+    go : (b : Bool) → p i ≡ b → (p i || false) ≡ p (i + 0)
+    go true e = ap (λ (a : Bool). a || false) e ∙ sym (ap p (omega arith) ∙ e)
+    go false e = ap (λ (a : Bool). a || false) e ∙ sym (ap p (omega arith) ∙ e)
+any_snoc p i (suc n) = go (p i) (any_snoc p (suc i) n ∙ ap (λ (k : ℕ). any p (suc i) n || p k) (omega arith))
+  where
+    go : (b : Bool) → any p (suc i) (suc n) ≡ (any p (suc i) n || p (i + suc n))
+        → (b || any p (suc i) (suc n)) ≡ ((b || any p (suc i) n) || p (i + suc n))
+    go true e = refl
+    go false e = e
+
+-- ---- the largest value
+pub highest-ge : (f : ℕ → ℕ) (i n k : ℕ) → i ≤ k → k < i + n → f k ≤ highest f i n
+unfolding highest
+highest-ge f i zero k a b = absurd (omega arith)
+highest-ge f i (suc n) k a b =
+    ⊎_elim (λ (q : i ≡ k). let z : f i ≡ f k = ap f q in omega arith)
+    (λ (q : i < k). omega (arith, highest-ge f (suc i) n k q (omega arith)))
+    (eq-or-lt_of_le a)
+
+-- the highest value is one of the values, or 0
+pub highest-of : (P : ℕ → Type 0) (f : ℕ → ℕ) (i n : ℕ) → P 0 → ((k : ℕ) → i ≤ k → k < i + n → P (f k)) → P (highest f i n)
+unfolding highest
+highest-of P f i zero z h = z
+highest-of P f i (suc n) z h =
+    let rest : ℕ = highest f (suc i) n in
+    ⊎_elim (λ (a : f i ≡ max (f i) rest). subst P a (h i (omega arith) (omega arith)))
+    (λ (a : f i < max (f i) rest). subst P (let e : rest ≡ max (f i) rest = omega arith in e)
+    (highest-of P f (suc i) n z (λ k a b. h k (omega arith) (omega arith))))
+    (eq-or-lt_of_le (let l : f i ≤ max (f i) rest = omega arith in l))
+
+pub highest-le : (f : ℕ → ℕ) (m i n : ℕ) → ((k : ℕ) → i ≤ k → k < i + n → f k ≤ m) → highest f i n ≤ m
+unfolding highest
+highest-le f m i zero h = omega arith
+highest-le f m i (suc n) h = omega
+    (arith, h i (omega arith) (omega arith), highest-le f m (suc i) n (λ k a b. h k (omega arith) (omega arith)))
+
+-- ---- a loop from i up to n: what is left of the search
+left-more : (n i : ℕ) → i < n → n - i ≡ suc (n - (i + 1))
+left-more n i h = omega arith
+
+left-none : (n i : ℕ) → n ≤ i → n - i ≡ zero
+left-none n i h = omega arith
+
+module _ (p : ℕ → Bool) (n i : ℕ) where
+  pub lowest-here : i < n → p i ≡ true → lowest p i (n - i) ≡ i
+  unfolding lowest
+  lowest-here h t = rw (left-more n i h, lowest, t)
+
+  pub lowest-on : i < n → p i ≡ false → lowest p i (n - i) ≡ lowest p (i + 1) (n - (i + 1))
+  unfolding lowest
+  lowest-on h t = rw (left-more n i h, lowest, t, add-one)
+
+  pub lowest-over : n ≤ i → lowest p i (n - i) ≡ i
+  unfolding lowest
+  lowest-over h = rw (left-none n i h)
+
+  pub any_here : i < n → p i ≡ true → any p i (n - i) ≡ true
+  unfolding any
+  any_here h t = rw (left-more n i h, any, t)
+
+  pub any-on : i < n → p i ≡ false → any p i (n - i) ≡ any p (i + 1) (n - (i + 1))
+  unfolding any
+  any-on h t = rw (left-more n i h, any, t, add-one)
+
+  pub any-over : n ≤ i → any p i (n - i) ≡ false
+  unfolding any
+  any-over h = rw (left-none n i h)
+
+-- the lowest where the number before the others is tried too
+pub lowest-below : (p : ℕ → Bool) (n v r : ℕ) → 0 < v → v ≤ n → r ≡ lowest p v (n - v)
+    → pick (p (v - 1)) (v - 1) r ≡ lowest p (v - 1) (n - (v - 1))
+lowest-below p n v r some low e = go (cases (p (v - 1)))
+  where
+    go : (p (v - 1) ≡ true) ⊎ (p (v - 1) ≡ false) → pick (p (v - 1)) (v - 1) r ≡ lowest p (v - 1) (n - (v - 1))
+    go (inl h) = yes-pick (p (v - 1)) (v - 1) r h ∙ sym (lowest-here p n (v - 1) (omega arith) h)
+    go (inr h) =
+        no-pick (p (v - 1)) (v - 1) r h ∙ e ∙ ap (λ (j : ℕ). lowest p j (n - j)) (omega arith) ∙ sym (lowest-on p n (v - 1) (omega arith) h)
+
+pub lowest_start : (p : ℕ → Bool) (n : ℕ) → lowest p 0 (n - 0) ≡ lowest p 0 n
+lowest_start p n = rw (sub-zero n)
+
+-- the loop has come to i, and what is sought is the lowest of those left
+pub record Searching (p : ℕ → Bool) (n i found : ℕ) : Type 0 where
+  pub inside : i ≤ n
+  pub left : lowest p i (n - i) ≡ found
+
+pub searching-first : (p : ℕ → Bool) (n : ℕ) → Searching p n 0 (lowest p 0 n)
+searching-first p n = record { inside = omega arith; left = lowest_start p n }
+
+pub searching-from : (p : ℕ → Bool) (first n : ℕ) → first ≤ n → Searching p n first (lowest p first (n - first))
+searching-from p first n h = record { inside = h; left = refl }
+
+module _ (p : ℕ → Bool) (n i found : ℕ) (s : Searching p n i found) where
+  pub searching-found : i < n → p i ≡ true → i ≡ found
+  searching-found h t = sym (lowest-here p n i h t) ∙ s.left
+
+  pub searching-next : i < n → p i ≡ false → Searching p n (i + 1) found
+  searching-next h t = record { inside = omega arith; left = sym (lowest-on p n i h t) ∙ s.left }
+
+  pub searching-over : n ≤ i → i ≡ found
+  searching-over h = sym (lowest-over p n i h) ∙ s.left
+
+pub sum-shift : (f : ℕ → ℕ) (i n : ℕ) → sum f (suc i) n ≡ sum (λ k. f (suc k)) i n
+unfolding sum
+sum-shift f i zero = refl
+sum-shift f i (suc n) = ap (λ (x : ℕ). f (suc i) + x) (sum-shift f (suc i) n)
+
+-- ---- a loop that adds or compares one more at the far end
+pub sum-snoc : (f : ℕ → ℕ) (i n : ℕ) → sum f i (suc n) ≡ sum f i n + f (i + n)
+unfolding sum
+sum-snoc f i zero = let e : f i ≡ f (i + 0) = ap f (omega arith) in omega arith
+sum-snoc f i (suc n) = let e : f (suc i + n) ≡ f (i + suc n) = ap f (omega arith) in omega (arith, sum-snoc f (suc i) n)
+
+-- a turn of the loop that adds
+pub sum-turn : (g : ℕ → ℕ) (s k v : ℕ) → s ≡ sum g 0 k → v ≡ g k → s + v ≡ sum g 0 (k + 1)
+sum-turn g s k v e q =
+    let z : g (0 + k) ≡ g k = ap g (omega arith) in
+    rw (add-one k) (let w : sum g 0 (suc k) ≡ sum g 0 k + g (0 + k) = sum-snoc g 0 k in omega arith)
+
+pub highest-snoc : (f : ℕ → ℕ) (i n : ℕ) → highest f i (suc n) ≡ max (highest f i n) (f (i + n))
+unfolding highest
+highest-snoc f i zero = let e : f i ≡ f (i + 0) = ap f (omega arith) in omega arith
+highest-snoc f i (suc n) = let e : f (suc i + n) ≡ f (i + suc n) = ap f (omega arith) in omega (arith, highest-snoc f (suc i) n)
+
+-- ---- a number or an element that passes
+pub any_some : (p : ℕ → Bool) (i n : ℕ) → any p i n ≡ true → (k : ℕ) × (i ≤ k) × (k < i + n) × (p k ≡ true)
+unfolding any
+any_some p i zero e = no_both false e refl
+any_some p i (suc n) e =
+    ⊎_elim (λ (t : p i ≡ true). (i, omega arith, omega arith, t))
+    (λ (t : any p (suc i) n ≡ true). let r = any_some p (suc i) n t in (r.0, omega (arith, r.1), omega (arith, r.2), r.3))
+    (or_cases (p i) (any p (suc i) n) e)
+
+pub some-cons : {A : Type 0} (p : A → Bool) (x : A) (xs : List A) → some p (x ∷ xs) ≡ (p x || some p xs)
+unfolding some
+some-cons p x xs = refl
+
+-- a list on which one test fails throughout and another holds somewhere
+pub some-both : {A : Type 0} (p q : A → Bool) (xs : List A) → some p xs ≡ false → some q xs ≡ true → (x : A) × (p x ≡ false) × (q x ≡ true)
+unfolding some
+some-both p q [] e f = no_both false f refl
+some-both p q (x ∷ xs) e f =
+    ⊎_elim (λ (t : q x ≡ true). (x, or_l (p x) (some p xs) e, t))
+    (λ (t : some q xs ≡ true). some-both p q xs (or_r (p x) (some p xs) e) t)
+    (or_cases (q x) (some q xs) f)
+
+-- the same at the loop's next index
+pub highest-next : (f : ℕ → ℕ) (n : ℕ) → highest f 0 (n + 1) ≡ max (highest f 0 n) (f n)
+highest-next f n = ap (λ (k : ℕ). highest f 0 k) (add-one n) ∙ highest-snoc f 0 n ∙ ap (λ (k : ℕ). max (highest f 0 n) (f k)) (zero-add n)
+
+pub any-alike : (p q : ℕ → Bool) (i n : ℕ) → ((j : ℕ) → i ≤ j → j < i + n → p j ≡ q j) → any p i n ≡ any q i n
+unfolding any
+any-alike p q i zero h = refl
+any-alike p q i (suc n) h = rw (h i (omega arith) (omega arith), any-alike p q (suc i) n (λ j a b. h j (omega arith) (omega arith)))
+
+-- two tests that agree
+pub lowest-alike : (p q : ℕ → Bool) (i n : ℕ) → ((k : ℕ) → i ≤ k → k < i + n → p k ≡ q k) → lowest p i n ≡ lowest q i n
+unfolding lowest
+lowest-alike p q i zero h = refl
+lowest-alike p q i (suc n) h =
+    go (q i) (h i (omega arith) (omega arith)) refl (lowest-alike p q (suc i) n (λ k a b. h k (omega arith) (omega arith)))
+  where
+    go : (b : Bool) → p i ≡ q i → q i ≡ b → lowest p (suc i) n ≡ lowest q (suc i) n → lowest p i (suc n) ≡ lowest q i (suc n)
+    go true e t ih = rw (lowest, e ∙ t, lowest, t)
+    go false e t ih = rw (lowest, e ∙ t, lowest, t) ih
+
+-- ---- where the lowest that passes lies
+pub lowest-most : (p : ℕ → Bool) (i n : ℕ) → lowest p i n ≤ i + n
+unfolding lowest
+lowest-most p i zero = omega arith
+lowest-most p i (suc n) = go (lowest-most p (suc i) n) (p i) refl
+  where
+    go : lowest p (suc i) n ≤ suc i + n → (t : Bool) → p i ≡ t → lowest p i (suc n) ≤ i + suc n
+    go ih true e = rw (lowest, e) (omega arith)
+    go ih false e = rw (lowest, e) (omega arith)
+
+pub lowest-before : (p : ℕ → Bool) (i n k : ℕ) → i ≤ k → k < lowest p i n → p k ≡ false
+unfolding lowest
+lowest-before p i zero k a b = absurd (omega arith)
+lowest-before p i (suc n) k a b = go (p i) refl b (lowest-before p (suc i) n k)
+  where
+    go : (t : Bool) → p i ≡ t → k < lowest p i (suc n) → (suc i ≤ k → k < lowest p (suc i) n → p k ≡ false) → p k ≡ false
+    go true e b ih = absurd (omega (arith, rw (lowest, e) at b))
+    go false e b ih = ⊎_elim (λ (q : i ≡ k). ap p (sym q) ∙ e) (λ (q : i < k). ih q (rw (lowest, e) at b)) (eq-or-lt_of_le a)
+
+-- a test that fails wherever another one fails: its search may start where the other one's ends
+pub lowest-later : (p q : ℕ → Bool) → ((k : ℕ) → p k ≡ false → q k ≡ false) → (i n : ℕ)
+    → lowest q (lowest p i n) (i + n - lowest p i n) ≡ lowest q i n
+unfolding lowest
+lowest-later p q h i zero = ap (λ (m : ℕ). lowest q i m) (let e : i + 0 - i ≡ 0 = omega arith in e)
+lowest-later p q h i (suc n) = go (p i) refl (lowest-later p q h (suc i) n)
+  where
+    go : (t : Bool) → p i ≡ t → lowest q (lowest p (suc i) n) (suc i + n - lowest p (suc i) n) ≡ lowest q (suc i) n
+        → lowest q (lowest p i (suc n)) (i + suc n - lowest p i (suc n)) ≡ lowest q i (suc n)
+    go true e ih =
+        let one : lowest p i (suc n) ≡ i = rw (lowest, e) in
+        ap (λ (x : ℕ). lowest q x (i + suc n - x)) one ∙ ap (λ (m : ℕ). lowest q i m) (let z : i + suc n - i ≡ suc n = omega arith in z)
+    go false e ih =
+        let on : lowest p i (suc n) ≡ lowest p (suc i) n = rw (lowest, e) in
+        let past : lowest q i (suc n) ≡ lowest q (suc i) n = rw (lowest, h i e) in
+        ap (λ (x : ℕ). lowest q x (i + suc n - x)) on
+        ∙ ap (λ (m : ℕ). lowest q (lowest p (suc i) n) m)
+        (let z : i + suc n - lowest p (suc i) n ≡ suc i + n - lowest p (suc i) n = omega arith in z)
+        ∙ ih ∙ sym past
+
+-- the same by the end of the search
+module _ (p : ℕ → Bool) (i end : ℕ) (h : i ≤ end) where
+  pub lowest-inside : lowest p i (end - i) ≤ end
+  lowest-inside = omega (arith, lowest-most p i (end - i))
+
+  pub lowest-from : (q : ℕ → Bool) → ((k : ℕ) → p k ≡ false → q k ≡ false)
+      → lowest q (lowest p i (end - i)) (end - lowest p i (end - i)) ≡ lowest q i (end - i)
+  lowest-from q f =
+      ap (λ (m : ℕ). lowest q (lowest p i (end - i)) m)
+      (let e : end - lowest p i (end - i) ≡ i + (end - i) - lowest p i (end - i) = omega arith in e)
+      ∙ lowest-later p q f i (end - i)

@@ -1,0 +1,128 @@
+-- Laws of sums: of numbers within a bound, over ranges that follow one another, moved, or alike; and a loop that adds.
+use Prim.Native.Nat.{ℕ, zero, suc, ◌+◌, ◌*◌, ◌-◌, ◌≤◌, ◌<◌}
+use mathlib.Core.Bool.{Bool}
+use mathlib.Core.Path.{◌≡◌, refl, sym, ◌∙◌, ap, ap₂}
+use mathlib.Core.Logic.{◌⊎◌, inl, inr}
+use native.Mathlib.Nat.{eq-or-lt_of_le, mul-suc, suc-mul}
+use native.Mathlib.Omega.{arith}
+use Rattle.words.specs.lists.Pick.{pick}
+use Rattle.words.specs.lists.Numbers.{count, sum}
+use Rattle.words.proofs.lists.Counts.{count-suc, count_none}
+use Rattle.words.proofs.lists.Searches.{sum-snoc}
+
+pub sum-suc : (f : ℕ → ℕ) (i n : ℕ) → sum f i (suc n) ≡ f i + sum f (suc i) n
+unfolding sum
+sum-suc f i n = refl
+
+pub sum-none : (f : ℕ → ℕ) (i : ℕ) → sum f i 0 ≡ 0
+unfolding sum
+sum-none f i = refl
+
+pub sum-zero : (f : ℕ → ℕ) (i n : ℕ) → ((k : ℕ) → i ≤ k → k < i + n → f k ≡ 0) → sum f i n ≡ 0
+sum-zero f i zero h = sum-none f i
+sum-zero f i (suc n) h =
+    omega (arith, sum-suc f i n, h i (omega arith) (omega arith), sum-zero f (suc i) n (λ k a b. h k (omega arith) (omega arith)))
+
+pub sum-most : (f : ℕ → ℕ) (b i n : ℕ) → ((k : ℕ) → i ≤ k → k < i + n → f k ≤ b) → sum f i n ≤ n * b
+sum-most f b i zero h = omega (arith, sum-none f i)
+sum-most f b i (suc n) h = omega (
+  arith,
+  sum-suc f i n,
+  h i (omega arith) (omega arith),
+  sum-most f b (suc i) n (λ k l m. h k (omega arith) (omega arith)),
+  suc-mul n b,
+)
+
+pub sum_ones : (f : ℕ → ℕ) (i n : ℕ) → ((k : ℕ) → i ≤ k → k < i + n → f k ≡ 1) → sum f i n ≡ n
+sum_ones f i zero h = sum-none f i
+sum_ones f i (suc n) h =
+    omega (arith, sum-suc f i n, h i (omega arith) (omega arith), sum_ones f (suc i) n (λ k a b. h k (omega arith) (omega arith)))
+
+pub sum-full : (f : ℕ → ℕ) (i n : ℕ) → ((k : ℕ) → i ≤ k → k < i + n → f k ≤ 1) → sum f i n ≡ n → (k : ℕ) → i ≤ k → k < i + n → f k ≡ 1
+sum-full f i zero h e k a b = absurd (omega arith)
+sum-full f i (suc n) h e k a b =
+    let x : f i ≤ 1 = h i (omega arith) (omega arith) in
+    let y : sum f (suc i) n ≤ n * 1 = sum-most f 1 (suc i) n (λ k a b. h k (omega arith) (omega arith)) in
+    let z : f i + sum f (suc i) n ≡ suc n = sym (sum-suc f i n) ∙ e in
+    go (eq-or-lt_of_le a)
+    (λ (q : i < k). sum-full f (suc i) n (λ k a b. h k (omega arith) (omega arith)) (omega arith) k q (omega arith)) (omega arith)
+  where
+    go : (i ≡ k) ⊎ (i < k) → (i < k → f k ≡ 1) → f i ≡ 1 → f k ≡ 1
+    go (inl q) ih one = ap f (sym q) ∙ one
+    go (inr q) ih one = ih q
+
+pub sum-add : (p : ℕ → Bool) (f g : ℕ → ℕ) → ((k : ℕ) → f k ≡ pick (p k) 1 0 + g k) → (i n : ℕ) → sum f i n ≡ count p i n + sum g i n
+sum-add p f g h i zero = omega (arith, sum-none f i, sum-none g i, count_none p i 0 (λ k a b. absurd (omega arith)))
+sum-add p f g h i (suc n) = omega (arith, sum-suc f i n, sum-suc g i n, count-suc p i n, h i, sum-add p f g h (suc i) n)
+
+pub sum-split : (f : ℕ → ℕ) (i m n : ℕ) → sum f i (m + n) ≡ sum f i m + sum f (i + m) n
+sum-split f i zero n =
+    let e : sum f i (0 + n) ≡ sum f (i + 0) n = ap₂ (λ (x y : ℕ). sum f x y) (omega arith) (omega arith) in
+    omega (arith, e, sum-none f i)
+sum-split f i (suc m) n =
+    let e : sum f i (suc m + n) ≡ sum f i (suc (m + n)) = ap (λ (x : ℕ). sum f i x) (omega arith) in
+    let g : sum f (suc i + m) n ≡ sum f (i + suc m) n = ap (λ (x : ℕ). sum f x n) (omega arith) in
+    omega (arith, e, g, sum-suc f i (m + n), sum-suc f i m, sum-split f (suc i) m n)
+
+-- the same numbers, and at other places
+pub sum_same : (f g : ℕ → ℕ) (i n : ℕ) → ((k : ℕ) → i ≤ k → k < i + n → f k ≡ g k) → sum f i n ≡ sum g i n
+sum_same f g i zero h = sum-none f i ∙ sym (sum-none g i)
+sum_same f g i (suc n) h =
+    omega (
+      arith,
+      sum-suc f i n,
+      sum-suc g i n,
+      h i (omega arith) (omega arith),
+      sum_same f g (suc i) n (λ k a b. h k (omega arith) (omega arith)),
+    )
+
+pub sum-move : (f g : ℕ → ℕ) (a i n : ℕ) → ((k : ℕ) → i ≤ k → k < i + n → f (a + k) ≡ g k) → sum f (a + i) n ≡ sum g i n
+sum-move f g a i zero h = sum-none f (a + i) ∙ sym (sum-none g i)
+sum-move f g a i (suc n) h =
+    let e : sum f (suc (a + i)) n ≡ sum f (a + suc i) n = ap (λ (x : ℕ). sum f x n) (omega arith) in
+    omega (
+      arith,
+      e,
+      sum-suc f (a + i) n,
+      sum-suc g i n,
+      h i (omega arith) (omega arith),
+      sum-move f g a (suc i) n (λ k l m. h k (omega arith) (omega arith)),
+    )
+
+pub count-sum : (p : ℕ → Bool) (i n : ℕ) → count p i n ≡ sum (λ k. pick (p k) 1 0) i n
+unfolding count sum
+count-sum p i zero = refl
+count-sum p i (suc n) = ap (λ (m : ℕ). pick (p i) 1 0 + m) (count-sum p (suc i) n)
+
+-- ---- a loop from first up to end that adds a number, at most `most`, in each turn
+pub record Adding (g : ℕ → ℕ) (most first end total f : ℕ) : Type 0 where
+  pub low : first ≤ f
+  pub high : f ≤ end
+  pub is : total ≡ sum g first (f - first)
+  pub small : total ≤ most * (f - first)
+
+module _ (g : ℕ → ℕ) (most first end : ℕ) where
+  pub adding-start : first ≤ end → Adding g most first end 0 first
+  adding-start h =
+      let e : first - first ≡ 0 = omega arith in
+      record { low = omega arith; high = h; is = sym (ap (sum g first) e ∙ sum-none g first); small = omega arith }
+
+  pub adding-on : (total f x : ℕ) → Adding g most first end total f → f < end → (x ≡ g f) × (x ≤ most)
+      → Adding g most first end (total + x) (f + 1)
+  adding-on total f x t h w =
+      let low : first ≤ f = t.low in
+      let e : f + 1 - first ≡ suc (f - first) = omega arith in
+      let k : first + (f - first) ≡ f = omega arith in
+      let more : most * (f + 1 - first) ≡ most * (f - first) + most = ap (λ (n : ℕ). most * n) e ∙ mul-suc most (f - first) ∙ omega arith in
+      record {
+        low = omega arith;
+        high = omega arith;
+        is = ap₂ ◌+◌ t.is (w.0 ∙ ap g (sym k)) ∙ sym (ap (sum g first) e ∙ sum-snoc g first (f - first));
+        small = omega (arith, t.small, w.1, more);
+      }
+
+  pub adding-all : (total f : ℕ) → Adding g most first end total f → end ≤ f
+      → (total ≡ sum g first (end - first)) × (total ≤ most * (end - first))
+  adding-all total f t h =
+      let e : f ≡ end = omega (arith, t.high) in
+      (t.is ∙ ap (λ (k : ℕ). sum g first (k - first)) e, omega (arith, t.small, ap (λ (k : ℕ). most * (k - first)) e))

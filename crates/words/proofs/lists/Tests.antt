@@ -1,0 +1,109 @@
+-- Laws of tests and of a choice by a test.
+use mathlib.Core.Path.{◌≡◌, refl, sym, ◌∙◌}
+use mathlib.Core.Logic.{◌⊎◌, inl, inr}
+use mathlib.Core.Bool.{Bool, true, false, ◌&&◌, ◌||◌, not}
+use Prim.Native.Nat.{ℕ, ◌≤◌, ◌<◌}
+use native.Mathlib.Decide.{dec_lt}
+use native.Mathlib.Omega.{arith}
+use lib.Dec.{ltb}
+use borrow.Author.Tests.{lt-ltb, le-ltb}
+use Rattle.words.specs.lists.Pick.{pick}
+
+pub no_both {ℓ} : {A : Type ℓ} (b : Bool) → b ≡ true → b ≡ false → A
+no_both b p q = absurd (let z : ◌≡◌ {A = ℕ} 0 1 = cc in omega arith)
+
+pub or_l : (a b : Bool) → (a || b) ≡ false → a ≡ false
+or_l true b e = e
+or_l false b e = refl
+
+pub or_r : (a b : Bool) → (a || b) ≡ false → b ≡ false
+or_r true b e = no_both true refl e
+or_r false b e = e
+
+pub or_cases : (a b : Bool) → (a || b) ≡ true → (a ≡ true) ⊎ (b ≡ true)
+or_cases true b e = inl refl
+or_cases false b e = inr e
+
+pub or-true-l : (a b : Bool) → a ≡ true → (a || b) ≡ true
+or-true-l a b e = rw e
+
+pub or_true_r : (a b : Bool) → b ≡ true → (a || b) ≡ true
+or_true_r true b e = refl
+or_true_r false b e = e
+
+pub or-none : (a b : Bool) → a ≡ false → b ≡ false → (a || b) ≡ false
+or-none a b p q = rw p q
+
+pub or_no : (a : Bool) → (a || false) ≡ a
+or_no true = refl
+or_no false = refl
+
+pub and_l : (a b : Bool) → (a && b) ≡ true → a ≡ true
+and_l true b e = refl
+and_l false b e = no_both false e refl
+
+pub and_r : (a b : Bool) → (a && b) ≡ true → b ≡ true
+and_r true b e = e
+and_r false b e = no_both false e refl
+
+pub and-true : (a b : Bool) → a ≡ true → b ≡ true → (a && b) ≡ true
+and-true a b p q = rw p q
+
+-- a guarded test that fails where the guard holds
+pub and-false : (a b : Bool) → (a && b) ≡ false → a ≡ true → b ≡ false
+and-false true b e g = e
+and-false false b e g = no_both false g refl
+
+pub not-false : (a : Bool) → not a ≡ false → a ≡ true
+not-false true e = refl
+not-false false e = sym e
+
+pub not-true : (a : Bool) → not a ≡ true → a ≡ false
+not-true true e = sym e
+not-true false e = refl
+
+pub yes-pick {ℓ} : {A : Type ℓ} (t : Bool) (a b : A) → t ≡ true → pick t a b ≡ a
+yes-pick t a b e = rw e
+
+pub no-pick {ℓ} : {A : Type ℓ} (t : Bool) (a b : A) → t ≡ false → pick t a b ≡ b
+no-pick t a b e = rw e
+
+pub cases : (b : Bool) → (b ≡ true) ⊎ (b ≡ false)
+cases true = inl refl
+cases false = inr refl
+
+-- one number is below another, or not
+pub split : (a b : ℕ) → (a < b) ⊎ (b ≤ a)
+split a b = go (dec_lt a b)
+  where
+    go : Dec (a < b) → (a < b) ⊎ (b ≤ a)
+    go (yes h) = inl h
+    go (no h) = inr (omega arith)
+
+-- a test `a && b` of the code: where a holds it is b, else it is a
+pub and_second : (a b r : Bool) → a ≡ true → r ≡ b → r ≡ (a && b)
+and_second a b r p q = rw p q
+
+pub and_first : (a b r : Bool) → a ≡ false → r ≡ a → r ≡ (a && b)
+and_first a b r p q = rw p (rw p at q)
+
+pub and_no : (a b : Bool) → b ≡ false → (a && b) ≡ false
+and_no true b e = e
+and_no false b e = refl
+
+-- two comparisons that hold together
+pub same-ltb : (a b c d : ℕ) → (a < b → c < d) → (c < d → a < b) → ltb a b ≡ ltb c d
+same-ltb a b c d f g = go (split a b)
+  where
+    go : (a < b) ⊎ (b ≤ a) → ltb a b ≡ ltb c d
+    go (inl h) = lt-ltb a b h ∙ sym (lt-ltb c d (f h))
+    go (inr h) = le-ltb a b h ∙ sym (le-ltb c d (below (split c d)))
+      where
+        below : (c < d) ⊎ (d ≤ c) → d ≤ c
+        below (inl p) = absurd (let q : a < b = g p in omega arith)
+        below (inr p) = p
+
+-- a test as a bit
+pub bit-low : (b : Bool) → pick b 1 0 < 2
+bit-low true = omega arith
+bit-low false = omega arith

@@ -1,0 +1,3 @@
+pub mod lists
+pub mod bits
+pub mod graph

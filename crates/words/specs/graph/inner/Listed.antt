@@ -1,0 +1,57 @@
+-- Nodes marked one after the other, and marked nodes in a list: one listed as it is marked, and all of them, the lowest first.
+use Rattle.std.specs.Prelude.{ℕ, ◌+◌, ◌<◌, ◌≡◌, Bool, true, not, ◌&&◌, List, [], ◌∷◌, ltb, length, get_or, set}
+use Rattle.words.specs.lists.Pick.{pick}
+use Rattle.words.specs.lists.Numbers.{range, count}
+use Rattle.words.specs.lists.Sequences.{filter}
+use Rattle.words.specs.graph.Reach.{marked}
+
+-- how many are marked
+abbrev pub many : List Bool → ℕ
+many ms = count (marked ms) 0 (length ms)
+
+-- all of these are marked, where they are nodes
+unfoldable pub markAll : List ℕ → List Bool → List Bool
+markAll [] ms = ms
+markAll (u ∷ us) ms = markAll us (set ms u true)
+
+-- marks, a list of nodes, and how many of the list count
+pub record Listing : Type 0 where
+  pub marks : List Bool
+  pub list : List ℕ
+  pub count : ℕ
+
+abbrev pub listing : List Bool → List ℕ → ℕ → Listing
+listing ms us k = record { marks = ms; list = us; count = k }
+
+-- u is a node, and has no mark
+abbrev pub unmarked : List Bool → ℕ → Bool
+unmarked ms u = ltb u (length ms) && not (marked ms u)
+
+-- node u is marked, if it is one, and listed after the first that count, if it had no mark
+unfoldable pub enlist : Listing → ℕ → Listing
+enlist s u = record {
+  marks = set s.marks u true;
+  list = pick (unmarked s.marks u) (set s.list s.count u) s.list;
+  count = pick (unmarked s.marks u) (s.count + 1) s.count;
+}
+
+-- one node after the other
+unfoldable pub enlistAll : Listing → List ℕ → Listing
+enlistAll s [] = s
+enlistAll s (u ∷ us) = enlistAll (enlist s u) us
+
+-- the marked nodes, the lowest first
+abbrev pub markedNodes : List Bool → List ℕ
+markedNodes ms = filter (marked ms) (range 0 (length ms))
+
+-- node v stands among the first k of a list
+pub record Among (list : List ℕ) (k v : ℕ) : Type 0 where
+  pub place : ℕ
+  pub inside : place < k
+  pub found : get_or list place 0 ≡ v
+
+-- the first k of the list are the marked nodes, in any order, as many as there are
+pub record Listed (marks : List Bool) (list : List ℕ) (k : ℕ) : Type 0 where
+  pub counted : k ≡ many marks
+  pub are : (i : ℕ) → i < k → marked marks (get_or list i 0) ≡ true
+  pub all : (v : ℕ) → marked marks v ≡ true → Among list k v

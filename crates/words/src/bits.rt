@@ -1,0 +1,20 @@
+// Words of bits: a condition's bit, care masks and values.
+ghost use Rattle.std.specs.Prelude.{◌≡◌, ◌<◌, ◌^◌};
+ghost use Rattle.std.specs.Int.Bits.{bit_or};
+ghost use Rattle.words.specs.bits.Word.{bit};
+
+// Bit i of a word: the value of condition i.
+pub fn bit(word: u16, i: u8) -> u16
+    requires { i < 16 }
+    ensures { result ≡ bit word i }
+{
+    (word >> i) % 2
+}
+
+// The mask or the values with condition i besides.
+pub fn with_bit(word: u16, i: u8) -> u16
+    requires { i < 16 }
+    ensures { result ≡ bit_or word (2 ^ i) }
+{
+    word | (1 << i)
+}

@@ -1,0 +1,66 @@
+// Marks on numbered nodes and how they spread over arcs.
+ghost use Rattle.std.specs.Prelude.{◌≡◌, not, ◌≤◌, length};
+ghost use Rattle.words.specs.lists.Numbers.{lowest};
+ghost use Rattle.words.specs.lists.Sequences.{over};
+ghost use Rattle.words.specs.graph.Reach.{marked};
+ghost use Rattle.words.specs.graph.inner.Listed.{many, listing, enlist, markedNodes};
+
+// Node u has a mark; a number that is no node has none.
+pub fn is_marked(marks: &[bool], u: usize) -> bool
+    ensures { result ≡ marked marks.now u }
+{
+    if marks.len() <= u {
+        return false;
+    }
+    marks[u]
+}
+
+// Node u is marked, if it is one, and listed after the first `count`, if it had no mark; how many are listed then.
+pub fn enlist(marks: &mut [bool], list: &mut [u8], count: usize, u: u8) -> usize
+    requires { (length marks.old ≤ length list.old) × (count ≡ many marks.old) }
+    ensures { listing marks.new list.new result ≡ enlist
+        (listing marks.old list.old count) u }
+{
+    let v = u as usize;
+    if marks.len() <= v {
+        return count;
+    }
+    if marks[v] {
+        return count;
+    }
+    marks[v] = true;
+    list[count] = u;
+    count + 1
+}
+
+// The marked nodes are written to the front of the list, the lowest first, and the rest of it stays; how many they are.
+pub fn list_marked(marks: &[bool], list: &mut [u8]) -> usize
+    requires { (length marks.now ≤ length list.old) × (length marks.now ≤ 256) }
+    ensures { (list.new ≡ over (markedNodes marks.now) list.old) × (result ≡ many marks.now) }
+{
+    let n = marks.len();
+    let mut count: usize = 0;
+    let mut v: usize = 0;
+    while v < n {
+        if marks[v] {
+            list[count] = v as u8;
+            count += 1;
+        }
+        v += 1;
+    }
+    count
+}
+
+// The lowest node without a mark, or the number of nodes.
+pub fn lowest_unmarked(marks: &[bool]) -> usize
+    ensures { result ≡ lowest (λ v. not (marked marks.now v)) 0 (length marks.now) }
+{
+    let mut u: usize = 0;
+    while u < marks.len() {
+        if !marks[u] {
+            return u;
+        }
+        u += 1;
+    }
+    u
+}
