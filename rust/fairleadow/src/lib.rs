@@ -1,5 +1,5 @@
 //! The proved library as safe Rust: [`Proved`] hands each call to the C function of include/fairleadow.h. The archive is
-//! made by `rt staticlib fairleadow` at the top of the repository.
+//! made by `./archive` at the top of the repository.
 //!
 //! A chart is translated once, and its image is run on a state that the caller keeps:
 //!
