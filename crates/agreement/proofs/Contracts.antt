@@ -85,8 +85,8 @@ use Rattle.fairleadow.proofs.fairleadow_live_spin.Reads as c-live-spin-reads
 use Rattle.fairleadow.specs.contracts.fairleadow_count_fillings as c-count-fillings
 use Rattle.fairleadow.proofs.fairleadow_count_fillings.Reads as c-count-fillings-reads
 
--- ---- translator::translating::translate, tables::preparing::prepare, minimising::minimise, little_fetch::fetching::little_chart, state::State::fresh, of state_runs run,
--- tick_image, live_run and live_tick, prices::priced_states::priced_run, of rebinding rebind and live_rebind, and fillings::counting::count_fillings
+-- ---- translate, prepare, minimise, little_chart, State::fresh, of state_runs run, tick_image, live_run and live_tick, priced_run, of
+-- rebinding rebind and live_rebind, and count_fillings
 pub translate-lends : (κs : Lfts 2) (a : ArgsD translating-translate.signature κs) (r : ResD translating-translate.signature κs)
     (s : AtExit translating-translate.ended κs)
     → translating-translate-reads.Learnt κs a r s → GivesBuffer (translate a.0.now a.1.0.now) r s.1.0.now

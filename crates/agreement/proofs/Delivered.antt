@@ -1,4 +1,4 @@
--- Calls in a row that meet their contracts hand back what demand 3 says.
+-- Calls in a row that meet their contracts hand back what the agreement says.
 use Prim.Native.Nat.{ℕ}
 use mathlib.Core.Path.{◌≡◌, refl, sym, ◌∙◌, ap, ap₂}
 use mathlib.Core.List.{List, [], ◌∷◌}

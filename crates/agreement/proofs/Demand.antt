@@ -1,4 +1,4 @@
--- Demand 3, with nothing assumed: the runs and rebindings on the image of any translated chart agree with its walk.
+-- The agreement, with nothing assumed: the runs and rebindings on the image of any translated chart agree with its walk.
 use Prim.Native.Nat.{ℕ}
 use mathlib.Core.Path.{◌≡◌, ap, ◌∙◌}
 use mathlib.Core.List.{List}

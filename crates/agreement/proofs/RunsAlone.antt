@@ -1,4 +1,4 @@
--- With no rebinding in the list, demand 3 is what it was before there were rebindings: over lists of runs, and the walk of words alone.
+-- With no rebinding in the list, the agreement is one over lists of runs and the walk of words alone.
 use Prim.Native.Nat.{ℕ, ◌+◌, ◌≤◌}
 use mathlib.Core.Bool.{Bool, true, false}
 use mathlib.Core.Path.{◌≡◌, refl, sym, ap, ◌∙◌}

@@ -1,4 +1,4 @@
--- Demand 3: what a whole list of runs and rebindings hands back, against what the walk of the joined words gives.
+-- The agreement: what a whole list of runs and rebindings hands back, against what the walk of the joined words gives.
 use Rattle.std.specs.Prelude.{ℕ, suc, ◌+◌, ◌-◌, ◌≤◌, min, Bool, true, false, ◌&&◌, not, ◌≡◌, List, [], ◌∷◌, ◌++◌, map, leb, ltb, eqb, length, take, drop}
 use Rattle.words.specs.lists.Pick.{pick}
 use Rattle.words.specs.lists.Sequences.{over}
@@ -128,6 +128,6 @@ Agreement translator fresh run rebind =
     → (size : ℕ) → 1 ≤ size → size ≤ PLACES → (given : List CallInput)
     → callOutputs run rebind (take n (translator text out).buffer) (fresh size).state given ≡ walkOutputs size (contents text) given
 
--- ---- demand 2, of the translator: it is the definition's, answer and buffer
+-- ---- of the translator: it is the definition's, answer and buffer
 abbrev pub Translates : Translator → Type 0
 Translates f = (text out : List ℕ) → f text out ≡ translate text out

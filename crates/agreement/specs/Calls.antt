@@ -1,6 +1,6 @@
--- Demand 3 over the functions: calls of translate and State::fresh, then any mixture of calls that run, tick and rebind, on the image's
--- text or on a table that prepare made of it. Each call is known by its contract alone, which is the record that the function's `ensures`
--- cites.
+-- The agreement over the functions: calls of translate and State::fresh, then any mixture of calls that run, tick and rebind, on the
+-- image's text or on a table that prepare made of it. Each call is known by its contract alone, which is the record that the function's
+-- `ensures` cites.
 use Rattle.std.specs.Prelude.{ℕ, ◌≤◌, ◌≡◌, List, [], ◌∷◌, take}
 use Rattle.text.specs.frames.Frame.{contents}
 use Rattle.text.specs.frames.Answer.{reply, success, GivesBuffer}

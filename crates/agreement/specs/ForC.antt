@@ -1,7 +1,6 @@
--- Demand 3 for a caller from C: calls of fairleadow_translate and fairleadow_fresh, then any mixture of calls that run, tick and rebind,
--- on the image's text or on a table that fairleadow_prepare made of it.
--- Each call is known by its contract alone, which is the record that the function's `ensures` cites, and is given the bytes that the call
--- before it left.
+-- The agreement for a caller from C: calls of fairleadow_translate and fairleadow_fresh, then any mixture of calls that run, tick and
+-- rebind, on the image's text or on a table that fairleadow_prepare made of it. Each call is known by its contract alone, which is the
+-- record that the function's `ensures` cites, and is given the bytes that the call before it left.
 use Rattle.std.specs.Prelude.{ℕ, ◌≤◌, ◌≡◌, List, [], ◌∷◌, map, take}
 use Rattle.text.specs.frames.Frame.{contents}
 use Rattle.text.specs.frames.Answer.{replyNumber, replyIndex, replyCount}

@@ -1,5 +1,5 @@
--- Demand 3 with no rebinding in the list, over the walk of words alone:
--- what it said before there were rebindings. Only the laws of runs alone speak of it.
+-- The agreement with no rebinding in the list, over the walk of words alone.
+-- Only the laws of runs alone speak of it.
 use Rattle.std.specs.Prelude.{ℕ, ◌+◌, ◌≤◌, true, false, ◌≡◌, List, [], ◌∷◌, length, take}
 use Rattle.words.specs.lists.Pick.{pick}
 use Rattle.words.specs.lists.Sequences.{concatMap}

@@ -1,6 +1,6 @@
--- Slips of a drop, each a tick in the place of the machine's. Most are shown not to meet demand 3.
+-- Slips of a drop, each a tick in the place of the machine's. Most are shown not to meet the agreement.
 -- The result bits that a drop leaves never show in a tick, because a function's own call clears the bit that its return reads; a slip in
--- them is shown to hand back another state than the definition, which demand 1 asks for.
+-- them is shown to hand back another state than the definition, which the tick's contract rules out.
 use mathlib.Core.Path.{◌≡◌, ◌∙◌, ap, sym}
 use mathlib.Core.Bool.{◌&&◌, not}
 use mathlib.Core.List.{List, [], ◌∷◌}

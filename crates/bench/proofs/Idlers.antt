@@ -1,4 +1,4 @@
--- Functions that do too little: none that has one of these properties meets the equation of demand 2 or the statement of demand 3.
+-- Functions that do too little: none that has one of these properties meets the translator's equation or the agreement.
 use mathlib.Core.Path.{◌≡◌, refl, ◌∙◌, ap, sym}
 use mathlib.Core.Bool.{Bool, true, false, ◌&&◌}
 use mathlib.Core.List.{List, [], ◌∷◌}
@@ -211,7 +211,7 @@ miscounts-fails f g idle claim =
     m.differs (ap (λ (t : RunOutput). replyCount t.reply) told
     ∙ sym (one_written m.written (sym m.buffer ∙ ap (λ (t : RunOutput). t.codes) told)))
 
--- ---- and no other: whatever meets demand 3 hands back what the definitions do, in every list of runs and rebindings
+-- ---- and no other: whatever meets the agreement hands back what the definitions do, in every list of runs and rebindings
 pub only-these : (f : Runner) (g : Rebinder) → Agreement translate freshState f g
     → (text out : List ℕ) (n : ℕ) → (translate text out).reply ≡ success n
     → (size : ℕ) → 1 ≤ size → size ≤ 32 → (given : List CallInput) → let image = take n (translate text out).buffer in

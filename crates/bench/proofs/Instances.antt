@@ -1,4 +1,4 @@
--- Demand 3 at a few charts and words, for any run that meets it: what runs from a fresh state must then hand back.
+-- The agreement at a few charts and words, for any run that meets it: what runs from a fresh state must then hand back.
 use mathlib.Core.Path.{◌≡◌, refl, ◌∙◌, ap, ap₂, sym}
 use mathlib.Core.List.{List, [], ◌∷◌}
 use Prim.Native.Nat.{ℕ, ◌/◌, ◌≤◌}

@@ -1,6 +1,6 @@
--- Slips of the rule by which a row is taken, each shown to run a patched image otherwise than the definition, which demand 1 asks for.
--- On the image of a chart they are no slips: just one row matches there. So it is with the first row that matches, the rule before
--- request f.
+-- Slips of the rule by which a row is taken, each shown to run a patched image otherwise than the definition, which a run's contract
+-- rules out. On the image of a chart they are no slips: just one row matches there. So it is with the rule that takes the first row that
+-- matches.
 use mathlib.Core.Path.{◌≡◌, refl, sym, ◌∙◌, ap}
 use mathlib.Core.Bool.{Bool, true, false}
 use mathlib.Core.List.{List, [], ◌∷◌}
@@ -148,7 +148,7 @@ first_matches l w b rs = go (firstMatch l w b rs) (first-from l w b 0 rs)
     go noChoice h = h
     go (row n r) h = let e : h.0 ≡ n = omega (arith, h.1) in (omega (arith, h.2), ap (λ (j : ℕ). get_or rs j no_row) (sym e) ∙ h.3, h.4)
 
--- the rule before request f makes the machine's ticks on the image that the translator wrote
+-- the first row that matches makes the machine's ticks on the image that the translator wrote
 pub former-tick : (text out : List ℕ) (n : ℕ) (done : (translate text out).reply ≡ success n) (s : State) → Sized s
     → unfit (image text out n done) s ≡ false → (w : ℕ) → tickWith firstMatch (image text out n done) s w ≡ tick (image text out n done) s w
 former-tick text out n done = any-tick text out n done firstMatch first_matches

@@ -1,4 +1,4 @@
--- Slips of a rebinding, and of a run under one, each shown not to meet demand 3.
+-- Slips of a rebinding, and of a run under one, each shown not to meet the agreement.
 use mathlib.Core.Path.{◌≡◌, ◌∙◌, ap, sym}
 use mathlib.Core.Bool.{false, ◌&&◌}
 use mathlib.Core.List.{List, [], ◌∷◌, map}

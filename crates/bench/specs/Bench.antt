@@ -115,7 +115,7 @@ pub record BenchSheet : Type 0 where
     codes = map (λ w. 4) ws;
   }
   pub b7-empty : (out : List ℕ) → translate [] out ≡ record { reply = refusal 1 0 0; buffer = out }
-  -- B7's second half is withdrawn by request e: small letters are read, and each letter by itself
+  -- small letters are read, each letter by itself, so that B7's second half no longer holds
   pub b7-small : (out : List ℕ) → translate chartSmall out ≡ translate chartHome out
   pub b7-mixed : (out : List ℕ) → translate chartMixed out ≡ translate chartP out
   pub b8 : (out : List ℕ) → translate chartCircle out ≡ record { reply = refusal 8 1 0; buffer = out }

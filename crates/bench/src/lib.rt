@@ -1,2 +1,3 @@
-// The bench sheet, a case for each refusal, and wrong functions that the demands rule out; definitions and theorems, no function.
+//! The bench sheet, a case for each refusal and of what the programs print, and wrong functions, each shown not to meet what is promised;
+//! definitions and theorems, no function.
 #![tactic(auto)]

@@ -1,2 +1,2 @@
-// Which scheme serves each scheme number.
+//! Which scheme serves each scheme number; definitions, no function.
 #![tactic(auto)]

@@ -1,4 +1,5 @@
-// What sends a tick on: the report of it, and the conditions that keep the other rows of a label from matching.
+//! What made a tick go where it went: the row that it took, the conditions that kept the label's other rows from it, and the result bit.
+//! `conditions` finds these, `table_causes` tells them of a tick on a prepared table, and `explaining` is the entry point, with refusal 21.
 #![tactic(auto)]
 
 use text::frames::Answer;

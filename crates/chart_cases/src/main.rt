@@ -1,7 +1,7 @@
-// The chart reader and the chart writer on chart P of standard input, which has some small letters: there and back, which gives
-// capitals, then one edit of it after the other.
-// Each call prints a frame: 00 for the reader and 01 for the writer, the number or 00, the index, the count, and how many bytes of
-// the lent buffer changed, which the first two calls leave out.
+//! The chart reader and the chart writer on chart P of standard input, which has some small letters: there and back, which gives capitals,
+//! then one edit of it after the other.
+//! Each call prints a frame: 00 for the reader and 01 for the writer, the number or 00, the index, the count, and how many bytes of the
+//! lent buffer changed, which the first two calls leave out.
 #![tactic(auto)]
 
 use edits::{patch, report};

@@ -1,4 +1,6 @@
-// Rows: the paths on from a node through conditions that take no tick, and how many rows a chart has.
+//! Labels and rows of a chart, before anything is written of them.
+//! `chart_labels` gives each stop its label, and `numbers` notes what paths need; `paths` follows them through conditions that take no
+//! tick, `rows` counts them up to a limit, and `row_bounds` bounds them without following any.
 #![tactic(auto)]
 
 pub mod chart_labels;

@@ -1,4 +1,5 @@
-// The chart reader and the chart writer: a chart's text to its node records and back.
+//! The chart reader and the chart writer: a chart's text to its node records and back (`entry`), and frames made into text where they stand
+//! (`in_place`). Its laws are the round trips.
 #![tactic(auto)]
 
 mod entry;

@@ -1,5 +1,5 @@
-// Whether each word and bit match just one row of each label from 2 up: refusal 23. Words are not tried: no two rows of a label can match
-// together, and for each bit the numbers of words that its rows match sum up to 65,536.
+//! Whether each word and bit match just one row of each label from 2 up: refusal 23. Words are not tried: no two rows of a label can match
+//! together, and for each bit the numbers of words that its rows match sum up to 65,536.
 #![tactic(auto)]
 
 ghost use Rattle.std.specs.Prelude.{◌≡◌, ◌||◌, ◌-◌, ◌≤◌, ◌<◌, eqb};

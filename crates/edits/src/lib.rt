@@ -1,5 +1,5 @@
-// What the programs of cases share: bytes edited at places, which makes a faulty input from a good one, and the frame that is
-// printed of an answer.
+//! What the programs of cases share: bytes edited at places, which makes a faulty input from a good one, and the frame that is printed of
+//! an answer.
 #![tactic(auto)]
 
 ghost use Rattle.std.specs.Prelude.{◌≡◌};

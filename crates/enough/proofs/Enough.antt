@@ -27,7 +27,7 @@ use Rattle.enough.specs.Enough.{numberOfC, countOfC, droplessC, AllMadeC, Enough
 use Rattle.enough.proofs.CalmWalk.{calm_walk}
 use Rattle.enough.proofs.Made.{expected-made}
 
--- ---- what demand 3 expects is then a tick for every word
+-- ---- what the agreement expects is then a tick for every word
 module _ (text : List ℕ) (k : ℕ) (needed : placesNeeded text ≡ success k) (size : ℕ) (l : k ≤ size) where
   pub all-expected : (given : List CallInput) → OwnServed (contents text) given
       → AllMade (contents text) given (walkOutputs size (contents text) given)

@@ -1,3 +1,3 @@
-// With as many places as a chart needs, and each number served by its own scheme, no call finds the stack full; definitions and theorems,
-// no function.
+//! With as many places as a chart needs, and each number served by its own scheme, no call finds the stack full; definitions and laws, no
+//! function.
 #![tactic(auto)]

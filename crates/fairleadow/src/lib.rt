@@ -1,5 +1,6 @@
-// The entry points for C, as the header has them: a slice is a pointer and a length, a reference is a pointer, and a state is 130 bytes.
-// `at` and `made` are the header's index and count. Each is the call of its subject's module, under the name that C links.
+//! The entry points for C, as the header has them: a slice is a pointer and a length, a reference is a pointer, and a state is 130 bytes.
+//! Each is the call of its subject's module (`.._for_c`) under the name that C links; `telling` turns answers into the header's number,
+//! index (`at`) and count (`made`). The static library is made of this crate.
 #![tactic(auto)]
 
 ghost use Rattle.text.specs.frames.Answer.{judged};

@@ -1,4 +1,5 @@
-// Whether the numbers of one place, or of one number that is served, fit.
+//! Whether a state fits the image that a prepared table holds: refusal 15 (`fitting`).
+//! Here the numbers of one place are tried; `fit_places` tries the open places from the bottom up.
 #![tactic(auto)]
 
 ghost use Rattle.std.specs.Prelude.{◌≡◌, ◌&&◌, ◌||◌, not, eqb};

@@ -1,4 +1,7 @@
-// Labels that act alike, in groups: what groups are, the laws of rounds, and the grouping with fewest groups.
+//! Labels that act alike, in groups, with fewest groups (`refining`).
+//! `first_classes` puts together labels that hold the same; in rounds (`class_rounds`) `next_classes` parts those whose rows lead to
+//! different classes (`parting`), until nothing changes (`class_changes`). `marked_parts` and `marking` say which rows the next round need
+//! look at.
 #![tactic(auto)]
 
 pub mod class_changes;

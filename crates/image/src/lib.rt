@@ -1,4 +1,5 @@
-// The image: entries, labels and rows as frames, and what stands in a decoded table.
+//! The image: the table of entries, labels and rows, as frames and decoded, and what the image check asks of it.
+//! The code has the layout of a frame (`layout`) and how a decoded table is read (`table`), its counts tried as refusal 11 does (`counts`).
 #![tactic(auto)]
 
 mod counts;

@@ -1,4 +1,6 @@
-// The image check: refusals 1 to 3 and 11 to 13 of an image's text.
+//! The image check: refusals 1 to 3 and 11 to 13 of an image's text (`read`), 11 to 13 of a decoded table (`check`).
+//! `positions` tries the header (11) and the order of frames (12), `image_strays` one frame's kind and number (12), `image_fields` its
+//! fields (13), and `image_faults` finds the lowest frame that 12 or 13 refuses.
 #![tactic(auto)]
 
 mod check;

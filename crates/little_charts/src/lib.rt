@@ -1,2 +1,3 @@
-// All the little charts, listed, a search that finds them, and how many there are.
+//! All the little charts, listed, a search that finds the same list (`little_search`), and how many there are (`little_totals`);
+//! definitions and laws, no function.
 #![tactic(auto)]

@@ -1,4 +1,4 @@
--- Calls in a row on the smaller image that meet their contracts hand back what demand 3 says.
+-- Calls in a row on the smaller image that meet their contracts hand back what the agreement says.
 use Prim.Native.Nat.{ℕ, ◌≤◌}
 use mathlib.Core.Path.{◌≡◌, sym, ◌∙◌, ap, subst}
 use mathlib.Core.List.{List, map}

@@ -1,4 +1,4 @@
--- Demand 3 for the smaller image over the functions: calls of translate, of minimise on what it wrote and of State::fresh, then calls
+-- The agreement for the smaller image over the functions: calls of translate, of minimise on what it wrote and of State::fresh, then calls
 -- that run, tick and rebind in any mixture on the smaller image, or on a table that prepare made of it. The same for C.
 use Rattle.std.specs.Prelude.{ℕ, ◌≤◌, ◌≡◌, List, map, take}
 use Rattle.text.specs.frames.Frame.{contents}

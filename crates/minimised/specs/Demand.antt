@@ -1,4 +1,4 @@
--- Demand 3 for the smaller image: what a list of runs and rebindings on it hands back, against the walk of the chart.
+-- The agreement for the smaller image: what a list of runs and rebindings on it hands back, against the walk of the chart.
 use Rattle.std.specs.Prelude.{ℕ, ◌≤◌, ◌≡◌, List, length, take}
 use Rattle.text.specs.frames.Frame.{contents}
 use Rattle.text.specs.frames.Answer.{success, BufferOutcome}

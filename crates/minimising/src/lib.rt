@@ -1,4 +1,6 @@
-// The entry point to the image with one label a group.
+//! The image with one label a group, and the entry point to it, with refusals 23 and 16 (`joining`, and `minimise` here).
+//! `group_numbers` numbers the groups and counts the rows kept; `group_frames` writes one frame with these numbers, `group_pieces` a label
+//! or row where it is kept, `group_text` all of them, and `group_image` the image where there is room for it.
 #![tactic(auto)]
 
 ghost use Rattle.text.specs.frames.Answer.{GivesBuffer};

@@ -1,4 +1,4 @@
--- Demand 3 with prices, and of one priced run from a fresh state.
+-- The agreement with prices, and of one priced run from a fresh state.
 use Prim.Native.Nat.{ℕ, ◌+◌, ◌-◌, ◌≤◌, min}
 use mathlib.Core.Bool.{Bool, true, false, ◌||◌}
 use mathlib.Core.Path.{◌≡◌, refl, sym, ◌∙◌, ap, ap₂, subst}

@@ -1,4 +1,4 @@
--- Calls from C in a row that meet their contracts, priced runs among them, hand back what demand 3 with prices says.
+-- Calls from C in a row that meet their contracts, priced runs among them, hand back what the agreement with prices says.
 use Prim.Native.Nat.{ℕ}
 use mathlib.Core.Path.{◌≡◌, refl, sym, ◌∙◌, ap, ap₂}
 use mathlib.Core.List.{List, [], ◌∷◌, map}

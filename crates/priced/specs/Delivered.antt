@@ -1,4 +1,4 @@
--- Demand 3 with prices over the functions:
+-- The agreement with prices over the functions:
 -- calls of translate and State::fresh, then priced runs among calls that run, tick and rebind in any mixture. Each call is known by its
 -- contract alone.
 use Rattle.std.specs.Prelude.{ℕ, ◌≤◌, ◌≡◌, List, [], ◌∷◌, take}

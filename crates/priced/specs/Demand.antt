@@ -1,4 +1,4 @@
--- Demand 3 with prices: what a list of runs, rebindings and priced runs hands back, against what the walk of the joined words gives.
+-- The agreement with prices: what a list of runs, rebindings and priced runs hands back, against what the walk of the joined words gives.
 use Rattle.std.specs.Prelude.{ℕ, ◌+◌, ◌-◌, ◌≤◌, min, true, false, ◌||◌, ◌≡◌, List, [], ◌∷◌, ◌++◌, map, length, take, drop}
 use Rattle.words.specs.lists.Pick.{pick}
 use Rattle.bindings.specs.Binding.{Binding, ownBinding}

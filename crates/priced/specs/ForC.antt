@@ -1,4 +1,4 @@
--- Demand 3 with prices for a caller from C:
+-- The agreement with prices for a caller from C:
 -- priced runs among calls that run, tick and rebind in any mixture, each given the bytes that the call before it left, and known by its
 -- contract alone.
 use Rattle.std.specs.Prelude.{ℕ, ◌≤◌, ◌≡◌, List, [], ◌∷◌, map, take}

@@ -1,2 +1,2 @@
-// Demand 3 with prices: a priced run costs what its ticks of the walk do; laws alone.
+//! The agreement with priced runs in the list: a priced run costs what its ticks of the walk do; definitions and laws, no function.
 #![tactic(auto)]

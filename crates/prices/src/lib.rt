@@ -1,4 +1,5 @@
-// What the ticks of a run cost by a price list: a sum over the set bits of their masks, and the price of all of them in cents.
+//! What ticks cost by a price list: a sum over the bits of their masks, in cents. `priced_runs` makes a run with its price on the bytes of
+//! a state, `priced_states` on a state by value, of at most 65,536 words (27).
 #![tactic(auto)]
 
 ghost use Rattle.std.specs.Prelude.{◌≡◌, ◌≤◌, length};

@@ -1,4 +1,5 @@
-// A rebinding between ticks, on an image and live on a prepared table: a number is served by another scheme from then on.
+//! A rebinding between ticks: a number is served by another scheme from then on. `rebindable` tries it (22); it is made by value
+//! (`by_value`) or in the bytes of a state (`in_place`), on an image or live on a prepared table.
 #![tactic(auto)]
 
 mod by_value;

@@ -1,2 +1,2 @@
-// The result bits, one for each scheme number.
+//! The result bits, one for each scheme number; definitions and laws, no function.
 #![tactic(auto)]

@@ -1,4 +1,6 @@
-// Which row a label takes: whether a row of a prepared table matches a word and a result bit, and the best of several that do.
+//! Which row a label takes: of its rows that match a word and a result bit the best-tested, of equals the later.
+//! Here a row is matched and two are compared; `row_search` finds the row in a prepared table, and where it leads. `listing` lists the rows
+//! of each label, and `image_rows` is the entry point to that.
 #![tactic(auto)]
 
 ghost use Rattle.std.specs.Prelude.{◌≡◌, ◌<◌};

@@ -1,6 +1,6 @@
-// The image check, fresh states and runs, over the tables of the bench sheet and edits of them.
-// Each call prints a frame: 00 for a check, 01 for a run, 02 for a fresh state; then the number or 00, the index, the count.
-// A run of eight words with room for all of them prints its masks and codes too.
+//! The image check, fresh states and runs, over the tables of the bench sheet and edits of them.
+//! Each call prints a frame: 00 for a check, 01 for a run, 02 for a fresh state; then the number or 00, the index, the count.
+//! A run of eight words with room for all of them prints its masks and codes too.
 #![tactic(auto)]
 
 use edits::{patch, report};

@@ -1,2 +1,2 @@
-// Each spindle makes the ticks of its own walk: laws alone.
+//! Each of four spindles makes the ticks of its own walk, over every list of calls; definitions and laws, no function.
 #![tactic(auto)]

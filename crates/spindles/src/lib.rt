@@ -1,4 +1,7 @@
-// Four spindles that share 64 places: what a call reports, and the tests that it makes before a tick.
+//! Four spindles that share 64 places: a call ticks one, or is refused, and leaves the others as they are.
+//! Here are its report and what it tries of spindle and record, in `spindle_heads` what refuses it before any state; `turning` makes the
+//! turn on the bytes of one state, `state_turns` by value. `spindle_bytes` and `live_spindle_bytes` turn one part of 520 bytes
+//! (`spindle_parts`), `spindle_list` one state of a list. By its laws the record is what calls took and did not give back, 64 at most.
 #![tactic(auto)]
 
 pub mod layout;

@@ -1,4 +1,6 @@
-// The state of the stack machine, a fresh one, and what its 130 bytes stand for.
+//! The state of the stack machine by value and as the 130 bytes that C keeps: a fresh one (`fresh`, with refusal 14), and the two taken
+//! apart and put together (`state_bytes`). `state_places` reads and changes size, depth and places among the bytes, `state_results` results
+//! and servers.
 #![tactic(auto)]
 
 ghost use Rattle.std.specs.Prelude.{◌≡◌, ◌<◌, length, set};

@@ -1,4 +1,5 @@
-// Tables prepared for ticks: what such a table holds, and its header, entries and labels as they are read.
+//! Prepared tables: an image decoded once for all its ticks, with the place of each label's rows noted in it (`preparing`).
+//! `header` tries 11 of any bytes as a table, `labels` reads entries and labels of it, and `row_ranges` tells where a label's rows stand.
 #![tactic(auto)]
 
 mod header;

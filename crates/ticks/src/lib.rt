@@ -1,4 +1,6 @@
-// One tick of the stack machine: what it does, what holds of it, and what its functions share.
+//! One tick of the stack machine, on a prepared table and the bytes of a state, by the label at the top (`stepping`).
+//! `calls` makes the tick of a call, `full_stack` that of a call with no free place: a drop or 17; `returns` makes that of a return.
+//! `codes` has the tick codes. In the laws a tick on an accepted image leaves a fitting state fitting.
 #![tactic(auto)]
 
 ghost use Rattle.std.specs.Prelude.{◌≡◌};

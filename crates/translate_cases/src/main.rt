@@ -1,5 +1,5 @@
-// Translates each chart of standard input, one after the other with a - between them. Prints the refusal's frame, or the image;
-// of an image of more than 60 frames the first and the last.
+//! Translates each chart of standard input, one after the other with a - between them. Prints the refusal's frame, or the image; of an
+//! image of more than 60 frames the first and the last.
 #![tactic(auto)]
 
 ghost use Rattle.std.specs.Prelude.{◌≤◌, length};

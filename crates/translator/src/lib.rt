@@ -1,4 +1,6 @@
-// The translator: the table of a chart as text, and which charts have too large a one; its proofs have the laws of the table.
+//! The translator: a chart's text to the text of its image (`translating`), refused by 10 or 16 where the image is too large (`table`).
+//! `entry_text` writes header and entries as frames, `label_text` the labels, `row_text` the rows, each by the paths of `path_text`. The
+//! laws of the table stand in its proofs: what the translator writes is accepted, and its rows lead where the walk goes.
 #![tactic(auto)]
 
 pub mod entry_text;

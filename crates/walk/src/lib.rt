@@ -1,2 +1,2 @@
-// The recursive walk of a chart, from the chart alone; definitions and laws, no function.
+//! The walk: what a chart does, defined by recursion over the chart alone; definitions and laws, no function.
 #![tactic(auto)]

@@ -1,4 +1,5 @@
-// Laws that belong to no subject: lists and lent buffers, words and masks, marks that spread over arcs.
+//! What belongs to no subject: lists, ranges of numbers and lent buffers (`lists`, laws alone), words and masks by their bits (`bits`), and
+//! marks on numbered nodes that spread over arcs (`graph`).
 #![tactic(auto)]
 
 pub mod bits;

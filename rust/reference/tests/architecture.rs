@@ -1,5 +1,6 @@
 //! The drawing of the crates, and the tables that tell of them in docs/ARCHITECTURE.md and README.md, are those of crates.txt.
 
+use std::collections::BTreeSet;
 use std::fs;
 use std::path::Path;
 
@@ -37,6 +38,40 @@ fn the_architecture_has_every_crate_in_its_area() {
         drawing::areas(&file("crates.txt")).into_iter().map(|area| (area.name, area.crates)).collect();
     // within an area crates that belong together share a row, so that their order may be another
     told.iter_mut().chain(&mut listed).for_each(|(_, crates)| crates.sort());
+    assert_eq!(told, listed);
+}
+
+/// The modules of a crate: those of its code, and those of its definitions, whose files begin with a capital.
+fn modules(name: &str) -> BTreeSet<String> {
+    let folder = Path::new(env!("CARGO_MANIFEST_DIR")).join("../../crates").join(name);
+    let lists = ["src/lib.rt", "specs/Lib.antt"];
+    let texts = lists.map(|list| fs::read_to_string(folder.join(list)).unwrap_or_default());
+    let lines = texts.iter().flat_map(|text| text.lines());
+    lines
+        .filter_map(|line| line.trim_start_matches("pub ").strip_prefix("mod "))
+        .map(|module| module.trim_end_matches(';').to_owned())
+        .filter(|module| !module.starts_with(char::is_uppercase) && module != "inner" && module != "tests")
+        .collect()
+}
+
+#[test]
+fn the_architecture_tells_every_layer_bottom_up_with_its_modules() {
+    let page = file("docs/ARCHITECTURE.md");
+    let (_, table) = page.split_once("| Layer | Subject | Modules |").expect("the table is there");
+    let mut told = Vec::new();
+    for row in table.lines().skip(2).take_while(|line| line.starts_with('|')) {
+        let cells: Vec<&str> = row.split('|').map(str::trim).collect();
+        // what stands in brackets tells of the modules before it
+        let outside = cells[3].split(['(', ')']).step_by(2).flat_map(|part| part.split([',', ' ']));
+        let named: BTreeSet<String> =
+            outside.filter(|word| !["", "and"].contains(word)).map(str::to_owned).collect();
+        for name in cells[1].split(", ") {
+            assert_eq!(named, modules(name), "the modules of {name}");
+            told.push(name.to_owned());
+        }
+    }
+    let listed: Vec<String> =
+        drawing::areas(&file("crates.txt")).into_iter().flat_map(|area| area.crates).collect();
     assert_eq!(told, listed);
 }
 

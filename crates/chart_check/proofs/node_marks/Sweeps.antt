@@ -1,4 +1,4 @@
--- Marked nodes whose arcs are followed in the order of the nodes: a turn of the loop, and that what arcs join from the marks stays the same.
+-- Marked nodes whose arcs are followed in the order of the nodes: a turn of the loop, and what arcs join from the marks stays the same.
 use mathlib.Core.Path.{◌≡◌, refl, sym, ◌∙◌, ap, subst}
 use mathlib.Core.Logic.{◌⊎◌, inl, inr}
 use mathlib.Core.Bool.{Bool, true, false}

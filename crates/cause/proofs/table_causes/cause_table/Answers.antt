@@ -1,4 +1,4 @@
--- `cause::table_causes::cause_table` meets its contract: an unfit state, a tick that takes no row, or the cause at the label that it leaves.
+-- `cause::table_causes::cause_table` meets its contract: an unfit state, a tick that takes no row, or the cause at the label left.
 use Rattle.cause.proofs.table_causes.CauseCases.{unfit-told, rowless-told, left-placed, left-told}
 use Rattle.cause.proofs.table_causes.cause_table.Goals as goal
 

@@ -1,4 +1,4 @@
--- `fitness::fit_places::is_astray_at_bottom` meets its contract: scheme 1 by its own number, no handler, or the handler by its own number decides.
+-- `fitness::fit_places::is_astray_at_bottom` meets its contract: scheme 1 by its own number, no handler, or the handler by its own decides.
 use Prim.Native.Nat.{ℕ}
 use mathlib.Core.Bool.{◌&&◌}
 use mathlib.Core.Path.{◌≡◌, sym, ◌∙◌, ap, ap₂}

@@ -1,5 +1,5 @@
--- `little_fetch::little_seek::seek`: in the loop the numbers tried before found as many charts as were passed over. The measure is the number of
--- places from v on.
+-- `little_fetch::little_seek::seek`: in the loop the numbers tried before found as many charts as were passed over. The measure is the
+-- number of places from v on.
 use Rattle.std.proofs.Common.{◌-◌}
 use Rattle.text.specs.frames.Frame.{size}
 use Rattle.little_fetch.proofs.little_seek.SeekTurns.{Seeking}

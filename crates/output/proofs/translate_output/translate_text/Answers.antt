@@ -1,4 +1,4 @@
--- `output::translate_output::translate_text` meets its contract: the image stands in the buffer, or the refusal's frame is put at its front.
+-- `output::translate_output::translate_text` meets its contract: the image stands in the buffer, or at its front the refusal's frame.
 use Rattle.output.proofs.translate_output.Translations.{image-printed, refusal-printed}
 use Rattle.std.proofs.Common.{rules}
 use Rattle.output.proofs.translate_output.translate_text.Goals as goal

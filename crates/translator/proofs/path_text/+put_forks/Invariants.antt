@@ -1,5 +1,5 @@
--- `translator::path_text::put_forks`: in the loop the rows before the path stand in the buffer. The measure is the node's rank, which falls to a 0
--- side and along a 1 side.
+-- `translator::path_text::put_forks`: in the loop the rows before the path stand in the buffer. The measure is the node's rank, which falls
+-- to a 0 side and along a 1 side.
 use Rattle.text.specs.frames.Frame.{size}
 use Rattle.charts.proofs.Rank.{rank}
 use Rattle.translator.specs.path_text.inner.RowBytes.{rowsBytes}
