@@ -1,6 +1,4 @@
--- No entry point asks anything of its caller:
--- what the checker has a caller show before a call is nothing, whatever the arguments. (The tick behind a reference and the two calls
--- over a list of states have no such module; their source has no `requires`.)
+-- No entry point asks anything of its caller: what the checker has a caller show before a call is nothing, whatever the arguments.
 use contract.Lifetimes.{Lfts}
 use borrow.Fn.World.{ArgsD}
 use Rattle.chart_text.specs.contracts.read_chart as read-chart
@@ -45,50 +43,56 @@ use Rattle.spindles.specs.contracts.spindle_bytes.spin_bytes as spin-bytes
 use Rattle.spindles.proofs.spindle_bytes.spin_bytes.Reads as spin-bytes-reads
 use Rattle.spindles.specs.contracts.live_spindle_bytes.live_spin_bytes as live-spin-bytes
 use Rattle.spindles.proofs.live_spindle_bytes.live_spin_bytes.Reads as live-spin-bytes-reads
-use Rattle.fairleadow.specs.contracts.fairleadow_read_chart as c-read-chart
-use Rattle.fairleadow.proofs.fairleadow_read_chart.Reads as c-read-chart-reads
-use Rattle.fairleadow.specs.contracts.fairleadow_write_chart as c-write-chart
-use Rattle.fairleadow.proofs.fairleadow_write_chart.Reads as c-write-chart-reads
-use Rattle.fairleadow.specs.contracts.fairleadow_translate as c-translate
-use Rattle.fairleadow.proofs.fairleadow_translate.Reads as c-translate-reads
-use Rattle.fairleadow.specs.contracts.fairleadow_places as c-places
-use Rattle.fairleadow.proofs.fairleadow_places.Reads as c-places-reads
-use Rattle.fairleadow.specs.contracts.fairleadow_check_image as c-check-image
-use Rattle.fairleadow.proofs.fairleadow_check_image.Reads as c-check-image-reads
-use Rattle.fairleadow.specs.contracts.fairleadow_fresh as c-fresh
-use Rattle.fairleadow.proofs.fairleadow_fresh.Reads as c-fresh-reads
-use Rattle.fairleadow.specs.contracts.fairleadow_run as c-run
-use Rattle.fairleadow.proofs.fairleadow_run.Reads as c-run-reads
-use Rattle.fairleadow.specs.contracts.fairleadow_priced_run as c-priced-run
-use Rattle.fairleadow.proofs.fairleadow_priced_run.Reads as c-priced-run-reads
-use Rattle.fairleadow.specs.contracts.fairleadow_tick as c-tick
-use Rattle.fairleadow.proofs.fairleadow_tick.Reads as c-tick-reads
-use Rattle.fairleadow.specs.contracts.fairleadow_count_fillings as c-count-fillings
-use Rattle.fairleadow.proofs.fairleadow_count_fillings.Reads as c-count-fillings-reads
-use Rattle.fairleadow.specs.contracts.fairleadow_cause as c-cause
-use Rattle.fairleadow.proofs.fairleadow_cause.Reads as c-cause-reads
-use Rattle.fairleadow.specs.contracts.fairleadow_list_rows as c-list-rows
-use Rattle.fairleadow.proofs.fairleadow_list_rows.Reads as c-list-rows-reads
-use Rattle.fairleadow.specs.contracts.fairleadow_minimise as c-minimise
-use Rattle.fairleadow.proofs.fairleadow_minimise.Reads as c-minimise-reads
-use Rattle.fairleadow.specs.contracts.fairleadow_little_chart as c-little-chart
-use Rattle.fairleadow.proofs.fairleadow_little_chart.Reads as c-little-chart-reads
-use Rattle.fairleadow.specs.contracts.fairleadow_meaning as c-meaning
-use Rattle.fairleadow.proofs.fairleadow_meaning.Reads as c-meaning-reads
-use Rattle.fairleadow.specs.contracts.fairleadow_prepare as c-prepare
-use Rattle.fairleadow.proofs.fairleadow_prepare.Reads as c-prepare-reads
-use Rattle.fairleadow.specs.contracts.fairleadow_live_run as c-live-run
-use Rattle.fairleadow.proofs.fairleadow_live_run.Reads as c-live-run-reads
-use Rattle.fairleadow.specs.contracts.fairleadow_live_tick as c-live-tick
-use Rattle.fairleadow.proofs.fairleadow_live_tick.Reads as c-live-tick-reads
-use Rattle.fairleadow.specs.contracts.fairleadow_rebind as c-rebind
-use Rattle.fairleadow.proofs.fairleadow_rebind.Reads as c-rebind-reads
-use Rattle.fairleadow.specs.contracts.fairleadow_live_rebind as c-live-rebind
-use Rattle.fairleadow.proofs.fairleadow_live_rebind.Reads as c-live-rebind-reads
-use Rattle.fairleadow.specs.contracts.fairleadow_spin as c-spin
-use Rattle.fairleadow.proofs.fairleadow_spin.Reads as c-spin-reads
-use Rattle.fairleadow.specs.contracts.fairleadow_live_spin as c-live-spin
-use Rattle.fairleadow.proofs.fairleadow_live_spin.Reads as c-live-spin-reads
+use Rattle.fairleadow.specs.contracts.charts_for_c.fairleadow_read_chart as c-read-chart
+use Rattle.fairleadow.proofs.charts_for_c.fairleadow_read_chart.Reads as c-read-chart-reads
+use Rattle.fairleadow.specs.contracts.charts_for_c.fairleadow_write_chart as c-write-chart
+use Rattle.fairleadow.proofs.charts_for_c.fairleadow_write_chart.Reads as c-write-chart-reads
+use Rattle.fairleadow.specs.contracts.translating_for_c.fairleadow_translate as c-translate
+use Rattle.fairleadow.proofs.translating_for_c.fairleadow_translate.Reads as c-translate-reads
+use Rattle.fairleadow.specs.contracts.charts_for_c.fairleadow_places as c-places
+use Rattle.fairleadow.proofs.charts_for_c.fairleadow_places.Reads as c-places-reads
+use Rattle.fairleadow.specs.contracts.images_for_c.fairleadow_check_image as c-check-image
+use Rattle.fairleadow.proofs.images_for_c.fairleadow_check_image.Reads as c-check-image-reads
+use Rattle.fairleadow.specs.contracts.runs_for_c.fairleadow_fresh as c-fresh
+use Rattle.fairleadow.proofs.runs_for_c.fairleadow_fresh.Reads as c-fresh-reads
+use Rattle.fairleadow.specs.contracts.runs_for_c.fairleadow_run as c-run
+use Rattle.fairleadow.proofs.runs_for_c.fairleadow_run.Reads as c-run-reads
+use Rattle.fairleadow.specs.contracts.prices_for_c.fairleadow_priced_run as c-priced-run
+use Rattle.fairleadow.proofs.prices_for_c.fairleadow_priced_run.Reads as c-priced-run-reads
+use Rattle.fairleadow.specs.contracts.runs_for_c.fairleadow_tick as c-tick
+use Rattle.fairleadow.proofs.runs_for_c.fairleadow_tick.Reads as c-tick-reads
+use Rattle.fairleadow.specs.contracts.fillings_for_c.fairleadow_count_fillings as c-count-fillings
+use Rattle.fairleadow.proofs.fillings_for_c.fairleadow_count_fillings.Reads as c-count-fillings-reads
+use Rattle.fairleadow.specs.contracts.causes_for_c.fairleadow_cause as c-cause
+use Rattle.fairleadow.proofs.causes_for_c.fairleadow_cause.Reads as c-cause-reads
+use Rattle.fairleadow.specs.contracts.images_for_c.fairleadow_list_rows as c-list-rows
+use Rattle.fairleadow.proofs.images_for_c.fairleadow_list_rows.Reads as c-list-rows-reads
+use Rattle.fairleadow.specs.contracts.minimising_for_c.fairleadow_minimise as c-minimise
+use Rattle.fairleadow.proofs.minimising_for_c.fairleadow_minimise.Reads as c-minimise-reads
+use Rattle.fairleadow.specs.contracts.charts_for_c.fairleadow_little_chart as c-little-chart
+use Rattle.fairleadow.proofs.charts_for_c.fairleadow_little_chart.Reads as c-little-chart-reads
+use Rattle.fairleadow.specs.contracts.causes_for_c.fairleadow_meaning as c-meaning
+use Rattle.fairleadow.proofs.causes_for_c.fairleadow_meaning.Reads as c-meaning-reads
+use Rattle.fairleadow.specs.contracts.images_for_c.fairleadow_prepare as c-prepare
+use Rattle.fairleadow.proofs.images_for_c.fairleadow_prepare.Reads as c-prepare-reads
+use Rattle.fairleadow.specs.contracts.runs_for_c.fairleadow_live_run as c-live-run
+use Rattle.fairleadow.proofs.runs_for_c.fairleadow_live_run.Reads as c-live-run-reads
+use Rattle.fairleadow.specs.contracts.runs_for_c.fairleadow_live_tick as c-live-tick
+use Rattle.fairleadow.proofs.runs_for_c.fairleadow_live_tick.Reads as c-live-tick-reads
+use Rattle.fairleadow.specs.contracts.rebinding_for_c.fairleadow_rebind as c-rebind
+use Rattle.fairleadow.proofs.rebinding_for_c.fairleadow_rebind.Reads as c-rebind-reads
+use Rattle.fairleadow.specs.contracts.rebinding_for_c.fairleadow_live_rebind as c-live-rebind
+use Rattle.fairleadow.proofs.rebinding_for_c.fairleadow_live_rebind.Reads as c-live-rebind-reads
+use Rattle.fairleadow.specs.contracts.spindles_for_c.fairleadow_spin as c-spin
+use Rattle.fairleadow.proofs.spindles_for_c.fairleadow_spin.Reads as c-spin-reads
+use Rattle.fairleadow.specs.contracts.spindles_for_c.fairleadow_live_spin as c-live-spin
+use Rattle.fairleadow.proofs.spindles_for_c.fairleadow_live_spin.Reads as c-live-spin-reads
+use Rattle.runs.specs.contracts.kept_states.tick as tick
+use Rattle.runs.proofs.kept_states.tick.Reads as tick-reads
+use Rattle.spindles.specs.contracts.spindle_list.spin as spin
+use Rattle.spindles.proofs.spindle_list.spin.Reads as spin-reads
+use Rattle.spindles.specs.contracts.spindle_list.live_spin as live-spin
+use Rattle.spindles.proofs.spindle_list.live_spin.Reads as live-spin-reads
 
 pub read-chart-asks-nothing : (κs : Lfts 2) (a : ArgsD read-chart.signature κs) → read-chart-reads.Asked κs a
 read-chart-asks-nothing κs a = tt
@@ -152,6 +156,15 @@ spin-bytes-asks-nothing κs a = tt
 
 pub live-spin-bytes-asks-nothing : (κs : Lfts 2) (a : ArgsD live-spin-bytes.signature κs) → live-spin-bytes-reads.Asked κs a
 live-spin-bytes-asks-nothing κs a = tt
+
+pub tick-asks-nothing : (κs : Lfts 2) (a : ArgsD tick.signature κs) → tick-reads.Asked κs a
+tick-asks-nothing κs a = tt
+
+pub spin-asks-nothing : (κs : Lfts 2) (a : ArgsD spin.signature κs) → spin-reads.Asked κs a
+spin-asks-nothing κs a = tt
+
+pub live-spin-asks-nothing : (κs : Lfts 2) (a : ArgsD live-spin.signature κs) → live-spin-reads.Asked κs a
+live-spin-asks-nothing κs a = tt
 
 -- ---- the functions for C
 pub c-read-chart-asks-nothing : (κs : Lfts 4) (a : ArgsD c-read-chart.signature κs) → c-read-chart-reads.Asked κs a

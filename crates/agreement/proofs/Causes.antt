@@ -17,9 +17,9 @@ use Rattle.cause.specs.Laws.{Explains}
 use Rattle.cause.proofs.Answers.{answered}
 use Rattle.cause.specs.contracts.explaining.cause_of as cause-of
 use Rattle.cause.proofs.explaining.cause_of.Reads as cause-of-reads
-use Rattle.fairleadow.specs.Calls.{GivesCauseC, causeFor}
-use Rattle.fairleadow.specs.contracts.fairleadow_cause as c-cause
-use Rattle.fairleadow.proofs.fairleadow_cause.Reads as c-cause-reads
+use Rattle.fairleadow.specs.causes_for_c.Calls.{GivesCauseC, causeFor}
+use Rattle.fairleadow.specs.contracts.causes_for_c.fairleadow_cause as c-cause
+use Rattle.fairleadow.proofs.causes_for_c.fairleadow_cause.Reads as c-cause-reads
 use Rattle.agreement.proofs.Numbers.{cause-success}
 
 abbrev pub causeReport : ℕ → ℕ → ℕ → Cause

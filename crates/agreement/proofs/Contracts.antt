@@ -47,43 +47,48 @@ use Rattle.fillings.specs.contracts.counting.count_fillings as counting-count-fi
 use Rattle.fillings.proofs.counting.count_fillings.Reads as counting-count-fillings-reads
 use Rattle.state.specs.Bytes.{state_of}
 use Rattle.fairleadow.specs.telling.AnswersForC.{GivesReplyC}
-use Rattle.fairleadow.specs.Calls.{GivesBufferC, GivesStateC, runFor, GivesRunC, pricedRunFor}
-use Rattle.fairleadow.specs.Calls.{GivesPricedRunC, tickFor, GivesTickC, rebindFor, GivesRebindingC}
-use Rattle.fairleadow.specs.Calls.{spinFor, liveSpinFor, GivesSpinC, GivesFillingsC}
-use Rattle.fairleadow.specs.contracts.fairleadow_translate as c-translate
-use Rattle.fairleadow.proofs.fairleadow_translate.Reads as c-translate-reads
+use Rattle.fairleadow.specs.telling.AnswersForC.{GivesBufferC}
+use Rattle.fairleadow.specs.runs_for_c.Calls.{GivesStateC, runFor, GivesRunC}
+use Rattle.fairleadow.specs.prices_for_c.Calls.{pricedRunFor}
+use Rattle.fairleadow.specs.prices_for_c.Calls.{GivesPricedRunC}
+use Rattle.fairleadow.specs.runs_for_c.Calls.{tickFor, GivesTickC}
+use Rattle.fairleadow.specs.rebinding_for_c.Calls.{rebindFor, GivesRebindingC}
+use Rattle.fairleadow.specs.spindles_for_c.Calls.{spinFor, liveSpinFor, GivesSpinC}
+use Rattle.fairleadow.specs.fillings_for_c.Calls.{GivesFillingsC}
+use Rattle.fairleadow.specs.contracts.translating_for_c.fairleadow_translate as c-translate
+use Rattle.fairleadow.proofs.translating_for_c.fairleadow_translate.Reads as c-translate-reads
 use Rattle.places.specs.contracts.places_needed as places-needed
 use Rattle.places.proofs.places_needed.Reads as places-needed-reads
-use Rattle.fairleadow.specs.contracts.fairleadow_places as c-places
-use Rattle.fairleadow.proofs.fairleadow_places.Reads as c-places-reads
-use Rattle.fairleadow.specs.contracts.fairleadow_fresh as c-fresh
-use Rattle.fairleadow.proofs.fairleadow_fresh.Reads as c-fresh-reads
-use Rattle.fairleadow.specs.contracts.fairleadow_run as c-run
-use Rattle.fairleadow.proofs.fairleadow_run.Reads as c-run-reads
-use Rattle.fairleadow.specs.contracts.fairleadow_priced_run as c-priced-run
-use Rattle.fairleadow.proofs.fairleadow_priced_run.Reads as c-priced-run-reads
-use Rattle.fairleadow.specs.contracts.fairleadow_tick as c-tick
-use Rattle.fairleadow.proofs.fairleadow_tick.Reads as c-tick-reads
-use Rattle.fairleadow.specs.contracts.fairleadow_prepare as c-prepare
-use Rattle.fairleadow.proofs.fairleadow_prepare.Reads as c-prepare-reads
-use Rattle.fairleadow.specs.contracts.fairleadow_minimise as c-minimise
-use Rattle.fairleadow.proofs.fairleadow_minimise.Reads as c-minimise-reads
-use Rattle.fairleadow.specs.contracts.fairleadow_little_chart as c-little-chart
-use Rattle.fairleadow.proofs.fairleadow_little_chart.Reads as c-little-chart-reads
-use Rattle.fairleadow.specs.contracts.fairleadow_live_run as c-live-run
-use Rattle.fairleadow.proofs.fairleadow_live_run.Reads as c-live-run-reads
-use Rattle.fairleadow.specs.contracts.fairleadow_live_tick as c-live-tick
-use Rattle.fairleadow.proofs.fairleadow_live_tick.Reads as c-live-tick-reads
-use Rattle.fairleadow.specs.contracts.fairleadow_rebind as c-rebind
-use Rattle.fairleadow.proofs.fairleadow_rebind.Reads as c-rebind-reads
-use Rattle.fairleadow.specs.contracts.fairleadow_live_rebind as c-live-rebind
-use Rattle.fairleadow.proofs.fairleadow_live_rebind.Reads as c-live-rebind-reads
-use Rattle.fairleadow.specs.contracts.fairleadow_spin as c-spin
-use Rattle.fairleadow.proofs.fairleadow_spin.Reads as c-spin-reads
-use Rattle.fairleadow.specs.contracts.fairleadow_live_spin as c-live-spin
-use Rattle.fairleadow.proofs.fairleadow_live_spin.Reads as c-live-spin-reads
-use Rattle.fairleadow.specs.contracts.fairleadow_count_fillings as c-count-fillings
-use Rattle.fairleadow.proofs.fairleadow_count_fillings.Reads as c-count-fillings-reads
+use Rattle.fairleadow.specs.contracts.charts_for_c.fairleadow_places as c-places
+use Rattle.fairleadow.proofs.charts_for_c.fairleadow_places.Reads as c-places-reads
+use Rattle.fairleadow.specs.contracts.runs_for_c.fairleadow_fresh as c-fresh
+use Rattle.fairleadow.proofs.runs_for_c.fairleadow_fresh.Reads as c-fresh-reads
+use Rattle.fairleadow.specs.contracts.runs_for_c.fairleadow_run as c-run
+use Rattle.fairleadow.proofs.runs_for_c.fairleadow_run.Reads as c-run-reads
+use Rattle.fairleadow.specs.contracts.prices_for_c.fairleadow_priced_run as c-priced-run
+use Rattle.fairleadow.proofs.prices_for_c.fairleadow_priced_run.Reads as c-priced-run-reads
+use Rattle.fairleadow.specs.contracts.runs_for_c.fairleadow_tick as c-tick
+use Rattle.fairleadow.proofs.runs_for_c.fairleadow_tick.Reads as c-tick-reads
+use Rattle.fairleadow.specs.contracts.images_for_c.fairleadow_prepare as c-prepare
+use Rattle.fairleadow.proofs.images_for_c.fairleadow_prepare.Reads as c-prepare-reads
+use Rattle.fairleadow.specs.contracts.minimising_for_c.fairleadow_minimise as c-minimise
+use Rattle.fairleadow.proofs.minimising_for_c.fairleadow_minimise.Reads as c-minimise-reads
+use Rattle.fairleadow.specs.contracts.charts_for_c.fairleadow_little_chart as c-little-chart
+use Rattle.fairleadow.proofs.charts_for_c.fairleadow_little_chart.Reads as c-little-chart-reads
+use Rattle.fairleadow.specs.contracts.runs_for_c.fairleadow_live_run as c-live-run
+use Rattle.fairleadow.proofs.runs_for_c.fairleadow_live_run.Reads as c-live-run-reads
+use Rattle.fairleadow.specs.contracts.runs_for_c.fairleadow_live_tick as c-live-tick
+use Rattle.fairleadow.proofs.runs_for_c.fairleadow_live_tick.Reads as c-live-tick-reads
+use Rattle.fairleadow.specs.contracts.rebinding_for_c.fairleadow_rebind as c-rebind
+use Rattle.fairleadow.proofs.rebinding_for_c.fairleadow_rebind.Reads as c-rebind-reads
+use Rattle.fairleadow.specs.contracts.rebinding_for_c.fairleadow_live_rebind as c-live-rebind
+use Rattle.fairleadow.proofs.rebinding_for_c.fairleadow_live_rebind.Reads as c-live-rebind-reads
+use Rattle.fairleadow.specs.contracts.spindles_for_c.fairleadow_spin as c-spin
+use Rattle.fairleadow.proofs.spindles_for_c.fairleadow_spin.Reads as c-spin-reads
+use Rattle.fairleadow.specs.contracts.spindles_for_c.fairleadow_live_spin as c-live-spin
+use Rattle.fairleadow.proofs.spindles_for_c.fairleadow_live_spin.Reads as c-live-spin-reads
+use Rattle.fairleadow.specs.contracts.fillings_for_c.fairleadow_count_fillings as c-count-fillings
+use Rattle.fairleadow.proofs.fillings_for_c.fairleadow_count_fillings.Reads as c-count-fillings-reads
 
 -- ---- translate, prepare, minimise, little_chart, State::fresh, of state_runs run, tick_image, live_run and live_tick, priced_run, of
 -- rebinding rebind and live_rebind, and count_fillings

@@ -10,7 +10,7 @@ use Rattle.state.specs.State.{freshState}
 use Rattle.state.specs.Bytes.{state_of}
 use Rattle.runs.specs.Run.{run}
 use Rattle.rebinding.specs.Rebind.{rebind}
-use Rattle.fairleadow.specs.Calls.{GivesBufferC}
+use Rattle.fairleadow.specs.telling.AnswersForC.{GivesBufferC}
 use Rattle.state.proofs.ResultBytes.{fresh-held}
 use Rattle.agreement.specs.Agreement.{CallInput, callOutputs, Agreement}
 use Rattle.agreement.specs.ForC.{CallOutputC, callOutputC, CallsInTurnC, none, more, DeliveredC}

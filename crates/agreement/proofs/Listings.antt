@@ -13,9 +13,9 @@ use Rattle.rows.specs.listing.Exact.{Held}
 use Rattle.rows.proofs.listing.Answers.{held}
 use Rattle.rows.specs.contracts.image_rows.list_rows as list-rows
 use Rattle.rows.proofs.image_rows.list_rows.Reads as list-rows-reads
-use Rattle.fairleadow.specs.Calls.{GivesListingC}
-use Rattle.fairleadow.specs.contracts.fairleadow_list_rows as c-list-rows
-use Rattle.fairleadow.proofs.fairleadow_list_rows.Reads as c-list-rows-reads
+use Rattle.fairleadow.specs.images_for_c.Calls.{GivesListingC}
+use Rattle.fairleadow.specs.contracts.images_for_c.fairleadow_list_rows as c-list-rows
+use Rattle.fairleadow.proofs.images_for_c.fairleadow_list_rows.Reads as c-list-rows-reads
 use Rattle.agreement.proofs.Numbers.{list-success}
 
 holding : (t xs ys : List ℕ) (n : ℕ) → (list t xs ys).reply ≡ success n → (us vs : List ℕ)

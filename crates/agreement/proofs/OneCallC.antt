@@ -29,7 +29,8 @@ use Rattle.runs.proofs.machine.OneTick as one
 use Rattle.runs.proofs.machine.Live.{PreparedTable, live-run-is, live-tick-is}
 use Rattle.rebinding.specs.Rebind.{rebindVerdict, rebind}
 use Rattle.rebinding.proofs.Held.{rebinding-held}
-use Rattle.fairleadow.specs.Calls.{GivesRunC, tickFor, GivesTickC, rebindFor, GivesRebindingC}
+use Rattle.fairleadow.specs.runs_for_c.Calls.{GivesRunC, tickFor, GivesTickC}
+use Rattle.fairleadow.specs.rebinding_for_c.Calls.{rebindFor, GivesRebindingC}
 use Rattle.agreement.specs.Agreement.{RunInput, outputOf, CallInput, toRun, toRebind}
 use Rattle.agreement.specs.Calls.{one_word}
 use Rattle.agreement.specs.ForC.{RunOutputC, runOutputC, CallOutputC, byRunC, byRebindingC}

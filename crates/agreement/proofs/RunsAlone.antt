@@ -22,7 +22,8 @@ use Rattle.state.specs.declared.StateReport.{StateReport}
 use Rattle.state.specs.State.{freshState, GivesState}
 use Rattle.runs.specs.Run.{RunOutcome, run, GivesRun}
 use Rattle.rebinding.specs.Rebind.{rebind}
-use Rattle.fairleadow.specs.Calls.{GivesBufferC, GivesStateC, runFor, GivesRunC}
+use Rattle.fairleadow.specs.telling.AnswersForC.{GivesBufferC}
+use Rattle.fairleadow.specs.runs_for_c.Calls.{GivesStateC, runFor, GivesRunC}
 use Rattle.agreement.specs.Agreement.{Translator, Maker, Runner, Rebinder, RunInput, RunOutput, outputOf, toRun}
 use Rattle.agreement.specs.Agreement.{CallOutput, byRun, byRebinding, callOutputs, short}
 use Rattle.agreement.specs.Agreement.{joinedWords, bound, expected, refusedShort, expectedOutputs, walkOutputs, Agreement, Translates}

@@ -11,7 +11,9 @@ use Rattle.state.specs.State.{freshState}
 use Rattle.state.specs.Bytes.{state_of}
 use Rattle.rebinding.specs.Rebind.{liveRebind}
 use Rattle.runs.specs.machine.Live.{liveRun, liveTick}
-use Rattle.fairleadow.specs.Calls.{GivesBufferC, GivesStateC, runFor, GivesRunC, tickFor, GivesTickC, rebindFor, GivesRebindingC}
+use Rattle.fairleadow.specs.telling.AnswersForC.{GivesBufferC}
+use Rattle.fairleadow.specs.runs_for_c.Calls.{GivesStateC, runFor, GivesRunC, tickFor, GivesTickC}
+use Rattle.fairleadow.specs.rebinding_for_c.Calls.{rebindFor, GivesRebindingC}
 use Rattle.agreement.specs.Agreement.{RunInput, RunOutput, CallInput, toRun, toRebind, CallOutput, walkOutputs}
 use Rattle.agreement.specs.Agreement as agreed
 use Rattle.agreement.specs.Calls.{one_word}

@@ -10,7 +10,8 @@ use text::frames::Answer;
 use ticks::codes::{DROP, Meaning, UNKNOWN, meaning_of};
 
 // What made a tick go on: writes the row's number, the conditions that decide it and the result bit, each 0 with a refusal.
-pub fn cause(
+#[unsafe(no_mangle)]
+pub extern "C" fn fairleadow_cause(
     image: &[u8],
     state: &[u8; STATE_BYTES],
     word: u16,
@@ -32,7 +33,8 @@ pub fn cause(
 }
 
 // What a code stands for: returns the tick kind, 5 for a drop, 255 for a code that no tick has, and writes the number called, 0 for none.
-pub fn meaning(code: u8, called: &mut u8) -> u8
+#[unsafe(no_mangle)]
+pub extern "C" fn fairleadow_meaning(code: u8, called: &mut u8) -> u8
     ensures { Meant code result called.new }
 {
     *called = 0;

@@ -7,7 +7,13 @@ ghost use Rattle.fairleadow.specs.telling.AnswersForC.{GivesReplyC, GivesBufferC
 use crate::telling::tell;
 use text::frames::Answer;
 
-pub fn read_chart(text: &[u8], records: &mut [u8], at: &mut usize, made: &mut usize) -> u8
+#[unsafe(no_mangle)]
+pub extern "C" fn fairleadow_read_chart(
+    text: &[u8],
+    records: &mut [u8],
+    at: &mut usize,
+    made: &mut usize,
+) -> u8
     ensures { GivesBufferC (readChart text.now records.old) result
         at.new made.new records.new }
 {
@@ -15,7 +21,13 @@ pub fn read_chart(text: &[u8], records: &mut [u8], at: &mut usize, made: &mut us
     tell(answer, at, made)
 }
 
-pub fn write_chart(records: &[u8], text: &mut [u8], at: &mut usize, made: &mut usize) -> u8
+#[unsafe(no_mangle)]
+pub extern "C" fn fairleadow_write_chart(
+    records: &[u8],
+    text: &mut [u8],
+    at: &mut usize,
+    made: &mut usize,
+) -> u8
     ensures { GivesBufferC (writeChart records.now text.old) result
         at.new made.new text.new }
 {
@@ -23,7 +35,8 @@ pub fn write_chart(records: &[u8], text: &mut [u8], at: &mut usize, made: &mut u
     tell(answer, at, made)
 }
 
-pub fn little_chart(
+#[unsafe(no_mangle)]
+pub extern "C" fn fairleadow_little_chart(
     frames: usize,
     number: usize,
     text: &mut [u8],
@@ -37,7 +50,8 @@ pub fn little_chart(
     tell(answer, at, made)
 }
 
-pub fn places(chart: &[u8], at: &mut usize, made: &mut usize) -> u8
+#[unsafe(no_mangle)]
+pub extern "C" fn fairleadow_places(chart: &[u8], at: &mut usize, made: &mut usize) -> u8
     ensures { GivesReplyC (placesNeeded chart.now) result at.new made.new }
 {
     let answer: Answer = places::places_needed(chart);

@@ -6,7 +6,8 @@ use crate::telling::tell;
 use text::frames::Answer;
 
 // How often the stack fills: writes how many lists of words run to their end, meet 17 and meet 18, each 0 with a refusal.
-pub fn count_fillings(
+#[unsafe(no_mangle)]
+pub extern "C" fn fairleadow_count_fillings(
     image: &[u8],
     size: usize,
     ticks: usize,

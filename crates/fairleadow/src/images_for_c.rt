@@ -8,14 +8,16 @@ ghost use Rattle.fairleadow.specs.images_for_c.Calls.{GivesListingC};
 
 use crate::telling::tell;
 
-pub fn check_image(image: &[u8], at: &mut usize, made: &mut usize) -> u8
+#[unsafe(no_mangle)]
+pub extern "C" fn fairleadow_check_image(image: &[u8], at: &mut usize, made: &mut usize) -> u8
     ensures { GivesReplyC (judged (imageVerdict image.now) 0) result at.new made.new }
 {
     let answer = image_check::check_image(image);
     tell(answer, at, made)
 }
 
-pub fn list_rows(
+#[unsafe(no_mangle)]
+pub extern "C" fn fairleadow_list_rows(
     image: &[u8],
     firsts: &mut [u16],
     counts: &mut [u16],
@@ -29,7 +31,13 @@ pub fn list_rows(
     tell(answer, at, made)
 }
 
-pub fn prepare(image: &[u8], table: &mut [u8], at: &mut usize, made: &mut usize) -> u8
+#[unsafe(no_mangle)]
+pub extern "C" fn fairleadow_prepare(
+    image: &[u8],
+    table: &mut [u8],
+    at: &mut usize,
+    made: &mut usize,
+) -> u8
     ensures { GivesBufferC (prepare image.now table.old) result
         at.new made.new table.new }
 {

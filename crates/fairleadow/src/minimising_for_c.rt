@@ -5,7 +5,13 @@ ghost use Rattle.fairleadow.specs.telling.AnswersForC.{GivesBufferC};
 use crate::telling::tell;
 use text::frames::Answer;
 
-pub fn minimise(image: &[u8], smaller: &mut [u8], at: &mut usize, made: &mut usize) -> u8
+#[unsafe(no_mangle)]
+pub extern "C" fn fairleadow_minimise(
+    image: &[u8],
+    smaller: &mut [u8],
+    at: &mut usize,
+    made: &mut usize,
+) -> u8
     ensures { GivesBufferC (minimise image.now smaller.old) result at.new made.new
         smaller.new }
 {

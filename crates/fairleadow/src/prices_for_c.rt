@@ -6,7 +6,8 @@ use prices::priced_runs::priced_run_bytes;
 use state::layout::STATE_BYTES;
 
 // A run, and its price: the price is written in every case, 0 with every refusal but 17 and 18.
-pub fn priced_run(
+#[unsafe(no_mangle)]
+pub extern "C" fn fairleadow_priced_run(
     image: &[u8],
     state: &mut [u8; STATE_BYTES],
     prices: &[u16; 32],

@@ -6,7 +6,8 @@ use rebinding::{live_rebind_bytes, rebind_bytes};
 use state::layout::STATE_BYTES;
 
 // Number `number` is served by scheme `scheme` from then on; a refusal writes no state.
-pub fn rebind(
+#[unsafe(no_mangle)]
+pub extern "C" fn fairleadow_rebind(
     image: &[u8],
     state: &mut [u8; STATE_BYTES],
     number: usize,
@@ -21,7 +22,8 @@ pub fn rebind(
     tell(answer, at, made)
 }
 
-pub fn live_rebind(
+#[unsafe(no_mangle)]
+pub extern "C" fn fairleadow_live_rebind(
     table: &[u8],
     state: &mut [u8; STATE_BYTES],
     number: usize,

@@ -7,7 +7,13 @@ use runs::machine::{State, live_run_bytes, live_tick_bytes, run_bytes, tick_byte
 use state::layout::STATE_BYTES;
 use state::state_bytes::bytes_of;
 
-pub fn fresh(size: usize, state: &mut [u8; STATE_BYTES], at: &mut usize, made: &mut usize) -> u8
+#[unsafe(no_mangle)]
+pub extern "C" fn fairleadow_fresh(
+    size: usize,
+    state: &mut [u8; STATE_BYTES],
+    at: &mut usize,
+    made: &mut usize,
+) -> u8
     ensures { GivesStateC (freshState size) result at.new made.new state.new }
 {
     let done = State::fresh(size);
@@ -18,7 +24,8 @@ pub fn fresh(size: usize, state: &mut [u8; STATE_BYTES], at: &mut usize, made: &
     tell(answer, at, made)
 }
 
-pub fn run(
+#[unsafe(no_mangle)]
+pub extern "C" fn fairleadow_run(
     image: &[u8],
     state: &mut [u8; STATE_BYTES],
     words: &[u16],
@@ -35,7 +42,8 @@ pub fn run(
     tell(answer, at, made)
 }
 
-pub fn live_run(
+#[unsafe(no_mangle)]
+pub extern "C" fn fairleadow_live_run(
     table: &[u8],
     state: &mut [u8; STATE_BYTES],
     words: &[u16],
@@ -53,7 +61,8 @@ pub fn live_run(
 }
 
 // One tick; a refused one writes no mask, no code and no state.
-pub fn tick(
+#[unsafe(no_mangle)]
+pub extern "C" fn fairleadow_tick(
     image: &[u8],
     state: &mut [u8; STATE_BYTES],
     word: u16,
@@ -70,7 +79,8 @@ pub fn tick(
 }
 
 // One tick on a prepared table; a refused one writes no mask, no code and no state.
-pub fn live_tick(
+#[unsafe(no_mangle)]
+pub extern "C" fn fairleadow_live_tick(
     table: &[u8],
     state: &mut [u8; STATE_BYTES],
     word: u16,

@@ -8,7 +8,8 @@ use spindles::spindle_bytes::spin_bytes;
 
 // One tick of one of four spindles, whose states are 520 bytes; a refused one writes no mask, no code and no state, and leaves `taken` as
 // it was.
-pub fn spin(
+#[unsafe(no_mangle)]
+pub extern "C" fn fairleadow_spin(
     states: &mut [u8],
     taken: &mut usize,
     spindle: usize,
@@ -35,7 +36,8 @@ pub fn spin(
     tell_tick(ticked, mask, code, at, made)
 }
 
-pub fn live_spin(
+#[unsafe(no_mangle)]
+pub extern "C" fn fairleadow_live_spin(
     states: &mut [u8],
     taken: &mut usize,
     spindle: usize,

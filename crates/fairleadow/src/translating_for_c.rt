@@ -5,7 +5,13 @@ ghost use Rattle.fairleadow.specs.telling.AnswersForC.{GivesBufferC};
 use crate::telling::tell;
 use text::frames::Answer;
 
-pub fn translate(chart: &[u8], image: &mut [u8], at: &mut usize, made: &mut usize) -> u8
+#[unsafe(no_mangle)]
+pub extern "C" fn fairleadow_translate(
+    chart: &[u8],
+    image: &mut [u8],
+    at: &mut usize,
+    made: &mut usize,
+) -> u8
     ensures { GivesBufferC (translate chart.now image.old) result
         at.new made.new image.new }
 {

@@ -11,7 +11,7 @@ use Rattle.translator.specs.Entry.{translate}
 use Rattle.fillings.specs.Counts.{words_of, lists, countFillings}
 use Rattle.fillings.specs.Promises.{SumsUp}
 use Rattle.fillings.proofs.Sums.{sums-up}
-use Rattle.fairleadow.specs.Calls.{GivesFillingsC}
+use Rattle.fairleadow.specs.fillings_for_c.Calls.{GivesFillingsC}
 use Rattle.agreement.proofs.Numbers.{counts-success}
 use Rattle.fill_walks.specs.Promises.{walksDeep, ByTheWalk}
 use Rattle.fill_walks.proofs.Deep.{by-the-walk}

@@ -9,7 +9,8 @@ use Rattle.state.specs.Layout.{PLACES}
 use Rattle.minimising.specs.Entry.{minimise}
 use Rattle.state.specs.declared.StateReport.{StateReport}
 use Rattle.state.specs.State.{freshState, GivesState}
-use Rattle.fairleadow.specs.Calls.{GivesBufferC, GivesStateC}
+use Rattle.fairleadow.specs.telling.AnswersForC.{GivesBufferC}
+use Rattle.fairleadow.specs.runs_for_c.Calls.{GivesStateC}
 use Rattle.agreement.specs.Agreement.{CallInput, CallOutput, walkOutputs}
 use Rattle.agreement.specs.Calls.{CallsInTurn}
 use Rattle.agreement.specs.ForC.{CallOutputC, callOutputC, CallsInTurnC}

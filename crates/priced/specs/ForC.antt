@@ -6,7 +6,9 @@ use Rattle.text.specs.frames.Frame.{contents}
 use Rattle.translator.specs.Entry.{translate}
 use Rattle.state.specs.Layout.{PLACES}
 use Rattle.state.specs.State.{freshState}
-use Rattle.fairleadow.specs.Calls.{GivesBufferC, GivesStateC, pricedRunFor, GivesPricedRunC}
+use Rattle.fairleadow.specs.telling.AnswersForC.{GivesBufferC}
+use Rattle.fairleadow.specs.runs_for_c.Calls.{GivesStateC}
+use Rattle.fairleadow.specs.prices_for_c.Calls.{pricedRunFor, GivesPricedRunC}
 use Rattle.agreement.specs.Agreement.{RunInput, CallInput}
 use Rattle.agreement.specs.ForC.{RunOutputC, runOutputC, CallOutputC, callOutputC, CallC}
 use Rattle.priced.specs.Demand.{PricedInput, unpriced, toPricedRun, PricedOutput, pricedWalkOutputs}

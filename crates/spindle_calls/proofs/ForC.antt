@@ -15,7 +15,7 @@ use Rattle.state.specs.declared.State.{State}
 use Rattle.state.specs.State.{fresh, noState, badSize, StateOutcome, freshState}
 use Rattle.state.specs.Bytes.{state_of, bytesOf}
 use Rattle.state.proofs.ResultBytes.{state-back, fresh-sized, fresh-held}
-use Rattle.fairleadow.specs.Calls.{GivesStateC}
+use Rattle.fairleadow.specs.runs_for_c.Calls.{GivesStateC}
 use Rattle.agreement.proofs.ForC.{returned-0}
 use Rattle.spindles.specs.Spindles.{depths}
 use Rattle.spindles.proofs.InParts.{four-depths}

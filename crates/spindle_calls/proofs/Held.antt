@@ -34,7 +34,7 @@ use Rattle.spindles.proofs.turning.Settled.{NumberedVerdict, image-numbered, tab
 use Rattle.spindles.specs.spindle_parts.FourStates.{part_of, statesOf}
 use Rattle.spindles.specs.spindle_bytes.Bytes.{bytesSpun}
 use Rattle.spindles.proofs.spindle_parts.States.{count-is, state-is}
-use Rattle.fairleadow.specs.Calls.{spinFor, liveSpinFor}
+use Rattle.fairleadow.specs.spindles_for_c.Calls.{spinFor, liveSpinFor}
 use Rattle.spindle_calls.specs.Held.{BytesHold}
 use Rattle.spindle_calls.proofs.StateParts.{put-states}
 

@@ -21,7 +21,8 @@ use Rattle.state.specs.State.{StateOutcome}
 use Rattle.state.specs.Bytes.{state_of, bytesOf}
 use Rattle.rebinding.specs.Rebind.{rebindVerdict, rebind}
 use Rattle.rebinding.proofs.Held.{rebinding-held}
-use Rattle.fairleadow.specs.Calls.{rebindFor, liveRebindFor, GivesRebindingC, spinFor, liveSpinFor, GivesSpinC}
+use Rattle.fairleadow.specs.rebinding_for_c.Calls.{rebindFor, liveRebindFor, GivesRebindingC}
+use Rattle.fairleadow.specs.spindles_for_c.Calls.{spinFor, liveSpinFor, GivesSpinC}
 use Rattle.agreement.specs.ForC.{TableOfC}
 use Rattle.agreement.proofs.OneCall.{prepared-rebind-is}
 use Rattle.agreement.proofs.OneCallC.{table-prepared}

@@ -9,7 +9,10 @@ use Rattle.translator.specs.Entry.{translate}
 use Rattle.state.specs.Layout.{PLACES, STATE-BYTES, DEPTH}
 use Rattle.state.specs.State.{freshState}
 use Rattle.spindles.specs.Layout.{SPINDLES, HEAD-BYTES}
-use Rattle.fairleadow.specs.Calls.{GivesBufferC, GivesStateC, rebindFor, liveRebindFor, GivesRebindingC, spinFor, liveSpinFor, GivesSpinC}
+use Rattle.fairleadow.specs.telling.AnswersForC.{GivesBufferC}
+use Rattle.fairleadow.specs.runs_for_c.Calls.{GivesStateC}
+use Rattle.fairleadow.specs.rebinding_for_c.Calls.{rebindFor, liveRebindFor, GivesRebindingC}
+use Rattle.fairleadow.specs.spindles_for_c.Calls.{spinFor, liveSpinFor, GivesSpinC}
 use Rattle.agreement.specs.ForC.{TableOfC}
 use Rattle.spindles.specs.spindle_parts.FourStates.{part_of, depthsIn}
 use Rattle.spindle_walks.specs.Walks.{HandsImage, FollowsWalk}

@@ -2,7 +2,7 @@
 use Rattle.std.specs.Prelude.{ℕ, ◌≡◌, List}
 use Rattle.spindles.specs.Spindles.{SpinOutcome}
 use Rattle.spindles.specs.spindle_parts.FourStates.{statesOf}
-use Rattle.fairleadow.specs.Calls.{GivesSpinC}
+use Rattle.fairleadow.specs.spindles_for_c.Calls.{GivesSpinC}
 
 -- a call on an image, and one on a prepared table
 abbrev pub SpinnerC : Type 0

@@ -1,6 +1,6 @@
--- `fairleadow::causes_for_c::cause` meets its contract: what the cause is, written, and its answer told.
+-- `fairleadow_cause` meets its contract: what the cause is, written, and its answer told.
 use Rattle.fairleadow.proofs.telling.Reports.{told-as}
-use Rattle.fairleadow.proofs.causes_for_c.cause.Goals as goal
+use Rattle.fairleadow.proofs.causes_for_c.fairleadow_cause.Goals as goal
 
 pub returns : goal.returns
 returns c =

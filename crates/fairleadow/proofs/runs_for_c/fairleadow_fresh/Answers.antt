@@ -1,8 +1,8 @@
--- `fairleadow::runs_for_c::fresh` meets its contract: what the two functions that it calls ensure, put together.
+-- `fairleadow_fresh` meets its contract: what the two functions that it calls ensure, put together.
 use mathlib.Core.Path.{ap, ◌∙◌}
 use Rattle.state.specs.Bytes.{bytesOf}
 use Rattle.fairleadow.proofs.telling.Reports.{told-as}
-use Rattle.fairleadow.proofs.runs_for_c.fresh.Goals as goal
+use Rattle.fairleadow.proofs.runs_for_c.fairleadow_fresh.Goals as goal
 
 pub returns : goal.returns
 returns c =

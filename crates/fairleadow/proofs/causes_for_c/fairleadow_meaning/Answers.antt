@@ -1,7 +1,7 @@
--- `fairleadow::causes_for_c::meaning` meets its contract: each case of the meaning gives its two numbers.
+-- `fairleadow_meaning` meets its contract: each case of the meaning gives its two numbers.
 use Rattle.ticks.specs.declared.codes.Meaning.TheVariants.{Plain, OperationCall, FunctionCall, Return, Home, Drop, Unknown}
 use Rattle.fairleadow.proofs.causes_for_c.CodeCalls.{meant-by}
-use Rattle.fairleadow.proofs.causes_for_c.meaning.Goals as goal
+use Rattle.fairleadow.proofs.causes_for_c.fairleadow_meaning.Goals as goal
 
 pub returns-in-Plain : goal.returns-in-Plain
 returns-in-Plain c = meant-by _ _ Plain c.meaning_of.ensures c.in-Plain.is

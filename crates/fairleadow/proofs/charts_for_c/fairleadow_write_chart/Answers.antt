@@ -1,6 +1,6 @@
--- `fairleadow::charts_for_c::write_chart` meets its contract: what the function that it calls ensures, told.
+-- `fairleadow_write_chart` meets its contract: what the function that it calls ensures, told.
 use Rattle.fairleadow.proofs.telling.Reports.{told-as}
-use Rattle.fairleadow.proofs.charts_for_c.write_chart.Goals as goal
+use Rattle.fairleadow.proofs.charts_for_c.fairleadow_write_chart.Goals as goal
 
 pub returns : goal.returns
 returns c =

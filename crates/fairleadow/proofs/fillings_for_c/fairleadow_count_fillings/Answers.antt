@@ -1,6 +1,6 @@
--- `fairleadow::fillings_for_c::count_fillings` meets its contract: the counts, written, and their answer told.
+-- `fairleadow_count_fillings` meets its contract: the counts, written, and their answer told.
 use Rattle.fairleadow.proofs.telling.Reports.{told-as}
-use Rattle.fairleadow.proofs.fillings_for_c.count_fillings.Goals as goal
+use Rattle.fairleadow.proofs.fillings_for_c.fairleadow_count_fillings.Goals as goal
 
 pub returns : goal.returns
 returns c =
