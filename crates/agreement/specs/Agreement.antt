@@ -3,14 +3,14 @@ use Rattle.std.specs.Prelude.{ℕ, suc, ◌+◌, ◌-◌, ◌≤◌, min, Bool, 
 use Rattle.words.specs.lists.Pick.{pick}
 use Rattle.words.specs.lists.Sequences.{over}
 use Rattle.bindings.specs.Binding.{Binding, ownBinding, rebound, badRebinding}
-use Rattle.text.specs.frames.Codes.{OPERATION-CALL-CODE}
-use Rattle.text.specs.frames.Refusals.{NO-ROOM, FULL, BAD-REBINDING}
+use Rattle.text.specs.declared.frames.codes.TheConstants.{OPERATION_CALL_CODE}
+use Rattle.text.specs.declared.frames.refusals.TheConstants.{NO_ROOM, FULL, BAD_REBINDING}
 use Rattle.text.specs.frames.Frame.{contents}
 use Rattle.text.specs.frames.Answer.{Reply, success, refusal, BufferOutcome}
 use Rattle.charts.specs.Chart.{Chart, schemes, handler}
 use Rattle.walk.specs.Walk.{Signal, signals, Tick, isDrop, walk}
 use Rattle.translator.specs.Entry.{translate}
-use Rattle.state.specs.Layout.{PLACES}
+use Rattle.state.specs.declared.layout.TheConstants.{PLACES}
 use Rattle.state.specs.declared.State.{State}
 use Rattle.state.specs.State.{StateOutcome}
 use Rattle.runs.specs.Run.{RunOutcome, noRoom}
@@ -82,7 +82,7 @@ joinedWords c s (toRebind h k ∷ rest) = joinedWords c (bindingAfter c h k s) r
 
 -- a call, of an operation or of a function, that finds n schemes open and is made: with a handler, one that finds it first of them
 abbrev pub isFullCall : ℕ → Tick → Bool
-isFullCall n t = leb OPERATION-CALL-CODE t.code && not (isDrop t) && eqb t.opened n
+isFullCall n t = leb OPERATION_CALL_CODE t.code && not (isDrop t) && eqb t.opened n
 
 -- how many ticks come before the first of these
 unfoldable pub bound : ℕ → List Tick → ℕ
@@ -103,10 +103,10 @@ expected b ts p a =
     }
 
 abbrev pub refusedShort : RunInput → RunOutput
-refusedShort a = record { reply = refusal NO-ROOM 0 0; masks = a.masks; codes = a.codes }
+refusedShort a = record { reply = refusal NO_ROOM 0 0; masks = a.masks; codes = a.codes }
 
 abbrev pub replyTo : Chart → ℕ → ℕ → Reply
-replyTo c h k = pick (barredRebinding c h k) (refusal BAD-REBINDING 0 0) (success 0)
+replyTo c h k = pick (barredRebinding c h k) (refusal BAD_REBINDING 0 0) (success 0)
 
 unfoldable pub expectedOutputs : Chart → ℕ → List Tick → ℕ → List CallInput → List CallOutput
 expectedOutputs c b ts p [] = []

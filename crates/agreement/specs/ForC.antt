@@ -6,7 +6,7 @@ use Rattle.text.specs.frames.Frame.{contents}
 use Rattle.text.specs.frames.Answer.{replyNumber, replyIndex, replyCount}
 use Rattle.translator.specs.Entry.{translate}
 use Rattle.tables.specs.Prepare.{prepare}
-use Rattle.state.specs.Layout.{PLACES}
+use Rattle.state.specs.declared.layout.TheConstants.{PLACES}
 use Rattle.state.specs.State.{freshState}
 use Rattle.state.specs.Bytes.{state_of}
 use Rattle.rebinding.specs.Rebind.{liveRebind}

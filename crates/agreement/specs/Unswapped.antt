@@ -8,7 +8,7 @@ use Rattle.text.specs.frames.Answer.{success}
 use Rattle.charts.specs.Chart.{Chart}
 use Rattle.walk.specs.Walk.{Tick}
 use Rattle.walk.specs.Unswapped.{walk}
-use Rattle.state.specs.Layout.{PLACES}
+use Rattle.state.specs.declared.layout.TheConstants.{PLACES}
 use Rattle.state.specs.declared.State.{State}
 use Rattle.agreement.specs.Agreement.{Translator, Maker, Runner, RunInput, RunOutput, outputOf, short, bound, expected, refusedShort}
 

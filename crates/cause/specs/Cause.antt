@@ -5,12 +5,12 @@ use Rattle.words.specs.lists.Pick.{pick}
 use Rattle.words.specs.lists.Numbers.{lowest}
 use Rattle.words.specs.bits.Word.{bit, agrees}
 use Rattle.results.specs.Results.{Results}
-use Rattle.text.specs.frames.Refusals.{UNFIT, NO-ROW, ROWLESS}
+use Rattle.text.specs.declared.frames.refusals.TheConstants.{UNFIT, NO_ROW, ROWLESS}
 use Rattle.text.specs.frames.Frame.{contents}
 use Rattle.text.specs.frames.Verdict.{Verdict, fine, refused, next, when}
 use Rattle.text.specs.frames.Answer.{Reply, success, refusal, reply}
 use Rattle.image.specs.Layout.{TickKind, plain, operationCall, functionCall, return, home, tickKind}
-use Rattle.image.specs.Layout.{NO-BIT, FUNCTION-CALL}
+use Rattle.image.specs.declared.layout.TheConstants.{NO_BIT, FUNCTION_CALL}
 use Rattle.image.specs.Image.{Image, Row}
 use Rattle.image.specs.Decode.{decoded}
 use Rattle.image.specs.Check.{imageVerdict}
@@ -27,7 +27,7 @@ differs w care values i = eqb (bit care i) 1 && not (eqb (bit w i) (bit values i
 
 -- a row of label l that the bit lets through and the word contradicts
 abbrev pub contradicted : ℕ → ℕ → ℕ → Row → Bool
-contradicted l w b r = eqb r.from l && ((eqb r.bit NO-BIT || eqb r.bit b) && not (agrees w r.care r.values))
+contradicted l w b r = eqb r.from l && ((eqb r.bit NO_BIT || eqb r.bit b) && not (agrees w r.care r.values))
 
 -- the lowest contradicting condition of such a row, as a mask; those of all rows, joined:
 -- the row taken and a matching row that loses add none
@@ -70,9 +70,9 @@ abbrev pub causeBy : List Row → ℕ → ℕ → ℕ → ℕ → Choice → Cau
 causeBy rs kind l w b (row k r) = because (record {
   row = k;
   mask = bit_or r.care (againstAll l w b rs);
-  bit = pick (eqb kind FUNCTION-CALL) b NO-BIT;
+  bit = pick (eqb kind FUNCTION_CALL) b NO_BIT;
 })
-causeBy rs kind l w b noChoice = unexplained NO-ROW
+causeBy rs kind l w b noChoice = unexplained NO_ROW
 
 abbrev pub causeAt : Image → Results → ℕ → Leaving → Caused
 causeAt i b w (leavesLabel l) = causeBy i.rows (label_at i l).kind l w (calledBit i b l) (choice i b l w)

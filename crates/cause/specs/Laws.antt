@@ -2,7 +2,7 @@
 use Rattle.std.specs.Prelude.{ℕ, true, false, ◌≡◌, ◌↔◌, ◌⊎◌, List}
 use Rattle.std.specs.Int.Bits.{bit_and}
 use Rattle.words.specs.bits.Word.{bit}
-use Rattle.text.specs.frames.Refusals.{NO-ROW, ROWLESS}
+use Rattle.text.specs.declared.frames.refusals.TheConstants.{NO_ROW, ROWLESS}
 use Rattle.text.specs.frames.Frame.{contents}
 use Rattle.text.specs.frames.Verdict.{fine}
 use Rattle.image.specs.Image.{Image, Row, nthRow}
@@ -75,8 +75,8 @@ pub data Rowless (i : Image) (s : State) : Type 0 where
 pub record RefusedCause (i : Image) (s : State) (w : ℕ) : Type 0 where
   pub rowless : (causeOf i s w ≡ unexplained ROWLESS) ↔ Rowless i s
   pub unread : causeOf i s w ≡ unexplained ROWLESS → (v : ℕ) → tick i s v ≡ tick i s w
-  pub unmatched : (causeOf i s w ≡ unexplained NO-ROW) ↔ (tick i s w ≡ stopped NO-ROW)
-  pub only : (n : ℕ) → causeOf i s w ≡ unexplained n → (n ≡ ROWLESS) ⊎ (n ≡ NO-ROW)
+  pub unmatched : (causeOf i s w ≡ unexplained NO_ROW) ↔ (tick i s w ≡ stopped NO_ROW)
+  pub only : (n : ℕ) → causeOf i s w ≡ unexplained n → (n ≡ ROWLESS) ⊎ (n ≡ NO_ROW)
 
 unfoldable pub RefusedExactly : Type 0
 RefusedExactly = (text : List ℕ) (s : State) (w : ℕ) → Fitting text s → RefusedCause (decoded (contents text)) s w

@@ -1,6 +1,6 @@
 // Refusals 4 to 9 of node records, each before the next, with 19 after 5.
 ghost use Rattle.std.specs.Prelude.{◌≡◌, ◌*◌, ◌≤◌, length};
-ghost use Rattle.text.specs.frames.Sizes.{RECORD, NODES};
+ghost use Rattle.text.specs.declared.frames.sizes.TheConstants.{NODES};
 ghost use Rattle.text.specs.frames.Frame.{size};
 ghost use Rattle.text.specs.frames.Answer.{reply, judged};
 ghost use Rattle.charts.specs.Check.{chartVerdict};

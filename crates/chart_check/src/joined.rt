@@ -4,7 +4,6 @@ ghost use Rattle.words.specs.lists.Numbers.{lowest};
 ghost use Rattle.words.specs.graph.Reach.{marked, reach};
 ghost use Rattle.text.specs.frames.Frame.{size};
 ghost use Rattle.text.specs.frames.Answer.{reply, judged};
-ghost use Rattle.charts.specs.Layout.{BEGIN};
 ghost use Rattle.charts.specs.Check.{arcs, cutOff};
 ghost use Rattle.charts.specs.inner.Marks.{kindMarks};
 ghost use Rattle.chart_check.specs.node_marks.inner.MarkContracts.{NodeRoom};

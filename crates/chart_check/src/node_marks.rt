@@ -3,7 +3,6 @@ ghost use Rattle.std.specs.Prelude.{◌≡◌, ◌+◌, ◌*◌, ◌≤◌, ◌<
 ghost use Rattle.words.specs.lists.Pick.{pick};
 ghost use Rattle.words.specs.graph.Reach.{marked, reach};
 ghost use Rattle.words.specs.graph.inner.Listed.{many, markAll, listing, enlistAll};
-ghost use Rattle.text.specs.frames.Sizes.{RECORD};
 ghost use Rattle.text.specs.frames.Frame.{size};
 ghost use Rattle.charts.specs.Check.{arcs};
 ghost use Rattle.charts.specs.inner.Marks.{arcsBy, kindMarks};

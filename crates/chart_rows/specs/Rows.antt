@@ -6,11 +6,11 @@ use Rattle.text.specs.frames.Frame.{size}
 use Rattle.charts.specs.Layout.{Kind, Begin, End, Operation, Condition, Function, Unknown, kind_of}
 use Rattle.charts.specs.Chart.{Chart, kind, argument, next0, next1, taken}
 use Rattle.walk.specs.Stops.{stops}
-use Rattle.image.specs.Layout.{NO-BIT}
+use Rattle.image.specs.declared.layout.TheConstants.{NO_BIT}
 use Rattle.image.specs.Image.{Row}
 use Rattle.chart_rows.specs.chart_labels.Labels.{label, numberedNodes}
 
--- a path so far: the label that it left, the bits of the word that it tested as a care mask, their values, and the function bit or NO-BIT
+-- a path so far: the label that it left, the bits of the word that it tested as a care mask, their values, and the function bit or NO_BIT
 pub record Path : Type 0 where
   pub from : ℕ
   pub care : ℕ
@@ -45,13 +45,13 @@ pathsOf c p v = paths (size c) c p v
 
 -- the rows of a numbered stop by its kind: a function's bit comes first, and a stopping condition's own test does
 abbrev pub rowsAs : Chart → ℕ → Kind → List Row
-rowsAs c v Begin = pathsOf c (pathFrom (label c v) NO-BIT) (next0 c v)
-rowsAs c v End = pathsOf c (pathFrom (label c v) NO-BIT) (next0 c v)
-rowsAs c v Operation = pathsOf c (pathFrom (label c v) NO-BIT) (next0 c v)
-rowsAs c v Condition = let p = pathFrom (label c v) NO-BIT in
+rowsAs c v Begin = pathsOf c (pathFrom (label c v) NO_BIT) (next0 c v)
+rowsAs c v End = pathsOf c (pathFrom (label c v) NO_BIT) (next0 c v)
+rowsAs c v Operation = pathsOf c (pathFrom (label c v) NO_BIT) (next0 c v)
+rowsAs c v Condition = let p = pathFrom (label c v) NO_BIT in
     pathsOf c (side0 p (argument c v)) (next0 c v) ++ pathsOf c (side1 p (argument c v)) (next1 c v)
 rowsAs c v Function = pathsOf c (pathFrom (label c v) 0) (next0 c v) ++ pathsOf c (pathFrom (label c v) 1) (next1 c v)
-rowsAs c v Unknown = pathsOf c (pathFrom (label c v) NO-BIT) (next0 c v)
+rowsAs c v Unknown = pathsOf c (pathFrom (label c v) NO_BIT) (next0 c v)
 
 unfoldable pub rows_of : Chart → ℕ → List Row
 rows_of c v = rowsAs c v (kind_of (kind c v))

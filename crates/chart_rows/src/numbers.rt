@@ -1,7 +1,6 @@
 // Notes on the nodes: their labels, and the numbers of the conditions that paths test.
 ghost use Rattle.std.specs.Prelude.{◌≡◌, ◌*◌, ◌≤◌, length};
 ghost use Rattle.words.specs.lists.Numbers.{count};
-ghost use Rattle.text.specs.frames.Sizes.{NODES};
 ghost use Rattle.text.specs.frames.Frame.{size};
 ghost use Rattle.chart_rows.specs.chart_labels.Labels.{numbered, label};
 ghost use Rattle.chart_rows.specs.chart_labels.inner.ChartContracts.{Ready, Charted, Inner};

@@ -3,7 +3,6 @@
 ghost use Rattle.std.specs.Prelude.{◌≡◌, ◌+◌, ◌*◌, ◌≤◌, length};
 ghost use Rattle.words.specs.lists.Numbers.{range};
 ghost use Rattle.words.specs.lists.Sequences.{concatMap, written};
-ghost use Rattle.text.specs.frames.Sizes.{LINE};
 ghost use Rattle.text.specs.frames.Frame.{tenAt, frameText};
 
 use text::frames::sizes::LINE;

@@ -4,7 +4,7 @@ use Rattle.words.specs.lists.Pick.{pick}
 use Rattle.words.specs.lists.Numbers.{lowest, highest}
 use Rattle.words.specs.bits.Word.{bit}
 use Rattle.text.specs.frames.Frame.{size, field, quadAt}
-use Rattle.charts.specs.Layout.{BEGIN, END, KIND, SCHEME, ARGUMENT, NEXT0, NEXT1, RESULT, MASK}
+use Rattle.charts.specs.declared.layout.TheConstants.{BEGIN, END, KIND, SCHEME, ARGUMENT, NEXT0, NEXT1, RESULT, MASK}
 
 abbrev pub Chart : Type 0
 Chart = List ℕ

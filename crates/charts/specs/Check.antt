@@ -4,11 +4,11 @@ use Rattle.words.specs.lists.Pick.{pick}
 use Rattle.words.specs.lists.Numbers.{any, count}
 use Rattle.words.specs.lists.Sequences.{some}
 use Rattle.words.specs.graph.Reach.{marked, joinedFrom}
-use Rattle.text.specs.frames.Sizes.{RECORD, SCHEMES}
-use Rattle.text.specs.frames.Refusals.{BAD-FIELD, BAD-SCHEME, BAD-ARC, BAD-CALL, CIRCLE, CUT-OFF, BAD-MARKS}
+use Rattle.text.specs.declared.frames.sizes.TheConstants.{RECORD, SCHEMES}
+use Rattle.text.specs.declared.frames.refusals.TheConstants.{BAD_FIELD, BAD_SCHEME, BAD_ARC, BAD_CALL, CIRCLE, CUT_OFF, BAD_MARKS}
 use Rattle.text.specs.frames.Frame.{size, field}
 use Rattle.text.specs.frames.Verdict.{Verdict, next, when, atLowest}
-use Rattle.charts.specs.Layout.{BEGIN, END, CONDITION, ARGUMENT, NEXT1, RESULT}
+use Rattle.charts.specs.declared.layout.TheConstants.{BEGIN, END, CONDITION, ARGUMENT, NEXT1, RESULT}
 use Rattle.charts.specs.Layout.{Kind, Begin, End, Operation, Condition, Function, Unknown, kind_of}
 use Rattle.charts.specs.Chart.{Chart, kind, scheme, argument, next0, next1, result, is, is_of, marksHandler, handlerAt, schemes, begin}
 
@@ -79,10 +79,10 @@ cutOff c v = not (marked (joinedFrom (size c) (arcs c) (begin c (scheme c v) ∷
 
 unfoldable pub chartVerdict : Chart → Verdict
 chartVerdict c =
-    next (atLowest BAD-FIELD (badField c) (size c)) λ _.
-    next (when BAD-SCHEME (any (badScheme c) 1 (schemes c))) λ _.
-    next (when BAD-MARKS (badMarks c)) λ _.
-    next (atLowest BAD-ARC (badArc c) (size c)) λ _.
-    next (atLowest BAD-CALL (badCall c) (size c)) λ _.
+    next (atLowest BAD_FIELD (badField c) (size c)) λ _.
+    next (when BAD_SCHEME (any (badScheme c) 1 (schemes c))) λ _.
+    next (when BAD_MARKS (badMarks c)) λ _.
+    next (atLowest BAD_ARC (badArc c) (size c)) λ _.
+    next (atLowest BAD_CALL (badCall c) (size c)) λ _.
     next (atLowest CIRCLE (onCircle c) (size c)) λ _.
-    atLowest CUT-OFF (cutOff c) (size c)
+    atLowest CUT_OFF (cutOff c) (size c)

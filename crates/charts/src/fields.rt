@@ -1,6 +1,5 @@
 // The fields of node records.
 ghost use Rattle.std.specs.Prelude.{◌≡◌, ◌+◌, ◌*◌, ◌<◌, length};
-ghost use Rattle.text.specs.frames.Sizes.{RECORD};
 ghost use Rattle.text.specs.frames.Frame.{field};
 
 use text::frames::sizes::RECORD;

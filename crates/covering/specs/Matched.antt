@@ -4,7 +4,7 @@ use Rattle.std.specs.Int.Bits.{bit_and}
 use Rattle.words.specs.lists.Numbers.{any}
 use Rattle.words.specs.lists.Sequences.{filter}
 use Rattle.text.specs.frames.Sizes.{WORDS}
-use Rattle.image.specs.Layout.{NO-BIT}
+use Rattle.image.specs.declared.layout.TheConstants.{NO_BIT}
 use Rattle.image.specs.Image.{Image, Row}
 use Rattle.rows.specs.Rows.{isCandidate}
 
@@ -26,4 +26,4 @@ uneven i = any (unevenLabel i) 2 (length i.labels - 2)
 abbrev pub together : Row → Row → Bool
 together r s =
     eqb (bit_and r.values s.care) (bit_and s.values r.care)
-    && (eqb r.bit NO-BIT || eqb s.bit NO-BIT || eqb r.bit s.bit)
+    && (eqb r.bit NO_BIT || eqb s.bit NO_BIT || eqb r.bit s.bit)

@@ -4,9 +4,8 @@
 
 ghost use Rattle.std.specs.Prelude.{◌≡◌, ◌||◌, ◌-◌, ◌≤◌, ◌<◌, eqb};
 ghost use Rattle.words.specs.lists.Numbers.{lowest};
-ghost use Rattle.text.specs.frames.Sizes.{ROWS};
+ghost use Rattle.text.specs.declared.frames.sizes.TheConstants.{ROWS};
 ghost use Rattle.text.specs.frames.Frame.{size};
-ghost use Rattle.image.specs.Layout.{NO-BIT};
 ghost use Rattle.image.specs.Decode.{decoded, rowInFrame};
 ghost use Rattle.covering.specs.Matched.{together, uneven};
 ghost use Rattle.covering.specs.inner.CoveringContracts.{SoundTable, rowWith, togetherSome, togetherAny};
@@ -82,7 +81,7 @@ fn any_together(table: &[u8], first: usize, end: usize) -> bool
 
 // Whether a row with this function bit may match with the bit.
 fn suits(only: u8, bit: u8) -> bool
-    ensures { result ≡ (eqb only NO-BIT || eqb only bit) }
+    ensures { result ≡ (eqb only NO_BIT || eqb only bit) }
 {
     if only == NO_BIT {
         return true;

@@ -5,8 +5,8 @@ use Rattle.std.specs.Prelude.{ℕ, ◌≤◌, ◌≡◌, List, map, length, take
 use Rattle.words.specs.lists.Pick.{pick}
 use Rattle.words.specs.lists.Sequences.{All}
 use Rattle.bindings.specs.Binding.{ownBinding}
-use Rattle.text.specs.frames.Codes.{DROP-CODE}
-use Rattle.text.specs.frames.Refusals.{NO-ROOM}
+use Rattle.text.specs.declared.frames.codes.TheConstants.{DROP_CODE}
+use Rattle.text.specs.declared.frames.refusals.TheConstants.{NO_ROOM}
 use Rattle.text.specs.frames.Frame.{contents}
 use Rattle.text.specs.frames.Answer.{Reply, success, refusal, reply, replyNumber, replyCount, GivesBuffer}
 use Rattle.text.specs.declared.frames.Answer.{Answer}
@@ -14,7 +14,7 @@ use Rattle.charts.specs.Chart.{Chart}
 use Rattle.walk.specs.Walk.{Signal}
 use Rattle.translator.specs.Entry.{translate}
 use Rattle.places.specs.Entry.{placesNeeded}
-use Rattle.state.specs.Layout.{PLACES}
+use Rattle.state.specs.declared.layout.TheConstants.{PLACES}
 use Rattle.state.specs.declared.StateReport.{StateReport}
 use Rattle.state.specs.State.{freshState, GivesState}
 use Rattle.fairleadow.specs.telling.AnswersForC.{GivesReplyC}
@@ -30,12 +30,12 @@ OwnServed c given = All (λ (w : Signal). w.binding ≡ ownBinding) (joinedWords
 
 -- a run makes a tick for every word, or gets 16 for want of room; a rebinding is made, or gets 22
 abbrev pub allMade : Chart → CallInput → Reply
-allMade c (toRun a) = pick (short a) (refusal NO-ROOM 0 0) (success (length a.words))
+allMade c (toRun a) = pick (short a) (refusal NO_ROOM 0 0) (success (length a.words))
 allMade c (toRebind h k) = replyTo c h k
 
 -- no code of a drop among those that were written
 abbrev pub noDrop : ℕ → List ℕ → Type 0
-noDrop n codes = All (λ (code : ℕ). code ≡ DROP-CODE → ⊥) (take n codes)
+noDrop n codes = All (λ (code : ℕ). code ≡ DROP_CODE → ⊥) (take n codes)
 
 abbrev pub replyOf : CallOutput → Reply
 replyOf (byRun t) = t.reply

@@ -2,7 +2,7 @@
 use Rattle.std.specs.Prelude.{ℕ, zero, suc, ◌*◌, ◌/◌, ◌%◌, ◌^◌, Bool, ◌||◌, List, [], ◌∷◌, ltb, eqb}
 use Rattle.words.specs.lists.Numbers.{count}
 use Rattle.text.specs.frames.Sizes.{CONDITIONS, WORDS}
-use Rattle.text.specs.frames.Refusals.{BAD-SIZE, FULL, NO-ROW, MANY-LISTS}
+use Rattle.text.specs.declared.frames.refusals.TheConstants.{BAD_SIZE, FULL, NO_ROW, MANY_LISTS}
 use Rattle.text.specs.frames.Frame.{contents}
 use Rattle.text.specs.frames.Verdict.{Verdict, fine, refused, next, when}
 use Rattle.text.specs.frames.Answer.{Reply, success, refusal}
@@ -40,7 +40,7 @@ tooManyLists n k = ltb CONDITIONS (n * k) || ltb CONDITIONS k || ltb WORDS n
 
 -- what the image check tries, 14 and 28
 unfoldable pub countVerdict : List ℕ → ℕ → ℕ → ℕ → Verdict
-countVerdict t size n k = next (imageVerdict t) λ _. next (when BAD-SIZE (badSize size)) λ _. when MANY-LISTS (tooManyLists n k)
+countVerdict t size n k = next (imageVerdict t) λ _. next (when BAD_SIZE (badSize size)) λ _. when MANY_LISTS (tooManyLists n k)
 
 -- lists that run to their end, that meet 17 and that meet 18
 pub record FillingsOutcome : Type 0 where
@@ -52,7 +52,7 @@ pub record FillingsOutcome : Type 0 where
 abbrev pub fillingsOn : Image → ℕ → ℕ → ℕ → Verdict → FillingsOutcome
 fillingsOn i size n k (refused m j) = record { reply = refusal m j 0; ended = 0; full = 0; unmatched = 0 }
 fillingsOn i size n k fine = let s = fresh size in
-    record { reply = success 0; ended = meeting i s n k 0; full = meeting i s n k FULL; unmatched = meeting i s n k NO-ROW }
+    record { reply = success 0; ended = meeting i s n k 0; full = meeting i s n k FULL; unmatched = meeting i s n k NO_ROW }
 
 unfoldable pub countFillings : List ℕ → ℕ → ℕ → ℕ → FillingsOutcome
 countFillings t size n k = fillingsOn (decoded (contents t)) size n k (countVerdict t size n k)

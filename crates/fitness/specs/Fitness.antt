@@ -3,16 +3,16 @@ use Rattle.std.specs.Prelude.{ℕ, ◌+◌, ◌-◌, Bool, ◌&&◌, ◌||◌, n
 use Rattle.words.specs.lists.Pick.{pick}
 use Rattle.words.specs.lists.Numbers.{any}
 use Rattle.bindings.specs.Binding.{served}
-use Rattle.text.specs.frames.Sizes.{SCHEMES}
-use Rattle.image.specs.Layout.{OPERATION-CALL, FUNCTION-CALL}
+use Rattle.text.specs.declared.frames.sizes.TheConstants.{SCHEMES}
+use Rattle.image.specs.declared.layout.TheConstants.{OPERATION_CALL, FUNCTION_CALL}
 use Rattle.image.specs.Image.{Image, Label}
-use Rattle.state.specs.Layout.{PLACES}
+use Rattle.state.specs.declared.layout.TheConstants.{PLACES}
 use Rattle.state.specs.declared.State.{State}
 use Rattle.state.specs.State.{badSize, label_at, placeAt, number_at, serverAt}
 
 -- a label that is kept under the one it calls
 abbrev pub is_call : Label → Bool
-is_call x = eqb x.kind OPERATION-CALL || eqb x.kind FUNCTION-CALL
+is_call x = eqb x.kind OPERATION_CALL || eqb x.kind FUNCTION_CALL
 
 -- a scheme that may be called
 abbrev pub callable : Image → ℕ → Bool

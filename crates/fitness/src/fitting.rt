@@ -5,7 +5,7 @@ ghost use Rattle.words.specs.lists.Pick.{pick};
 ghost use Rattle.words.specs.lists.Numbers.{any};
 ghost use Rattle.tables.specs.Table.{tableImage};
 ghost use Rattle.tables.specs.inner.Asked.{Whole};
-ghost use Rattle.state.specs.Layout.{PLACES};
+ghost use Rattle.state.specs.declared.layout.TheConstants.{PLACES};
 ghost use Rattle.state.specs.State.{placeAt, number_at, serverAt};
 ghost use Rattle.state.specs.Bytes.{state_of};
 ghost use Rattle.fitness.specs.Fitness.{filledPlace, badServed, badDepth, unfit};

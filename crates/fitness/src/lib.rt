@@ -4,7 +4,6 @@
 
 ghost use Rattle.std.specs.Prelude.{◌≡◌, ◌&&◌, ◌||◌, not, eqb};
 ghost use Rattle.fitness.specs.inner.FitnessContracts.{astray, own, miscalled, misserved};
-ghost use Rattle.image.specs.Layout.{OPERATION-CALL, FUNCTION-CALL};
 
 pub mod fit_places;
 pub mod fitting;
@@ -13,7 +12,7 @@ use image::layout::{FUNCTION_CALL, OPERATION_CALL};
 
 // Whether a label of that kind may not be kept under another: only a call may.
 pub fn calls_none(kind: u8) -> bool
-    ensures { result ≡ not (eqb kind OPERATION-CALL || eqb kind FUNCTION-CALL) }
+    ensures { result ≡ not (eqb kind OPERATION_CALL || eqb kind FUNCTION_CALL) }
 {
     match kind {
         OPERATION_CALL..=FUNCTION_CALL => false,

@@ -1,6 +1,6 @@
 // The rounds of the grouping, over buffers that are lent: classes and marks before each, and an end where nothing changes.
 ghost use Rattle.std.specs.Prelude.{◌≡◌, length, replicate};
-ghost use Rattle.text.specs.frames.Sizes.{LABELS};
+ghost use Rattle.text.specs.declared.frames.sizes.TheConstants.{LABELS};
 ghost use Rattle.tables.specs.Table.{tableImage};
 ghost use Rattle.grouping.specs.Classes.{grouping};
 ghost use Rattle.grouping.specs.inner.GroupingContracts.{Even, Classed};

@@ -3,7 +3,7 @@ ghost use Rattle.std.specs.Prelude.{◌≡◌, ◌<◌, length};
 ghost use Rattle.words.specs.lists.Numbers.{lowest};
 ghost use Rattle.tables.specs.inner.Asked.{Whole};
 ghost use Rattle.tables.specs.inner.Labels.{asLabel};
-ghost use Rattle.text.specs.frames.Sizes.{LABELS};
+ghost use Rattle.text.specs.declared.frames.sizes.TheConstants.{LABELS};
 ghost use Rattle.grouping.specs.Classes.{sameFields};
 ghost use Rattle.grouping.specs.inner.GroupingContracts.{After, holdsSameOn};
 

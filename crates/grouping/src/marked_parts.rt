@@ -1,7 +1,7 @@
 // Marks of the labels whose class was parted in a round. Of the parts of a class all labels but those of the largest part are marked,
 // so that each time that a label is marked its class is at most half as large as before.
 ghost use Rattle.std.specs.Prelude.{◌≡◌, ◌≤◌, ◌<◌, length};
-ghost use Rattle.text.specs.frames.Sizes.{LABELS};
+ghost use Rattle.text.specs.declared.frames.sizes.TheConstants.{LABELS};
 ghost use Rattle.grouping.specs.marked_parts.inner.Parts.{memberCount, countMembers, largerPart, keepLargest, markOf, markOthers, PartsMarked};
 
 // How many labels a class has with label l, up to 255: no class has so many.

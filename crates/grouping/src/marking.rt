@@ -1,6 +1,6 @@
 // Which rows the next round need look at: those of labels with a row to a label that the round before marked.
 ghost use Rattle.std.specs.Prelude.{◌≡◌, ◌≤◌, length};
-ghost use Rattle.text.specs.frames.Sizes.{LABELS};
+ghost use Rattle.text.specs.declared.frames.sizes.TheConstants.{LABELS};
 ghost use Rattle.text.specs.frames.Frame.{size};
 ghost use Rattle.tables.specs.inner.Asked.{Whole};
 ghost use Rattle.grouping.specs.inner.GroupingContracts.{Even, Refined, OneMore};

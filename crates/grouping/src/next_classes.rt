@@ -1,6 +1,6 @@
 // The classes one round later: for each label the lowest one of its next class.
 ghost use Rattle.std.specs.Prelude.{◌≡◌, ◌≤◌, ◌<◌, length, get_or};
-ghost use Rattle.text.specs.frames.Sizes.{LABELS};
+ghost use Rattle.text.specs.declared.frames.sizes.TheConstants.{LABELS};
 ghost use Rattle.image.specs.Decode.{schemeCount};
 ghost use Rattle.grouping.specs.inner.GroupingContracts.{Even, Refined, OneMore, Marks, ClassAsked};
 ghost use Rattle.grouping.specs.inner.GroupingContracts.{leadsClass, nextClass};

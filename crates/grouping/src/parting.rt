@@ -1,10 +1,9 @@
 // Whether rows of two labels part them: they match one word and bit and lead to different classes.
 ghost use Rattle.std.specs.Prelude.{◌&&◌, ◌≡◌, ◌≤◌, ◌<◌, length, get_or};
-ghost use Rattle.text.specs.frames.Sizes.{LABELS};
+ghost use Rattle.text.specs.declared.frames.sizes.TheConstants.{LABELS};
 ghost use Rattle.text.specs.frames.Frame.{size, field};
 ghost use Rattle.tables.specs.inner.Labels.{Framed};
 ghost use Rattle.grouping.specs.inner.GroupingContracts.{parts_in, partsAny, isMarked, partedBy, partedOn, Marks};
-ghost use Rattle.image.specs.Layout.{NEXT};
 
 use covering::are_together;
 use image::byte;

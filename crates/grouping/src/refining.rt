@@ -1,6 +1,5 @@
 // The grouping with fewest groups: for each label the lowest one of its class.
 ghost use Rattle.std.specs.Prelude.{◌≡◌, length};
-ghost use Rattle.text.specs.frames.Sizes.{LABELS};
 ghost use Rattle.tables.specs.Table.{tableImage};
 ghost use Rattle.grouping.specs.Classes.{grouping};
 ghost use Rattle.grouping.specs.inner.GroupingContracts.{Even, Classed};

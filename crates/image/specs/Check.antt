@@ -3,12 +3,13 @@ use Rattle.std.specs.Prelude.{ℕ, zero, suc, ◌+◌, ◌-◌, Bool, false, ◌
 use Rattle.std.specs.Int.Bits.{bit_and}
 use Rattle.words.specs.lists.Pick.{pick}
 use Rattle.words.specs.lists.Numbers.{any}
-use Rattle.text.specs.frames.Sizes.{SCHEMES, ROWS, IMAGE-TEXT}
-use Rattle.text.specs.frames.Refusals.{BAD-HEADER, STRAY-FRAME, BAD-CONTENT}
+use Rattle.text.specs.declared.frames.sizes.TheConstants.{SCHEMES, ROWS, IMAGE_TEXT}
+use Rattle.text.specs.declared.frames.refusals.TheConstants.{BAD_HEADER, STRAY_FRAME, BAD_CONTENT}
 use Rattle.text.specs.frames.Frame.{size, field, contents}
 use Rattle.text.specs.frames.Verdict.{Verdict, next, when, atLowest}
 use Rattle.text.specs.frames.Check.{textVerdict}
-use Rattle.image.specs.Layout.{HEADER, ENTRY, LABEL, ROW, FRAME-KIND, NUMBER, NO-BIT, PLAIN, FUNCTION-CALL, RETURN, HOME}
+use Rattle.image.specs.declared.layout.TheConstants.{HEADER, ENTRY, LABEL, ROW, FRAME_KIND, NUMBER, NO_BIT, PLAIN, FUNCTION_CALL, RETURN}
+use Rattle.image.specs.declared.layout.TheConstants.{HOME}
 use Rattle.image.specs.Image.{Label, Row}
 use Rattle.image.specs.Decode.{schemeCount, lastLabel, rowCount, handlerIn, labels_from, rows_from, entryIn, labelIn, row_in}
 
@@ -26,7 +27,7 @@ badHandler b = not (eqb (handlerIn b) 0) && (ltb (handlerIn b) 2 || ltb (schemeC
 
 unfoldable pub badHeader : List ℕ → Bool
 badHeader b =
-    not (eqb (field b 0 FRAME-KIND) HEADER) || filled b 0 6 4 || badHandler b || badCounts b || not (eqb (size b) (rows_from b + rowCount b))
+    not (eqb (field b 0 FRAME_KIND) HEADER) || filled b 0 6 4 || badHandler b || badCounts b || not (eqb (size b) (rows_from b + rowCount b))
 
 -- a frame of an image by its position: header, the entry of a scheme, a label, a row
 pub data Position : Type 0 where
@@ -47,9 +48,9 @@ falls b (suc k) = ltb (row_in b (suc k)).from (row_in b k).from
 
 abbrev pub strayFrame : List ℕ → ℕ → Position → Bool
 strayFrame b f headerPosition = false
-strayFrame b f (entryPosition h) = not (eqb (field b f FRAME-KIND) ENTRY && eqb (field b f NUMBER) h)
-strayFrame b f (labelPosition l) = not (eqb (field b f FRAME-KIND) LABEL && eqb (field b f NUMBER) l)
-strayFrame b f (rowPosition k) = not (eqb (field b f FRAME-KIND) ROW) || falls b k
+strayFrame b f (entryPosition h) = not (eqb (field b f FRAME_KIND) ENTRY && eqb (field b f NUMBER) h)
+strayFrame b f (labelPosition l) = not (eqb (field b f FRAME_KIND) LABEL && eqb (field b f NUMBER) l)
+strayFrame b f (rowPosition k) = not (eqb (field b f FRAME_KIND) ROW) || falls b k
 
 unfoldable pub stray : List ℕ → ℕ → Bool
 stray b f = strayFrame b f (position_of b f)
@@ -73,11 +74,11 @@ abbrev pub badLabel : List ℕ → ℕ → Label → Bool
 badLabel b zero x = not (isLabel HOME 1 x)
 badLabel b (suc zero) x = not (isLabel RETURN 0 x)
 badLabel b (suc (suc l)) x =
-    ltb FUNCTION-CALL x.kind || eqb x.owner 0 || ltb (schemeCount b) x.owner || ltb 2 x.result || badCalled b x
+    ltb FUNCTION_CALL x.kind || eqb x.owner 0 || ltb (schemeCount b) x.owner || ltb 2 x.result || badCalled b x
 
 -- a bit other than 2 needs the label of a function call
 abbrev pub badBit : List ℕ → Row → Bool
-badBit b r = ltb NO-BIT r.bit || (ltb r.bit NO-BIT && not (eqb (labelIn b r.from).kind FUNCTION-CALL))
+badBit b r = ltb NO_BIT r.bit || (ltb r.bit NO_BIT && not (eqb (labelIn b r.from).kind FUNCTION_CALL))
 
 abbrev pub badRow : List ℕ → ℕ → Row → Bool
 badRow b f r =
@@ -96,9 +97,9 @@ badContent b f = badFrame b f (position_of b f)
 -- of the contents of a text
 unfoldable pub tableVerdict : List ℕ → Verdict
 tableVerdict b =
-    next (when BAD-HEADER (badHeader b)) λ _.
-    next (atLowest STRAY-FRAME (stray b) (size b)) λ _.
-    atLowest BAD-CONTENT (badContent b) (size b)
+    next (when BAD_HEADER (badHeader b)) λ _.
+    next (atLowest STRAY_FRAME (stray b) (size b)) λ _.
+    atLowest BAD_CONTENT (badContent b) (size b)
 
 unfoldable pub imageVerdict : List ℕ → Verdict
-imageVerdict t = next (textVerdict IMAGE-TEXT t) λ _. tableVerdict (contents t)
+imageVerdict t = next (textVerdict IMAGE_TEXT t) λ _. tableVerdict (contents t)

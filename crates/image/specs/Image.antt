@@ -2,7 +2,7 @@
 use Rattle.std.specs.Prelude.{ℕ, ◌-◌, List, [], ◌∷◌, ◌++◌, map, length, get_or, replicate}
 use Rattle.words.specs.lists.Sequences.{mapFrom}
 use Rattle.text.specs.frames.Frame.{pair, quad, framesText}
-use Rattle.image.specs.Layout.{HEADER, ENTRY, LABEL, ROW, PLAIN, RETURN, HOME}
+use Rattle.image.specs.declared.layout.TheConstants.{HEADER, ENTRY, LABEL, ROW, PLAIN, RETURN, HOME}
 
 -- kind: the tick kind
 pub record Label : Type 0 where
@@ -27,7 +27,7 @@ homeLabel = record { kind = HOME; called = 0; owner = 1; result = 0; mask = 0 }
 abbrev pub returnLabel : Label
 returnLabel = record { kind = RETURN; called = 0; owner = 0; result = 0; mask = 0 }
 
--- bit: the function bit, or NO-BIT
+-- bit: the function bit, or NO_BIT
 pub record Row : Type 0 where
   pub from : ℕ
   pub care : ℕ

@@ -1,8 +1,6 @@
 // What stands in a decoded table: bytes, two-byte and four-byte fields, and where labels and rows begin.
 ghost use Rattle.std.specs.Prelude.{◌≡◌, ◌+◌, ◌*◌, ◌-◌, ◌<◌, length};
-ghost use Rattle.text.specs.frames.Sizes.{FRAME};
 ghost use Rattle.text.specs.frames.Frame.{size, field, pair_at, quadAt};
-ghost use Rattle.image.specs.Layout.{LABEL-MASK};
 ghost use Rattle.image.specs.Decode.{labels_from, rows_from};
 ghost use Rattle.image.specs.Check.{filled};
 ghost use Rattle.image.specs.inner.FrameContracts.{BytesAsked};
@@ -61,7 +59,7 @@ pub fn label_byte(table: &[u8], l: usize, k: usize) -> u8
 // The mask of label l.
 pub fn label_mask(table: &[u8], l: usize) -> u32
     requires { labels_from table.now + l < size table.now }
-    ensures { result ≡ quadAt table.now (labels_from table.now + l) LABEL-MASK }
+    ensures { result ≡ quadAt table.now (labels_from table.now + l) LABEL_MASK }
 {
     quad(table, labels_from(table) + l, LABEL_MASK)
 }

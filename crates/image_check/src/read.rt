@@ -1,6 +1,5 @@
 // An image's text: read and checked, refusals 1 to 3 and 11 to 13.
 ghost use Rattle.std.specs.Prelude.{◌≡◌, ◌≤◌, length};
-ghost use Rattle.text.specs.frames.Sizes.{IMAGE-TEXT, TABLE};
 ghost use Rattle.text.specs.frames.Answer.{reply, judged};
 ghost use Rattle.text.specs.frames.inner.Read.{readInto};
 ghost use Rattle.image.specs.Check.{imageVerdict};
@@ -15,7 +14,7 @@ use text::reading::read_text;
 pub fn read_image(text: &[u8], table: &mut [u8]) -> Answer
     requires { TABLE ≤ length table.old }
     ensures result_value { reply result ≡ judged (imageVerdict text.now) 0 }
-    ensures table_after { table.new ≡ readInto IMAGE-TEXT text.now table.old }
+    ensures table_after { table.new ≡ readInto IMAGE_TEXT text.now table.old }
 {
     let answer = read_text(text, IMAGE_TEXT, table);
     let Answer::Done(frames) = answer else {

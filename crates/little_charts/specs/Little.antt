@@ -3,11 +3,11 @@
 use Rattle.std.specs.Prelude.{ℕ, zero, suc, Bool, true, false, ◌&&◌, ◌||◌, not, List, [], ◌∷◌, ◌++◌, map, leb, ltb, eqb, length, get_or, replicate}
 use Rattle.words.specs.lists.Numbers.{range, any}
 use Rattle.words.specs.lists.Sequences.{filter, concatMap}
-use Rattle.text.specs.frames.Refusals.{NO-LITTLE-CHART}
+use Rattle.text.specs.declared.frames.refusals.TheConstants.{NO_LITTLE_CHART}
 use Rattle.text.specs.frames.Frame.{size, text_of}
 use Rattle.text.specs.frames.Verdict.{Verdict, fine, refused, when}
 use Rattle.text.specs.frames.Answer.{BufferOutcome, bufferOn}
-use Rattle.charts.specs.Layout.{BEGIN, END, OPERATION, CONDITION}
+use Rattle.charts.specs.declared.layout.TheConstants.{BEGIN, END, OPERATION, CONDITION}
 use Rattle.charts.specs.Chart.{Chart, kind, scheme, argument, result, mask, is}
 use Rattle.charts.specs.Check.{chartVerdict}
 
@@ -60,7 +60,7 @@ abbrev pub littleText : ℕ → ℕ → List ℕ
 littleText n k = text_of (get_or (littleCharts n) k [])
 
 unfoldable pub littleVerdict : ℕ → ℕ → Verdict
-littleVerdict n k = when NO-LITTLE-CHART (ltb n 2 || ltb 4 n || leb (length (littleCharts n)) k)
+littleVerdict n k = when NO_LITTLE_CHART (ltb n 2 || ltb 4 n || leb (length (littleCharts n)) k)
 
 unfoldable pub littleChart : ℕ → ℕ → List ℕ → BufferOutcome
 littleChart n k old = bufferOn (littleVerdict n k) 1 (λ _. littleText n k) old

@@ -1,6 +1,5 @@
 // Node records by number, and the numbers that are tried at a place.
 ghost use Rattle.std.specs.Prelude.{◌≡◌, ◌+◌, ◌*◌, ◌≤◌, ◌<◌, length};
-ghost use Rattle.text.specs.frames.Sizes.{RECORD};
 ghost use Rattle.text.specs.frames.Frame.{size};
 ghost use Rattle.little_charts.specs.little_search.inner.Search.{nodeCount, nodeAt, absent, missingEnds, firstTried, past};
 

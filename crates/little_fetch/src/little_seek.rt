@@ -1,6 +1,5 @@
 // A little chart sought by its number: node records are tried place by place, and the charts that are found are counted down.
 ghost use Rattle.std.specs.Prelude.{◌≡◌, ◌*◌, ◌-◌, ◌≤◌, ◌<◌, take};
-ghost use Rattle.text.specs.frames.Sizes.{RECORD};
 ghost use Rattle.text.specs.frames.Frame.{size};
 ghost use Rattle.little_charts.specs.little_search.inner.Search.{nodeCount, nodeAt, searched};
 ghost use Rattle.little_fetch.specs.little_seek.inner.SeekContracts.{FewFrames, RecordPlaced, SoughtCount, GivesSought, accepts};

@@ -2,7 +2,7 @@
 use Rattle.std.specs.Prelude.{ℕ, ◌≤◌, ◌≡◌, List, length, take}
 use Rattle.text.specs.frames.Frame.{contents}
 use Rattle.text.specs.frames.Answer.{success, BufferOutcome}
-use Rattle.state.specs.Layout.{PLACES}
+use Rattle.state.specs.declared.layout.TheConstants.{PLACES}
 use Rattle.agreement.specs.Agreement.{Translator, Maker, Runner, Rebinder, CallInput, callOutputs, walkOutputs}
 
 abbrev pub Minimiser : Type 0

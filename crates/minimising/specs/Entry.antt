@@ -1,6 +1,6 @@
 -- The smaller image of an image's text: what is answered and what the lent buffer then holds.
 use Rattle.std.specs.Prelude.{ℕ, List}
-use Rattle.text.specs.frames.Refusals.{UNEVEN}
+use Rattle.text.specs.declared.frames.refusals.TheConstants.{UNEVEN}
 use Rattle.text.specs.frames.Frame.{contents}
 use Rattle.text.specs.frames.Verdict.{Verdict, next, when}
 use Rattle.text.specs.frames.Answer.{BufferOutcome, bufferOn}

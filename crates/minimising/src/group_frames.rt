@@ -1,7 +1,7 @@
 // One frame of the smaller image, written with the numbers of groups.
 ghost use Rattle.std.specs.Prelude.{◌≡◌, ◌+◌, ◌-◌, ◌≤◌, ◌<◌, length};
 ghost use Rattle.words.specs.lists.Sequences.{written};
-ghost use Rattle.text.specs.frames.Sizes.{LINE, LABELS, ROWS};
+ghost use Rattle.text.specs.declared.frames.sizes.TheConstants.{LINE, LABELS, ROWS};
 ghost use Rattle.text.specs.frames.Frame.{size, frameText};
 ghost use Rattle.image.specs.Image.{entryFrame, labelFrame, rowFrame};
 ghost use Rattle.image.specs.Decode.{labels_from, labelIn, rowInFrame};

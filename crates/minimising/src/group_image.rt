@@ -1,6 +1,5 @@
 // The smaller image of labels that are grouped: written where there is room for all of it.
 ghost use Rattle.std.specs.Prelude.{◌≡◌, length};
-ghost use Rattle.text.specs.frames.Sizes.{LABELS};
 ghost use Rattle.text.specs.frames.Verdict.{fine};
 ghost use Rattle.text.specs.frames.Answer.{GivesBuffer};
 ghost use Rattle.minimising.specs.group_image.inner.WriteContracts.{Grouped, smallerOutcome};

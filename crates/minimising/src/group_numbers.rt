@@ -2,9 +2,8 @@
 ghost use Rattle.std.specs.Prelude.{◌≡◌, ◌-◌, ◌≤◌, ◌<◌, length, get_or};
 ghost use Rattle.words.specs.lists.Pick.{pick};
 ghost use Rattle.words.specs.lists.Numbers.{count};
-ghost use Rattle.text.specs.frames.Sizes.{LABELS};
+ghost use Rattle.text.specs.declared.frames.sizes.TheConstants.{LABELS};
 ghost use Rattle.text.specs.frames.Frame.{size, field};
-ghost use Rattle.image.specs.Layout.{FROM};
 ghost use Rattle.grouping.specs.Classes.{isFirst};
 ghost use Rattle.minimising.specs.group_numbers.inner.NumberContracts.{LowestOfClass, GroupNumbers};
 

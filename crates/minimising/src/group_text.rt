@@ -1,7 +1,7 @@
 // The smaller image, written frame by frame of the given one.
 ghost use Rattle.std.specs.Prelude.{◌≡◌, ◌+◌, ◌≤◌, ◌<◌, length};
 ghost use Rattle.words.specs.lists.Sequences.{written};
-ghost use Rattle.text.specs.frames.Sizes.{LABELS, ROWS};
+ghost use Rattle.text.specs.declared.frames.sizes.TheConstants.{LABELS, ROWS};
 ghost use Rattle.text.specs.frames.Frame.{size};
 ghost use Rattle.translator.specs.label_text.inner.LabelBytes.{Put};
 ghost use Rattle.minimising.specs.group_pieces.inner.Pieces.{groupsIn, rowsKept, piece, allPieces};

@@ -1,7 +1,5 @@
 // The labels of a table joined: 23, the grouping, and the smaller image of its groups.
 ghost use Rattle.std.specs.Prelude.{◌≡◌, false, length};
-ghost use Rattle.text.specs.frames.Sizes.{LABELS};
-ghost use Rattle.text.specs.frames.Refusals.{UNEVEN};
 ghost use Rattle.text.specs.frames.Verdict.{fine, when};
 ghost use Rattle.text.specs.frames.Answer.{GivesBuffer};
 ghost use Rattle.image.specs.Decode.{decoded};

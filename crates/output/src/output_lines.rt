@@ -1,7 +1,7 @@
 // Lines put into a lent buffer.
 ghost use Rattle.std.specs.Prelude.{◌≡◌, ◌+◌, ◌*◌, ◌≤◌, length};
 ghost use Rattle.words.specs.lists.Sequences.{concatMap, written};
-ghost use Rattle.text.specs.frames.Sizes.{LINE};
+ghost use Rattle.text.specs.declared.frames.sizes.TheConstants.{LINE};
 ghost use Rattle.output.specs.printing.Lines.{codeLine, refusalLine};
 
 use text::frames::put_bytes;

@@ -1,7 +1,7 @@
 -- What the answers mean, by chains of calls from scheme 1.
 use Rattle.std.specs.Prelude.{ℕ, ◌≤◌, ◌≡◌, List}
-use Rattle.text.specs.frames.Sizes.{SCHEMES}
-use Rattle.text.specs.frames.Refusals.{CALLS-ITSELF}
+use Rattle.text.specs.declared.frames.sizes.TheConstants.{SCHEMES}
+use Rattle.text.specs.declared.frames.refusals.TheConstants.{CALLS_ITSELF}
 use Rattle.text.specs.frames.Frame.{contents}
 use Rattle.text.specs.frames.Verdict.{fine}
 use Rattle.text.specs.frames.Answer.{success, refusal}
@@ -13,5 +13,5 @@ use Rattle.places.specs.Entry.{placesNeeded}
 pub record Reported (text : List ℕ) : Type 0 where
   pub longest : (n : ℕ) → placesNeeded text ≡ success n → Longest (contents text) n
   pub few : (n : ℕ) → placesNeeded text ≡ success n → (1 ≤ n) × (n ≤ SCHEMES)
-  pub circle : placesNeeded text ≡ refusal CALLS-ITSELF 0 0 → Circle (contents text)
-  pub refused : translateVerdict text ≡ fine → Circle (contents text) → placesNeeded text ≡ refusal CALLS-ITSELF 0 0
+  pub circle : placesNeeded text ≡ refusal CALLS_ITSELF 0 0 → Circle (contents text)
+  pub refused : translateVerdict text ≡ fine → Circle (contents text) → placesNeeded text ≡ refusal CALLS_ITSELF 0 0

@@ -1,6 +1,5 @@
 // The places that a chart needs, by its text. There is no buffer.
 ghost use Rattle.std.specs.Prelude.{◌≡◌, ltb, length};
-ghost use Rattle.text.specs.frames.Sizes.{ROWS};
 ghost use Rattle.text.specs.frames.Answer.{reply};
 ghost use Rattle.chart_rows.specs.chart_labels.inner.ChartContracts.{Ready};
 ghost use Rattle.chart_rows.specs.Rows.{rows};

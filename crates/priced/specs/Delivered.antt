@@ -6,7 +6,7 @@ use Rattle.text.specs.frames.Frame.{contents}
 use Rattle.text.specs.frames.Answer.{reply, success, GivesBuffer}
 use Rattle.text.specs.declared.frames.Answer.{Answer}
 use Rattle.translator.specs.Entry.{translate}
-use Rattle.state.specs.Layout.{PLACES}
+use Rattle.state.specs.declared.layout.TheConstants.{PLACES}
 use Rattle.state.specs.declared.State.{State}
 use Rattle.state.specs.declared.StateReport.{StateReport}
 use Rattle.state.specs.State.{freshState, GivesState}

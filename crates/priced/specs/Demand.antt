@@ -2,12 +2,12 @@
 use Rattle.std.specs.Prelude.{ℕ, ◌+◌, ◌-◌, ◌≤◌, min, true, false, ◌||◌, ◌≡◌, List, [], ◌∷◌, ◌++◌, map, length, take, drop}
 use Rattle.words.specs.lists.Pick.{pick}
 use Rattle.bindings.specs.Binding.{Binding, ownBinding}
-use Rattle.text.specs.frames.Refusals.{MANY-WORDS}
+use Rattle.text.specs.declared.frames.refusals.TheConstants.{MANY_WORDS}
 use Rattle.text.specs.frames.Frame.{contents}
 use Rattle.text.specs.frames.Answer.{success, refusal}
 use Rattle.charts.specs.Chart.{Chart}
 use Rattle.walk.specs.Walk.{Signal, signals, Tick, walk}
-use Rattle.state.specs.Layout.{PLACES}
+use Rattle.state.specs.declared.layout.TheConstants.{PLACES}
 use Rattle.state.specs.declared.State.{State}
 use Rattle.prices.specs.Prices.{price}
 use Rattle.prices.specs.priced_runs.PricedRun.{tooManyWords, PricedOutcome}
@@ -54,7 +54,7 @@ abbrev pub fallsOn : ℕ → List Tick → ℕ → List ℕ → List Tick
 fallsOn b ts p words = take (min (p + length words) b - min p b) (drop p ts)
 
 abbrev pub refusedMany : RunInput → RunOutput
-refusedMany a = record { reply = refusal MANY-WORDS 0 0; masks = a.masks; codes = a.codes }
+refusedMany a = record { reply = refusal MANY_WORDS 0 0; masks = a.masks; codes = a.codes }
 
 -- the price of a run is that of its ticks of the walk
 unfoldable pub expectedPricedOutputs : Chart → ℕ → List Tick → ℕ → List PricedInput → List PricedOutput

@@ -2,7 +2,7 @@
 use Rattle.std.specs.Prelude.{ℕ, ◌≡◌, List, eqb, length}
 use Rattle.words.specs.lists.Pick.{pick}
 use Rattle.bindings.specs.Binding.{rebound, badRebinding}
-use Rattle.text.specs.frames.Refusals.{BAD-HEADER, UNFIT, BAD-REBINDING}
+use Rattle.text.specs.declared.frames.refusals.TheConstants.{BAD_HEADER, UNFIT, BAD_REBINDING}
 use Rattle.text.specs.frames.Frame.{contents}
 use Rattle.text.specs.frames.Verdict.{Verdict, fine, refused, next, when}
 use Rattle.text.specs.frames.Answer.{success, refusal, replyNumber, reply}
@@ -25,7 +25,7 @@ rebinding h k s = withServing s (rebound h k s.serving)
 abbrev pub rebindVerdict : Image → State → ℕ → ℕ → Verdict
 rebindVerdict i s h k =
     next (when UNFIT (unfit i s)) λ _.
-    when BAD-REBINDING (badRebinding (length i.entries) i.handler h k)
+    when BAD_REBINDING (badRebinding (length i.entries) i.handler h k)
 
 -- a refusal hands back the state as it was
 abbrev pub rebindOn : Verdict → State → ℕ → ℕ → StateOutcome
@@ -41,7 +41,7 @@ unfoldable pub tableRebind : List ℕ → State → ℕ → ℕ → StateOutcome
 tableRebind b s h k = rebindOn (rebindVerdict (tableImage b) s h k) s h k
 
 unfoldable pub liveRebind : List ℕ → State → ℕ → ℕ → StateOutcome
-liveRebind b s h k = rebindOn (next (when BAD-HEADER (badTable b)) λ _. rebindVerdict (tableImage b) s h k) s h k
+liveRebind b s h k = rebindOn (next (when BAD_HEADER (badTable b)) λ _. rebindVerdict (tableImage b) s h k) s h k
 
 -- what a function that rebinds in the bytes of a state promises: a refusal leaves them as they were
 pub record GivesRebindingOn (x : StateOutcome) (before : List ℕ) (answer : Answer) (after : List ℕ) : Type 0 where

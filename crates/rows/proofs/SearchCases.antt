@@ -24,7 +24,8 @@ use Rattle.tables.specs.inner.Asked.{Whole}
 use Rattle.tables.specs.inner.Labels.{NumberedLabel}
 use Rattle.tables.proofs.Front.{end-inside}
 use Rattle.rows.specs.Rows.{matches, isCandidate, Choice, row, noChoice, better, bestRow, leads, next_of}
-use Rattle.rows.specs.inner.Search.{swap, matchingFrame, found_at, BetterOf, NO-FRAME, chosenFrame, Chosen, Deciding}
+use Rattle.rows.specs.declared.TheConstants.{NO_FRAME}
+use Rattle.rows.specs.inner.Search.{swap, matchingFrame, found_at, BetterOf, chosenFrame, Chosen, Deciding}
 use Rattle.rows.proofs.Swaps.{swap-twice, swapped-agrees}
 use Rattle.rows.proofs.ChoiceLaws.{best-nothing, best-own, best-other, better-none, better-first, better-second, better-three}
 use Rattle.rows.proofs.TableRows.{next-found, next-none}
@@ -102,8 +103,8 @@ module _ (b : List ℕ) (f : ℕ) where
   pub frame-named : (l : ℕ) → f < size b → chosenFrame (found_at b l f) ≡ f
   frame-named l h = ap chosenFrame (at-frame l h)
 
-pub none_named : (b : List ℕ) (l : ℕ) → size b ≤ NO-FRAME → chosenFrame (found_at b l NO-FRAME) ≡ NO-FRAME
-none_named b l h = ap chosenFrame (past-table b NO-FRAME l h)
+pub none_named : (b : List ℕ) (l : ℕ) → size b ≤ NO_FRAME → chosenFrame (found_at b l NO_FRAME) ≡ NO_FRAME
+none_named b l h = ap chosenFrame (past-table b NO_FRAME l h)
 
 module _ (b : List ℕ) (best f : ℕ) (inside : f < size b) where
   pub better-only : size b ≤ best → BetterOf b best f f
@@ -171,7 +172,7 @@ module _ (b : List ℕ) (l w bit first end : ℕ) where
           ∙ s
 
 -- a table has fewer frames
-pub few-frames : (b : List ℕ) → Whole b → ((k : ℕ) → get_or b k 0 < 256) → size b < NO-FRAME
+pub few-frames : (b : List ℕ) → Whole b → ((k : ℕ) → get_or b k 0 < 256) → size b < NO_FRAME
 few-frames b x bytes = omega (arith, x.alone, bytes 1, bytes 2, bytes 3, bytes 4)
 
 -- ---- a label with one row
@@ -180,11 +181,11 @@ module _ (b : List ℕ) (w bit f : ℕ) (small : w < 65536) (swapped : ℕ) (e :
   one-test : t ≡ matchingFrame b w bit f
   one-test = q ∙ ap (λ (v : ℕ). matchingFrame b v bit f) (ap (λ (v : ℕ). swap v) e ∙ swap-twice w small)
 
-  pub one-matches : t ≡ true → f ≡ pick (matchingFrame b w bit f) f NO-FRAME
-  one-matches y = sym (yes-pick (matchingFrame b w bit f) f NO-FRAME (sym one-test ∙ y))
+  pub one-matches : t ≡ true → f ≡ pick (matchingFrame b w bit f) f NO_FRAME
+  one-matches y = sym (yes-pick (matchingFrame b w bit f) f NO_FRAME (sym one-test ∙ y))
 
-  pub one-fails : t ≡ false → NO-FRAME ≡ pick (matchingFrame b w bit f) f NO-FRAME
-  one-fails n = sym (no-pick (matchingFrame b w bit f) f NO-FRAME (sym one-test ∙ n))
+  pub one-fails : t ≡ false → NO_FRAME ≡ pick (matchingFrame b w bit f) f NO_FRAME
+  one-fails n = sym (no-pick (matchingFrame b w bit f) f NO_FRAME (sym one-test ∙ n))
 
 module _ (b : List ℕ) (l w bit first end : ℕ) (d : Deciding b l bit) (p : first ≡ firstOn b l) (q : end ≡ endOn b l) (one : end ≡ first + 1)
   where
@@ -193,17 +194,17 @@ module _ (b : List ℕ) (l w bit first end : ℕ) (d : Deciding b l bit) (p : fi
         ap (λ (n : ℕ). bestRow l w bit first (map (rowOn b l) (range first n))) (let z : 1 ≡ end - first = omega arith in z)
         ∙ ap₂ (λ (i j : ℕ). bestRow l w bit i (map (rowOn b l) (range i (j - i)))) p q
 
-    pub one_found : (r : ℕ) → r ≡ pick (matchingFrame b w bit first) first NO-FRAME → Chosen b l w bit r
+    pub one_found : (r : ℕ) → r ≡ pick (matchingFrame b w bit first) first NO_FRAME → Chosen b l w bit r
     one_found r z = z ∙ go (matchingFrame b w bit first) refl ∙ ap chosenFrame alone
       where
         go : (t : Bool) → matchingFrame b w bit first ≡ t
-            → pick (matchingFrame b w bit first) first NO-FRAME ≡ chosenFrame (bestRow l w bit first (map (rowOn b l) (range first 1)))
+            → pick (matchingFrame b w bit first) first NO_FRAME ≡ chosenFrame (bestRow l w bit first (map (rowOn b l) (range first 1)))
         go true y =
-            yes-pick (matchingFrame b w bit first) first NO-FRAME y
+            yes-pick (matchingFrame b w bit first) first NO_FRAME y
             ∙ sym (ap chosenFrame (best-own l w bit first (rowOn b l first) [] (own-test b l bit d first w ∙ y)
             ∙ ap (better (row first (rowOn b l first))) (best-nothing l w bit (suc first))))
         go false n =
-            no-pick (matchingFrame b w bit first) first NO-FRAME n
+            no-pick (matchingFrame b w bit first) first NO_FRAME n
             ∙ sym (ap chosenFrame (best-other l w bit first (rowOn b l first) [] (own-test b l bit d first w ∙ n)
             ∙ best-nothing l w bit (suc first)))
 
@@ -212,16 +213,16 @@ module _ (b : List ℕ) (l w bit best : ℕ) (is : found_at b l best ≡ bestRow
   pub compared-some : best < size b → Chosen b l w bit best
   compared-some h = sym (frame-named b best l h) ∙ ap chosenFrame is
 
-  pub compared-none : size b ≤ best → Chosen b l w bit NO-FRAME
+  pub compared-none : size b ≤ best → Chosen b l w bit NO_FRAME
   compared-none h = sym (ap chosenFrame (past-table b best l h)) ∙ ap chosenFrame is
 
 -- ---- a choice among frames of the table is what stands in the frame that it names
-module _ (b : List ℕ) (l w bit : ℕ) (few : size b < NO-FRAME) where
+module _ (b : List ℕ) (l w bit : ℕ) (few : size b < NO_FRAME) where
   abbrev Held : Choice → Type 0
   Held x = found_at b l (chosenFrame x) ≡ x
 
   held_none : Held noChoice
-  held_none = past-table b NO-FRAME l (omega arith)
+  held_none = past-table b NO_FRAME l (omega arith)
 
   held-pick : (t : Bool) (x y : Choice) → Held x → Held y → Held (pick t x y)
   held-pick true x y p q = p
@@ -251,7 +252,7 @@ first_small b l bytes = let f : ℕ = labels_from b + (l - 1) in omega (arith, b
 
 -- ---- the frame chosen holds the row that label l takes, and where it leads
 module _ (b : List ℕ) (l w bit : ℕ) (x : NumberedLabel b l) (bytes : (k : ℕ) → get_or b k 0 < 256) (f : ℕ) (e : Chosen b l w bit f) where
-  few : size b < NO-FRAME
+  few : size b < NO_FRAME
   few = few-frames b x.whole bytes
 
   pub chosen-found : found_at b l f ≡ bestRow l w bit (firstOn b l) (rowsOn b l)
@@ -259,19 +260,19 @@ module _ (b : List ℕ) (l w bit : ℕ) (x : NumberedLabel b l) (bytes : (k : �
       let within : endOn b l ≤ size b = end-within b l (endOn b l) x.whole refl in
       ap (found_at b l) e ∙ held-best b l w bit few (firstOn b l) (endOn b l - firstOn b l) (λ h. omega arith)
 
-  pub chosen-inside : f < NO-FRAME → f < size b
+  pub chosen-inside : f < NO_FRAME → f < size b
   chosen-inside h = go (split f (size b))
     where
       go : (f < size b) ⊎ (size b ≤ f) → f < size b
       go (inl k) = k
       go (inr k) = absurd (omega (arith, e ∙ ap chosenFrame (sym chosen-found ∙ past-table b f l k)))
 
-  pub next-taken : (n : ℕ) → n ≡ pick (ltb f NO-FRAME) (field b f 7) 256 → n ≡ next_of (leads (bestRow l w bit 0 (tableImage b).rows))
-  next-taken n q = go (split f NO-FRAME)
+  pub next-taken : (n : ℕ) → n ≡ pick (ltb f NO_FRAME) (field b f 7) 256 → n ≡ next_of (leads (bestRow l w bit 0 (tableImage b).rows))
+  next-taken n q = go (split f NO_FRAME)
     where
-      go : (f < NO-FRAME) ⊎ (NO-FRAME ≤ f) → n ≡ next_of (leads (bestRow l w bit 0 (tableImage b).rows))
+      go : (f < NO_FRAME) ⊎ (NO_FRAME ≤ f) → n ≡ next_of (leads (bestRow l w bit 0 (tableImage b).rows))
       go (inl h) =
-          next-found b l w bit x f chosen-found n (q ∙ yes-pick (ltb f NO-FRAME) (field b f 7) 256 (lt-ltb f NO-FRAME h)) (chosen-inside h)
+          next-found b l w bit x f chosen-found n (q ∙ yes-pick (ltb f NO_FRAME) (field b f 7) 256 (lt-ltb f NO_FRAME h)) (chosen-inside h)
       go (inr h) =
-          q ∙ no-pick (ltb f NO-FRAME) (field b f 7) 256 (le-ltb f NO-FRAME h)
+          q ∙ no-pick (ltb f NO_FRAME) (field b f 7) 256 (le-ltb f NO_FRAME h)
           ∙ next-none b l w bit x f chosen-found (omega (arith, few))

@@ -3,12 +3,12 @@ use Rattle.std.specs.Prelude.{ℕ, suc, Bool, ◌&&◌, ◌||◌, List, [], ◌�
 use Rattle.std.specs.Int.Count.{ones}
 use Rattle.words.specs.lists.Pick.{pick}
 use Rattle.words.specs.bits.Word.{agrees}
-use Rattle.image.specs.Layout.{NO-BIT, NO-LABEL}
+use Rattle.image.specs.declared.layout.TheConstants.{NO_BIT, NO_LABEL}
 use Rattle.image.specs.Image.{Row}
 
 -- a row matches a word and the bit of the number that its label calls
 abbrev pub matches : ℕ → ℕ → Row → Bool
-matches w b r = agrees w r.care r.values && (eqb r.bit NO-BIT || eqb r.bit b)
+matches w b r = agrees w r.care r.values && (eqb r.bit NO_BIT || eqb r.bit b)
 
 -- a row of label l that matches
 abbrev pub isCandidate : ℕ → ℕ → ℕ → Row → Bool
@@ -39,7 +39,7 @@ abbrev pub leads : Choice → Found
 leads (row k r) = found r.next
 leads noChoice = missing
 
--- where a row leads, as a number: NO-LABEL, above all labels, says that no row matches
+-- where a row leads, as a number: NO_LABEL, above all labels, says that no row matches
 abbrev pub next_of : Found → ℕ
 next_of (found l) = l
-next_of missing = NO-LABEL
+next_of missing = NO_LABEL

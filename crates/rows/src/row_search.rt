@@ -2,11 +2,10 @@
 ghost use Rattle.std.specs.Prelude.{◌≡◌, ◌≤◌, ◌<◌, ltb};
 ghost use Rattle.words.specs.lists.Pick.{pick};
 ghost use Rattle.text.specs.frames.Frame.{size, field};
-ghost use Rattle.image.specs.Layout.{NEXT, NO-BIT, NO-LABEL};
 ghost use Rattle.image.specs.Decode.{schemeCount};
 ghost use Rattle.tables.specs.Table.{tableImage};
 ghost use Rattle.rows.specs.Rows.{bestRow, leads, next_of};
-ghost use Rattle.rows.specs.inner.Search.{swap, matchingFrame, NO-FRAME, Chosen, Deciding};
+ghost use Rattle.rows.specs.inner.Search.{swap, matchingFrame, Chosen, Deciding};
 ghost use Rattle.rows.specs.row_search.inner.Skipped.{Skipped};
 
 use crate::{NO_FRAME, compare_rows, end_of, first_of, is_matching, swap};
@@ -16,7 +15,7 @@ use image::layout::*;
 // The frame where its row matches, else none.
 fn one_row(table: &[u8], f: usize, word: u16, bit: u8) -> usize
     requires { f < size table.now }
-    ensures { result ≡ pick (matchingFrame table.now word bit f) f NO-FRAME }
+    ensures { result ≡ pick (matchingFrame table.now word bit f) f NO_FRAME }
 {
     if is_matching(table, f, swap(word), bit) {
         return f;
@@ -27,7 +26,7 @@ fn one_row(table: &[u8], f: usize, word: u16, bit: u8) -> usize
 // Rows that do not match are passed over, up to the first that does or to where fewer than two are left: two rows a turn, since most rows
 // of a long label do not match, and a turn costs about as much as a row.
 fn skip_rows(table: &[u8], from: usize, end: usize, swapped: u16, bit: u8) -> usize
-    requires from_bound { from ≤ NO-FRAME }
+    requires from_bound { from ≤ NO_FRAME }
     requires end_bound { end ≤ size table.now }
     ensures { Skipped table.now (swap swapped) bit from end result }
 {
@@ -94,8 +93,8 @@ fn take_row(table: &[u8], schemes: u8, l: usize, word: u16, bit: u8) -> usize
 
 // Where the row in frame f leads, or NO_LABEL where that is none.
 fn next_in(table: &[u8], f: usize) -> u16
-    requires { f < NO-FRAME → f < size table.now }
-    ensures { result ≡ pick (ltb f NO-FRAME) (field table.now f NEXT) NO-LABEL }
+    requires { f < NO_FRAME → f < size table.now }
+    ensures { result ≡ pick (ltb f NO_FRAME) (field table.now f NEXT) NO_LABEL }
 {
     if f < NO_FRAME {
         return byte(table, f, NEXT) as u16;
@@ -115,9 +114,9 @@ pub fn next_row(table: &[u8], schemes: u8, l: usize, word: u16, bit: u8) -> u16
 
 // The same where no bit decides.
 pub fn next_free(table: &[u8], schemes: u8, l: usize, word: u16) -> u16
-    requires deciding { Deciding table.now l NO-BIT }
+    requires deciding { Deciding table.now l NO_BIT }
     requires schemes_value { schemes ≡ schemeCount table.now }
-    ensures { result ≡ next_of (leads (bestRow l word NO-BIT 0 (tableImage table.now).rows)) }
+    ensures { result ≡ next_of (leads (bestRow l word NO_BIT 0 (tableImage table.now).rows)) }
 {
     let f = take_row(table, schemes, l, word, NO_BIT);
     next_in(table, f)

@@ -1,7 +1,7 @@
 -- A run and a tick on the bytes of a state that the caller keeps: what they promise, and what the bytes then hold.
 use Rattle.std.specs.Prelude.{ℕ, Bool, ◌&&◌, ◌≡◌, List, eqb, leb}
 use Rattle.words.specs.lists.Pick.{pick}
-use Rattle.text.specs.frames.Refusals.{BAD-LENGTH, NO-ROOM}
+use Rattle.text.specs.declared.frames.refusals.TheConstants.{BAD_LENGTH, NO_ROOM}
 use Rattle.text.specs.frames.Answer.{replyNumber, reply}
 use Rattle.text.specs.declared.frames.Answer.{Answer}
 use Rattle.state.specs.Bytes.{bytesOf}
@@ -11,7 +11,7 @@ use Rattle.runs.specs.TickOutcome.{TickOutcome}
 
 -- refusals that change no state
 abbrev pub changesNothing : ℕ → Bool
-changesNothing n = leb BAD-LENGTH n && leb n NO-ROOM
+changesNothing n = leb BAD_LENGTH n && leb n NO_ROOM
 
 -- refusals 1 to 16 of a run leave the bytes as they were
 unfoldable pub bytesAfter : List ℕ → RunOutcome → List ℕ

@@ -1,7 +1,7 @@
 -- A run: ticks over a list of words; what it answers, the state it hands back and what the two buffers then hold.
 use Rattle.std.specs.Prelude.{ℕ, Bool, ◌||◌, ◌≡◌, List, [], ◌∷◌, ltb, length}
 use Rattle.words.specs.lists.Sequences.{over}
-use Rattle.text.specs.frames.Refusals.{UNFIT, NO-ROOM}
+use Rattle.text.specs.declared.frames.refusals.TheConstants.{UNFIT, NO_ROOM}
 use Rattle.text.specs.frames.Frame.{contents}
 use Rattle.text.specs.frames.Verdict.{Verdict, fine, refused, next, when}
 use Rattle.text.specs.frames.Answer.{Reply, refusal, reply, replied}
@@ -50,7 +50,7 @@ unfoldable pub runVerdict : List ℕ → State → List ℕ → List ℕ → Lis
 runVerdict t s words masks codes =
     next (imageVerdict t) λ _.
     next (when UNFIT (unfit (decoded (contents t)) s)) λ _.
-    when NO-ROOM (noRoom words masks codes)
+    when NO_ROOM (noRoom words masks codes)
 
 abbrev pub runOn : Verdict → (Unit {0} → MachineRun) → State → List ℕ → List ℕ → RunOutcome
 runOn (refused k i) go s masks codes = record { reply = refusal k i 0; state = s; masks = masks; codes = codes }

@@ -6,9 +6,9 @@ use Rattle.words.specs.lists.Sequences.{written, All}
 use Rattle.bindings.specs.Binding.{ownBinding}
 use Rattle.text.specs.frames.Frame.{contents}
 use Rattle.translator.specs.Entry.{translate}
-use Rattle.state.specs.Layout.{PLACES, STATE-BYTES, DEPTH}
+use Rattle.state.specs.declared.layout.TheConstants.{PLACES, STATE_BYTES, DEPTH}
 use Rattle.state.specs.State.{freshState}
-use Rattle.spindles.specs.Layout.{SPINDLES, HEAD-BYTES}
+use Rattle.spindles.specs.declared.layout.TheConstants.{SPINDLES, HEAD_BYTES}
 use Rattle.fairleadow.specs.telling.AnswersForC.{GivesBufferC}
 use Rattle.fairleadow.specs.runs_for_c.Calls.{GivesStateC}
 use Rattle.fairleadow.specs.rebinding_for_c.Calls.{rebindFor, liveRebindFor, GivesRebindingC}
@@ -21,7 +21,7 @@ use Rattle.spindle_calls.specs.ObservedCalls.{call_of, ObservedBalance, finished
 
 -- the depth before a tick is a byte of the spindle's state
 abbrev pub observedTickC : List ℕ → ℕ → ℕ → ℕ → ℕ → ObservedTick
-observedTickC bytes k returned m code = record { depth = get_or bytes (STATE-BYTES * k + DEPTH) 0; number = returned; mask = m; code = code }
+observedTickC bytes k returned m code = record { depth = get_or bytes (STATE_BYTES * k + DEPTH) 0; number = returned; mask = m; code = code }
 
 -- one call on these bytes and this record, and what both are after it; a live one is handed a table that fairleadow_prepare made of the
 -- image; a rebinding is handed the bytes of one spindle where they stand, and the record stays
@@ -34,10 +34,10 @@ pub data SpindleCallC (bytes : List ℕ) (taken : ℕ) : ObservedCall → List �
       → SpindleCallC bytes taken (observedSpin image k w (observedTickC bytes k returned m code)) after recorded
   rebindCall : {image part : List ℕ} {k n g returned at made : ℕ} → k < SPINDLES
       → GivesRebindingC (rebindFor image (part_of bytes k) n g) (part_of bytes k) returned at made part
-      → SpindleCallC bytes taken (observedRebinding image k n g) (written bytes (STATE-BYTES * k) part) taken
+      → SpindleCallC bytes taken (observedRebinding image k n g) (written bytes (STATE_BYTES * k) part) taken
   rebindCallLive : {image table part : List ℕ} {k n g returned at made : ℕ} → TableOfC image table → k < SPINDLES
       → GivesRebindingC (liveRebindFor table (part_of bytes k) n g) (part_of bytes k) returned at made part
-      → SpindleCallC bytes taken (observedRebinding image k n g) (written bytes (STATE-BYTES * k) part) taken
+      → SpindleCallC bytes taken (observedRebinding image k n g) (written bytes (STATE_BYTES * k) part) taken
 
 -- calls in a row, and the bytes and the record after the last of them
 pub data SpindleCallsInTurnC : List ℕ → ℕ → List ObservedCall → List ℕ → ℕ → Type 0 where
@@ -64,7 +64,7 @@ PlacesCountedC =
 unfoldable pub OwnWalkC : Type 0
 OwnWalkC =
     (text before after : List ℕ) (at n : ℕ) → GivesBufferC (translate text before) 0 at n after
-    → (size : ℕ) → 1 ≤ size → size ≤ PLACES → (k : ℕ) → k < SPINDLES → (bytes : List ℕ) → length bytes ≡ HEAD-BYTES
+    → (size : ℕ) → 1 ≤ size → size ≤ PLACES → (k : ℕ) → k < SPINDLES → (bytes : List ℕ) → length bytes ≡ HEAD_BYTES
     → (returned at made : ℕ) → GivesStateC (freshState size) returned at made (part_of bytes k)
     → (taken : ℕ) (said : List ObservedCall) (last : List ℕ) (final : ℕ) → SpindleCallsInTurnC bytes taken said last final
     → All (HandsImage k (take n after)) (map call_of said)

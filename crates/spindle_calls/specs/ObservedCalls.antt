@@ -3,7 +3,7 @@ use Rattle.std.specs.Prelude.{ℕ, ◌+◌, ◌≤◌, ◌&&◌, ◌≡◌, List
 use Rattle.words.specs.lists.Pick.{pick}
 use Rattle.bindings.specs.Binding.{Binding}
 use Rattle.charts.specs.Chart.{Chart}
-use Rattle.spindles.specs.Layout.{STORE}
+use Rattle.spindles.specs.declared.layout.TheConstants.{STORE}
 use Rattle.agreement.specs.Agreement.{bindingAfter}
 use Rattle.spindles.specs.spindle_places.Calls.{SpindleCall, spins, rebinds}
 use Rattle.spindles.specs.spindle_places.PlacesBalance.{placesCalled, placesReturned, placesGivenBack}

@@ -9,7 +9,7 @@ use Rattle.text.specs.frames.Answer.{Reply, success, refusal}
 use Rattle.charts.specs.Chart.{Chart}
 use Rattle.walk.specs.Walk.{Signal, Tick, walk}
 use Rattle.translator.specs.Entry.{translate}
-use Rattle.state.specs.Layout.{PLACES}
+use Rattle.state.specs.declared.layout.TheConstants.{PLACES}
 use Rattle.state.specs.State.{freshState}
 use Rattle.agreement.specs.Agreement.{bindingAfter}
 use Rattle.spindles.specs.Spindles.{stateAt}

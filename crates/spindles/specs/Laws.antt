@@ -1,6 +1,6 @@
 -- What holds of one call: a refusal changes nothing, the other three states stay, and of them no more than the depths is read.
 use Rattle.std.specs.Prelude.{ℕ, suc, ◌≤◌, ◌≡◌, List, length}
-use Rattle.text.specs.frames.Refusals.{FULL}
+use Rattle.text.specs.declared.frames.refusals.TheConstants.{FULL}
 use Rattle.text.specs.frames.Verdict.{fine}
 use Rattle.text.specs.frames.Answer.{replyNumber, refusal}
 use Rattle.image.specs.Check.{imageVerdict}

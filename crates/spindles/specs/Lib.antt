@@ -1,4 +1,3 @@
-pub mod Layout
 pub mod Spindles
 pub mod Laws
 pub mod inner

@@ -1,7 +1,7 @@
 -- Four spindles that share 64 places: one call ticks a named spindle by one word. Refusals 25 and 26.
 use Rattle.std.specs.Prelude.{ℕ, ◌+◌, ◌-◌, Bool, ◌&&◌, ◌||◌, not, ◌≡◌, List, [], ◌∷◌, leb, ltb, eqb, length, get_or, set}
 use Rattle.words.specs.lists.Pick.{pick}
-use Rattle.text.specs.frames.Refusals.{BAD-HEADER, UNFIT, NO-SPINDLE, NO-PLACE}
+use Rattle.text.specs.declared.frames.refusals.TheConstants.{BAD_HEADER, UNFIT, NO_SPINDLE, NO_PLACE}
 use Rattle.text.specs.frames.Verdict.{Verdict, fine, refused, next, when}
 use Rattle.text.specs.frames.Answer.{Reply, refusal, reply}
 use Rattle.image.specs.Check.{imageVerdict}
@@ -10,7 +10,7 @@ use Rattle.state.specs.declared.State.{State}
 use Rattle.state.specs.State.{noState}
 use Rattle.runs.specs.TickOutcome.{TickOutcome, imageTick}
 use Rattle.runs.specs.machine.Live.{liveTick}
-use Rattle.spindles.specs.Layout.{SPINDLES, STORE}
+use Rattle.spindles.specs.declared.layout.TheConstants.{SPINDLES, STORE}
 use Rattle.spindles.specs.declared.SpinReport.{SpinReport}
 
 abbrev pub stateAt : List State → ℕ → State
@@ -27,7 +27,7 @@ badHead states taken = not (eqb (length states) SPINDLES) || not (eqb (depths st
 -- 25, what the image or the table is refused for, and 15 by the list and the record
 abbrev pub headVerdict : Verdict → List State → ℕ → ℕ → Verdict
 headVerdict v states taken k =
-    next (when NO-SPINDLE (ltb 3 k)) λ _.
+    next (when NO_SPINDLE (ltb 3 k)) λ _.
     next v λ _.
     when UNFIT (badHead states taken)
 
@@ -54,7 +54,7 @@ findsNone taken s x = noneLeft s.depth x.state.depth taken
 -- the spindle's own tick; one that is refused hands back the state as it was
 abbrev pub spunBy : List State → ℕ → ℕ → TickOutcome → SpinOutcome
 spunBy states taken k x = let s = stateAt states k in pick (findsNone taken s x)
-    (turnedBack NO-PLACE 0 states taken)
+    (turnedBack NO_PLACE 0 states taken)
     (record {
       reply = x.reply;
       mask = x.mask;
@@ -74,7 +74,7 @@ spin t states taken k w = spunOn (headVerdict (imageVerdict t) states taken k) s
 -- the same on a prepared table, whatever its bytes are
 unfoldable pub liveSpin : List ℕ → List State → ℕ → ℕ → ℕ → SpinOutcome
 liveSpin b states taken k w =
-    spunOn (headVerdict (when BAD-HEADER (badTable b)) states taken k) states taken k (λ _. liveTick b (stateAt states k) w)
+    spunOn (headVerdict (when BAD_HEADER (badTable b)) states taken k) states taken k (λ _. liveTick b (stateAt states k) w)
 
 -- what a function over the list of states promises: its report, and the list after it
 pub record GivesSpin (x : SpinOutcome) (r : SpinReport) (after : List State) : Type 0 where

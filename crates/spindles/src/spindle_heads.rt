@@ -1,5 +1,4 @@
 // A head that is refused before any state is looked at: by an image, and by a prepared table.
-ghost use Rattle.text.specs.frames.Refusals.{BAD-HEADER};
 ghost use Rattle.text.specs.frames.Verdict.{when};
 ghost use Rattle.image.specs.Check.{imageVerdict};
 ghost use Rattle.tables.specs.Table.{badTable};
@@ -29,7 +28,7 @@ pub fn refuse_head(image: &[u8], spindle: usize, taken: usize) -> SpinReport
 
 // The same where there is a table: 25, 11, 15.
 pub fn live_refuse_head(table: &[u8], spindle: usize, taken: usize) -> SpinReport
-    ensures { GivesRefusedHead (refusedHead (when BAD-HEADER (badTable table.now)) spindle) taken result }
+    ensures { GivesRefusedHead (refusedHead (when BAD_HEADER (badTable table.now)) spindle) taken result }
 {
     if 3 < spindle {
         let answer = refused(NO_SPINDLE, 0);

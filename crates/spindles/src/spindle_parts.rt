@@ -1,6 +1,5 @@
 // Four states in 520 bytes: how many there are, their depths, and the bytes of one.
 ghost use Rattle.std.specs.Prelude.{◌≡◌, ◌<◌, length};
-ghost use Rattle.spindles.specs.Layout.{SPINDLES, HEAD-BYTES};
 ghost use Rattle.spindles.specs.spindle_parts.FourStates.{part_of, depthsIn};
 ghost use Rattle.spindles.specs.spindle_parts.inner.DepthBytes.{stateCount};
 
@@ -19,7 +18,7 @@ pub fn state_count(states: &[u8]) -> usize
 
 // The depths of four states, which stand in the second byte of each.
 pub fn depth_sum(states: &[u8]) -> usize
-    requires { length states.now ≡ HEAD-BYTES }
+    requires { length states.now ≡ HEAD_BYTES }
     ensures { result ≡ depthsIn states.now }
 {
     let a = states[1];
@@ -31,7 +30,7 @@ pub fn depth_sum(states: &[u8]) -> usize
 
 // The bytes of the spindle's own state.
 pub fn part_of(states: &[u8], spindle: usize) -> [u8; STATE_BYTES]
-    requires states_len { length states.now ≡ HEAD-BYTES }
+    requires states_len { length states.now ≡ HEAD_BYTES }
     requires spindle_bound { spindle < SPINDLES }
     ensures { result ≡ part_of states.now spindle }
 {

@@ -1,6 +1,6 @@
 // The turn of one spindle by value: it takes the spindle's state and hands one back, with the four depths.
 ghost use Rattle.std.specs.Prelude.{◌≡◌, ◌+◌, ◌≤◌};
-ghost use Rattle.text.specs.frames.Refusals.{BAD-HEADER};
+ghost use Rattle.text.specs.declared.frames.refusals.TheConstants.{BAD_HEADER};
 ghost use Rattle.text.specs.frames.Verdict.{when};
 ghost use Rattle.image.specs.Check.{imageVerdict};
 ghost use Rattle.tables.specs.Table.{badTable};
@@ -61,7 +61,7 @@ pub fn live_turn_state(
     word: u16,
 ) -> SpinStateReport
     requires { state.depth ≤ a + b + c + d }
-    ensures { GivesTurn (turn (when BAD-HEADER (badTable table.now))
+    ensures { GivesTurn (turn (when BAD_HEADER (badTable table.now))
         state (a + b + c + d) taken (liveTick table.now state word)) result.report result.state }
 {
     let sum = depths_sum(a, b, c, d);

@@ -1,7 +1,7 @@
 // The turn of one spindle on the bytes of its state, on an image and live on a prepared table: its tick, unless the head is refused or a
 // call finds no place.
 ghost use Rattle.std.specs.Prelude.{◌≤◌};
-ghost use Rattle.text.specs.frames.Refusals.{BAD-HEADER};
+ghost use Rattle.text.specs.declared.frames.refusals.TheConstants.{BAD_HEADER};
 ghost use Rattle.text.specs.frames.Verdict.{when};
 ghost use Rattle.image.specs.Check.{imageVerdict};
 ghost use Rattle.tables.specs.Table.{badTable};
@@ -10,7 +10,7 @@ ghost use Rattle.runs.specs.TickOutcome.{imageTick};
 ghost use Rattle.runs.specs.machine.Live.{liveTick};
 ghost use Rattle.spindles.specs.inner.HeadAndTurn.{turn, GivesTurnOn};
 ghost use Rattle.spindles.specs.turning.inner.TurnContracts.{GivesSettled};
-ghost use Rattle.spindles.specs.Layout.{STORE};
+ghost use Rattle.spindles.specs.declared.layout.TheConstants.{STORE};
 
 use crate::spindle_heads::{live_refuse_head, refuse_head};
 use crate::{SpinReport, bad_record, none_left, turned_back};
@@ -76,7 +76,7 @@ pub fn live_turn_bytes(
     word: u16,
 ) -> SpinReport
     requires { (state_of bytes.old).depth ≤ sum }
-    ensures { GivesTurnOn (turn (when BAD-HEADER (badTable table.now)) (state_of bytes.old) sum taken
+    ensures { GivesTurnOn (turn (when BAD_HEADER (badTable table.now)) (state_of bytes.old) sum taken
         (liveTick table.now (state_of bytes.old) word)) bytes.old result bytes.new }
 {
     if bad_record(sum, taken) {

@@ -4,26 +4,27 @@
 use Rattle.std.specs.Prelude.{ℕ, ◌+◌, Bool, false, not, List, ◌∷◌, ◌++◌, map, eqb, get_or}
 use Rattle.words.specs.lists.Pick.{pick}
 use Rattle.words.specs.lists.Numbers.{range}
-use Rattle.text.specs.frames.Sizes.{SCHEMES}
-use Rattle.state.specs.Layout.{PLACES, SIZE, DEPTH, PLACES-FROM, RESULTS-FROM, SERVING-FROM, NUMBERS-FROM, SERVERS-FROM}
+use Rattle.text.specs.declared.frames.sizes.TheConstants.{SCHEMES}
+use Rattle.state.specs.declared.layout.TheConstants.{PLACES, SIZE, DEPTH, PLACES_FROM, RESULTS_FROM, SERVING_FROM, NUMBERS_FROM}
+use Rattle.state.specs.declared.layout.TheConstants.{SERVERS_FROM}
 use Rattle.state.specs.declared.State.{State}
 use Rattle.state.specs.State.{placeAt, number_at, serverAt}
 
 abbrev pub place_in : List ℕ → ℕ → ℕ
-place_in b k = get_or b (PLACES-FROM + k) 0
+place_in b k = get_or b (PLACES_FROM + k) 0
 
 -- a result byte of 0 is false, any other is true
 abbrev pub resultIn : List ℕ → ℕ → Bool
-resultIn b k = not (eqb (get_or b (RESULTS-FROM + k) 0) 0)
+resultIn b k = not (eqb (get_or b (RESULTS_FROM + k) 0) 0)
 
 abbrev pub servingIn : List ℕ → ℕ → ℕ
-servingIn b k = get_or b (SERVING-FROM + k) 0
+servingIn b k = get_or b (SERVING_FROM + k) 0
 
 abbrev pub number_in : List ℕ → ℕ → ℕ
-number_in b k = get_or b (NUMBERS-FROM + k) 0
+number_in b k = get_or b (NUMBERS_FROM + k) 0
 
 abbrev pub serverIn : List ℕ → ℕ → ℕ
-serverIn b k = get_or b (SERVERS-FROM + k) 0
+serverIn b k = get_or b (SERVERS_FROM + k) 0
 
 unfoldable pub state_of : List ℕ → State
 state_of b = record {

@@ -1,4 +1,3 @@
-pub mod Layout
 pub mod State
 pub mod Bytes
 pub mod Changes

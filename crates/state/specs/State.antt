@@ -3,11 +3,11 @@ use Rattle.std.specs.Prelude.{ℕ, ◌-◌, Bool, ◌||◌, ◌≡◌, List, ltb
 use Rattle.words.specs.lists.Pick.{pick}
 use Rattle.results.specs.Results.{noResults}
 use Rattle.bindings.specs.Binding.{ownBinding}
-use Rattle.text.specs.frames.Sizes.{SCHEMES}
-use Rattle.text.specs.frames.Refusals.{BAD-SIZE}
+use Rattle.text.specs.declared.frames.sizes.TheConstants.{SCHEMES}
+use Rattle.text.specs.declared.frames.refusals.TheConstants.{BAD_SIZE}
 use Rattle.text.specs.frames.Answer.{Reply, success, refusal, reply}
 use Rattle.image.specs.Image.{Image, Label, no_label}
-use Rattle.state.specs.Layout.{PLACES}
+use Rattle.state.specs.declared.layout.TheConstants.{PLACES}
 use Rattle.state.specs.declared.State.{State}
 use Rattle.state.specs.declared.StateReport.{StateReport}
 
@@ -57,7 +57,7 @@ pub record GivesState (x : StateOutcome) (r : StateReport) : Type 0 where
   pub state : r.state ≡ x.state
 
 unfoldable pub freshState : ℕ → StateOutcome
-freshState n = pick (badSize n) (record { reply = refusal BAD-SIZE 0 0; state = noState }) (record { reply = success 0; state = fresh n })
+freshState n = pick (badSize n) (record { reply = refusal BAD_SIZE 0 0; state = noState }) (record { reply = success 0; state = fresh n })
 
 -- ---- what an image has, by number
 abbrev pub label_at : Image → ℕ → Label

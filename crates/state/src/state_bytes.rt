@@ -2,8 +2,6 @@
 ghost use Rattle.std.specs.Prelude.{◌≡◌, map, ◌+◌, ◌≤◌, length, get_or};
 ghost use Rattle.words.specs.lists.Numbers.{range};
 ghost use Rattle.words.specs.lists.Sequences.{written};
-ghost use Rattle.text.specs.frames.Sizes.{SCHEMES};
-ghost use Rattle.state.specs.Layout.{PLACES, STATE-BYTES, RESULTS-FROM, SERVING-FROM, SERVERS-FROM};
 ghost use Rattle.state.specs.Bytes.{servingIn, servingByte, resultIn, resultByte, state_of, bytesOf};
 
 use crate::State;
@@ -12,7 +10,7 @@ use text::frames::sizes::SCHEMES;
 
 // The 32 bytes from byte `from` on, one for each place.
 fn places_from(bytes: [u8; STATE_BYTES], from: usize) -> [u8; PLACES]
-    requires { from ≤ SERVERS-FROM }
+    requires { from ≤ SERVERS_FROM }
     ensures { result ≡ map (λ k. get_or bytes (from + k) 0) (range 0 PLACES) }
 {
     let mut places = [0u8; PLACES];
@@ -69,8 +67,8 @@ pub fn state_of(bytes: [u8; STATE_BYTES]) -> State
 
 // One byte for each place, written from byte `from` on.
 fn put_places(out: &mut [u8], from: usize, values: [u8; PLACES])
-    requires out_len { length out.old ≡ STATE-BYTES }
-    requires from_bound { from ≤ SERVERS-FROM }
+    requires out_len { length out.old ≡ STATE_BYTES }
+    requires from_bound { from ≤ SERVERS_FROM }
     ensures { out.new ≡ written out.old from (map (λ k. get_or values k 0) (range 0 PLACES)) }
 {
     let mut k: usize = 0;
@@ -81,8 +79,8 @@ fn put_places(out: &mut [u8], from: usize, values: [u8; PLACES])
 }
 
 fn put_results(out: &mut [u8], s: State)
-    requires { length out.old ≡ STATE-BYTES }
-    ensures { out.new ≡ written out.old RESULTS-FROM (map (resultByte s) (range 0 SCHEMES)) }
+    requires { length out.old ≡ STATE_BYTES }
+    ensures { out.new ≡ written out.old RESULTS_FROM (map (resultByte s) (range 0 SCHEMES)) }
 {
     let mut k: usize = 0;
     while k < SCHEMES {
@@ -92,8 +90,8 @@ fn put_results(out: &mut [u8], s: State)
 }
 
 fn put_binding(out: &mut [u8], s: State)
-    requires { length out.old ≡ STATE-BYTES }
-    ensures { out.new ≡ written out.old SERVING-FROM (map (servingByte s) (range 0 SCHEMES)) }
+    requires { length out.old ≡ STATE_BYTES }
+    ensures { out.new ≡ written out.old SERVING_FROM (map (servingByte s) (range 0 SCHEMES)) }
 {
     let mut k: usize = 0;
     while k < SCHEMES {

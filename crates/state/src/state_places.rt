@@ -1,6 +1,5 @@
 // Size, depth and places of a state that is kept as 130 bytes, read and changed in place.
 ghost use Rattle.std.specs.Prelude.{◌≡◌, ◌<◌};
-ghost use Rattle.state.specs.Layout.{PLACES};
 ghost use Rattle.state.specs.State.{noPlaces, placeAt, number_at, serverAt};
 ghost use Rattle.state.specs.Changes.{withDepth, withPlace, withOpened, withPlaces, withAlone};
 ghost use Rattle.state.specs.Bytes.{state_of};

@@ -2,8 +2,6 @@
 ghost use Rattle.std.specs.Prelude.{◌≡◌, ◌-◌, ◌≤◌, length};
 ghost use Rattle.results.specs.Results.{result_of};
 ghost use Rattle.bindings.specs.Binding.{served, rebound};
-ghost use Rattle.text.specs.frames.Sizes.{SCHEMES};
-ghost use Rattle.state.specs.Layout.{STATE-BYTES};
 ghost use Rattle.state.specs.Changes.{withServing, afterResult};
 ghost use Rattle.state.specs.Bytes.{state_of, bytesOf};
 
@@ -70,7 +68,7 @@ pub fn put_serving(bytes: &mut [u8; STATE_BYTES], h: usize, scheme: u8)
 
 // Each result byte as it is written: 0 or 1.
 fn tidy_bytes(bytes: &mut [u8])
-    requires { length bytes.old ≡ STATE-BYTES }
+    requires { length bytes.old ≡ STATE_BYTES }
     ensures { bytes.new ≡ bytesOf (state_of bytes.old) }
 {
     let mut k: usize = 0;

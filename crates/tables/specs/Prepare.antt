@@ -1,10 +1,10 @@
 -- An image prepared for ticks: its table, and in the frame of each label where the rows of that label end.
 use Rattle.std.specs.Prelude.{ℕ, zero, suc, ◌+◌, ◌*◌, ◌-◌, ◌/◌, ◌%◌, Bool, List, leb, set}
 use Rattle.words.specs.lists.Numbers.{lowest}
-use Rattle.text.specs.frames.Sizes.{FRAME}
+use Rattle.text.specs.declared.frames.sizes.TheConstants.{FRAME}
 use Rattle.text.specs.frames.Frame.{size, field, contents}
 use Rattle.text.specs.frames.Answer.{BufferOutcome, bufferOn}
-use Rattle.image.specs.Layout.{FROM}
+use Rattle.image.specs.declared.layout.TheConstants.{FROM}
 use Rattle.image.specs.Decode.{lastLabel, labels_from, rows_from}
 use Rattle.image.specs.Check.{imageVerdict}
 

@@ -4,7 +4,7 @@ use Rattle.words.specs.lists.Pick.{pick}
 use Rattle.words.specs.lists.Numbers.{range}
 use Rattle.words.specs.lists.Sequences.{concatMap}
 use Rattle.text.specs.frames.Frame.{size, field, pair_at}
-use Rattle.image.specs.Layout.{CARE, VALUES, FUNCTION-BIT, NEXT, NO-BIT, PLAIN, FUNCTION-CALL}
+use Rattle.image.specs.declared.layout.TheConstants.{CARE, VALUES, FUNCTION_BIT, NEXT, NO_BIT, PLAIN, FUNCTION_CALL}
 use Rattle.image.specs.Image.{Image, Label, Row, no_label, homeLabel, returnLabel}
 use Rattle.image.specs.Decode.{schemeCount, lastLabel, rowCount, handlerIn, labels_from, rows_from, entryIn, labelIn}
 use Rattle.image.specs.Check.{badCounts, badHandler}
@@ -22,7 +22,7 @@ abbrev pub labelOn : List ℕ → ℕ → Label
 labelOn b zero = homeLabel
 labelOn b (suc zero) = returnLabel
 labelOn b (suc (suc l)) = let x = labelIn b (suc (suc l)) in record {
-  kind = pick (ltb FUNCTION-CALL x.kind) PLAIN x.kind;
+  kind = pick (ltb FUNCTION_CALL x.kind) PLAIN x.kind;
   called = pick (ltb (schemeCount b) x.called) 0 x.called;
   owner = x.owner;
   result = x.result;
@@ -49,7 +49,7 @@ rowOn b l f = record {
   from = l;
   care = pair_at b f CARE;
   values = pair_at b f VALUES;
-  bit = pick (eqb (tableLabel b l).kind FUNCTION-CALL) (field b f FUNCTION-BIT) NO-BIT;
+  bit = pick (eqb (tableLabel b l).kind FUNCTION_CALL) (field b f FUNCTION_BIT) NO_BIT;
   next = field b f NEXT;
 }
 

@@ -1,6 +1,5 @@
 // Refusal 11 of a table, which only its header and its length decide.
 ghost use Rattle.std.specs.Prelude.{◌≡◌, ◌*◌, ◌<◌};
-ghost use Rattle.text.specs.frames.Sizes.{FRAME};
 ghost use Rattle.text.specs.frames.Frame.{size};
 ghost use Rattle.tables.specs.Table.{table_end, badTable};
 

@@ -1,6 +1,6 @@
 // Labels and entries of a table, whatever its bytes are.
 ghost use Rattle.std.specs.Prelude.{◌≡◌, ◌+◌, ◌≤◌, ◌<◌};
-ghost use Rattle.text.specs.frames.Sizes.{FRAME};
+ghost use Rattle.text.specs.declared.frames.sizes.TheConstants.{FRAME};
 ghost use Rattle.text.specs.frames.Frame.{field};
 ghost use Rattle.image.specs.Decode.{schemeCount, lastLabel, handlerIn, labels_from};
 ghost use Rattle.tables.specs.Table.{tableLabel};

@@ -1,6 +1,5 @@
 // An image prepared once for all its ticks: checked, decoded, and where the rows of each label end noted in its frame.
 ghost use Rattle.std.specs.Prelude.{◌≡◌, ◌≤◌, ◌-◌, length};
-ghost use Rattle.text.specs.frames.Sizes.{TABLE};
 ghost use Rattle.text.specs.frames.Answer.{GivesBuffer};
 ghost use Rattle.tables.specs.Prepare.{prepare, rowReached, noted};
 ghost use Rattle.tables.specs.inner.Prepares.{GivesPrepared};

@@ -1,6 +1,5 @@
 // Where the rows of a label stand in a prepared table.
 ghost use Rattle.std.specs.Prelude.{◌≡◌, ◌+◌, ◌*◌, ◌<◌};
-ghost use Rattle.text.specs.frames.Sizes.{FRAME};
 ghost use Rattle.text.specs.frames.Frame.{size, field};
 ghost use Rattle.tables.specs.Table.{firstOn, endOn};
 ghost use Rattle.tables.specs.inner.Labels.{Framed};

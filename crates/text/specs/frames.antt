@@ -1,5 +1,3 @@
-pub mod Codes
-pub mod Refusals
 pub mod Sizes
 pub mod Frame
 pub mod Verdict

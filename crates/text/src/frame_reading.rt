@@ -1,7 +1,6 @@
 // One frame of a text, read: its characters and its sum looked at, and its ten bytes stored in a lent buffer.
 ghost use Rattle.std.specs.Prelude.{◌≡◌, map, ◌+◌, ◌≤◌, ◌<◌, length};
 ghost use Rattle.words.specs.lists.Numbers.{range};
-ghost use Rattle.text.specs.frames.Sizes.{DIGITS, BYTES};
 ghost use Rattle.text.specs.frame_reading.inner.FrameReads.{DigitsRead, place_of, value_of, FrameAsked, FrameRead};
 
 use crate::digits::digit;

@@ -1,6 +1,6 @@
 // A text read in one pass: refusals 1 to 3, and the bytes of its frames, ten of each, into a lent buffer.
 ghost use Rattle.std.specs.Prelude.{◌≡◌, ◌*◌, ◌≤◌, length};
-ghost use Rattle.text.specs.frames.Sizes.{LINE, FRAME};
+ghost use Rattle.text.specs.declared.frames.sizes.TheConstants.{FRAME};
 ghost use Rattle.text.specs.frames.Frame.{frameCount};
 ghost use Rattle.text.specs.frames.Check.{textVerdict};
 ghost use Rattle.text.specs.frames.inner.Read.{readInto};

@@ -4,10 +4,10 @@ use Rattle.std.specs.Prelude.{ℕ, suc, ◌-◌, ◌≤◌, Bool, true, false, �
 use Rattle.words.specs.lists.Pick.{pick}
 use Rattle.results.specs.Results.{result_of, withResult}
 use Rattle.bindings.specs.Binding.{Binding}
-use Rattle.text.specs.frames.Codes.{RETURN-CODE, DROP-CODE}
+use Rattle.text.specs.declared.frames.codes.TheConstants.{RETURN_CODE, DROP_CODE}
 use Rattle.text.specs.frames.Frame.{contents}
 use Rattle.text.specs.frames.Verdict.{fine}
-use Rattle.image.specs.Layout.{FUNCTION-CALL, RETURN}
+use Rattle.image.specs.declared.layout.TheConstants.{FUNCTION_CALL, RETURN}
 use Rattle.image.specs.Image.{Image, Label}
 use Rattle.image.specs.Decode.{decoded}
 use Rattle.image.specs.Check.{imageVerdict}
@@ -32,7 +32,7 @@ CallClears =
 -- handler's bit is then 0, and every other bit, that of the number called too, is as the caller's result left it; who serves stays
 pub record Drop (i : Image) (x : Label) (s : State) (m code : ℕ) (t : State) : Type 0 where
   pub mask : m ≡ x.mask
-  pub coded : code ≡ DROP-CODE
+  pub coded : code ≡ DROP_CODE
   pub alone : t.depth ≡ 1
   pub places : t.places ≡ bottomAlone (entry_at i i.handler)
   pub numbers : t.numbers ≡ bottomAlone i.handler
@@ -65,7 +65,7 @@ pub data MachineUnwritten (i : Image) (h d : ℕ) : State → State → Type 0 w
 
 -- a return: the top is taken off, and the label beneath goes where its row leads, or there is none
 abbrev pub returnTick : State → Found → MachineTick
-returnTick s row = moved 0 RETURN-CODE (dropping s s.bits) (s.depth - 2) row
+returnTick s row = moved 0 RETURN_CODE (dropping s s.bits) (s.depth - 2) row
 
 -- For every accepted image and every state that fits it with a function call's label at the top: after the call that is made, and ticks
 -- that drop nothing and write no 1 to the bit of the number called, with any rebindings between them, the call's own return goes by the
@@ -74,7 +74,7 @@ unfoldable pub ZeroRow : Type 0
 ZeroRow =
     (text : List ℕ) → imageVerdict text ≡ fine → (s : State) → Sized s
     → let i = decoded (contents text) in unfit i s ≡ false
-    → let x = label_at i (top_of s) in x.kind ≡ FUNCTION-CALL
+    → let x = label_at i (top_of s) in x.kind ≡ FUNCTION_CALL
     → (w m code : ℕ) (t u : State) → tick i s w ≡ finished m code t → findsFull i s ≡ false
     → MachineUnwritten i x.called (suc s.depth) t u
     → returnsAt i (suc s.depth) u ≡ true → (v : ℕ) → tick i u v ≡ returnTick u (leads (bestRow (top_of s) v 0 0 i.rows))

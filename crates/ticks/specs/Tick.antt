@@ -3,8 +3,9 @@ use Rattle.std.specs.Prelude.{ℕ, suc, ◌+◌, ◌-◌, Bool, true, false, ◌
 use Rattle.words.specs.lists.Pick.{pick}
 use Rattle.results.specs.Results.{Results, result_of, withResult, cleared}
 use Rattle.bindings.specs.Binding.{served}
-use Rattle.text.specs.frames.Codes.{PLAIN-CODE, RETURN-CODE, HOME-CODE, OPERATION-CALL-CODE, FUNCTION-CALL-CODE, DROP-CODE}
-use Rattle.text.specs.frames.Refusals.{FULL, NO-ROW}
+use Rattle.text.specs.declared.frames.codes.TheConstants.{PLAIN_CODE, RETURN_CODE, HOME_CODE, OPERATION_CALL_CODE, FUNCTION_CALL_CODE}
+use Rattle.text.specs.declared.frames.codes.TheConstants.{DROP_CODE}
+use Rattle.text.specs.declared.frames.refusals.TheConstants.{FULL, NO_ROW}
 use Rattle.image.specs.Layout.{TickKind, plain, operationCall, functionCall, return, home, tickKind}
 use Rattle.image.specs.Image.{Image, Label}
 use Rattle.rows.specs.Rows.{Choice, bestRow, Found, found, missing, leads}
@@ -36,7 +37,7 @@ pub data MachineTick : Type 0 where
 -- the label found is put at place k of state t
 abbrev pub moved : ℕ → ℕ → State → ℕ → Found → MachineTick
 moved m code t k (found l) = finished m code (withPlace t k l)
-moved m code t k missing = stopped NO-ROW
+moved m code t k missing = stopped NO_ROW
 
 -- s with these bits and the top taken off; with one scheme open, h by its own number at label l; with label l of scheme k above the
 -- top, which number h called
@@ -57,7 +58,7 @@ keepsFull i s = eqb i.handler 0 || ofHandler i (placeAt s 0)
 -- bottom with its bit cleared
 abbrev pub full : Image → State → ℕ → Results → MachineTick
 full i s m b = pick (keepsFull i s) (stopped FULL)
-    (finished m DROP-CODE (alone s (entry_at i i.handler) i.handler (cleared i.handler b)))
+    (finished m DROP_CODE (alone s (entry_at i i.handler) i.handler (cleared i.handler b)))
 
 -- a call of number h, which scheme k serves, at depth Σ as above: else the entry of k is put above the top and the bit of h cleared
 abbrev pub pushed : Image → State → ℕ → ℕ → ℕ → ℕ → Results → Bool → MachineTick
@@ -66,18 +67,18 @@ pushed i s m code h k b false = finished m code (opening s (entry_at i k) h k (c
 
 -- a return: the top is taken off and the label beneath takes its row; at depth 1, to which a handler brings it, scheme 1 follows at label 0
 abbrev pub popped : Image → State → ℕ → ℕ → Results → Bool → MachineTick
-popped i s w m b true = finished m RETURN-CODE (alone s 0 1 b)
-popped i s w m b false = moved m RETURN-CODE (dropping s b) (s.depth - 2) (rowLeads i b (placeAt s (s.depth - 2)) w)
+popped i s w m b true = finished m RETURN_CODE (alone s 0 1 b)
+popped i s w m b false = moved m RETURN_CODE (dropping s b) (s.depth - 2) (rowLeads i b (placeAt s (s.depth - 2)) w)
 
 -- by the tick kind of the top label l, which holds x, with the bits after its result
 abbrev pub tickBy : Image → State → ℕ → ℕ → Label → Results → TickKind → MachineTick
-tickBy i s w l x b plain = moved x.mask PLAIN-CODE (with_bits s b) (s.depth - 1) (rowLeads i b l w)
+tickBy i s w l x b plain = moved x.mask PLAIN_CODE (with_bits s b) (s.depth - 1) (rowLeads i b l w)
 tickBy i s w l x b operationCall =
-    pushed i s x.mask (OPERATION-CALL-CODE + x.called) x.called (served s.serving x.called) b (leb s.size s.depth)
+    pushed i s x.mask (OPERATION_CALL_CODE + x.called) x.called (served s.serving x.called) b (leb s.size s.depth)
 tickBy i s w l x b functionCall =
-    pushed i s x.mask (FUNCTION-CALL-CODE + x.called) x.called (served s.serving x.called) b (leb s.size s.depth)
+    pushed i s x.mask (FUNCTION_CALL_CODE + x.called) x.called (served s.serving x.called) b (leb s.size s.depth)
 tickBy i s w l x b return = popped i s w x.mask b (leb s.depth 1)
-tickBy i s w l x b home = moved x.mask HOME-CODE (with_bits s b) (s.depth - 1) (found (entry_at i 1))
+tickBy i s w l x b home = moved x.mask HOME_CODE (with_bits s b) (s.depth - 1) (found (entry_at i 1))
 
 -- a result goes to the bit of the number that the top's scheme was called by
 unfoldable pub tick : Image → State → ℕ → MachineTick

@@ -1,6 +1,6 @@
 // Tick codes: which code a tick has, and what a code stands for.
 ghost use Rattle.std.specs.Prelude.{◌≡◌, ◌≤◌};
-ghost use Rattle.text.specs.frames.Sizes.{SCHEMES};
+ghost use Rattle.text.specs.declared.frames.sizes.TheConstants.{SCHEMES};
 ghost use Rattle.image.specs.Layout.{tickKind};
 ghost use Rattle.ticks.specs.codes.Codes.{code_of, meaningOf};
 

@@ -4,7 +4,6 @@
 #![tactic(auto)]
 
 ghost use Rattle.std.specs.Prelude.{◌≡◌};
-ghost use Rattle.text.specs.frames.Refusals.{NO-ROW};
 ghost use Rattle.state.specs.Bytes.{state_of};
 ghost use Rattle.ticks.specs.Tick.{stopped};
 ghost use Rattle.ticks.specs.inner.TickContracts.{bit_of, endOfTick};
@@ -47,7 +46,7 @@ pub fn bit_of(bytes: &[u8; STATE_BYTES], kind: u8, called: u8) -> u8
 
 // A tick that finds no row to go on by: nothing is done.
 pub fn no_row() -> TickEnd
-    ensures { result ≡ endOfTick (stopped NO-ROW) }
+    ensures { result ≡ endOfTick (stopped NO_ROW) }
 {
     TickEnd {
         number: NO_ROW,

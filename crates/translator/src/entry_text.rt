@@ -1,7 +1,7 @@
 // The header of an image and its entries, written as frames of ten bytes.
 ghost use Rattle.std.specs.Prelude.{◌≡◌, ◌+◌, ◌*◌, ◌≤◌, length};
 ghost use Rattle.words.specs.lists.Sequences.{written};
-ghost use Rattle.text.specs.frames.Sizes.{FRAME, ROWS};
+ghost use Rattle.text.specs.declared.frames.sizes.TheConstants.{ROWS};
 ghost use Rattle.image.specs.Image.{entryFrame};
 ghost use Rattle.chart_rows.specs.chart_labels.Labels.{entry};
 ghost use Rattle.chart_rows.specs.chart_labels.inner.ChartContracts.{Begun};

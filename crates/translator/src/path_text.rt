@@ -1,6 +1,5 @@
 // The rows of the paths on from a node, written as frames of ten bytes. Functions return the offset after what they wrote.
 ghost use Rattle.std.specs.Prelude.{◌+◌, ◌≤◌, length};
-ghost use Rattle.text.specs.frames.Sizes.{FRAME};
 ghost use Rattle.text.specs.frames.Frame.{size};
 ghost use Rattle.image.specs.Image.{rowFrame, row};
 ghost use Rattle.chart_rows.specs.inner.PathContracts.{PathAt};

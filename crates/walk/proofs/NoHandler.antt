@@ -25,7 +25,7 @@ use Rattle.walk.proofs.Trace.{WalkPosition, stopTick, movedBy, dropsAt, tickAt, 
 use Rattle.walk.proofs.Trace.{positionAtHome, home-stop, arc-to, function_to, begin-to}
 use Rattle.walk.proofs.Recursion.{walk-trace}
 use Rattle.walk.proofs.OwnBinding.{own-binding}
-use Rattle.text.specs.frames.Codes.{HOME-CODE, PLAIN-CODE}
+use Rattle.text.specs.declared.frames.codes.TheConstants.{HOME_CODE, PLAIN_CODE}
 
 -- ---- no call drops, whatever the number of places
 no_drop : (c : Chart) → handler c ≡ 0 → (n : ℕ) (f : Bool) (o : ℕ) → drops n c f o ≡ false
@@ -79,11 +79,11 @@ module _ (go : Performer) (free : unbounded.Performer) (ih : Alike go free) (c :
 
     alike-act : (x : OpenScheme) (w : ℕ) (ws : List ℕ) (b : Results) (s : Stop)
         → act go c d x w ws b s ≡ alike (unbounded.act free c x w ws b s)
-    alike-act x w ws b (plain m r u) = alike-on (oneTick x m PLAIN-CODE) _ ws _
+    alike-act x w ws b (plain m r u) = alike-on (oneTick x m PLAIN_CODE) _ ws _
     alike-act x w ws b (call m r h u) = alike-call x (callByOperation c m h u) ws _
     alike-act x w ws b (function h u₀ u₁) = alike-call x (callByFunction c h u₀ u₁) ws b
-    alike-act x w ws b (test u) = alike-on (oneTick x 0 PLAIN-CODE) _ ws b
-    alike-act x w ws b home = alike-on (oneTick x 0 HOME-CODE) _ ws b
+    alike-act x w ws b (test u) = alike-on (oneTick x 0 PLAIN_CODE) _ ws b
+    alike-act x w ws b home = alike-on (oneTick x 0 HOME_CODE) _ ws b
     alike-act x w ws b back = refl
 
 alike-perform : (k : ℕ) (c : Chart) (d : ℕ → Bool) → ((o : ℕ) → d o ≡ false) → Alike (perform k c d) (unbounded.perform k c)
@@ -126,17 +126,17 @@ module _ (c : Chart) (facts : Facts c) where
       own u = subst (λ (h : ℕ). StopOf c h u) g.same
 
       endless-act : {s : Stop} → View c v s → Endless (unbounded.act go c x w ws b s)
-      endless-act (a-plain e a) = endless-on (oneTick x (mask c v) PLAIN-CODE) _ ws _ (own _ (arc-to c facts v w g.inside (λ p. omega arith)))
+      endless-act (a-plain e a) = endless-on (oneTick x (mask c v) PLAIN_CODE) _ ws _ (own _ (arc-to c facts v w g.inside (λ p. omega arith)))
       endless-act (a_call e a) =
           endless-call x (callByOperation c (mask c v) (argument c v) (next0 c v)) ws (withResult (result c v) x.number b)
           (λ y z. own _ (arc-to c facts v y g.inside (λ p. omega arith)))
       endless-act (a-function e) =
           endless-call x (callByFunction c (argument c v) (next0 c v) (next1 c v)) ws b
           (λ y z. own _ (function_to c facts v y (result_of (argument c v) z) g.inside e))
-      endless-act (a-home e s) = endless-on (oneTick x 0 HOME-CODE) _ ws b (facts.starts 1 (omega arith) facts.first)
+      endless-act (a-home e s) = endless-on (oneTick x 0 HOME_CODE) _ ws b (facts.starts 1 (omega arith) facts.first)
       endless-act (a_back e s) = absurd (s g.same)
-      endless-act (a-begin e) = endless-on (oneTick x 0 PLAIN-CODE) _ ws b (own _ (begin-to c facts v w g.inside e g.stopping))
-      endless-act (a-condition e) = endless-on (oneTick x 0 PLAIN-CODE) _ ws b (own _ (facts.tests v w g.inside e))
+      endless-act (a-begin e) = endless-on (oneTick x 0 PLAIN_CODE) _ ws b (own _ (begin-to c facts v w g.inside e g.stopping))
+      endless-act (a-condition e) = endless-on (oneTick x 0 PLAIN_CODE) _ ws b (own _ (facts.tests v w g.inside e))
 
   endless : (k : ℕ) (x : OpenScheme) (ws : List ℕ) (b : Results) → StopOf c 1 x.node → Endless (unbounded.perform k c x ws b)
   unfolding unbounded.perform

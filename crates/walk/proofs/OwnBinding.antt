@@ -23,7 +23,7 @@ use Rattle.walk.proofs.FactsHold.{facts}
 use Rattle.walk.proofs.Views.{View, a-plain, a_call, a-function, a-home, a_back, a-begin, a-condition, view}
 use Rattle.walk.proofs.Trace.{Serves, drop-handler, stop-as, home-stop, arc-to, function_to, begin-to}
 use Rattle.walk.specs.Walk.{oneTick}
-use Rattle.text.specs.frames.Codes.{HOME-CODE, PLAIN-CODE}
+use Rattle.text.specs.declared.frames.codes.TheConstants.{HOME_CODE, PLAIN_CODE}
 use Rattle.charts.specs.Chart.{mask}
 
 -- ---- each number is served by its own scheme
@@ -93,7 +93,7 @@ module _ (c : Chart) where
 
         alike-act : {s : Stop} → View c v s
             → Alike (act go c d x (record { word = w; binding = ownBinding }) (own ws) b s) (unswapped.act free c d x w ws b s)
-        alike-act (a-plain e a) = alike-after (oneTick x (mask c v) PLAIN-CODE) (alike-on x _ ws _ (here (arc-to c facts v w g.inside (λ p. omega arith))))
+        alike-act (a-plain e a) = alike-after (oneTick x (mask c v) PLAIN_CODE) (alike-on x _ ws _ (here (arc-to c facts v w g.inside (λ p. omega arith))))
         alike-act (a_call e a) =
             alike-call x _ ws _ (λ y z. here (arc-to c facts v y g.inside (λ p. omega arith)))
             (facts.calls v g.inside e a) (d x.opened) (handled x.opened)
@@ -101,10 +101,10 @@ module _ (c : Chart) where
             alike-call x _ ws b (λ y z. here (function_to c facts v y (result_of (argument c v) z) g.inside e))
             (facts.functions v g.inside e) (d x.opened) (handled x.opened)
         alike-act (a-home e s) =
-            alike-after (oneTick x 0 HOME-CODE) (alike-on x _ ws b (here (stop-as c (sym s) (facts.starts 1 (omega arith) facts.first))))
+            alike-after (oneTick x 0 HOME_CODE) (alike-on x _ ws b (here (stop-as c (sym s) (facts.starts 1 (omega arith) facts.first))))
         alike-act (a_back e s) = both-ended _ w ws b
-        alike-act (a-begin e) = alike-after (oneTick x 0 PLAIN-CODE) (alike-on x _ ws b (here (begin-to c facts v w g.inside e g.stopping)))
-        alike-act (a-condition e) = alike-after (oneTick x 0 PLAIN-CODE) (alike-on x _ ws b (here (facts.tests v w g.inside e)))
+        alike-act (a-begin e) = alike-after (oneTick x 0 PLAIN_CODE) (alike-on x _ ws b (here (begin-to c facts v w g.inside e g.stopping)))
+        alike-act (a-condition e) = alike-after (oneTick x 0 PLAIN_CODE) (alike-on x _ ws b (here (facts.tests v w g.inside e)))
 
     alike-perform : (k : ℕ) → Performs (perform k c d) (unswapped.perform k c d)
     unfolding perform unswapped.perform

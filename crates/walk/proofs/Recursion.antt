@@ -16,7 +16,7 @@ use Rattle.walk.specs.Walk.{Performer, resume, openedBy, performCall, act, perfo
 use Rattle.walk.specs.Walk.{bottom, carriedOn, walkFrom, walk}
 use Rattle.walk.proofs.Trace.{Open, opens, moved_to, at, tickOf, stopTick, resumedBy, resumed, positionReturned}
 use Rattle.walk.proofs.Trace.{positionHandling, positionCalled, movedBy, trace, positionAtHome}
-use Rattle.text.specs.frames.Codes.{HOME-CODE, PLAIN-CODE}
+use Rattle.text.specs.declared.frames.codes.TheConstants.{HOME_CODE, PLAIN_CODE}
 use Rattle.walk.specs.Stops.{byArc, by_word}
 
 -- ---- a scheme that has ended, or was dropped, leaves fewer than n words
@@ -59,11 +59,11 @@ module _ (go : Performer) (ih : Short go) where
 
   shorter-act : (c : Chart) (d : ℕ → Bool) (x : OpenScheme) (w : Signal) (ws : List Signal) (b : Results) (s : Stop)
       → Shorter (suc (length ws)) (act go c d x w ws b s)
-  shorter-act c d x w ws b (plain m r u) = step (oneTick x m PLAIN-CODE) _ ws _
+  shorter-act c d x w ws b (plain m r u) = step (oneTick x m PLAIN_CODE) _ ws _
   shorter-act c d x w ws b (call m r h u) = step_in c w.binding x _ ws _ (d x.opened)
   shorter-act c d x w ws b (function h u₀ u₁) = step_in c w.binding x _ ws b (d x.opened)
-  shorter-act c d x w ws b (test u) = step (oneTick x 0 PLAIN-CODE) _ ws b
-  shorter-act c d x w ws b home = step (oneTick x 0 HOME-CODE) _ ws b
+  shorter-act c d x w ws b (test u) = step (oneTick x 0 PLAIN_CODE) _ ws b
+  shorter-act c d x w ws b home = step (oneTick x 0 HOME_CODE) _ ws b
   shorter-act c d x w ws b back = omega arith
 
 shorter : (k : ℕ) (c : Chart) (d : ℕ → Bool) → Short (perform k c d)
@@ -134,13 +134,13 @@ module _ (n : ℕ) (c : Chart) where
         → (s : Stop) → stop_at c x.node ≡ s → let d = drops n c f (suc (length ks)) in
         stopTick d (suc (length ks)) x s ∷ trace n c ws (movedBy c d x ks w b f s)
         ≡ onward ks f (act (perform k c (drops n c f)) c (drops n c f) (above ks x) w ws b s)
-    same-act x ks w ws b f l (plain m r u) q = same_after (oneTick (above ks x) m PLAIN-CODE) ws (moved_to x (byArc c w.word u)) ks _ f l
+    same-act x ks w ws b f l (plain m r u) q = same_after (oneTick (above ks x) m PLAIN_CODE) ws (moved_to x (byArc c w.word u)) ks _ f l
     same-act x ks w ws b f l (call m r h u) q =
         same-call x ks f _ (λ y e. sym (ap (resumedBy c x.node y e) q)) w.binding ws _ l (drops n c f (suc (length ks)))
     same-act x ks w ws b f l (function h u₀ u₁) q =
         same-call x ks f _ (λ y e. sym (ap (resumedBy c x.node y e) q)) w.binding ws b l (drops n c f (suc (length ks)))
-    same-act x ks w ws b f l (test u) q = same_after (oneTick (above ks x) 0 PLAIN-CODE) ws (moved_to x (by_word c w.word u)) ks b f l
-    same-act x ks w ws b f l home q = same_after (oneTick (above ks x) 0 HOME-CODE) ws (moved_to x (start c 1)) ks b f l
+    same-act x ks w ws b f l (test u) q = same_after (oneTick (above ks x) 0 PLAIN_CODE) ws (moved_to x (by_word c w.word u)) ks b f l
+    same-act x ks w ws b f l home q = same_after (oneTick (above ks x) 0 HOME_CODE) ws (moved_to x (start c 1)) ks b f l
     same-act x ks w ws b f l back q = refl
 
   same : (k : ℕ) → Same k

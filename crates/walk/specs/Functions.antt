@@ -2,10 +2,10 @@
 -- ticks alone.
 use Rattle.std.specs.Prelude.{ℕ, suc, ◌+◌, Bool, true, false, ◌&&◌, ◌≡◌, List, ◌∷◌, ◌++◌, map, eqb, length, get_or}
 use Rattle.words.specs.lists.Sequences.{some}
-use Rattle.text.specs.frames.Codes.{RETURN-CODE}
+use Rattle.text.specs.declared.frames.codes.TheConstants.{RETURN_CODE}
 use Rattle.text.specs.frames.Frame.{contents}
 use Rattle.text.specs.frames.Verdict.{fine}
-use Rattle.charts.specs.Layout.{OPERATION, FUNCTION}
+use Rattle.charts.specs.declared.layout.TheConstants.{OPERATION, FUNCTION}
 use Rattle.charts.specs.Chart.{Chart, kind, argument, next0, result, is}
 use Rattle.charts.specs.Entry.{readVerdict}
 use Rattle.walk.specs.Stops.{byArc}
@@ -17,7 +17,7 @@ walkWritesOne c h t = is c OPERATION t.node && (eqb t.number h && eqb (result c 
 
 -- a return from a scheme whose call found o schemes open
 abbrev pub returnsTo : ℕ → Tick → Bool
-returnsTo o t = eqb t.code RETURN-CODE && eqb t.opened (suc o)
+returnsTo o t = eqb t.code RETURN_CODE && eqb t.opened (suc o)
 
 -- a function's call, the first such return after it, which is its own where no drop comes between, and ticks between that write no 1 to the
 -- bit of the number called

@@ -2,7 +2,8 @@
 use Rattle.std.specs.Prelude.{ℕ, zero, suc, Bool, true, false, ◌&&◌, not, eqb}
 use Rattle.words.specs.lists.Pick.{pick}
 use Rattle.text.specs.frames.Frame.{size}
-use Rattle.charts.specs.Layout.{CONDITION, Kind, Begin, End, Operation, Condition, Function, Unknown, kind_of}
+use Rattle.charts.specs.declared.layout.TheConstants.{CONDITION}
+use Rattle.charts.specs.Layout.{Kind, Begin, End, Operation, Condition, Function, Unknown, kind_of}
 use Rattle.charts.specs.Chart.{Chart, kind, scheme, argument, next0, next1, result, mask, is, begin, taken}
 
 -- by the kind of a node: a condition stops only as the first node of scheme 1; a Begin only before a condition, and not in scheme 1

@@ -2,7 +2,7 @@
 -- ownBinding the walk of an accepted chart with no handler is this one, whatever the number of places.
 use Rattle.std.specs.Prelude.{ℕ, zero, suc, List, [], ◌∷◌, ◌++◌, length}
 use Rattle.results.specs.Results.{Results, noResults, withResult, cleared}
-use Rattle.text.specs.frames.Codes.{PLAIN-CODE, RETURN-CODE, HOME-CODE}
+use Rattle.text.specs.declared.frames.codes.TheConstants.{PLAIN_CODE, RETURN_CODE, HOME_CODE}
 use Rattle.charts.specs.Chart.{Chart, end}
 use Rattle.walk.specs.Stops.{start, byArc, by_word, Stop, plain, call, function, test, home, back, stop_at}
 use Rattle.walk.specs.Walk.{OpenScheme, Tick, oneTick, SchemeCall, callByOperation, callByFunction}
@@ -39,12 +39,12 @@ performCall go c x a ws b =
 
 -- what the stop where x stands does by its word w, and what follows it; the stop's own result is written before its call
 abbrev pub act : Performer → Chart → OpenScheme → ℕ → List ℕ → Results → Stop → Course
-act go c x w ws b (plain m r u) = after (oneTick x m PLAIN-CODE) (go (open_at c x.opened (byArc c w u)) ws (withResult r x.number b))
+act go c x w ws b (plain m r u) = after (oneTick x m PLAIN_CODE) (go (open_at c x.opened (byArc c w u)) ws (withResult r x.number b))
 act go c x w ws b (call m r h u) = performCall go c x (callByOperation c m h u) ws (withResult r x.number b)
 act go c x w ws b (function h u₀ u₁) = performCall go c x (callByFunction c h u₀ u₁) ws b
-act go c x w ws b (test u) = after (oneTick x 0 PLAIN-CODE) (go (open_at c x.opened (by_word c w u)) ws b)
-act go c x w ws b home = after (oneTick x 0 HOME-CODE) (go (open_at c x.opened (start c 1)) ws b)
-act go c x w ws b back = ended (oneTick x 0 RETURN-CODE) w ws b
+act go c x w ws b (test u) = after (oneTick x 0 PLAIN_CODE) (go (open_at c x.opened (by_word c w u)) ws b)
+act go c x w ws b home = after (oneTick x 0 HOME_CODE) (go (open_at c x.opened (start c 1)) ws b)
+act go c x w ws b back = ended (oneTick x 0 RETURN_CODE) w ws b
 
 -- k is at least the number of words
 unfoldable pub perform : ℕ → Chart → Performer

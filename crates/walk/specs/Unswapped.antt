@@ -3,7 +3,7 @@
 -- with no rebinding speak of it.
 use Rattle.std.specs.Prelude.{ℕ, zero, suc, Bool, true, false, List, [], ◌∷◌, ◌++◌, length}
 use Rattle.results.specs.Results.{Results, noResults, withResult, cleared}
-use Rattle.text.specs.frames.Codes.{PLAIN-CODE, RETURN-CODE, HOME-CODE, DROP-CODE}
+use Rattle.text.specs.declared.frames.codes.TheConstants.{PLAIN_CODE, RETURN_CODE, HOME_CODE, DROP_CODE}
 use Rattle.charts.specs.Chart.{Chart, scheme, handler, end}
 use Rattle.walk.specs.Stops.{start, byArc, by_word, Stop, plain, call, function, test, home, back, stop_at}
 use Rattle.walk.specs.Walk.{OpenScheme, Tick, oneTick, SchemeCall, callByOperation, callByFunction, drops}
@@ -41,18 +41,18 @@ abbrev pub performCall : Performer → Chart → OpenScheme → SchemeCall → L
 performCall go c x a ws b false =
     after (oneTick x a.mask a.code)
     (resume go c x a (go (open_at c (suc x.opened) (start c a.called)) ws (cleared a.called b)))
-performCall go c x a ws b true = dropped (oneTick x a.mask DROP-CODE) ws (cleared (handler c) b)
+performCall go c x a ws b true = dropped (oneTick x a.mask DROP_CODE) ws (cleared (handler c) b)
 
 -- what the stop where x stands does by its word w, and what follows it; the stop's own result is written before its call; d tells of a
 -- number of open schemes whether a call drops them
 abbrev pub act : Performer → Chart → (ℕ → Bool) → OpenScheme → ℕ → List ℕ → Results → Stop → Course
 act go c d x w ws b (plain m r u) =
-    after (oneTick x m PLAIN-CODE) (go (open_at c x.opened (byArc c w u)) ws (withResult r x.number b))
+    after (oneTick x m PLAIN_CODE) (go (open_at c x.opened (byArc c w u)) ws (withResult r x.number b))
 act go c d x w ws b (call m r h u) = performCall go c x (callByOperation c m h u) ws (withResult r x.number b) (d x.opened)
 act go c d x w ws b (function h u₀ u₁) = performCall go c x (callByFunction c h u₀ u₁) ws b (d x.opened)
-act go c d x w ws b (test u) = after (oneTick x 0 PLAIN-CODE) (go (open_at c x.opened (by_word c w u)) ws b)
-act go c d x w ws b home = after (oneTick x 0 HOME-CODE) (go (open_at c x.opened (start c 1)) ws b)
-act go c d x w ws b back = ended (oneTick x 0 RETURN-CODE) w ws b
+act go c d x w ws b (test u) = after (oneTick x 0 PLAIN_CODE) (go (open_at c x.opened (by_word c w u)) ws b)
+act go c d x w ws b home = after (oneTick x 0 HOME_CODE) (go (open_at c x.opened (start c 1)) ws b)
+act go c d x w ws b back = ended (oneTick x 0 RETURN_CODE) w ws b
 
 -- k is at least the number of words
 unfoldable pub perform : ℕ → Chart → (ℕ → Bool) → Performer

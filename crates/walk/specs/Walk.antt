@@ -4,7 +4,8 @@ use Rattle.std.specs.Prelude.{ℕ, zero, suc, ◌+◌, Bool, true, false, ◌&&�
 use Rattle.words.specs.lists.Pick.{pick}
 use Rattle.results.specs.Results.{Results, noResults, result_of, withResult, cleared}
 use Rattle.bindings.specs.Binding.{Binding, served}
-use Rattle.text.specs.frames.Codes.{PLAIN-CODE, RETURN-CODE, HOME-CODE, OPERATION-CALL-CODE, FUNCTION-CALL-CODE, DROP-CODE}
+use Rattle.text.specs.declared.frames.codes.TheConstants.{PLAIN_CODE, RETURN_CODE, HOME_CODE, OPERATION_CALL_CODE, FUNCTION_CALL_CODE}
+use Rattle.text.specs.declared.frames.codes.TheConstants.{DROP_CODE}
 use Rattle.charts.specs.Chart.{Chart, handler, end}
 use Rattle.walk.specs.Stops.{start, byArc, by_word, Stop, plain, call, function, test, home, back, stop_at}
 
@@ -42,7 +43,7 @@ oneTick x m k = record { node = x.node; number = x.number; mask = m; code = k; o
 
 -- a call that was not made: all open schemes were dropped, code 60 hexadecimal
 abbrev pub isDrop : Tick → Bool
-isDrop t = eqb t.code DROP-CODE
+isDrop t = eqb t.code DROP_CODE
 
 -- performing a scheme: the words ran out after these ticks; or its End was reached:
 -- the ticks, the End's word, the words left, the result bits; or all open schemes were dropped: the ticks, the words left, the result
@@ -66,12 +67,12 @@ pub record SchemeCall : Type 0 where
 
 -- an operation's call of number h, with mask m and next node u
 abbrev pub callByOperation : Chart → ℕ → ℕ → ℕ → SchemeCall
-callByOperation c m h u = record { mask = m; code = OPERATION-CALL-CODE + h; called = h; resumed = λ w b. byArc c w u }
+callByOperation c m h u = record { mask = m; code = OPERATION_CALL_CODE + h; called = h; resumed = λ w b. byArc c w u }
 
 -- a function's call of number h, with next node u₀ or u₁ by the result bit of h
 abbrev pub callByFunction : Chart → ℕ → ℕ → ℕ → SchemeCall
 callByFunction c h u₀ u₁ =
-    record { mask = 0; code = FUNCTION-CALL-CODE + h; called = h; resumed = λ w b. byArc c w (pick (result_of h b) u₁ u₀) }
+    record { mask = 0; code = FUNCTION_CALL_CODE + h; called = h; resumed = λ w b. byArc c w (pick (result_of h b) u₁ u₀) }
 
 -- performing an open scheme on from where it stands, by the words and with the result bits
 abbrev pub Performer : Type 0
@@ -92,18 +93,18 @@ openedBy c s x a = record { node = start c (served s a.called); number = a.calle
 abbrev pub performCall : Performer → Chart → Binding → OpenScheme → SchemeCall → List Signal → Results → Bool → Course
 performCall go c s x a ws b false =
     after (oneTick x a.mask a.code) (resume go x a (go (openedBy c s x a) ws (cleared a.called b)))
-performCall go c s x a ws b true = dropped (oneTick x a.mask DROP-CODE) ws (cleared (handler c) b)
+performCall go c s x a ws b true = dropped (oneTick x a.mask DROP_CODE) ws (cleared (handler c) b)
 
 -- what the stop where x stands does by its word w, and what follows it by the words ws, where go performs on; b are the result bits; the
 -- stop's own result is written, to the bit of x's number, before its call; d tells of a number of open schemes whether a call drops them
 abbrev pub act : Performer → Chart → (ℕ → Bool) → OpenScheme → Signal → List Signal → Results → Stop → Course
-act go c d x w ws b (plain m r u) = after (oneTick x m PLAIN-CODE) (go (atStop x (byArc c w.word u)) ws (withResult r x.number b))
+act go c d x w ws b (plain m r u) = after (oneTick x m PLAIN_CODE) (go (atStop x (byArc c w.word u)) ws (withResult r x.number b))
 act go c d x w ws b (call m r h u) =
     performCall go c w.binding x (callByOperation c m h u) ws (withResult r x.number b) (d x.opened)
 act go c d x w ws b (function h u₀ u₁) = performCall go c w.binding x (callByFunction c h u₀ u₁) ws b (d x.opened)
-act go c d x w ws b (test u) = after (oneTick x 0 PLAIN-CODE) (go (atStop x (by_word c w.word u)) ws b)
-act go c d x w ws b home = after (oneTick x 0 HOME-CODE) (go (atStop x (start c 1)) ws b)
-act go c d x w ws b back = ended (oneTick x 0 RETURN-CODE) w.word ws b
+act go c d x w ws b (test u) = after (oneTick x 0 PLAIN_CODE) (go (atStop x (by_word c w.word u)) ws b)
+act go c d x w ws b home = after (oneTick x 0 HOME_CODE) (go (atStop x (start c 1)) ws b)
+act go c d x w ws b back = ended (oneTick x 0 RETURN_CODE) w.word ws b
 
 -- k is at least the number of words
 unfoldable pub perform : ℕ → Chart → (ℕ → Bool) → Performer

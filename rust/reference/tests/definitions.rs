@@ -1,5 +1,6 @@
 //! Which definitions a reader must believe: those that the contracts of the entry points and the laws of docs/TRACE.md rest on. They are
-//! listed in README.md, all others stand in specs/inner; and crates.txt names no dependency that a crate does not use.
+//! listed in README.md, all others stand in specs/inner; a number of the code is not defined again; and crates.txt names no
+//! dependency that a crate does not use.
 
 use std::collections::{BTreeMap, BTreeSet};
 use std::fs;
@@ -197,6 +198,27 @@ fn each_crate_uses_all_that_it_depends_on() {
         let files = texts(root().join("crates").join(&name), &["rt", "antt"]);
         for need in needs {
             assert!(files.values().any(|text| names(text, &need)), "{name} does not use {need}");
+        }
+    }
+}
+
+/// The names of the constants of a crate's code.
+fn constants(name: &str) -> BTreeSet<String> {
+    let name_of = |line: &str| Some(line.split_once("const ")?.1.split_once(": ")?.0.to_owned());
+    let files = texts(root().join("crates").join(name).join("src"), &["rt"]);
+    files.values().flat_map(|text| text.lines().filter_map(name_of).collect::<Vec<String>>()).collect()
+}
+
+#[test]
+fn no_number_of_the_code_stands_in_a_definition_again() {
+    for (name, needs) in crates() {
+        let mut numbers = constants(&name);
+        numbers.extend(needs.iter().flat_map(|need| constants(need)));
+        for (file, text) in texts(root().join("crates").join(&name), &["antt"]) {
+            let defined = text.lines().filter_map(|line| line.strip_suffix(" : ℕ")?.rsplit(' ').next());
+            for number in defined {
+                assert!(!numbers.contains(&number.replace('-', "_")), "{name}/{file} defines {number} again");
+            }
         }
     }
 }

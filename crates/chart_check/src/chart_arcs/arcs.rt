@@ -1,6 +1,5 @@
 // Refusals 6 and 7: where arcs lead, and which schemes are called.
 ghost use Rattle.std.specs.Prelude.{◌≡◌, ◌||◌, ◌+◌, ◌*◌, ◌≤◌, ◌<◌, length};
-ghost use Rattle.text.specs.frames.Sizes.{RECORD};
 ghost use Rattle.charts.specs.Chart.{next0, next1, schemes};
 ghost use Rattle.charts.specs.Check.{badTarget, badArc, badCall};
 ghost use Rattle.chart_check.specs.chart_arcs.inner.Found.{LowestFound};

@@ -1,6 +1,6 @@
 // Refusals 4 and 5 in one pass: each node is tried, and Begins and Ends are counted.
 ghost use Rattle.std.specs.Prelude.{◌≡◌, ◌+◌, ◌≤◌, replicate};
-ghost use Rattle.text.specs.frames.Sizes.{NODES};
+ghost use Rattle.text.specs.declared.frames.sizes.TheConstants.{NODES};
 ghost use Rattle.text.specs.frames.Frame.{size};
 ghost use Rattle.chart_check.specs.chart_counts.inner.Counts.{countsTo};
 ghost use Rattle.chart_check.specs.chart_counts.inner.Found.{NodeAsked, CountsFound, FieldsFound};

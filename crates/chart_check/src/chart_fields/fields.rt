@@ -1,6 +1,5 @@
 // Refusal 4: a field of a node outside its values.
 ghost use Rattle.std.specs.Prelude.{◌≡◌, ◌+◌, ◌*◌, ◌≤◌, length};
-ghost use Rattle.text.specs.frames.Sizes.{RECORD};
 ghost use Rattle.charts.specs.Layout.{Begin, Operation, Condition, kind_of};
 ghost use Rattle.charts.specs.Check.{filledFrom, badUse, badField};
 

@@ -1,6 +1,5 @@
 // The handler, the scheme that is performed when the stack is full, and refusal 19: a mark on scheme 1 or a second mark.
 ghost use Rattle.std.specs.Prelude.{◌≡◌, ◌+◌, ◌*◌, ◌≤◌, length};
-ghost use Rattle.text.specs.frames.Sizes.{RECORD};
 ghost use Rattle.charts.specs.Chart.{marksHandler, handler};
 ghost use Rattle.charts.specs.Check.{badMarks};
 

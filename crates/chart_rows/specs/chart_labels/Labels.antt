@@ -4,10 +4,11 @@ use Rattle.words.specs.lists.Pick.{pick}
 use Rattle.words.specs.lists.Numbers.{range, count}
 use Rattle.words.specs.lists.Sequences.{filter}
 use Rattle.text.specs.frames.Frame.{size}
-use Rattle.charts.specs.Layout.{END, Kind, Begin, End, Operation, Condition, Function, Unknown, kind_of}
+use Rattle.charts.specs.declared.layout.TheConstants.{END}
+use Rattle.charts.specs.Layout.{Kind, Begin, End, Operation, Condition, Function, Unknown, kind_of}
 use Rattle.charts.specs.Chart.{Chart, kind, scheme, argument, result, mask, is}
 use Rattle.walk.specs.Stops.{stops, start}
-use Rattle.image.specs.Layout.{PLAIN, OPERATION-CALL, FUNCTION-CALL}
+use Rattle.image.specs.declared.layout.TheConstants.{PLAIN, OPERATION_CALL, FUNCTION_CALL}
 use Rattle.image.specs.Image.{Label}
 pub use Rattle.image.specs.Image.{homeLabel, returnLabel}
 
@@ -35,14 +36,14 @@ abbrev pub labelAs : Chart → ℕ → Kind → Label
 labelAs c v Begin = bareLabel (scheme c v)
 labelAs c v End = bareLabel (scheme c v)
 labelAs c v Operation = record {
-  kind = pick (eqb (argument c v) 0) PLAIN OPERATION-CALL;
+  kind = pick (eqb (argument c v) 0) PLAIN OPERATION_CALL;
   called = argument c v;
   owner = scheme c v;
   result = result c v;
   mask = mask c v;
 }
 labelAs c v Condition = bareLabel (scheme c v)
-labelAs c v Function = record { kind = FUNCTION-CALL; called = argument c v; owner = scheme c v; result = 0; mask = 0 }
+labelAs c v Function = record { kind = FUNCTION_CALL; called = argument c v; owner = scheme c v; result = 0; mask = 0 }
 labelAs c v Unknown = bareLabel (scheme c v)
 
 abbrev pub stopLabel : Chart → ℕ → Label

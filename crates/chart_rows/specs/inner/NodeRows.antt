@@ -4,7 +4,7 @@ use Rattle.words.specs.lists.Pick.{pick}
 use Rattle.words.specs.lists.Numbers.{count}
 use Rattle.words.specs.bits.Word.{bit}
 use Rattle.text.specs.frames.Frame.{size}
-use Rattle.charts.specs.Layout.{CONDITION}
+use Rattle.charts.specs.declared.layout.TheConstants.{CONDITION}
 use Rattle.charts.specs.Chart.{Chart, argument, next0, next1, is, taken}
 use Rattle.walk.specs.Stops.{stops}
 use Rattle.image.specs.Image.{Row}

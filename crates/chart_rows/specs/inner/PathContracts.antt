@@ -1,9 +1,9 @@
 -- What the functions on paths ask of their arguments: nodes that a path may come to, and its care mask and values there.
 use Rattle.std.specs.Prelude.{ℕ, ◌+◌, ◌*◌, ◌^◌, ◌≤◌, ◌<◌, ◌≡◌, List, length, get_or}
 use Rattle.std.specs.Int.Bits.{bit_and}
-use Rattle.text.specs.frames.Sizes.{NODES}
+use Rattle.text.specs.declared.frames.sizes.TheConstants.{NODES}
 use Rattle.text.specs.frames.Frame.{size}
-use Rattle.charts.specs.Layout.{BEGIN, CONDITION}
+use Rattle.charts.specs.declared.layout.TheConstants.{BEGIN, CONDITION}
 use Rattle.charts.specs.Chart.{Chart, kind}
 use Rattle.chart_rows.specs.chart_labels.inner.ChartContracts.{Charted}
 use Rattle.chart_rows.specs.inner.NodeRows.{pathsFrom, testedNumber, untested}

@@ -1,8 +1,6 @@
 // Nodes of an accepted chart: the Begin of a scheme, the stops.
 ghost use Rattle.std.specs.Prelude.{◌≡◌, ◌+◌, ◌*◌, ◌<◌, ◌&&◌, not, eqb, length};
-ghost use Rattle.text.specs.frames.Sizes.{RECORD};
 ghost use Rattle.text.specs.frames.Frame.{field};
-ghost use Rattle.charts.specs.Layout.{BEGIN, CONDITION};
 ghost use Rattle.charts.specs.Chart.{scheme, is, is_of, begin, next0};
 ghost use Rattle.walk.specs.Stops.{stops};
 ghost use Rattle.chart_rows.specs.chart_labels.Labels.{numbered};

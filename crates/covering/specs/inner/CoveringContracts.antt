@@ -5,7 +5,7 @@ use Rattle.words.specs.lists.Pick.{pick}
 use Rattle.words.specs.lists.Numbers.{any, sum}
 use Rattle.text.specs.frames.Frame.{size, field}
 use Rattle.text.specs.frames.Sizes.{CONDITIONS, WORDS}
-use Rattle.image.specs.Layout.{FROM, NO-BIT}
+use Rattle.image.specs.declared.layout.TheConstants.{FROM, NO_BIT}
 use Rattle.image.specs.Image.{Row}
 use Rattle.image.specs.Decode.{rowCount, rows_from, rowInFrame, decoded}
 use Rattle.image.specs.inner.Sound.{SoundImage}
@@ -30,7 +30,7 @@ togetherAny b first n = any (λ f. togetherSome b (rowInFrame b f) first (f - fi
 
 -- how many words a row matches with bit b, whatever its label
 abbrev pub wordsWith : ℕ → Row → ℕ
-wordsWith b r = pick (eqb r.bit NO-BIT || eqb r.bit b) (2 ^ (CONDITIONS - ones r.care)) 0
+wordsWith b r = pick (eqb r.bit NO_BIT || eqb r.bit b) (2 ^ (CONDITIONS - ones r.care)) 0
 
 abbrev pub words_in : List ℕ → ℕ → ℕ → ℕ → ℕ
 words_in b bit first n = sum (λ f. wordsWith bit (rowInFrame b f)) first n

@@ -5,7 +5,7 @@ use Rattle.std.specs.Int.Count.{ones}
 use Rattle.words.specs.lists.Pick.{pick}
 use Rattle.words.specs.lists.Numbers.{any, sum}
 use Rattle.text.specs.frames.Sizes.{CONDITIONS, WORDS}
-use Rattle.image.specs.Layout.{NO-BIT}
+use Rattle.image.specs.declared.layout.TheConstants.{NO_BIT}
 use Rattle.image.specs.Image.{Image, Row, nthRow}
 use Rattle.covering.specs.Matched.{together}
 
@@ -18,7 +18,7 @@ overlaps i = any (λ j. any (λ k. overlap (nthRow i k) (nthRow i j)) 0 j) 0 (le
 
 -- how many words a row of label l matches, with bit b
 abbrev pub wordsMatched : ℕ → ℕ → Row → ℕ
-wordsMatched l b r = pick (eqb r.from l && (eqb r.bit NO-BIT || eqb r.bit b)) (2 ^ (CONDITIONS - ones r.care)) 0
+wordsMatched l b r = pick (eqb r.from l && (eqb r.bit NO_BIT || eqb r.bit b)) (2 ^ (CONDITIONS - ones r.care)) 0
 
 unfoldable pub covered : Image → ℕ → ℕ → ℕ
 covered i l b = sum (λ k. wordsMatched l b (nthRow i k)) 0 (length i.rows)

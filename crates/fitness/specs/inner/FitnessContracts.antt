@@ -2,7 +2,7 @@
 use Rattle.std.specs.Prelude.{ℕ, ◌≤◌, Bool, ◌&&◌, ◌||◌, not, List, leb, eqb}
 use Rattle.words.specs.lists.Pick.{pick}
 use Rattle.tables.specs.inner.Asked.{Whole}
-use Rattle.state.specs.Layout.{PLACES}
+use Rattle.state.specs.declared.layout.TheConstants.{PLACES}
 use Rattle.state.specs.declared.State.{State}
 
 -- a table, and 1 to 32 places in use

@@ -1,9 +1,9 @@
 -- What the functions that find the groups ask of a prepared table and promise.
 use Rattle.std.specs.Prelude.{ℕ, suc, ◌-◌, ◌≤◌, ◌<◌, Bool, true, false, ◌&&◌, ◌||◌, not, ◌≡◌, List, eqb, leb, length, get_or}
 use Rattle.words.specs.lists.Numbers.{any, lowest}
-use Rattle.text.specs.frames.Sizes.{LABELS}
+use Rattle.text.specs.declared.frames.sizes.TheConstants.{LABELS}
 use Rattle.text.specs.frames.Frame.{field}
-use Rattle.image.specs.Layout.{FUNCTION-BIT, NEXT}
+use Rattle.image.specs.declared.layout.TheConstants.{FUNCTION_BIT, NEXT}
 use Rattle.image.specs.Decode.{lastLabel, rowInFrame}
 use Rattle.image.specs.inner.Sound.{SoundImage}
 use Rattle.tables.specs.Table.{tableLabel, firstOn, endOn, rowOn, tableImage}
@@ -15,7 +15,7 @@ use Rattle.grouping.specs.Classes.{sameFields, class_of, classes}
 pub record Even (b : List ℕ) : Type 0 where
   pub whole : Whole b
   pub sound : SoundImage (tableImage b)
-  pub bits : (l f : ℕ) → 2 ≤ l → l ≤ lastLabel b → firstOn b l ≤ f → f < endOn b l → (rowOn b l f).bit ≡ field b f FUNCTION-BIT
+  pub bits : (l f : ℕ) → 2 ≤ l → l ≤ lastLabel b → firstOn b l ≤ f → f < endOn b l → (rowOn b l f).bit ≡ field b f FUNCTION_BIT
   pub covered : uneven (tableImage b) ≡ false
 
 -- a buffer that begins with the classes of labels 0 to M

@@ -1,6 +1,6 @@
 -- What a function of the code asks of its callers.
 use Rattle.std.specs.Prelude.{ℕ, ◌≤◌, ◌<◌, List}
-use Rattle.text.specs.frames.Sizes.{FRAME}
+use Rattle.text.specs.declared.frames.sizes.TheConstants.{FRAME}
 use Rattle.text.specs.frames.Frame.{size}
 
 -- what looking at the bytes of frame f from k up to end asks

@@ -2,7 +2,8 @@
 use Rattle.std.specs.Prelude.{ℕ, suc, ◌≤◌, ◌<◌, ◌≡◌, ◌⊎◌, length, get_or, eqb}
 use Rattle.std.specs.Int.Bits.{bit_and}
 use Rattle.words.specs.lists.Pick.{pick}
-use Rattle.text.specs.frames.Sizes.{SCHEMES, LABELS, ROWS, WORDS}
+use Rattle.text.specs.declared.frames.sizes.TheConstants.{SCHEMES, LABELS, ROWS}
+use Rattle.text.specs.frames.Sizes.{WORDS}
 use Rattle.image.specs.Image.{Image, Label, Row, homeLabel, returnLabel, nthRow}
 pub use Rattle.image.specs.Image.{no_label}
 

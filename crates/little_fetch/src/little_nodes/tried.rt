@@ -1,7 +1,6 @@
 // What no accepted chart has: a second Begin or End, an arc to a Begin, a condition's arc to itself, a node that no other leads to.
 ghost use Rattle.std.specs.Prelude.{◌≡◌, ◌+◌, ◌*◌, ◌≤◌, ◌<◌, length};
 ghost use Rattle.words.specs.lists.Numbers.{any};
-ghost use Rattle.text.specs.frames.Sizes.{RECORD};
 ghost use Rattle.text.specs.frames.Frame.{size};
 ghost use Rattle.little_charts.specs.little_search.inner.Search.{has, arcLeads, enters, clashes, repeats, barredNode, leadsOther, lonely};
 

@@ -1,6 +1,6 @@
 -- The lines that the programs print beside an image.
 use Rattle.std.specs.Prelude.{ℕ, ◌/◌, ◌%◌, List, [], ◌∷◌, ◌++◌}
-use Rattle.text.specs.frames.Sizes.{LINE-FEED}
+use Rattle.text.specs.declared.frames.sizes.TheConstants.{LINE_FEED}
 use Rattle.text.specs.frames.Frame.{byteText, frameText}
 
 -- a refusal: FF, its number, its index in two bytes, and zeros
@@ -9,4 +9,4 @@ refusalLine number index = frameText (255 ∷ number ∷ index / 256 % 256 ∷ i
 
 -- a tick's code: two digits and a line feed
 unfoldable pub codeLine : ℕ → List ℕ
-codeLine code = byteText code ++ (LINE-FEED ∷ [])
+codeLine code = byteText code ++ (LINE_FEED ∷ [])

@@ -4,7 +4,7 @@ use Rattle.std.specs.Prelude.{ℕ, List, [], ◌++◌, take, replicate}
 use Rattle.words.specs.lists.Numbers.{range}
 use Rattle.words.specs.lists.Sequences.{concatMap}
 use Rattle.text.specs.frames.Answer.{Reply, success, refusal, replyCount}
-use Rattle.state.specs.Layout.{PLACES}
+use Rattle.state.specs.declared.layout.TheConstants.{PLACES}
 use Rattle.state.specs.State.{freshState}
 use Rattle.runs.specs.Run.{RunOutcome, run}
 use Rattle.output.specs.printing.Lines.{refusalLine, codeLine}

@@ -3,9 +3,9 @@ use Rattle.std.specs.Prelude.{ℕ, zero, suc, Bool, ◌&&◌, ◌||◌, not, Lis
 use Rattle.words.specs.lists.Numbers.{range, lowest, any}
 use Rattle.words.specs.lists.Sequences.{filter}
 use Rattle.words.specs.graph.Reach.{marked, only, joinedFrom}
-use Rattle.text.specs.frames.Sizes.{SCHEMES}
+use Rattle.text.specs.declared.frames.sizes.TheConstants.{SCHEMES}
 use Rattle.text.specs.frames.Frame.{size}
-use Rattle.charts.specs.Layout.{OPERATION, FUNCTION}
+use Rattle.charts.specs.declared.layout.TheConstants.{OPERATION, FUNCTION}
 use Rattle.charts.specs.Chart.{Chart, scheme, argument, is}
 
 -- a function, or an operation that calls a scheme

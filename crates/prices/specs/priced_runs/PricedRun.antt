@@ -1,7 +1,7 @@
 -- A priced run: a run of at most 65,536 words, and the price of the masks that its ticks have.
 use Rattle.std.specs.Prelude.{ℕ, Bool, ◌≡◌, List, ltb, length}
 use Rattle.text.specs.frames.Sizes.{WORDS}
-use Rattle.text.specs.frames.Refusals.{UNFIT, NO-ROOM, MANY-WORDS}
+use Rattle.text.specs.declared.frames.refusals.TheConstants.{UNFIT, NO_ROOM, MANY_WORDS}
 use Rattle.text.specs.frames.Frame.{contents}
 use Rattle.text.specs.frames.Verdict.{Verdict, fine, refused, next, when}
 use Rattle.text.specs.frames.Answer.{reply}
@@ -22,8 +22,8 @@ abbrev pub in_turn : Verdict → Bool → Bool → Bool → Verdict
 in_turn first unfit many short =
     next first λ _.
     next (when UNFIT unfit) λ _.
-    next (when MANY-WORDS many) λ _.
-    when NO-ROOM short
+    next (when MANY_WORDS many) λ _.
+    when NO_ROOM short
 
 unfoldable pub pricedVerdict : List ℕ → State → List ℕ → List ℕ → List ℕ → Verdict
 pricedVerdict t s words masks codes =
@@ -31,7 +31,7 @@ pricedVerdict t s words masks codes =
 
 -- the same where there are more words than are priced: 27 ends it
 unfoldable pub manyVerdict : List ℕ → State → Verdict
-manyVerdict t s = next (imageVerdict t) λ _. next (when UNFIT (unfit (decoded (contents t)) s)) λ _. refused MANY-WORDS 0
+manyVerdict t s = next (imageVerdict t) λ _. next (when UNFIT (unfit (decoded (contents t)) s)) λ _. refused MANY_WORDS 0
 
 pub record PricedOutcome : Type 0 where
   pub run : RunOutcome

@@ -7,7 +7,8 @@ use native.Mathlib.Decide.{ℕ_discrete}
 use native.Mathlib.Omega.{arith}
 use Rattle.text.specs.frames.Frame.{size}
 use Rattle.tables.specs.Table.{firstOn, endOn}
-use Rattle.rows.specs.inner.Search.{swap, matchingFrame, found_at, NO-FRAME, chosenFrame, Chosen, Deciding}
+use Rattle.rows.specs.declared.TheConstants.{NO_FRAME}
+use Rattle.rows.specs.inner.Search.{swap, matchingFrame, found_at, chosenFrame, Chosen, Deciding}
 use Rattle.rows.proofs.SearchCases.{Searched, search-start, search-over, search-other, search-own, better-only, frame-named, none_named}
 use Rattle.rows.specs.row_search.inner.Skipped.{Unmatched, Skipped}
 
@@ -35,16 +36,16 @@ skip-start b w bit from end = record { on = omega arith; within = λ h. absurd (
 
 -- ---- one pass that keeps the row that matched: as long as no second one does, it is the best so far
 pub record PassedRows (b : List ℕ) (l w bit first end f found : ℕ) : Type 0 where
-  pub table : size b < NO-FRAME
+  pub table : size b < NO_FRAME
   pub named : chosenFrame (found_at b l found) ≡ found
   pub one : Searched b l w bit first end f found
 
 module _ (b : List ℕ) (l w bit first end : ℕ) where
-  pub pass-start : size b < NO-FRAME → PassedRows b l w bit first end first NO-FRAME
+  pub pass-start : size b < NO_FRAME → PassedRows b l w bit first end first NO_FRAME
   pass-start few = record {
     table = few;
     named = none_named b l (omega arith);
-    one = search-start b l w bit first end NO-FRAME (omega arith);
+    one = search-start b l w bit first end NO_FRAME (omega arith);
   }
 
   pub pass-over : (f found : ℕ) → PassedRows b l w bit first end f found → end ≤ f → first ≡ firstOn b l → end ≡ endOn b l
@@ -62,7 +63,7 @@ module _ (b : List ℕ) (l w bit first end : ℕ) where
         one = search-other b l w bit first end f found s.one d h swapped e small t q n;
       }
 
-      pub pass-own : t ≡ true → f < size b → NO-FRAME ≤ found → PassedRows b l w bit first end (f + 1) f
+      pub pass-own : t ≡ true → f < size b → NO_FRAME ≤ found → PassedRows b l w bit first end (f + 1) f
       pass-own y inside k = record {
         table = s.table;
         named = frame-named b f l inside;
@@ -84,20 +85,20 @@ module _ (b : List ℕ) (l w bit first end : ℕ) where
     pass-skip found f r k s = pass_on found (r - f) f r (omega (arith, k.passed.on)) k.passed.within k.passed.none s
 
     -- a label with two rows, one of which matches
-    module _ (few : size b < NO-FRAME) (p : first ≡ firstOn b l) (q : end ≡ endOn b l) (two : end ≡ first + 2) (within : end ≤ size b)
+    module _ (few : size b < NO_FRAME) (p : first ≡ firstOn b l) (q : end ≡ endOn b l) (two : end ≡ first + 2) (within : end ≤ size b)
         (t v : Bool) (x : t ≡ matchingFrame b (swap swapped) bit first) (y : v ≡ matchingFrame b (swap swapped) bit (first + 1)) where
-      begun : PassedRows b l w bit first end first NO-FRAME
+      begun : PassedRows b l w bit first end first NO_FRAME
       begun = pass-start few
 
       pub first-of-two : t ≡ true → v ≡ false → Chosen b l w bit first
       first-of-two g n =
           pass-over (first + 1 + 1) first
-          (pass-other (first + 1) first (pass-own first NO-FRAME begun (omega arith) t x g (omega arith) (omega arith)) (omega arith) v y n)
+          (pass-other (first + 1) first (pass-own first NO_FRAME begun (omega arith) t x g (omega arith) (omega arith)) (omega arith) v y n)
           (omega arith) p q
 
       pub second-of-two : t ≡ false → v ≡ true → Chosen b l w bit (first + 1)
       second-of-two n g =
           pass-over (first + 1 + 1) (first + 1)
-          (pass-own (first + 1) NO-FRAME (pass-other first NO-FRAME begun (omega arith) t x n) (omega arith) v y g
+          (pass-own (first + 1) NO_FRAME (pass-other first NO_FRAME begun (omega arith) t x n) (omega arith) v y g
           (omega arith) (omega arith))
           (omega arith) p q

@@ -3,9 +3,10 @@ use Rattle.std.specs.Prelude.{ℕ, ◌+◌, ◌*◌, ◌/◌, ◌%◌, Bool, ◌
 use Rattle.words.specs.lists.Pick.{pick}
 use Rattle.words.specs.bits.Word.{agrees}
 use Rattle.text.specs.frames.Frame.{size, field, pair_at}
-use Rattle.image.specs.Layout.{CARE, VALUES, FUNCTION-BIT, NO-BIT, FUNCTION-CALL}
+use Rattle.image.specs.declared.layout.TheConstants.{CARE, VALUES, FUNCTION_BIT, NO_BIT, FUNCTION_CALL}
 use Rattle.tables.specs.Table.{tableLabel, firstOn, rowOn, rowsOn}
 use Rattle.tables.specs.inner.Labels.{NumberedLabel}
+use Rattle.rows.specs.declared.TheConstants.{NO_FRAME}
 use Rattle.rows.specs.Rows.{Choice, row, noChoice, better, bestRow}
 
 -- a word of two bytes with its bytes in the other order
@@ -15,7 +16,7 @@ swap w = w % 256 * 256 + w / 256
 -- the row in frame f matches, whatever label it leaves; bit 2 says that no bit decides
 abbrev pub matchingFrame : List ℕ → ℕ → ℕ → ℕ → Bool
 matchingFrame b w bit f = agrees w (pair_at b f CARE) (pair_at b f VALUES)
-    && (eqb bit NO-BIT || (eqb (field b f FUNCTION-BIT) NO-BIT || eqb (field b f FUNCTION-BIT) bit))
+    && (eqb bit NO_BIT || (eqb (field b f FUNCTION_BIT) NO_BIT || eqb (field b f FUNCTION_BIT) bit))
 
 -- what a search among the rows of label l chose: the row in frame f, or none where that is past the table
 abbrev pub found_at : List ℕ → ℕ → ℕ → Choice
@@ -25,21 +26,17 @@ found_at b l f = pick (ltb f (size b)) (row f (rowOn b l f)) noChoice
 abbrev pub BetterOf : List ℕ → ℕ → ℕ → ℕ → Type 0
 BetterOf b best f r = (l : ℕ) → found_at b l r ≡ better (found_at b l best) (row f (rowOn b l f))
 
--- the number of no frame: whatever bytes its header has, a table has fewer
-abbrev pub NO-FRAME : ℕ
-NO-FRAME = 131072
-
 -- the frame of the row chosen, which its number is
 abbrev pub chosenFrame : Choice → ℕ
 chosenFrame (row f r) = f
-chosenFrame noChoice = NO-FRAME
+chosenFrame noChoice = NO_FRAME
 
--- r is the frame of the row that label l takes, or NO-FRAME where none matches
+-- r is the frame of the row that label l takes, or NO_FRAME where none matches
 abbrev pub Chosen : List ℕ → ℕ → ℕ → ℕ → ℕ → Type 0
 Chosen b l w bit r = r ≡ chosenFrame (bestRow l w bit (firstOn b l) (rowsOn b l))
 
 -- a label that has rows of its own, and a bit that decides among them where it calls a function and nowhere else
 pub record Deciding (b : List ℕ) (l bit : ℕ) : Type 0 where
   pub label : NumberedLabel b l
-  pub none : bit ≡ NO-BIT → (tableLabel b l).kind ≡ FUNCTION-CALL → ⊥
-  pub some : (bit ≡ NO-BIT → ⊥) → (tableLabel b l).kind ≡ FUNCTION-CALL
+  pub none : bit ≡ NO_BIT → (tableLabel b l).kind ≡ FUNCTION_CALL → ⊥
+  pub some : (bit ≡ NO_BIT → ⊥) → (tableLabel b l).kind ≡ FUNCTION_CALL

@@ -3,7 +3,7 @@ use Rattle.std.specs.Prelude.{ℕ, ◌+◌, Bool, ◌||◌, ◌≡◌, List, ltb
 use Rattle.words.specs.lists.Pick.{pick}
 use Rattle.words.specs.lists.Numbers.{tabulate, lowest, count}
 use Rattle.words.specs.lists.Sequences.{over}
-use Rattle.text.specs.frames.Refusals.{NO-ROOM}
+use Rattle.text.specs.declared.frames.refusals.TheConstants.{NO_ROOM}
 use Rattle.text.specs.frames.Frame.{contents}
 use Rattle.text.specs.frames.Verdict.{Verdict, fine, refused, next, when}
 use Rattle.text.specs.frames.Answer.{Reply, success, refusal, reply}
@@ -50,7 +50,7 @@ noRoomFor n old₁ old₂ = ltb (length old₁) n || ltb (length old₂) n
 -- what the image check tries, then 16
 unfoldable pub list : List ℕ → List ℕ → List ℕ → ListingOutcome
 list t old₁ old₂ =
-    listingOn (next (imageVerdict t) λ _. when NO-ROOM (noRoomFor (lastLabel (contents t) + 1) old₁ old₂))
+    listingOn (next (imageVerdict t) λ _. when NO_ROOM (noRoomFor (lastLabel (contents t) + 1) old₁ old₂))
     (λ _. decoded (contents t)) old₁ old₂
 
 pub record GivesListing (x : ListingOutcome) (a : Answer) (xs ys : List ℕ) : Type 0 where

@@ -1,7 +1,7 @@
 -- What the functions that make a tick a word ask and promise, and a run on a table whose header holds.
 use Rattle.std.specs.Prelude.{ℕ, zero, suc, ◌≤◌, ◌≡◌, List, length}
 use Rattle.words.specs.lists.Sequences.{over}
-use Rattle.text.specs.frames.Refusals.{UNFIT, NO-ROOM}
+use Rattle.text.specs.declared.frames.refusals.TheConstants.{UNFIT, NO_ROOM}
 use Rattle.text.specs.frames.Verdict.{Verdict, fine, refused, next, when}
 use Rattle.tables.specs.Table.{tableImage}
 use Rattle.state.specs.declared.State.{State}
@@ -37,4 +37,4 @@ pub record GivesRunEnd (b before ws ms₀ ks₀ : List ℕ) (r : RunEnd) (bytes 
 -- a run on a table whose header holds
 unfoldable pub tableRun : List ℕ → State → List ℕ → List ℕ → List ℕ → RunOutcome
 tableRun b s ws ms ks =
-    runOn (next (when UNFIT (unfit (tableImage b) s)) λ _. when NO-ROOM (noRoom ws ms ks)) (λ _. ticks (tableImage b) s ws) s ms ks
+    runOn (next (when UNFIT (unfit (tableImage b) s)) λ _. when NO_ROOM (noRoom ws ms ks)) (λ _. ticks (tableImage b) s ws) s ms ks

@@ -1,13 +1,13 @@
 -- A call in parts, as the functions have it: a head that is refused before any state is looked at, and one spindle's turn by its own state.
 use Rattle.std.specs.Prelude.{ℕ, ◌+◌, ◌-◌, Bool, ◌||◌, not, ◌≡◌, List, ltb, eqb, length, set}
 use Rattle.words.specs.lists.Pick.{pick}
-use Rattle.text.specs.frames.Refusals.{UNFIT, NO-SPINDLE, NO-PLACE}
+use Rattle.text.specs.declared.frames.refusals.TheConstants.{UNFIT, NO_SPINDLE, NO_PLACE}
 use Rattle.text.specs.frames.Verdict.{Verdict, fine, refused, next, when}
 use Rattle.text.specs.frames.Answer.{Reply, refusal, replyNumber, reply, judged}
 use Rattle.state.specs.declared.State.{State}
 use Rattle.state.specs.Bytes.{bytesOf}
 use Rattle.runs.specs.TickOutcome.{TickOutcome}
-use Rattle.spindles.specs.Layout.{SPINDLES, STORE}
+use Rattle.spindles.specs.declared.layout.TheConstants.{SPINDLES, STORE}
 use Rattle.spindles.specs.declared.SpinReport.{SpinReport}
 use Rattle.spindles.specs.Spindles.{stateAt, SpinOutcome, turnedBack, findsNone}
 
@@ -22,7 +22,7 @@ badRecord sum taken = not (eqb sum taken) || ltb STORE taken
 -- what a bad head is refused for: 25, then what the image or the table is, then 15
 unfoldable pub refusedHead : Verdict → ℕ → Verdict
 refusedHead v k =
-    next (when NO-SPINDLE (ltb 3 k)) λ _.
+    next (when NO_SPINDLE (ltb 3 k)) λ _.
     next v λ _.
     refused UNFIT 0
 
@@ -46,7 +46,7 @@ stayed n i s taken = record { reply = refusal n i 0; mask = 0; code = 0; taken =
 
 abbrev pub turnBy : State → ℕ → TickOutcome → TurnOutcome
 turnBy s taken x = pick (findsNone taken s x)
-    (stayed NO-PLACE 0 s taken)
+    (stayed NO_PLACE 0 s taken)
     (record { reply = x.reply; mask = x.mask; code = x.code; taken = taken + x.state.depth - s.depth; state = x.state })
 
 abbrev pub turnOn : Verdict → State → ℕ → TickOutcome → TurnOutcome

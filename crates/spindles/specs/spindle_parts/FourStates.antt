@@ -1,20 +1,20 @@
 -- Four states as 520 bytes, one after the other.
 use Rattle.std.specs.Prelude.{ℕ, ◌+◌, ◌*◌, List, [], ◌∷◌, eqb, length, get_or, take, drop}
 use Rattle.words.specs.lists.Pick.{pick}
-use Rattle.state.specs.Layout.{STATE-BYTES, DEPTH}
+use Rattle.state.specs.declared.layout.TheConstants.{STATE_BYTES, DEPTH}
 use Rattle.state.specs.declared.State.{State}
 use Rattle.state.specs.Bytes.{state_of}
-use Rattle.spindles.specs.Layout.{HEAD-BYTES}
+use Rattle.spindles.specs.declared.layout.TheConstants.{HEAD_BYTES}
 
 -- the bytes of state k
 abbrev pub part_of : List ℕ → ℕ → List ℕ
-part_of b k = take STATE-BYTES (drop (STATE-BYTES * k) b)
+part_of b k = take STATE_BYTES (drop (STATE_BYTES * k) b)
 
 -- 520 bytes hold four states; any other number of bytes holds no list of four
 unfoldable pub statesOf : List ℕ → List State
-statesOf b = pick (eqb (length b) HEAD-BYTES)
+statesOf b = pick (eqb (length b) HEAD_BYTES)
     (state_of (part_of b 0) ∷ state_of (part_of b 1) ∷ state_of (part_of b 2) ∷ state_of (part_of b 3) ∷ []) []
 
 -- the sum of their depths
 abbrev pub depthsIn : List ℕ → ℕ
-depthsIn b = get_or b DEPTH 0 + get_or b (STATE-BYTES + DEPTH) 0 + get_or b (2 * STATE-BYTES + DEPTH) 0 + get_or b (3 * STATE-BYTES + DEPTH) 0
+depthsIn b = get_or b DEPTH 0 + get_or b (STATE_BYTES + DEPTH) 0 + get_or b (2 * STATE_BYTES + DEPTH) 0 + get_or b (3 * STATE_BYTES + DEPTH) 0

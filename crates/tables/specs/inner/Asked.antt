@@ -1,6 +1,6 @@
 -- What the functions on a table ask and read.
 use Rattle.std.specs.Prelude.{ℕ, suc, ◌*◌, ◌-◌, false, ◌≡◌, List, length, take}
-use Rattle.text.specs.frames.Sizes.{FRAME}
+use Rattle.text.specs.declared.frames.sizes.TheConstants.{FRAME}
 use Rattle.image.specs.Decode.{entryIn}
 use Rattle.image.specs.Check.{badCounts, badHandler}
 use Rattle.tables.specs.Table.{table_end}

@@ -2,7 +2,7 @@
 use Rattle.std.specs.Prelude.{ℕ, ◌/◌, ◌≡◌, List, ltb, length}
 use Rattle.words.specs.lists.Pick.{pick}
 use Rattle.words.specs.lists.Sequences.{over}
-use Rattle.text.specs.frames.Refusals.{NO-ROOM}
+use Rattle.text.specs.declared.frames.refusals.TheConstants.{NO_ROOM}
 use Rattle.text.specs.frames.Verdict.{Verdict, fine, refused}
 use Rattle.text.specs.declared.frames.Answer.{Answer}
 use Rattle.text.specs.declared.frames.Answer.TheVariants.{Done, Refused}
@@ -53,5 +53,5 @@ pub record GivesBuffer (x : BufferOutcome) (answer : Answer) (after : List ℕ) 
 abbrev pub bufferOn : Verdict → ℕ → (Unit {0} → List ℕ) → List ℕ → BufferOutcome
 bufferOn (refused k i) unit new old = record { reply = refusal k i 0; buffer = old }
 bufferOn fine unit new old = let xs = new tt in pick (ltb (length old) (length xs))
-    (record { reply = refusal NO-ROOM 0 0; buffer = old })
+    (record { reply = refusal NO_ROOM 0 0; buffer = old })
     (record { reply = success (length xs / unit); buffer = over xs old })

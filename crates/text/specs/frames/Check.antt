@@ -2,8 +2,8 @@
 use Rattle.std.specs.Prelude.{ℕ, ◌+◌, ◌*◌, ◌%◌, Bool, ◌||◌, not, List, leb, ltb, eqb, length, get_or}
 use Rattle.words.specs.lists.Numbers.{any, sum}
 use Rattle.text.specs.digits.Digit.{digitOf}
-use Rattle.text.specs.frames.Sizes.{LINE, DIGITS, LINE-FEED, BYTES}
-use Rattle.text.specs.frames.Refusals.{BAD-LENGTH, BAD-CHARACTER, BAD-SUM}
+use Rattle.text.specs.declared.frames.sizes.TheConstants.{LINE, DIGITS, LINE_FEED, BYTES}
+use Rattle.text.specs.declared.frames.refusals.TheConstants.{BAD_LENGTH, BAD_CHARACTER, BAD_SUM}
 use Rattle.text.specs.frames.Frame.{byte_at, frameCount}
 use Rattle.text.specs.frames.Verdict.{Verdict, next, when, atLowest}
 
@@ -13,7 +13,7 @@ badLength unit most n = eqb n 0 || not (eqb (n % unit) 0) || ltb most n
 
 -- 2: a character of 0 to 21 that is no digit, or character 22 that is no line feed
 unfoldable pub badForm : List ℕ → ℕ → Bool
-badForm t f = any (λ k. leb 16 (digitOf (get_or t (LINE * f + k) 0))) 0 DIGITS || not (eqb (get_or t (LINE * f + DIGITS) 0) LINE-FEED)
+badForm t f = any (λ k. leb 16 (digitOf (get_or t (LINE * f + k) 0))) 0 DIGITS || not (eqb (get_or t (LINE * f + DIGITS) 0) LINE_FEED)
 
 -- 3
 unfoldable pub badSum : List ℕ → ℕ → Bool
@@ -21,6 +21,6 @@ badSum t f = not (eqb (sum (byte_at t f) 0 BYTES % 256) 0)
 
 unfoldable pub textVerdict : ℕ → List ℕ → Verdict
 textVerdict most t =
-    next (when BAD-LENGTH (badLength LINE most (length t))) λ _.
-    next (atLowest BAD-CHARACTER (badForm t) (frameCount t)) λ _.
-    atLowest BAD-SUM (badSum t) (frameCount t)
+    next (when BAD_LENGTH (badLength LINE most (length t))) λ _.
+    next (atLowest BAD_CHARACTER (badForm t) (frameCount t)) λ _.
+    atLowest BAD_SUM (badSum t) (frameCount t)

@@ -3,7 +3,7 @@ use Rattle.std.specs.Prelude.{ℕ, ◌+◌, ◌*◌, ◌-◌, ◌/◌, ◌%◌, 
 use Rattle.words.specs.lists.Numbers.{range}
 use Rattle.words.specs.lists.Sequences.{concatMap}
 use Rattle.text.specs.digits.Digit.{digitOf, charOf}
-use Rattle.text.specs.frames.Sizes.{LINE, LINE-FEED, FRAME}
+use Rattle.text.specs.declared.frames.sizes.TheConstants.{LINE, LINE_FEED, FRAME}
 
 -- ---- reading
 abbrev pub frameCount : List ℕ → ℕ
@@ -44,7 +44,7 @@ sumByte bs = (256 - total bs % 256) % 256
 
 -- ten bytes as a frame
 unfoldable pub frameText : List ℕ → List ℕ
-frameText bs = concatMap byteText bs ++ (byteText (sumByte bs) ++ (LINE-FEED ∷ []))
+frameText bs = concatMap byteText bs ++ (byteText (sumByte bs) ++ (LINE_FEED ∷ []))
 
 abbrev pub framesText : List (List ℕ) → List ℕ
 framesText = concatMap frameText

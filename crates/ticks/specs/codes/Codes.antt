@@ -2,27 +2,22 @@
 -- has 5.
 use Rattle.std.specs.Prelude.{ℕ, ◌+◌, ◌-◌, Bool, ◌&&◌, leb, eqb}
 use Rattle.words.specs.lists.Pick.{pick}
-use Rattle.text.specs.frames.Sizes.{SCHEMES}
-use Rattle.text.specs.frames.Codes.{PLAIN-CODE, RETURN-CODE, HOME-CODE, OPERATION-CALL-CODE, FUNCTION-CALL-CODE, DROP-CODE}
-use Rattle.image.specs.Layout.{PLAIN, OPERATION-CALL, FUNCTION-CALL, RETURN, HOME}
+use Rattle.text.specs.declared.frames.sizes.TheConstants.{SCHEMES}
+use Rattle.text.specs.declared.frames.codes.TheConstants.{PLAIN_CODE, RETURN_CODE, HOME_CODE, OPERATION_CALL_CODE, FUNCTION_CALL_CODE}
+use Rattle.text.specs.declared.frames.codes.TheConstants.{DROP_CODE}
+use Rattle.image.specs.declared.layout.TheConstants.{PLAIN, OPERATION_CALL, FUNCTION_CALL, RETURN, HOME}
 use Rattle.image.specs.Layout.{TickKind, plain, operationCall, functionCall, return, home}
+use Rattle.ticks.specs.declared.codes.TheConstants.{DROP, UNKNOWN}
 use Rattle.ticks.specs.declared.codes.Meaning.{Meaning}
 use Rattle.ticks.specs.declared.codes.Meaning.TheVariants.{Plain, OperationCall, FunctionCall, Return, Home, Drop, Unknown}
 
--- what is told in the place of a tick kind: a drop, and a code that no tick has
-abbrev pub DROP : ℕ
-DROP = 5
-
-abbrev pub UNKNOWN : ℕ
-UNKNOWN = 255
-
 -- ---- a tick by its kind and the number called: its code, and what it is
 abbrev pub code_of : TickKind → ℕ → ℕ
-code_of plain h = PLAIN-CODE
-code_of operationCall h = OPERATION-CALL-CODE + h
-code_of functionCall h = FUNCTION-CALL-CODE + h
-code_of return h = RETURN-CODE
-code_of home h = HOME-CODE
+code_of plain h = PLAIN_CODE
+code_of operationCall h = OPERATION_CALL_CODE + h
+code_of functionCall h = FUNCTION_CALL_CODE + h
+code_of return h = RETURN_CODE
+code_of home h = HOME_CODE
 
 abbrev pub meaningBy : TickKind → ℕ → Meaning
 meaningBy plain h = Plain
@@ -38,15 +33,15 @@ callAbove base code = leb (base + 2) code && leb code (base + SCHEMES)
 
 unfoldable pub meaningOf : ℕ → Meaning
 meaningOf code =
-    pick (eqb code PLAIN-CODE) Plain (pick (eqb code RETURN-CODE) Return (pick (eqb code HOME-CODE) Home
-    (pick (callAbove OPERATION-CALL-CODE code) (OperationCall (code - OPERATION-CALL-CODE))
-    (pick (callAbove FUNCTION-CALL-CODE code) (FunctionCall (code - FUNCTION-CALL-CODE)) (pick (eqb code DROP-CODE) Drop Unknown)))))
+    pick (eqb code PLAIN_CODE) Plain (pick (eqb code RETURN_CODE) Return (pick (eqb code HOME_CODE) Home
+    (pick (callAbove OPERATION_CALL_CODE code) (OperationCall (code - OPERATION_CALL_CODE))
+    (pick (callAbove FUNCTION_CALL_CODE code) (FunctionCall (code - FUNCTION_CALL_CODE)) (pick (eqb code DROP_CODE) Drop Unknown)))))
 
 -- its tick kind, 5 for a call that dropped all open schemes, 255 for a code that no tick has, and the number called, 0 for none
 abbrev pub tickKindOf : Meaning → ℕ
 tickKindOf Plain = PLAIN
-tickKindOf (OperationCall h) = OPERATION-CALL
-tickKindOf (FunctionCall h) = FUNCTION-CALL
+tickKindOf (OperationCall h) = OPERATION_CALL
+tickKindOf (FunctionCall h) = FUNCTION_CALL
 tickKindOf Return = RETURN
 tickKindOf Home = HOME
 tickKindOf Drop = DROP

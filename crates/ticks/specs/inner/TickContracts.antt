@@ -2,7 +2,7 @@
 use Rattle.std.specs.Prelude.{ℕ, ◌-◌, ◌≤◌, false, ◌≡◌, List, eqb}
 use Rattle.words.specs.lists.Pick.{pick}
 use Rattle.results.specs.Results.{Results, result_of}
-use Rattle.image.specs.Layout.{NO-BIT, PLAIN, OPERATION-CALL, FUNCTION-CALL}
+use Rattle.image.specs.declared.layout.TheConstants.{NO_BIT, PLAIN, OPERATION_CALL, FUNCTION_CALL}
 use Rattle.image.specs.Image.{Image}
 use Rattle.image.specs.Decode.{schemeCount, lastLabel}
 use Rattle.tables.specs.Table.{tableLabel, tableImage}
@@ -53,8 +53,8 @@ pub record TopNumbered (b : List ℕ) (s : State) : Type 0 where
 pub record TopCalls (b : List ℕ) (s : State) : Type 0 where
   pub stands : TickAsked b s
   pub label : NumberedLabel b (top_of s)
-  pub low : OPERATION-CALL ≤ topKind b s
-  pub high : topKind b s ≤ FUNCTION-CALL
+  pub low : OPERATION_CALL ≤ topKind b s
+  pub high : topKind b s ≤ FUNCTION_CALL
 
 -- a call with no place free
 pub record TopFull (b : List ℕ) (s : State) : Type 0 where
@@ -72,7 +72,7 @@ beneath i s w = rowLeads i s.bits (placeAt s (s.depth - 2)) w
 
 -- the bit that decides among the rows of a label of that kind, or 2 where none does
 abbrev pub bit_of : ℕ → ℕ → Results → ℕ
-bit_of kind called b = pick (eqb kind FUNCTION-CALL) (pick (result_of called b) 1 0) NO-BIT
+bit_of kind called b = pick (eqb kind FUNCTION_CALL) (pick (result_of called b) 1 0) NO_BIT
 
 -- ---- after a tick of s: the state, and what is answered
 abbrev pub afterTick : State → MachineTick → State

@@ -2,8 +2,8 @@
 use Rattle.std.specs.Prelude.{ℕ, ◌+◌, ◌*◌, List, ltb, length}
 use Rattle.words.specs.lists.Pick.{pick}
 use Rattle.words.specs.lists.Sequences.{concatMap}
-use Rattle.text.specs.frames.Sizes.{LINE, ROWS}
-use Rattle.text.specs.frames.Refusals.{MANY-ROWS, NO-ROOM}
+use Rattle.text.specs.declared.frames.sizes.TheConstants.{LINE, ROWS}
+use Rattle.text.specs.declared.frames.refusals.TheConstants.{MANY_ROWS, NO_ROOM}
 use Rattle.text.specs.frames.Verdict.{when}
 use Rattle.text.specs.frames.Answer.{BufferOutcome, bufferOn}
 use Rattle.charts.specs.Chart.{Chart}
@@ -20,8 +20,8 @@ tableBytes c = framesBytes (imageFrames (table c))
 
 -- the number of the refusal for a chart with so many frames before its rows and room for so many characters, or 0
 abbrev pub sizeRefusal : Chart → ℕ → ℕ → ℕ
-sizeRefusal c before room = pick (ltb ROWS (length (rows c))) MANY-ROWS (pick (ltb room (LINE * (before + length (rows c)))) NO-ROOM 0)
+sizeRefusal c before room = pick (ltb ROWS (length (rows c))) MANY_ROWS (pick (ltb room (LINE * (before + length (rows c)))) NO_ROOM 0)
 
 -- what the functions leave in the buffer and answer: 10 and 16 are still to be tried
 abbrev pub imageOutcome : Chart → List ℕ → BufferOutcome
-imageOutcome c old = bufferOn (when MANY-ROWS (ltb ROWS (length (rows c)))) 1 (λ _. imageText (table c)) old
+imageOutcome c old = bufferOn (when MANY_ROWS (ltb ROWS (length (rows c)))) 1 (λ _. imageText (table c)) old

@@ -1,7 +1,7 @@
 -- What the functions that write an image ask of their arguments.
 use Rattle.std.specs.Prelude.{ℕ, ◌+◌, ◌*◌, ◌≤◌, ◌≡◌, List, length}
 use Rattle.words.specs.lists.Numbers.{count}
-use Rattle.text.specs.frames.Sizes.{LINE, ROWS}
+use Rattle.text.specs.declared.frames.sizes.TheConstants.{LINE, ROWS}
 use Rattle.text.specs.frames.Frame.{size}
 use Rattle.charts.specs.Chart.{Chart, schemes}
 use Rattle.chart_rows.specs.chart_labels.Labels.{numbered}

@@ -2,10 +2,7 @@
 ghost use Rattle.std.specs.Prelude.{◌≡◌, ◌+◌, ◌≤◌, eqb, length};
 ghost use Rattle.words.specs.lists.Pick.{pick};
 ghost use Rattle.words.specs.lists.Sequences.{written};
-ghost use Rattle.text.specs.frames.Sizes.{FRAME};
 ghost use Rattle.text.specs.frames.Frame.{size};
-ghost use Rattle.charts.specs.Layout.{OPERATION};
-ghost use Rattle.image.specs.Layout.{PLAIN, OPERATION-CALL};
 ghost use Rattle.image.specs.Image.{labelFrame};
 ghost use Rattle.chart_rows.specs.chart_labels.Labels.{stopLabel};
 ghost use Rattle.chart_rows.specs.chart_labels.inner.ChartContracts.{Inner, OfKind, Charted, AtNode};
@@ -57,7 +54,7 @@ fn put_operation(records: &[u8], v: usize, label: u8, out: &mut [u8], at: usize)
 
 // The kind of an operation's tick: 1 with a call, else 0.
 fn call_kind(called: u8) -> u8
-    ensures { result ≡ pick (eqb called 0) PLAIN OPERATION-CALL }
+    ensures { result ≡ pick (eqb called 0) PLAIN OPERATION_CALL }
 {
     if called == 0 { PLAIN } else { OPERATION_CALL }
 }

@@ -2,7 +2,7 @@
 use Rattle.std.specs.Prelude.{ℕ, ◌+◌, ◌-◌, ◌≤◌, ◌≡◌, List, length}
 use Rattle.words.specs.lists.Numbers.{range}
 use Rattle.words.specs.lists.Sequences.{concatMap}
-use Rattle.text.specs.frames.Refusals.{UNFIT}
+use Rattle.text.specs.declared.frames.refusals.TheConstants.{UNFIT}
 use Rattle.text.specs.frames.Verdict.{when}
 use Rattle.image.specs.Decode.{lastLabel, rows_from}
 use Rattle.image.specs.inner.Sound.{SoundImage}

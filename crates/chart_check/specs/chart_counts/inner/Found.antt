@@ -1,9 +1,9 @@
 -- What the pass for refusals 4 and 5 asks and finds, by the names of the parts.
 use Rattle.std.specs.Prelude.{ℕ, ◌+◌, ◌*◌, ◌≤◌, ◌<◌, ◌≡◌, List, length}
 use Rattle.words.specs.lists.Numbers.{lowest, any}
-use Rattle.text.specs.frames.Sizes.{RECORD, NODES, SCHEMES}
+use Rattle.text.specs.declared.frames.sizes.TheConstants.{RECORD, NODES, SCHEMES}
 use Rattle.text.specs.frames.Frame.{size}
-use Rattle.charts.specs.Layout.{BEGIN, END}
+use Rattle.charts.specs.declared.layout.TheConstants.{BEGIN, END}
 use Rattle.charts.specs.Chart.{Chart, scheme, schemes}
 use Rattle.charts.specs.Check.{badField, badScheme}
 use Rattle.chart_check.specs.chart_counts.inner.Counts.{countsTo}

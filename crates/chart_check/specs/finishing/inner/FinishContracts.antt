@@ -1,6 +1,6 @@
 -- What the functions of the depth-first search ask of their callers.
 use Rattle.std.specs.Prelude.{ℕ, ◌≤◌, Bool, List, length}
-use Rattle.text.specs.frames.Sizes.{NODES}
+use Rattle.text.specs.declared.frames.sizes.TheConstants.{NODES}
 use Rattle.text.specs.frames.Frame.{size}
 use Rattle.charts.specs.Chart.{Chart}
 use Rattle.charts.specs.inner.Finished.{Finished}

@@ -3,7 +3,7 @@ use Rattle.std.specs.Prelude.{ℕ, zero, suc, ◌≤◌, ◌≡◌, Bool, false,
 use Rattle.words.specs.lists.Pick.{pick}
 use Rattle.words.specs.graph.Reach.{marked}
 use Rattle.words.specs.graph.inner.Listed.{markAll, Listed}
-use Rattle.text.specs.frames.Sizes.{NODES}
+use Rattle.text.specs.declared.frames.sizes.TheConstants.{NODES}
 use Rattle.text.specs.frames.Frame.{size}
 use Rattle.charts.specs.Chart.{Chart}
 use Rattle.charts.specs.Check.{arcs}

@@ -1,6 +1,6 @@
 -- What functions on an accepted chart ask of their arguments: that it was accepted, one of its nodes, labels laid out by node.
 use Rattle.std.specs.Prelude.{ℕ, ◌*◌, ◌≤◌, ◌<◌, ◌≡◌, List, length, get_or}
-use Rattle.text.specs.frames.Sizes.{RECORD, NODES}
+use Rattle.text.specs.declared.frames.sizes.TheConstants.{RECORD, NODES}
 use Rattle.text.specs.frames.Frame.{size}
 use Rattle.text.specs.frames.Verdict.{fine}
 use Rattle.charts.specs.Chart.{Chart, kind, next0, schemes, begin}

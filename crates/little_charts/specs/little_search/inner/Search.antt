@@ -4,7 +4,7 @@ use Rattle.words.specs.lists.Pick.{pick}
 use Rattle.words.specs.lists.Numbers.{range, any}
 use Rattle.words.specs.lists.Sequences.{concatMap}
 use Rattle.text.specs.frames.Frame.{size}
-use Rattle.charts.specs.Layout.{BEGIN, END, CONDITION}
+use Rattle.charts.specs.declared.layout.TheConstants.{BEGIN, END, CONDITION}
 use Rattle.charts.specs.Chart.{Chart, next0, next1, is}
 use Rattle.charts.specs.Check.{chartVerdict}
 use Rattle.little_charts.specs.Little.{beginNode, endNode, operationNode, conditionNode, passes}

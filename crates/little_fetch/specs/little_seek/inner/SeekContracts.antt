@@ -1,7 +1,7 @@
 -- What the search for a chart asks and promises.
 use Rattle.std.specs.Prelude.{ℕ, ◌+◌, ◌*◌, ◌-◌, ◌≤◌, ◌<◌, Bool, ◌&&◌, not, ◌≡◌, List, [], ◌++◌, ltb, length, get_or, take}
 use Rattle.words.specs.lists.Numbers.{any}
-use Rattle.text.specs.frames.Sizes.{RECORD}
+use Rattle.text.specs.declared.frames.sizes.TheConstants.{RECORD}
 use Rattle.text.specs.frames.Frame.{size}
 use Rattle.charts.specs.Chart.{Chart}
 use Rattle.charts.specs.Check.{chartVerdict}

@@ -3,7 +3,7 @@ use Rattle.std.specs.Prelude.{ℕ, ◌+◌, List, []}
 use Rattle.words.specs.lists.Pick.{pick}
 use Rattle.words.specs.lists.Numbers.{count}
 use Rattle.text.specs.frames.Frame.{size, field, frameText}
-use Rattle.image.specs.Layout.{FROM}
+use Rattle.image.specs.declared.layout.TheConstants.{FROM}
 use Rattle.image.specs.Image.{entryFrame, labelFrame, rowFrame}
 use Rattle.image.specs.Decode.{schemeCount, lastLabel, rowCount, handlerIn, rows_from, entryIn, labelIn, row_in}
 use Rattle.image.specs.Check.{Position, headerPosition, entryPosition, labelPosition, rowPosition, position_of}

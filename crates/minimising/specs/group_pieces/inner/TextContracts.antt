@@ -1,6 +1,6 @@
 -- What the functions that write the smaller image ask.
 use Rattle.std.specs.Prelude.{ℕ, ◌≤◌, ◌≡◌, List, length, get_or}
-use Rattle.text.specs.frames.Sizes.{LABELS}
+use Rattle.text.specs.declared.frames.sizes.TheConstants.{LABELS}
 use Rattle.image.specs.Decode.{lastLabel}
 use Rattle.covering.specs.inner.CoveringContracts.{SoundTable}
 use Rattle.minimising.specs.group_numbers.Smaller.{renumbered}

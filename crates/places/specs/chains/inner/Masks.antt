@@ -4,7 +4,7 @@ use Rattle.std.specs.Int.Bits.{bit_or}
 use Rattle.words.specs.lists.Pick.{pick}
 use Rattle.words.specs.lists.Numbers.{tabulate, any, lowest}
 use Rattle.words.specs.bits.Word.{bit}
-use Rattle.text.specs.frames.Sizes.{SCHEMES}
+use Rattle.text.specs.declared.frames.sizes.TheConstants.{SCHEMES}
 use Rattle.text.specs.frames.Frame.{size}
 use Rattle.charts.specs.Chart.{Chart, argument}
 use Rattle.chart_rows.specs.chart_labels.inner.ChartContracts.{Ready}

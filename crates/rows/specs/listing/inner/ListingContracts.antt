@@ -1,6 +1,6 @@
 -- What the functions that list the rows of a table ask and promise.
 use Rattle.std.specs.Prelude.{ℕ, ◌≤◌, ◌<◌, ◌≡◌, List, length}
-use Rattle.text.specs.frames.Refusals.{NO-ROOM}
+use Rattle.text.specs.declared.frames.refusals.TheConstants.{NO_ROOM}
 use Rattle.text.specs.frames.Verdict.{when}
 use Rattle.image.specs.Image.{Image}
 use Rattle.image.specs.Decode.{schemeCount, lastLabel}
@@ -29,4 +29,4 @@ pub record RowsOf (i : Image) (l : ℕ) (r : Rows) : Type 0 where
 
 -- 16, then the listing
 unfoldable pub listTable : List ℕ → List ℕ → List ℕ → ListingOutcome
-listTable b old₁ old₂ = let i = tableImage b in listingOn (when NO-ROOM (noRoomFor (length i.labels) old₁ old₂)) (λ _. i) old₁ old₂
+listTable b old₁ old₂ = let i = tableImage b in listingOn (when NO_ROOM (noRoomFor (length i.labels) old₁ old₂)) (λ _. i) old₁ old₂

@@ -1,7 +1,7 @@
 -- The number of states that bytes hold, as the functions read it.
 use Rattle.std.specs.Prelude.{ℕ, eqb}
 use Rattle.words.specs.lists.Pick.{pick}
-use Rattle.spindles.specs.Layout.{SPINDLES, HEAD-BYTES}
+use Rattle.spindles.specs.declared.layout.TheConstants.{SPINDLES, HEAD_BYTES}
 
 abbrev pub stateCount : ℕ → ℕ
-stateCount n = pick (eqb n HEAD-BYTES) SPINDLES 0
+stateCount n = pick (eqb n HEAD_BYTES) SPINDLES 0

@@ -4,7 +4,7 @@ use Rattle.words.specs.lists.Pick.{pick}
 use Rattle.words.specs.lists.Numbers.{any, range}
 use Rattle.words.specs.lists.Sequences.{written}
 use Rattle.text.specs.digits.Digit.{digitOf}
-use Rattle.text.specs.frames.Sizes.{LINE, DIGITS, FRAME}
+use Rattle.text.specs.declared.frames.sizes.TheConstants.{LINE, DIGITS, FRAME}
 use Rattle.text.specs.frames.Frame.{byte_at}
 use Rattle.text.specs.frames.Check.{badForm, badSum}
 use Rattle.text.specs.declared.frame_reading.FrameDigits.{FrameDigits}

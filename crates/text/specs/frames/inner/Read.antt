@@ -2,7 +2,7 @@
 use Rattle.std.specs.Prelude.{ℕ, ◌%◌, List, map, length}
 use Rattle.words.specs.lists.Pick.{pick}
 use Rattle.words.specs.lists.Sequences.{over}
-use Rattle.text.specs.frames.Sizes.{LINE}
+use Rattle.text.specs.declared.frames.sizes.TheConstants.{LINE}
 use Rattle.text.specs.frames.Frame.{contents}
 use Rattle.text.specs.frames.Check.{badLength}
 

@@ -5,7 +5,7 @@ use Rattle.words.specs.lists.Numbers.{range}
 use Rattle.words.specs.lists.Sequences.{concatMap, written}
 use Rattle.text.specs.frames.Frame.{pair}
 use Rattle.charts.specs.Chart.{Chart}
-use Rattle.image.specs.Layout.{HEADER}
+use Rattle.image.specs.declared.layout.TheConstants.{HEADER}
 use Rattle.image.specs.Image.{entryFrame, labelFrame}
 use Rattle.chart_rows.specs.chart_labels.Labels.{numbered, label, entry, homeLabel, returnLabel, stopLabel}
 
