@@ -9,12 +9,10 @@ use edits::{patch, report};
 // How many bytes of a buffer are not 170, which no record and no character here is.
 fn changed(out: &[u8]) -> usize {
     let mut n: usize = 0;
-    let mut i: usize = 0;
-    while i < out.len() {
+    for i in 0..out.len() {
         if out[i] != 170 {
             n += 1;
         }
-        i += 1;
     }
     n
 }
@@ -73,12 +71,10 @@ fn record_case(records: [u8; 70], edits: &[u8]) {
 // The same under each edit by itself.
 fn record_each(records: [u8; 70], edits: &[u8]) {
     let n = edits.len() / 2;
-    let mut i: usize = 0;
-    while i < n {
+    for i in 0..n {
         let from = 2 * i;
         let to = from + 2;
         record_case(records, &edits[from..to]);
-        i += 1;
     }
 }
 

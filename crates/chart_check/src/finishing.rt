@@ -59,14 +59,12 @@ pub fn finish_all(records: &[u8], unfinished: &mut [bool], path: &mut [u8])
     ensures { Finished records.now unfinished.new }
 {
     let n = records.len() / RECORD;
-    let mut v: usize = 0;
-    while v < n {
+    for v in 0..n {
         if unfinished[v] {
             finish_from(records, unfinished, path, v);
             if unfinished[v] {
                 return;
             }
         }
-        v += 1;
     }
 }

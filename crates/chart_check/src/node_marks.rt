@@ -122,10 +122,8 @@ pub fn sweep(records: &[u8], marks: &mut [bool])
     ensures { marks.new ≡ sweptTo records.now (size records.now) marks.old }
 {
     let n = records.len() / RECORD;
-    let mut v: usize = 0;
-    while v < n {
+    for v in 0..n {
         mark_on(records, v, marks);
-        v += 1;
     }
 }
 
@@ -135,9 +133,7 @@ pub fn mark_kind(records: &[u8], kind: u8, marks: &mut [bool])
     ensures { marks.new ≡ kindMarks records.now kind }
 {
     let n = records.len() / RECORD;
-    let mut v: usize = 0;
-    while v < n {
+    for v in 0..n {
         marks[v] = field(records, v, KIND) == kind;
-        v += 1;
     }
 }

@@ -34,11 +34,9 @@ fn number_nodes(records: &[u8], notes: &mut [u8])
     ensures { Noted records.now notes.new }
 {
     let n = records.len() / RECORD;
-    let mut v: usize = 0;
-    while v < n {
+    for v in 0..n {
         let number = number_of(records, v, notes[v]);
         notes[NODES + v] = number;
-        v += 1;
     }
 }
 

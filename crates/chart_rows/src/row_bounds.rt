@@ -31,11 +31,9 @@ fn mask_upward(records: &[u8], notes: &[u8], masks: &mut [u16])
     ensures { Masked records.now masks.new }
 {
     let n = records.len() / RECORD;
-    let mut v: usize = 0;
-    while v < n {
+    for v in 0..n {
         let mask = mask_of(records, notes, masks, v);
         masks[v] = mask;
-        v += 1;
     }
 }
 
@@ -88,10 +86,8 @@ fn bound_nodes(records: &[u8], notes: &[u8], masks: &[u16]) -> usize
 {
     let n = records.len() / RECORD;
     let mut total: usize = 0;
-    let mut v: usize = 0;
-    while v < n {
+    for v in 0..n {
         total += bound_node(records, notes, masks, v);
-        v += 1;
     }
     total
 }

@@ -51,11 +51,9 @@ pub fn count_rows(records: &[u8], notes: &[u8], most: usize) -> usize
 {
     let n = records.len() / RECORD;
     let mut total: usize = 0;
-    let mut v: usize = 0;
-    while v < n {
+    for v in 0..n {
         let more = count_node(records, notes, v, most - total);
         total += more;
-        v += 1;
     }
     total
 }

@@ -54,12 +54,10 @@ fn meets_before(table: &[u8], first: usize, f: usize) -> bool
     let care = pair(table, f, CARE);
     let values = pair(table, f, VALUES);
     let bit = byte(table, f, FUNCTION_BIT);
-    let mut g = first;
-    while g < f {
+    for g in first..f {
         if meets(table, g, care, values, bit) {
             return true;
         }
-        g += 1;
     }
     false
 }
@@ -69,12 +67,10 @@ fn any_together(table: &[u8], first: usize, end: usize) -> bool
     requires { (first ≤ end) × (end ≤ size table.now) }
     ensures { result ≡ togetherAny table.now first (end - first) }
 {
-    let mut f = first;
-    while f < end {
+    for f in first..end {
         if meets_before(table, first, f) {
             return true;
         }
-        f += 1;
     }
     false
 }
@@ -109,10 +105,8 @@ fn words_in(table: &[u8], first: usize, end: usize, bit: u8) -> u32
     ensures { result ≡ words_in table.now bit first (end - first) }
 {
     let mut total: u32 = 0;
-    let mut f = first;
-    while f < end {
+    for f in first..end {
         total += words_of(table, f, bit);
-        f += 1;
     }
     total
 }
@@ -156,14 +150,12 @@ pub fn is_uneven(table: &[u8]) -> bool
 {
     let last = byte(table, 0, LAST_LABEL) as usize;
     let mut first = rows_from(table);
-    let mut l: usize = 2;
-    while l <= last {
+    for l in 2..last + 1 {
         let end = rows_end(table, first, l as u8);
         if uneven_rows(table, first, end) {
             return true;
         }
         first = end;
-        l += 1;
     }
     false
 }

@@ -42,10 +42,8 @@ fn any_filled(bytes: &[u8; STATE_BYTES]) -> bool
         return false;
     }
     let mut bits: u8 = 0;
-    let mut k: usize = 0;
-    while k < State::PLACES {
+    for k in 0..State::PLACES {
         bits = bits | place_above(bytes, depth, k);
-        k += 1;
     }
     bits != 0
 }
@@ -57,12 +55,10 @@ fn any_misserved(table: &[u8], bytes: &[u8; STATE_BYTES]) -> bool
 {
     let schemes = scheme_count(table);
     let handler = handler_of(table);
-    let mut h: u8 = 2;
-    while h <= 16 {
+    for h in 2..17 {
         if is_misserved(schemes, handler, h, serving_at(bytes, h)) {
             return true;
         }
-        h += 1;
     }
     false
 }

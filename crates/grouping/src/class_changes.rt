@@ -8,12 +8,10 @@ pub fn differ(classes: &[u8], next: &[u8], n: usize) -> bool
     requires { (n ≤ length classes.now) × (n ≤ length next.now) }
     ensures { result ≡ any (classDiffers classes.now next.now) 0 n }
 {
-    let mut l: usize = 0;
-    while l < n {
+    for l in 0..n {
         if classes[l] != next[l] {
             return true;
         }
-        l += 1;
     }
     false
 }

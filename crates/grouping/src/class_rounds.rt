@@ -28,14 +28,12 @@ pub fn group_in(
 {
     first_classes(table, classes);
     let n = (last_label(table) as usize) + 1;
-    let mut k: usize = 0;
-    while k < n {
+    for k in 0..n {
         refine(table, classes, marks, touched, next);
         if !differ(classes, next, n) {
             return;
         }
         mark_parted(table, classes, next, marks, touched, kept);
         put_bytes(classes, 0, next);
-        k += 1;
     }
 }

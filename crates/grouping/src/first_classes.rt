@@ -51,9 +51,7 @@ pub fn first_classes(table: &[u8], classes: &mut [u8])
     ensures { After table.now 0 classes.new }
 {
     let last = last_label(table) as usize;
-    let mut l: usize = 0;
-    while l <= last {
+    for l in 0..last + 1 {
         classes[l] = lowest_same(table, l) as u8;
-        l += 1;
     }
 }

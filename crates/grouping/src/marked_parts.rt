@@ -24,11 +24,9 @@ fn count_members(classes: &[u8], counts: &mut [u8], n: usize)
     requires { (n ≤ LABELS) × (length classes.now ≡ LABELS) × (length counts.old ≡ LABELS) }
     ensures { counts.new ≡ countMembers classes.now n counts.old }
 {
-    let mut l: usize = 0;
-    while l < n {
+    for l in 0..n {
         let class = classes[l] as usize;
         counts[class] = member_count(counts, class, l);
-        l += 1;
     }
 }
 
@@ -54,11 +52,9 @@ fn keep_largest(classes: &[u8], next: &[u8], counts: &[u8], kept: &mut [u8], n: 
     ensures { kept.new
         ≡ keepLargest classes.now next.now counts.now n kept.old }
 {
-    let mut l: usize = 0;
-    while l < n {
+    for l in 0..n {
         let class = classes[l] as usize;
         kept[class] = larger_part(counts, kept, class, l, next[l]);
-        l += 1;
     }
 }
 
@@ -79,11 +75,9 @@ fn mark(classes: &[u8], next: &[u8], kept: &[u8], marks: &mut [u8], n: usize)
     ensures { marks.new
         ≡ markOthers classes.now next.now kept.now n marks.old }
 {
-    let mut l: usize = 0;
-    while l < n {
+    for l in 0..n {
         let class = classes[l] as usize;
         marks[l] = mark_of(next[l], kept[class]);
-        l += 1;
     }
 }
 

@@ -17,13 +17,11 @@ fn touch_of(table: &[u8], marks: &[u8], first: usize, end: usize) -> u8
     requires { (end ≤ size table.now) × (length marks.now ≡ LABELS) }
     ensures { result ≡ touchIn table.now marks.now first end }
 {
-    let mut f = first;
-    while f < end {
+    for f in first..end {
         let next = byte(table, f, NEXT) as usize;
         if 1 <= marks[next] {
             return 1;
         }
-        f += 1;
     }
     0
 }
@@ -36,12 +34,10 @@ fn touch(table: &[u8], marks: &[u8], touched: &mut [u8])
 {
     let schemes = scheme_count(table);
     let last = last_label(table) as usize;
-    let mut l: usize = 2;
-    while l <= last {
+    for l in 2..last + 1 {
         let first = first_of(table, schemes, l);
         let end = end_of(table, schemes, l);
         touched[l] = touch_of(table, marks, first, end);
-        l += 1;
     }
 }
 

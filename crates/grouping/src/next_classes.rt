@@ -69,9 +69,7 @@ pub fn refine(table: &[u8], classes: &[u8], marks: &[u8], touched: &[u8], next: 
     let last = last_label(table) as usize;
     next[0] = 0;
     next[1] = 1;
-    let mut l: usize = 2;
-    while l <= last {
+    for l in 2..last + 1 {
         next[l] = next_class(table, schemes, classes, next, marks, touched, l) as u8;
-        l += 1;
     }
 }

@@ -31,12 +31,10 @@ fn parts_any(table: &[u8], classes: &[u8], f: usize, first: usize, end: usize) -
 {
     let next = byte(table, f, NEXT) as usize;
     let class = classes[next];
-    let mut g = first;
-    while g < end {
+    for g in first..end {
         if parts(table, classes, class, f, g) {
             return true;
         }
-        g += 1;
     }
     false
 }
@@ -84,12 +82,10 @@ fn are_parted_by(
     let first = first_of(table, schemes, l);
     let end = end_of(table, schemes, l);
     let last = end_of(table, schemes, m);
-    let mut f = first_of(table, schemes, m);
-    while f < last {
+    for f in first_of(table, schemes, m)..last {
         if parts_marked(table, classes, marks, least, f, first, end) {
             return true;
         }
-        f += 1;
     }
     false
 }

@@ -85,12 +85,10 @@ pub fn filled_to(table: &[u8], f: usize, k: usize, end: usize) -> bool
     requires { BytesAsked table.now f k end }
     ensures { result ≡ filled table.now f k (end - k) }
 {
-    let mut j = k;
-    while j < end {
+    for j in k..end {
         if byte(table, f, j) != 0 {
             return true;
         }
-        j += 1;
     }
     false
 }

@@ -42,11 +42,9 @@ pub fn number_groups(classes: &[u8], numbers: &mut [u8], n: usize) -> usize
     ensures { GroupNumbers classes.now numbers.new n result }
 {
     let mut groups: usize = 0;
-    let mut l: usize = 0;
-    while l < n {
+    for l in 0..n {
         numbers[l] = number_at(classes, numbers, l, groups);
         groups += first_at(classes, l);
-        l += 1;
     }
     groups
 }
@@ -59,11 +57,9 @@ pub fn count_kept(table: &[u8], classes: &[u8], first: usize, end: usize) -> usi
         × (result ≤ end - first) }
 {
     let mut total: usize = 0;
-    let mut f = first;
-    while f < end {
+    for f in first..end {
         let from = byte(table, f, FROM) as usize;
         total += first_at(classes, from);
-        f += 1;
     }
     total
 }

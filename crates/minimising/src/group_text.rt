@@ -57,9 +57,7 @@ pub fn put_pieces(
     let handler = byte(table, 0, HANDLER);
     put_header(out, schemes, groups, rows, handler);
     let mut place: usize = LINE;
-    let mut f: usize = 1;
-    while f < n {
+    for f in 1..n {
         place = put_piece(table, classes, numbers, f, out, place);
-        f += 1;
     }
 }

@@ -11,11 +11,9 @@ pub fn put_codes(out: &mut [u8], codes: &[u8])
     requires { 3 * length codes.now ≤ length out.old }
     ensures { out.new ≡ written out.old 0 (concatMap codeLine codes.now) }
 {
-    let mut i: usize = 0;
-    while i < codes.len() {
+    for i in 0..codes.len() {
         let line = crate::printing::code_line(codes[i]);
         put_bytes(out, i * 3, &line);
-        i += 1;
     }
 }
 

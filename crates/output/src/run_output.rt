@@ -23,10 +23,8 @@ fn count_up() -> [u16; 64]
     ensures { result ≡ programWords }
 {
     let mut all = [0u16; 64];
-    let mut i: usize = 0;
-    while i < 64 {
+    for i in 0..64 {
         all[i] = i as u16;
-        i += 1;
     }
     all
 }

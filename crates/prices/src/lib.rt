@@ -29,10 +29,8 @@ fn hundredths_of(prices: &[u16], masks: &[u32]) -> u64
     ensures { (result ≡ hundredths prices.now masks.now) × (result ≤ 137436856320) }
 {
     let mut total: u64 = 0;
-    let mut i: usize = 0;
-    while i < masks.len() {
+    for i in 0..masks.len() {
         total += tick_price(prices, masks[i]);
-        i += 1;
     }
     total
 }

@@ -47,12 +47,10 @@ fn fill_listing(table: &[u8], firsts: &mut [u16], counts: &mut [u16])
 {
     let schemes = scheme_count(table);
     let last = last_label(table) as usize;
-    let mut l: usize = 0;
-    while l <= last {
+    for l in 0..last + 1 {
         let rows = rows_of(table, schemes, l);
         firsts[l] = rows.first;
         counts[l] = rows.count;
-        l += 1;
     }
 }
 

@@ -23,12 +23,10 @@ fn check(table: [u8; 120], edits: &[u8]) {
 // The table is checked under each edit by itself.
 fn check_each(table: [u8; 120], edits: &[u8]) {
     let n = edits.len() / 2;
-    let mut i: usize = 0;
-    while i < n {
+    for i in 0..n {
         let from = 2 * i;
         let to = from + 2;
         check(table, &edits[from..to]);
-        i += 1;
     }
 }
 

@@ -35,10 +35,8 @@ pub fn part_of(states: &[u8], spindle: usize) -> [u8; STATE_BYTES]
     ensures { result ≡ part_of states.now spindle }
 {
     let mut part = [0u8; STATE_BYTES];
-    let mut i: usize = 0;
-    while i < STATE_BYTES {
+    for i in 0..STATE_BYTES {
         part[i] = states[STATE_BYTES * spindle + i];
-        i += 1;
     }
     part
 }

@@ -14,10 +14,8 @@ fn places_from(bytes: [u8; STATE_BYTES], from: usize) -> [u8; PLACES]
     ensures { result ≡ map (λ k. get_or bytes (from + k) 0) (range 0 PLACES) }
 {
     let mut places = [0u8; PLACES];
-    let mut k: usize = 0;
-    while k < PLACES {
+    for k in 0..PLACES {
         places[k] = bytes[from + k];
-        k += 1;
     }
     places
 }
@@ -26,10 +24,8 @@ fn results_of(bytes: [u8; STATE_BYTES]) -> [bool; SCHEMES]
     ensures { result ≡ map (resultIn bytes) (range 0 SCHEMES) }
 {
     let mut results = [false; SCHEMES];
-    let mut k: usize = 0;
-    while k < SCHEMES {
+    for k in 0..SCHEMES {
         results[k] = bytes[RESULTS_FROM + k] != 0;
-        k += 1;
     }
     results
 }
@@ -38,10 +34,8 @@ fn binding_of(bytes: [u8; STATE_BYTES]) -> [u8; SCHEMES]
     ensures { result ≡ map (servingIn bytes) (range 0 SCHEMES) }
 {
     let mut binding = [0u8; SCHEMES];
-    let mut k: usize = 0;
-    while k < SCHEMES {
+    for k in 0..SCHEMES {
         binding[k] = bytes[SERVING_FROM + k];
-        k += 1;
     }
     binding
 }
@@ -71,10 +65,8 @@ fn put_places(out: &mut [u8], from: usize, values: [u8; PLACES])
     requires from_bound { from ≤ SERVERS_FROM }
     ensures { out.new ≡ written out.old from (map (λ k. get_or values k 0) (range 0 PLACES)) }
 {
-    let mut k: usize = 0;
-    while k < PLACES {
+    for k in 0..PLACES {
         out[from + k] = values[k];
-        k += 1;
     }
 }
 
@@ -82,10 +74,8 @@ fn put_results(out: &mut [u8], s: State)
     requires { length out.old ≡ STATE_BYTES }
     ensures { out.new ≡ written out.old RESULTS_FROM (map (resultByte s) (range 0 SCHEMES)) }
 {
-    let mut k: usize = 0;
-    while k < SCHEMES {
+    for k in 0..SCHEMES {
         out[RESULTS_FROM + k] = s.bits[k] as u8;
-        k += 1;
     }
 }
 
@@ -93,10 +83,8 @@ fn put_binding(out: &mut [u8], s: State)
     requires { length out.old ≡ STATE_BYTES }
     ensures { out.new ≡ written out.old SERVING_FROM (map (servingByte s) (range 0 SCHEMES)) }
 {
-    let mut k: usize = 0;
-    while k < SCHEMES {
+    for k in 0..SCHEMES {
         out[SERVING_FROM + k] = s.serving[k];
-        k += 1;
     }
 }
 

@@ -69,10 +69,8 @@ pub fn open_place(bytes: &mut [u8; STATE_BYTES], k: usize, label: u8, number: u8
 fn clear_places(bytes: &mut [u8; STATE_BYTES])
     ensures { state_of bytes.new ≡ withPlaces (state_of bytes.old) noPlaces noPlaces noPlaces }
 {
-    let mut k: usize = 0;
-    while k < State::PLACES {
+    for k in 0..State::PLACES {
         open_place(bytes, k, 0, 0, 0);
-        k += 1;
     }
 }
 

@@ -71,10 +71,8 @@ fn tidy_bytes(bytes: &mut [u8])
     requires { length bytes.old ≡ STATE_BYTES }
     ensures { bytes.new ≡ bytesOf (state_of bytes.old) }
 {
-    let mut k: usize = 0;
-    while k < SCHEMES {
+    for k in 0..SCHEMES {
         bytes[RESULTS_FROM + k] = (bytes[RESULTS_FROM + k] != 0) as u8;
-        k += 1;
     }
 }
 

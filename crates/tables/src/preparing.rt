@@ -39,13 +39,11 @@ fn note_rows(table: &mut [u8])
     let labels = 1 + (byte(table, 0, SCHEME_COUNT) as usize);
     let last = byte(table, 0, LAST_LABEL) as usize;
     let mut f = rows_from(table);
-    let mut l: usize = 0;
-    while l <= last {
+    for l in 0..last + 1 {
         f = skip_below(table, f, end, l + 1);
         let at = FRAME * (labels + l);
         table[at] = (f % 256) as u8;
         table[at + 1] = (f / 256) as u8;
-        l += 1;
     }
 }
 

@@ -27,14 +27,12 @@ fn read_digits(text: &[u8], from: usize) -> FrameDigits
 {
     let mut digits = [0u8; 32];
     let mut form = false;
-    let mut i: usize = 0;
-    while i < 16 {
+    for i in 0..16 {
         let front = digit(text[from + i]);
         let back = digit(text[from + (6 + i)]);
         digits[i] = front;
         digits[16 + i] = back;
         form = form | (16 <= front) | (16 <= back);
-        i += 1;
     }
     FrameDigits { digits, form }
 }
@@ -57,13 +55,11 @@ fn values_of(digits: &[u8]) -> [u8; BYTES]
     ensures { result ≡ map (value_of digits.now) (range 0 BYTES) }
 {
     let mut values = [0u8; BYTES];
-    let mut k: usize = 0;
-    while k < BYTES {
+    for k in 0..BYTES {
         let i = place_of(k);
         let high = digits[i] as u16;
         let low = digits[i + 1] as u16;
         values[k] = ((16 * high + low) % 256) as u8;
-        k += 1;
     }
     values
 }
@@ -80,12 +76,10 @@ pub fn read_frame(text: &[u8], f: usize, out: &mut [u8]) -> Faults
     let form = read.form;
     let values = values_of(&digits);
     let mut total: u32 = 0;
-    let mut k: usize = 0;
-    while k < FRAME {
+    for k in 0..FRAME {
         let value = values[k];
         total += value as u32;
         out[to + k] = value;
-        k += 1;
     }
     total += values[10] as u32;
     let feed = text[from + DIGITS];

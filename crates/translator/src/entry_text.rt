@@ -56,11 +56,9 @@ pub fn put_entries(records: &[u8], labels: &[u8], highest: u8, out: &mut [u8], a
     let mut begins = [0u8; 17];
     note_begins(records, &mut begins);
     let n = highest as usize;
-    let mut k: usize = 0;
-    while k < n {
+    for k in 0..n {
         let scheme = (k + 1) as u8;
         let label = entry_of(records, labels, &begins, scheme);
         put_entry(out, at + FRAME * k, scheme, label);
-        k += 1;
     }
 }

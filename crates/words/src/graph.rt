@@ -40,13 +40,11 @@ pub fn list_marked(marks: &[bool], list: &mut [u8]) -> usize
 {
     let n = marks.len();
     let mut count: usize = 0;
-    let mut v: usize = 0;
-    while v < n {
+    for v in 0..n {
         if marks[v] {
             list[count] = v as u8;
             count += 1;
         }
-        v += 1;
     }
     count
 }

@@ -14,13 +14,11 @@ pub fn highest_scheme(records: &[u8]) -> u8
 {
     let n = records.len() / RECORD;
     let mut highest: u8 = 0;
-    let mut v: usize = 0;
-    while v < n {
+    for v in 0..n {
         let scheme = field(records, v, SCHEME);
         if highest < scheme {
             highest = scheme;
         }
-        v += 1;
     }
     highest
 }

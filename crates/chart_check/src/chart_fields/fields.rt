@@ -13,12 +13,10 @@ fn filled_from(records: &[u8], v: usize, i: usize) -> bool
     requires i_bound { i ≤ RECORD }
     ensures { result ≡ filledFrom records.now v i }
 {
-    let mut k = i;
-    while k < RECORD {
+    for k in i..RECORD {
         if field(records, v, k) != 0 {
             return true;
         }
-        k += 1;
     }
     false
 }

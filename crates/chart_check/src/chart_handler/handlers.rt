@@ -24,15 +24,13 @@ pub fn handler_scheme(records: &[u8]) -> u8
 {
     let n = records.len() / RECORD;
     let mut highest: u8 = 0;
-    let mut v: usize = 0;
-    while v < n {
+    for v in 0..n {
         if marks_handler(records, v) {
             let scheme = field(records, v, SCHEME);
             if highest < scheme {
                 highest = scheme;
             }
         }
-        v += 1;
     }
     highest
 }
@@ -43,8 +41,7 @@ pub fn bad_marks(records: &[u8]) -> bool
 {
     let n = records.len() / RECORD;
     let mut marked = false;
-    let mut v: usize = 0;
-    while v < n {
+    for v in 0..n {
         if marks_handler(records, v) {
             if marked {
                 return true;
@@ -54,7 +51,6 @@ pub fn bad_marks(records: &[u8]) -> bool
             }
             marked = true;
         }
-        v += 1;
     }
     false
 }

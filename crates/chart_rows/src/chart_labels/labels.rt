@@ -47,14 +47,12 @@ pub fn label_nodes(records: &[u8], labels: &mut [u8]) -> usize
     let first = first_node(records);
     let n = records.len() / RECORD;
     let mut own: usize = 0;
-    let mut v: usize = 0;
-    while v < n {
+    for v in 0..n {
         let label = label_of(records, first, own, v);
         labels[v] = label;
         if label >= 2 {
             own += 1;
         }
-        v += 1;
     }
     own
 }

@@ -10,6 +10,3 @@ abbrev pub invariant-loop-f : goal.invariant-loop-f
 invariant-loop-f l =
     ((l.first ≤ l.f) × (l.f ≤ l.end)) × (any (λ k. togetherSome l.table (rowInFrame l.table k) l.first (k - l.first))
     l.f (l.end - l.f) ≡ togetherAny l.table l.first (l.end - l.first))
-
-abbrev pub decreases-loop-f : goal.decreases-loop-f
-decreases-loop-f l = l.end - l.f

@@ -5,6 +5,3 @@ use Rattle.covering.proofs.is_uneven.Given as goal
 
 abbrev pub invariant-loop-l : goal.invariant-loop-l
 invariant-loop-l l = Trying l.table l.last l.first l.l
-
-abbrev pub decreases-loop-l : goal.decreases-loop-l
-decreases-loop-l l = l.last + 1 - l.l

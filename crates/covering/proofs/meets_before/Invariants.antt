@@ -11,6 +11,3 @@ abbrev pub invariant-loop-g : goal.invariant-loop-g
 invariant-loop-g l =
     (l.g ≤ l.f) × (any (λ k. together (rowInFrame l.table l.f) (rowInFrame l.table k)) l.g (l.f - l.g) ≡ togetherSome
     l.table (rowInFrame l.table l.f) l.first (l.f - l.first))
-
-abbrev pub decreases-loop-g : goal.decreases-loop-g
-decreases-loop-g l = l.f - l.g

@@ -7,6 +7,3 @@ use Rattle.covering.proofs.words_in.Given as goal
 
 abbrev pub invariant-loop-f : goal.invariant-loop-f
 invariant-loop-f l = Adding (λ k. wordsWith l.bit (rowInFrame l.table k)) 65536 l.first l.end l.total l.f
-
-abbrev pub decreases-loop-f : goal.decreases-loop-f
-decreases-loop-f l = l.end - l.f

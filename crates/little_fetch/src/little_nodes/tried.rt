@@ -13,12 +13,10 @@ pub fn has_kind(records: &[u8], kind: u8, v: usize) -> bool
     requires { RECORD * v ≤ length records.now }
     ensures { result ≡ has records.now kind v }
 {
-    let mut u: usize = 0;
-    while u < v {
+    for u in 0..v {
         if field(records, u, KIND) == kind {
             return true;
         }
-        u += 1;
     }
     false
 }
@@ -58,15 +56,13 @@ fn any_clash(records: &[u8], v: usize) -> bool
     ensures { result ≡ any (clashes records.now v) 0 (v + 1) }
 {
     let end = v + 1;
-    let mut u: usize = 0;
-    while u < end {
+    for u in 0..end {
         if enters_begin(records, u, v) {
             return true;
         }
         if enters_begin(records, v, u) {
             return true;
         }
-        u += 1;
     }
     false
 }
@@ -114,12 +110,10 @@ fn is_lonely(records: &[u8], v: usize) -> bool
         return false;
     }
     let n = records.len() / RECORD;
-    let mut u: usize = 0;
-    while u < n {
+    for u in 0..n {
         if leads_other(records, v, u) {
             return false;
         }
-        u += 1;
     }
     true
 }
@@ -129,12 +123,10 @@ pub fn any_lonely(records: &[u8]) -> bool
     ensures { result ≡ any (lonely records.now) 0 (size records.now) }
 {
     let n = records.len() / RECORD;
-    let mut v: usize = 0;
-    while v < n {
+    for v in 0..n {
         if is_lonely(records, v) {
             return true;
         }
-        v += 1;
     }
     false
 }

@@ -39,9 +39,7 @@ pub fn note_calls(records: &[u8], masks: &mut [u32])
     ensures { masks.new ≡ callMasks records.now (size records.now) }
 {
     let n = records.len() / RECORD;
-    let mut v: usize = 0;
-    while v < n {
+    for v in 0..n {
         note_call(records, v, masks);
-        v += 1;
     }
 }

@@ -11,12 +11,10 @@ fn called_by(masks: &[u32], set: u32) -> u32
     ensures { result ≡ calledBy masks.now set 17 }
 {
     let mut called: u32 = 0;
-    let mut g: usize = 0;
-    while g < 17 {
+    for g in 0..17 {
         if (set >> g) % 2 == 1 {
             called |= masks[g];
         }
-        g += 1;
     }
     called
 }
@@ -27,13 +25,11 @@ fn longest(masks: &[u32]) -> u8
     ensures { result ≡ longestBy masks.now }
 {
     let mut ends: u32 = 2;
-    let mut schemes: u8 = 1;
-    while schemes < 17 {
+    for schemes in 1..17 {
         ends = called_by(masks, ends);
         if ends == 0 {
             return schemes;
         }
-        schemes += 1;
     }
     0
 }

@@ -6,6 +6,3 @@ use Rattle.prices.proofs.hundredths_of.Given as goal
 
 abbrev pub invariant-loop-i : goal.invariant-loop-i
 invariant-loop-i l = SummedTicks l.prices l.masks l.total l.i
-
-abbrev pub decreases-loop-i : goal.decreases-loop-i
-decreases-loop-i l = length l.masks - l.i

@@ -12,10 +12,8 @@ pub fn put_bytes(out: &mut [u8], at: usize, bytes: &[u8])
     ensures { out.new ≡ written out.old at bytes.now }
 {
     let n = bytes.len();
-    let mut k: usize = 0;
-    while k < n {
+    for k in 0..n {
         out[at + k] = bytes[k];
-        k += 1;
     }
 }
 
@@ -48,12 +46,10 @@ pub fn put_frame(out: &mut [u8], at: usize, bytes: &[u8])
 {
     let n = bytes.len();
     let mut sum: u32 = 0;
-    let mut k: usize = 0;
-    while k < n {
+    for k in 0..n {
         let b = bytes[k];
         put_byte(out, at + k * 2, b);
         sum += b as u32;
-        k += 1;
     }
     put_sum(out, at + 2 * FRAME, ((256 - sum % 256) % 256) as u8);
     out[at + DIGITS] = LINE_FEED;
@@ -65,10 +61,8 @@ pub fn ten_at(bytes: &[u8], f: usize) -> [u8; FRAME]
     ensures { result ≡ tenAt bytes.now f }
 {
     let mut ten = [0u8; FRAME];
-    let mut k: usize = 0;
-    while k < FRAME {
+    for k in 0..FRAME {
         ten[k] = bytes[FRAME * f + k];
-        k += 1;
     }
     ten
 }
@@ -89,9 +83,7 @@ pub fn put_text(out: &mut [u8], at: usize, bytes: &[u8])
     ensures { out.new ≡ written out.old at (text_of bytes.now) }
 {
     let n = bytes.len() / FRAME;
-    let mut f: usize = 0;
-    while f < n {
+    for f in 0..n {
         put_nth(out, at + f * LINE, bytes, f);
-        f += 1;
     }
 }

@@ -103,9 +103,7 @@ pub fn put_labels(records: &[u8], labels: &[u8], out: &mut [u8], at: usize)
 {
     let n = records.len() / RECORD;
     let mut place = at;
-    let mut v: usize = 0;
-    while v < n {
+    for v in 0..n {
         place = put_node_label(records, labels, v, out, place);
-        v += 1;
     }
 }

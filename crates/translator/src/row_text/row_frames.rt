@@ -78,10 +78,8 @@ pub fn put_rows(records: &[u8], notes: &[u8], out: &mut [u8], at: usize) -> usiz
 {
     let n = records.len() / RECORD;
     let mut place = at;
-    let mut v: usize = 0;
-    while v < n {
+    for v in 0..n {
         place = put_node(records, notes, v, out, place);
-        v += 1;
     }
     place
 }

@@ -5,6 +5,3 @@ use Rattle.chart_check.proofs.finishing.finish_all.Given as goal
 
 abbrev pub invariant-loop-v : goal.invariant-loop-v
 invariant-loop-v l = record { inside : l.v ≤ l.n; finished : Finished l.records l.unfinished }
-
-abbrev pub decreases-loop-v : goal.decreases-loop-v
-decreases-loop-v l = l.n - l.v

@@ -9,6 +9,3 @@ abbrev pub invariant-loop-v : goal.invariant-loop-v
 invariant-loop-v l =
     (l.v ≤ l.n) × (l.n ≡ size l.records) × (length l.marks ≡ l.n)
     × (l.marks ≡ map (is l.records l.kind) (range 0 l.v) ++ drop l.v l.fn.marks)
-
-abbrev pub decreases-loop-v : goal.decreases-loop-v
-decreases-loop-v l = l.n - l.v

@@ -5,6 +5,3 @@ use Rattle.chart_check.proofs.node_marks.sweep.Given as goal
 
 abbrev pub invariant-loop-v : goal.invariant-loop-v
 invariant-loop-v l = Sweeping l.records l.fn.marks l.marks l.v
-
-abbrev pub decreases-loop-v : goal.decreases-loop-v
-decreases-loop-v l = l.n - l.v

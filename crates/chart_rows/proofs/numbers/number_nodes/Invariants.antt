@@ -5,6 +5,3 @@ use Rattle.chart_rows.proofs.numbers.number_nodes.Given as goal
 
 abbrev pub invariant-loop-v : goal.invariant-loop-v
 invariant-loop-v l = Numbering l.records l.fn.notes l.notes l.v
-
-abbrev pub decreases-loop-v : goal.decreases-loop-v
-decreases-loop-v l = l.n - l.v

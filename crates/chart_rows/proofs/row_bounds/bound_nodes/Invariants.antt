@@ -5,6 +5,3 @@ use Rattle.chart_rows.proofs.row_bounds.bound_nodes.Given as goal
 
 abbrev pub invariant-loop-v : goal.invariant-loop-v
 invariant-loop-v l = Bounding l.records l.total l.v
-
-abbrev pub decreases-loop-v : goal.decreases-loop-v
-decreases-loop-v l = l.n - l.v

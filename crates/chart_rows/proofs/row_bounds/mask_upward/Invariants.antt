@@ -5,6 +5,3 @@ use Rattle.chart_rows.proofs.row_bounds.mask_upward.Given as goal
 
 abbrev pub invariant-loop-v : goal.invariant-loop-v
 invariant-loop-v l = Masking l.records l.fn.masks l.masks l.v
-
-abbrev pub decreases-loop-v : goal.decreases-loop-v
-decreases-loop-v l = l.n - l.v

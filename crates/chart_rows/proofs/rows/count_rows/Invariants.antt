@@ -5,6 +5,3 @@ use Rattle.chart_rows.proofs.rows.count_rows.Given as goal
 
 abbrev pub invariant-loop-v : goal.invariant-loop-v
 invariant-loop-v l = CountingRows l.records l.most l.total l.v
-
-abbrev pub decreases-loop-v : goal.decreases-loop-v
-decreases-loop-v l = l.n - l.v

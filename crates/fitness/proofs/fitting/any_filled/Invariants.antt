@@ -6,6 +6,3 @@ use Rattle.fitness.proofs.fitting.any_filled.Given as goal
 
 abbrev pub invariant-loop-k : goal.invariant-loop-k
 invariant-loop-k l = Seen (state_of l.bytes) l.bits l.k
-
-abbrev pub decreases-loop-k : goal.decreases-loop-k
-decreases-loop-k l = 32 - l.k

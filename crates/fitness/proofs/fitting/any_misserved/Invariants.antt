@@ -7,6 +7,3 @@ use Rattle.fitness.proofs.fitting.any_misserved.Given as goal
 
 abbrev pub invariant-loop-h : goal.invariant-loop-h
 invariant-loop-h l = Left (tableImage l.table) (state_of l.bytes) l.h
-
-abbrev pub decreases-loop-h : goal.decreases-loop-h
-decreases-loop-h l = 17 - l.h

@@ -7,6 +7,3 @@ use Rattle.grouping.proofs.class_changes.differ.Given as goal
 
 abbrev pub invariant-loop-l : goal.invariant-loop-l
 invariant-loop-l l = (l.l ≤ l.n) × (any (classDiffers l.classes l.next) l.l (l.n - l.l) ≡ any (classDiffers l.classes l.next) 0 l.n)
-
-abbrev pub decreases-loop-l : goal.decreases-loop-l
-decreases-loop-l l = l.n - l.l

@@ -5,6 +5,3 @@ use Rattle.grouping.proofs.class_rounds.group_in.Given as goal
 
 abbrev pub invariant-loop-k : goal.invariant-loop-k
 invariant-loop-k l = Rounding l.table l.classes l.next l.marks l.touched l.kept l.n l.k
-
-abbrev pub decreases-loop-k : goal.decreases-loop-k
-decreases-loop-k l = l.n - l.k

@@ -7,6 +7,3 @@ use Rattle.grouping.proofs.first_classes.first_classes.Given as goal
 
 abbrev pub invariant-loop-l : goal.invariant-loop-l
 invariant-loop-l l = FillingClasses l.table (holdsSame (tableImage l.table)) l.classes l.last l.l
-
-abbrev pub decreases-loop-l : goal.decreases-loop-l
-decreases-loop-l l = l.last + 1 - l.l

@@ -7,6 +7,3 @@ use Rattle.grouping.proofs.marked_parts.count_members.Given as goal
 
 abbrev pub invariant-loop-l : goal.invariant-loop-l
 invariant-loop-l l = Labelling (λ l'. get_or l.classes l' 0) (λ l' counts'. memberCount counts' (get_or l.classes l' 0) l') l.fn.counts l.n l.counts l.l
-
-abbrev pub decreases-loop-l : goal.decreases-loop-l
-decreases-loop-l l = l.n - l.l

@@ -7,6 +7,3 @@ use Rattle.grouping.proofs.marked_parts.keep_largest.Given as goal
 
 abbrev pub invariant-loop-l : goal.invariant-loop-l
 invariant-loop-l l = Labelling (λ l'. get_or l.classes l' 0) (λ l' kept'. largerPart l.counts kept' (get_or l.classes l' 0) l' (get_or l.next l' 0)) l.fn.kept l.n l.kept l.l
-
-abbrev pub decreases-loop-l : goal.decreases-loop-l
-decreases-loop-l l = l.n - l.l

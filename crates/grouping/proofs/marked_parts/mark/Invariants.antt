@@ -7,6 +7,3 @@ use Rattle.grouping.proofs.marked_parts.mark.Given as goal
 
 abbrev pub invariant-loop-l : goal.invariant-loop-l
 invariant-loop-l l = Labelling (λ l'. l') (λ l' _. markOf (get_or l.next l' 0) (get_or l.kept (get_or l.classes l' 0) 0)) l.fn.marks l.n l.marks l.l
-
-abbrev pub decreases-loop-l : goal.decreases-loop-l
-decreases-loop-l l = l.n - l.l

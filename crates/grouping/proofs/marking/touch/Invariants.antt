@@ -5,6 +5,3 @@ use Rattle.grouping.proofs.marking.touch.Given as goal
 
 abbrev pub invariant-loop-l : goal.invariant-loop-l
 invariant-loop-l l = Touching l.table l.marks l.fn.touched l.touched l.l
-
-abbrev pub decreases-loop-l : goal.decreases-loop-l
-decreases-loop-l l = l.last + 1 - l.l

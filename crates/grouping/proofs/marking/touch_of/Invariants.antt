@@ -7,6 +7,3 @@ use Rattle.grouping.proofs.marking.touch_of.Given as goal
 
 abbrev pub invariant-loop-f : goal.invariant-loop-f
 invariant-loop-f l = any (isMarked l.table l.marks 1) l.f (l.end - l.f) ≡ any (isMarked l.table l.marks 1) l.first (l.end - l.first)
-
-abbrev pub decreases-loop-f : goal.decreases-loop-f
-decreases-loop-f l = l.end - l.f

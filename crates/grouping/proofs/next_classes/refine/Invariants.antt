@@ -5,6 +5,3 @@ use Rattle.grouping.proofs.next_classes.refine.Given as goal
 
 abbrev pub invariant-loop-l : goal.invariant-loop-l
 invariant-loop-l l = Refining l.table l.classes l.next l.last l.l
-
-abbrev pub decreases-loop-l : goal.decreases-loop-l
-decreases-loop-l l = l.last + 1 - l.l

@@ -9,6 +9,3 @@ use Rattle.grouping.proofs.parting.are_parted_by.Given as goal
 abbrev pub invariant-loop-f : goal.invariant-loop-f
 invariant-loop-f l = any (λ f. isMarked l.table l.marks l.least f && partsAny l.table l.classes f l.first l.end) l.f (l.last - l.f)
     ≡ any (λ f. isMarked l.table l.marks l.least f && partsAny l.table l.classes f l.first l.end) l.initial.f (l.last - l.initial.f)
-
-abbrev pub decreases-loop-f : goal.decreases-loop-f
-decreases-loop-f l = l.last - l.f

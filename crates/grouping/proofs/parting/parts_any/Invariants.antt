@@ -7,6 +7,3 @@ use Rattle.grouping.proofs.parting.parts_any.Given as goal
 
 abbrev pub invariant-loop-g : goal.invariant-loop-g
 invariant-loop-g l = any (parts_in l.table l.classes l.f) l.g (l.end - l.g) ≡ partsAny l.table l.classes l.f l.first l.end
-
-abbrev pub decreases-loop-g : goal.decreases-loop-g
-decreases-loop-g l = l.end - l.g

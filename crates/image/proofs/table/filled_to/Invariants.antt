@@ -6,6 +6,3 @@ use Rattle.image.proofs.table.filled_to.Given as goal
 
 abbrev pub invariant-loop-j : goal.invariant-loop-j
 invariant-loop-j l = (l.j ≤ l.end) × (filled l.table l.f l.j (l.end - l.j) ≡ filled l.table l.f l.k (l.end - l.k))
-
-abbrev pub decreases-loop-j : goal.decreases-loop-j
-decreases-loop-j l = l.end - l.j

@@ -8,6 +8,3 @@ use Rattle.minimising.proofs.group_numbers.count_kept.Given as goal
 
 abbrev pub invariant-loop-f : goal.invariant-loop-f
 invariant-loop-f l = Adding (λ k. pick (isFirst l.classes (field l.table k 1)) 1 0) 1 l.first l.end l.total l.f
-
-abbrev pub decreases-loop-f : goal.decreases-loop-f
-decreases-loop-f l = l.end - l.f

@@ -5,6 +5,3 @@ use Rattle.minimising.proofs.group_numbers.number_groups.Given as goal
 
 abbrev pub invariant-loop-l : goal.invariant-loop-l
 invariant-loop-l l = NumberTurn l.classes l.numbers l.n l.groups l.l
-
-abbrev pub decreases-loop-l : goal.decreases-loop-l
-decreases-loop-l l = l.n - l.l

@@ -6,6 +6,3 @@ use Rattle.minimising.proofs.group_text.put_pieces.Given as goal
 
 abbrev pub invariant-loop-f : goal.invariant-loop-f
 invariant-loop-f l = Rest (piece l.table l.classes) l.initial.out l.out l.place l.n l.f
-
-abbrev pub decreases-loop-f : goal.decreases-loop-f
-decreases-loop-f l = l.n - l.f

@@ -7,6 +7,3 @@ use Rattle.output.proofs.output_lines.put_codes.Given as goal
 
 abbrev pub invariant-loop-i : goal.invariant-loop-i
 invariant-loop-i l = Pieces (line_at l.codes) 3 l.initial.out l.out 0 (length l.codes) l.i
-
-abbrev pub decreases-loop-i : goal.decreases-loop-i
-decreases-loop-i l = length l.codes - l.i

@@ -7,6 +7,3 @@ use Rattle.rows.proofs.listing.fill_listing.Given as goal
 
 abbrev pub invariant-loop-l : goal.invariant-loop-l
 invariant-loop-l l = FillingRows (tableImage l.table) (lastLabel l.table + 1) l.initial.firsts l.initial.counts l.firsts l.counts l.l
-
-abbrev pub decreases-loop-l : goal.decreases-loop-l
-decreases-loop-l l = l.last + 1 - l.l

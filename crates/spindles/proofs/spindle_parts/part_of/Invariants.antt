@@ -6,6 +6,3 @@ use Rattle.spindles.proofs.spindle_parts.part_of.Given as goal
 
 abbrev pub invariant-loop-i : goal.invariant-loop-i
 invariant-loop-i l = Filled (λ (j : ℕ). get_or l.states (130 * l.spindle + j) 0) 0 l.part 130 l.i
-
-abbrev pub decreases-loop-i : goal.decreases-loop-i
-decreases-loop-i l = 130 - l.i

@@ -6,6 +6,3 @@ use Rattle.state.proofs.state_bytes.binding_of.Given as goal
 
 abbrev pub invariant-loop-k : goal.invariant-loop-k
 invariant-loop-k l = Filled (servingIn l.bytes) 0 l.binding 16 l.k
-
-abbrev pub decreases-loop-k : goal.decreases-loop-k
-decreases-loop-k l = 16 - l.k

@@ -6,6 +6,3 @@ use Rattle.state.proofs.state_bytes.places_from.Given as goal
 
 abbrev pub invariant-loop-k : goal.invariant-loop-k
 invariant-loop-k l = Filled (λ (j : ℕ). get_or l.bytes (l.from + j) 0) 0 l.places 32 l.k
-
-abbrev pub decreases-loop-k : goal.decreases-loop-k
-decreases-loop-k l = 32 - l.k

@@ -6,6 +6,3 @@ use Rattle.state.proofs.state_bytes.put_places.Given as goal
 
 abbrev pub invariant-loop-k : goal.invariant-loop-k
 invariant-loop-k l = ValuesFrom (λ (j : ℕ). get_or l.values j 0) l.initial.out l.out l.from 32 l.k
-
-abbrev pub decreases-loop-k : goal.decreases-loop-k
-decreases-loop-k l = 32 - l.k

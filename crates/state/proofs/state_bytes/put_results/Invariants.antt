@@ -6,6 +6,3 @@ use Rattle.state.proofs.state_bytes.put_results.Given as goal
 
 abbrev pub invariant-loop-k : goal.invariant-loop-k
 invariant-loop-k l = ValuesFrom (resultByte l.s) l.fn.out l.out 34 16 l.k
-
-abbrev pub decreases-loop-k : goal.decreases-loop-k
-decreases-loop-k l = 16 - l.k

@@ -7,6 +7,3 @@ use Rattle.state.proofs.state_bytes.results_of.Given as goal
 
 abbrev pub invariant-loop-k : goal.invariant-loop-k
 invariant-loop-k l = Filled (resultIn l.bytes) false l.results 16 l.k
-
-abbrev pub decreases-loop-k : goal.decreases-loop-k
-decreases-loop-k l = 16 - l.k

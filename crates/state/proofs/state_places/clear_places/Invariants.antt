@@ -6,6 +6,3 @@ use Rattle.state.proofs.state_places.clear_places.Given as goal
 
 abbrev pub invariant-loop-k : goal.invariant-loop-k
 invariant-loop-k l = Cleared (state_of l.initial.bytes) (state_of l.bytes) l.k
-
-abbrev pub decreases-loop-k : goal.decreases-loop-k
-decreases-loop-k l = 32 - l.k

@@ -5,6 +5,3 @@ use Rattle.state.proofs.state_results.tidy_bytes.Given as goal
 
 abbrev pub invariant-loop-k : goal.invariant-loop-k
 invariant-loop-k l = Tidied l.fn.bytes l.bytes l.k
-
-abbrev pub decreases-loop-k : goal.decreases-loop-k
-decreases-loop-k l = 16 - l.k

@@ -5,6 +5,3 @@ use Rattle.tables.proofs.preparing.note_rows.Given as goal
 
 abbrev pub invariant-loop-l : goal.invariant-loop-l
 invariant-loop-l l = Notes l.fn.table l.table l.f l.l
-
-abbrev pub decreases-loop-l : goal.decreases-loop-l
-decreases-loop-l l = l.last + 1 - l.l

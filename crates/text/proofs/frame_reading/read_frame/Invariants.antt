@@ -5,6 +5,3 @@ use Rattle.text.proofs.frame_reading.read_frame.Given as goal
 
 abbrev pub invariant-loop-k : goal.invariant-loop-k
 invariant-loop-k l = Stored l.text l.f l.initial.out l.out l.total l.k
-
-abbrev pub decreases-loop-k : goal.decreases-loop-k
-decreases-loop-k l = 10 - l.k

@@ -6,6 +6,3 @@ use Rattle.text.proofs.frame_reading.values_of.Given as goal
 
 abbrev pub invariant-loop-k : goal.invariant-loop-k
 invariant-loop-k l = Filled (value_of l.digits) 0 l.values 11 l.k
-
-abbrev pub decreases-loop-k : goal.decreases-loop-k
-decreases-loop-k l = 11 - l.k

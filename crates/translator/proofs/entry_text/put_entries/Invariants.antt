@@ -7,6 +7,3 @@ use Rattle.translator.proofs.entry_text.put_entries.Given as goal
 
 abbrev pub invariant-loop-k : goal.invariant-loop-k
 invariant-loop-k l = Begun l.records l.begins × Pieces (entryBytes l.records) 10 l.initial.out l.out l.at l.n l.k
-
-abbrev pub decreases-loop-k : goal.decreases-loop-k
-decreases-loop-k l = l.n - l.k

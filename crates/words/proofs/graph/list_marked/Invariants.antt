@@ -7,6 +7,3 @@ use Rattle.words.proofs.graph.list_marked.Given as goal
 
 abbrev pub invariant-loop-v : goal.invariant-loop-v
 invariant-loop-v l = Writing l.marks l.initial.list l.list l.count l.v × (l.v ≤ l.n) × (l.n ≡ length l.marks)
-
-abbrev pub decreases-loop-v : goal.decreases-loop-v
-decreases-loop-v l = l.n - l.v

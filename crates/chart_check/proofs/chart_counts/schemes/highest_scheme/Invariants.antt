@@ -11,6 +11,3 @@ invariant-loop-v l = record {
   all : l.n ≡ size l.records;
   highest : l.highest ≡ highest (scheme l.records) 0 l.v;
 }
-
-abbrev pub decreases-loop-v : goal.decreases-loop-v
-decreases-loop-v l = l.n - l.v

@@ -10,6 +10,3 @@ use Rattle.chart_check.proofs.chart_fields.fields.filled_from.Given as goal
 
 abbrev pub invariant-loop-k : goal.invariant-loop-k
 invariant-loop-k l = (l.k ≤ 10) × (any (λ j. not (eqb (field l.records l.v j) 0)) l.k (10 - l.k) ≡ filledFrom l.records l.v l.i)
-
-abbrev pub decreases-loop-k : goal.decreases-loop-k
-decreases-loop-k l = 10 - l.k

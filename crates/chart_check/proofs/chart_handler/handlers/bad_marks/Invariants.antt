@@ -5,6 +5,3 @@ use Rattle.chart_check.proofs.chart_handler.handlers.bad_marks.Given as goal
 
 abbrev pub invariant-loop-v : goal.invariant-loop-v
 invariant-loop-v l = Marking l.records l.n l.v l.marked
-
-abbrev pub decreases-loop-v : goal.decreases-loop-v
-decreases-loop-v l = l.n - l.v

@@ -7,6 +7,3 @@ use Rattle.chart_check.proofs.chart_handler.handlers.handler_scheme.Given as goa
 
 abbrev pub invariant-loop-v : goal.invariant-loop-v
 invariant-loop-v l = (l.v ≤ l.n) × (l.n ≡ size l.records) × (l.highest ≡ highest (handlerAt l.records) 0 l.v)
-
-abbrev pub decreases-loop-v : goal.decreases-loop-v
-decreases-loop-v l = l.n - l.v

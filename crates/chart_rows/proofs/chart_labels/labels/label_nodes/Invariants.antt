@@ -6,6 +6,3 @@ use Rattle.chart_rows.proofs.chart_labels.labels.label_nodes.Given as goal
 
 abbrev pub invariant-loop-v : goal.invariant-loop-v
 invariant-loop-v l = Labelling l.records l.fn.labels l.labels l.own l.v
-
-abbrev pub decreases-loop-v : goal.decreases-loop-v
-decreases-loop-v l = l.n - l.v

@@ -7,6 +7,3 @@ use Rattle.little_fetch.proofs.little_nodes.tried.any_clash.Given as goal
 
 abbrev pub invariant-loop-u : goal.invariant-loop-u
 invariant-loop-u l = (l.u ≤ l.end) × (any (clashes l.records l.v) l.u (l.end - l.u) ≡ any (clashes l.records l.v) 0 (l.v + 1))
-
-abbrev pub decreases-loop-u : goal.decreases-loop-u
-decreases-loop-u l = l.end - l.u

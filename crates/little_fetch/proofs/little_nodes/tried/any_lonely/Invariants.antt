@@ -8,6 +8,3 @@ use Rattle.little_fetch.proofs.little_nodes.tried.any_lonely.Given as goal
 
 abbrev pub invariant-loop-v : goal.invariant-loop-v
 invariant-loop-v l = (l.v ≤ l.n) × (l.n ≡ size l.records) × (any (lonely l.records) l.v (l.n - l.v) ≡ any (lonely l.records) 0 (size l.records))
-
-abbrev pub decreases-loop-v : goal.decreases-loop-v
-decreases-loop-v l = l.n - l.v

@@ -8,6 +8,3 @@ use Rattle.little_fetch.proofs.little_nodes.tried.has_kind.Given as goal
 
 abbrev pub invariant-loop-u : goal.invariant-loop-u
 invariant-loop-u l = (l.u ≤ l.v) × (any (is l.records l.kind) l.u (l.v - l.u) ≡ has l.records l.kind l.v)
-
-abbrev pub decreases-loop-u : goal.decreases-loop-u
-decreases-loop-u l = l.v - l.u

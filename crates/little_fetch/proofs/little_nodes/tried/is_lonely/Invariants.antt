@@ -9,6 +9,3 @@ use Rattle.little_fetch.proofs.little_nodes.tried.is_lonely.Given as goal
 abbrev pub invariant-loop-u : goal.invariant-loop-u
 invariant-loop-u l = (l.u ≤ l.n) × (l.n ≡ size l.records) ×
     (any (leadsOther l.records l.v) l.u (l.n - l.u) ≡ any (leadsOther l.records l.v) 0 (size l.records))
-
-abbrev pub decreases-loop-u : goal.decreases-loop-u
-decreases-loop-u l = l.n - l.u

@@ -6,6 +6,3 @@ use Rattle.places.proofs.chains.calls.note_calls.Given as goal
 
 abbrev pub invariant-loop-v : goal.invariant-loop-v
 invariant-loop-v l = (l.v ≤ l.n) × (l.masks ≡ callMasks l.records l.v)
-
-abbrev pub decreases-loop-v : goal.decreases-loop-v
-decreases-loop-v l = l.n - l.v

@@ -6,6 +6,3 @@ use Rattle.places.proofs.chains.chain.called_by.Given as goal
 
 abbrev pub invariant-loop-g : goal.invariant-loop-g
 invariant-loop-g l = (l.g ≤ 17) × (l.called ≡ calledBy l.masks l.set l.g)
-
-abbrev pub decreases-loop-g : goal.decreases-loop-g
-decreases-loop-g l = 17 - l.g

@@ -5,6 +5,3 @@ use Rattle.places.proofs.chains.chain.longest.Given as goal
 
 abbrev pub invariant-loop-schemes : goal.invariant-loop-schemes
 invariant-loop-schemes l = MaskRound l.masks l.ends l.schemes
-
-abbrev pub decreases-loop-schemes : goal.decreases-loop-schemes
-decreases-loop-schemes l = 17 - l.schemes

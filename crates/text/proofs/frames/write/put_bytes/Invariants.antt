@@ -6,6 +6,3 @@ use Rattle.text.proofs.frames.write.put_bytes.Given as goal
 
 abbrev pub invariant-loop-k : goal.invariant-loop-k
 invariant-loop-k l = ValuesFrom (λ i. get_or l.bytes i 0) l.initial.out l.out l.at (length l.bytes) l.k
-
-abbrev pub decreases-loop-k : goal.decreases-loop-k
-decreases-loop-k l = length l.bytes - l.k

@@ -5,6 +5,3 @@ use Rattle.text.proofs.frames.write.put_frame.Given as goal
 
 abbrev pub invariant-loop-k : goal.invariant-loop-k
 invariant-loop-k l = Digits l.initial.out l.bytes l.out l.at l.sum l.k
-
-abbrev pub decreases-loop-k : goal.decreases-loop-k
-decreases-loop-k l = l.n - l.k

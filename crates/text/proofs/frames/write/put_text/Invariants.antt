@@ -6,6 +6,3 @@ use Rattle.text.proofs.frames.write.put_text.Given as goal
 
 abbrev pub invariant-loop-f : goal.invariant-loop-f
 invariant-loop-f l = Pieces (frame_of l.bytes) 23 l.initial.out l.out l.at l.n l.f
-
-abbrev pub decreases-loop-f : goal.decreases-loop-f
-decreases-loop-f l = l.n - l.f

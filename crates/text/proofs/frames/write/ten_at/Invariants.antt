@@ -6,6 +6,3 @@ use Rattle.text.proofs.frames.write.ten_at.Given as goal
 
 abbrev pub invariant-loop-k : goal.invariant-loop-k
 invariant-loop-k l = Filled (field l.bytes l.f) 0 l.ten 10 l.k
-
-abbrev pub decreases-loop-k : goal.decreases-loop-k
-decreases-loop-k l = 10 - l.k

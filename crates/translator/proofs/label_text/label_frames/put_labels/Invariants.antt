@@ -6,6 +6,3 @@ use Rattle.translator.proofs.label_text.label_frames.put_labels.Given as goal
 
 abbrev pub invariant-loop-v : goal.invariant-loop-v
 invariant-loop-v l = Appended (nodeLabelBytes l.records) l.initial.out l.out l.at l.place l.n l.v
-
-abbrev pub decreases-loop-v : goal.decreases-loop-v
-decreases-loop-v l = l.n - l.v

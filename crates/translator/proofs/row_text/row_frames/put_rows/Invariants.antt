@@ -6,6 +6,3 @@ use Rattle.translator.proofs.row_text.row_frames.put_rows.Given as goal
 
 abbrev pub invariant-loop-v : goal.invariant-loop-v
 invariant-loop-v l = Appended (nodeRowsBytes l.records) l.initial.out l.out l.at l.place l.n l.v
-
-abbrev pub decreases-loop-v : goal.decreases-loop-v
-decreases-loop-v l = l.n - l.v
