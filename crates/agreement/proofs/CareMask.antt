@@ -15,11 +15,11 @@ use Rattle.rows.specs.Choices.{Best}
 use Rattle.rows.proofs.BestRows.{best-is}
 use Rattle.state.specs.declared.State.{State}
 use Rattle.state.specs.State.{label_at}
-use Rattle.ticks.specs.Tick.{calledBit, choice}
+use Rattle.ticks.specs.Tick.{calledBit}
 use Rattle.cause.specs.Cause.{Cause}
 use Rattle.cause.specs.Laws.{takenRow, Explains}
 use Rattle.cause.proofs.Leaves.{Goes}
-use Rattle.cause.proofs.Explained.{TakenApart, given, row_is, taken_is, goes}
+use Rattle.cause.proofs.Explained.{TakenApart, given, taken_is, goes}
 use Rattle.cause.proofs.Explained as explained
 use Rattle.agreement.proofs.OnlyRow.{Only, image, only-translated}
 

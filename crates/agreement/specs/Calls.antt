@@ -16,7 +16,7 @@ use Rattle.runs.specs.Run.{run, GivesRun}
 use Rattle.runs.specs.TickOutcome.{imageTick, GivesTick}
 use Rattle.rebinding.specs.Rebind.{rebind, liveRebind}
 use Rattle.runs.specs.machine.Live.{liveRun, liveTick}
-use Rattle.agreement.specs.Agreement.{RunInput, RunOutput, CallInput, toRun, toRebind, CallOutput, byRun, byRebinding, walkOutputs}
+use Rattle.agreement.specs.Agreement.{RunInput, CallInput, toRun, toRebind, CallOutput, byRun, byRebinding, walkOutputs}
 
 -- a table of the image, as live calls are handed it: prepare succeeded with n bytes, and these are the first n or more of its buffer
 pub data TableOf (image : List ℕ) : List ℕ → Type 0 where

@@ -1,7 +1,7 @@
 -- The cases of the smaller image hold, computed; that 23 does not apply is computed by sizes.
 use Prim.Native.Nat.{ℕ}
 use mathlib.Core.Bool.{Bool}
-use mathlib.Core.Path.{◌≡◌, refl, sym, ◌∙◌, ap}
+use mathlib.Core.Path.{◌≡◌, refl, sym, ap}
 use mathlib.Core.List.{List}
 use lib.Count.{ones, ones_in}
 use lib.ListN.{replicate}

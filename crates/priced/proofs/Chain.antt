@@ -14,7 +14,7 @@ use Rattle.prices.specs.Prices.{price}
 use Rattle.prices.specs.priced_runs.PricedRun.{tooManyWords, PricedOutcome, pricedRun}
 use Rattle.prices.proofs.priced_runs.Pricing.{does-all, by-the-masks}
 use Rattle.prices.proofs.priced_runs.EntryCases.{none-state, many-refused}
-use Rattle.agreement.specs.Agreement.{RunInput, outputOf, CallInput, toRun, toRebind, CallOutput, byRun, byRebinding}
+use Rattle.agreement.specs.Agreement.{RunInput, outputOf, toRun, toRebind, CallOutput, byRun, byRebinding}
 use Rattle.agreement.specs.Agreement as agreed
 use Rattle.priced.specs.Demand.{PricedInput, unpriced, toPricedRun, PricedOutput, byUnpriced, byPricedRun, pricedOutputs, refusedMany}
 use Rattle.priced.proofs.AsRuns.{noWords, asRun, withPrices, AllSucceed}

@@ -18,7 +18,7 @@ use Rattle.rebinding.specs.Rebind.{rebind}
 use Rattle.prices.specs.Prices.{price}
 use Rattle.prices.specs.priced_runs.PricedRun.{tooManyWords, PricedOutcome, pricedRun}
 use Rattle.prices.proofs.priced_runs.Pricing.{no-price}
-use Rattle.agreement.specs.Agreement.{RunInput, RunOutput, outputOf, CallInput, CallOutput, short, bound, expected, Agreement}
+use Rattle.agreement.specs.Agreement.{RunInput, RunOutput, outputOf, CallInput, short, bound, expected, Agreement}
 use Rattle.agreement.specs.Agreement as agreed
 use Rattle.agreement.proofs.Bounds.{bound-le}
 use Rattle.agreement.proofs.Demand.{theorem}

@@ -7,7 +7,7 @@ use Rattle.state.specs.declared.State.{State}
 use Rattle.state.specs.State.{freshState}
 use Rattle.runs.specs.Run.{run}
 use Rattle.rebinding.specs.Rebind.{rebind}
-use Rattle.prices.specs.priced_runs.PricedRun.{PricedOutcome, pricedRun}
+use Rattle.prices.specs.priced_runs.PricedRun.{pricedRun}
 use Rattle.agreement.specs.Agreement.{CallInput, toRun, toRebind}
 use Rattle.agreement.proofs.OneCall.{handedFor, stateAfter, Like, call-like}
 use Rattle.priced.specs.Demand.{PricedInput, unpriced, toPricedRun, PricedOutput, byUnpriced}

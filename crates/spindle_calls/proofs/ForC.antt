@@ -23,7 +23,6 @@ use Rattle.spindles.specs.spindle_parts.FourStates.{part_of, statesOf, depthsIn}
 use Rattle.spindles.proofs.spindle_parts.States.{count-is, state-is, depths-are}
 use Rattle.spindles.specs.spindle_places.Calls.{newHead}
 use Rattle.spindles.specs.spindle_places.Calls as calls
-use Rattle.spindles.specs.spindle_places.PlacesBalance.{placesReturned}
 use Rattle.spindle_walks.specs.Walks.{HandsImage, FollowsWalk, OwnWalk}
 use Rattle.spindle_walks.proofs.Walks.{own-walks}
 use Rattle.spindle_calls.specs.ObservedCalls.{ObservedCall, call_of}

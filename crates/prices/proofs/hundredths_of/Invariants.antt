@@ -1,6 +1,5 @@
 -- `prices::hundredths_of` meets its contract: the prices of the ticks before i.
 use Prim.Native.Nat.{◌-◌}
-use lib.ListN.{length}
 use Rattle.prices.proofs.Sums.{SummedTicks}
 use Rattle.prices.proofs.hundredths_of.Given as goal
 

@@ -1,5 +1,5 @@
 // Bytes and frames written into a lent buffer.
-ghost use Rattle.std.specs.Prelude.{◌≡◌, ◌+◌, ◌*◌, ◌≤◌, ◌<◌, length};
+ghost use Rattle.std.specs.Prelude.{◌≡◌, ◌+◌, ◌*◌, ◌≤◌, length};
 ghost use Rattle.words.specs.lists.Sequences.{written};
 ghost use Rattle.text.specs.frames.Frame.{byteText, frameText, tenAt, text_of, size};
 

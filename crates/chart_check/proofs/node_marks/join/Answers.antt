@@ -1,11 +1,10 @@
 -- `chart_check::node_marks::join`: once the list is followed to its end, all are reached.
-use Rattle.std.proofs.Common.{arith, ◌≡◌, ◌≤◌, ◌∙◌, refl, ℕ, get_or, subst}
+use Rattle.std.proofs.Common.{arith, ◌≡◌, ◌∙◌, refl, ℕ, get_or, subst}
 use Rattle.text.specs.frames.Frame.{size}
 use Rattle.charts.specs.inner.Marks.{arcsBy}
 use Rattle.words.proofs.graph.Marking.{joining-first, joining-done}
-use Rattle.words.proofs.graph.Lists.{list-node, list-few, Followed, followed-none, followed-more, followed-closed, joining-more}
-use Rattle.chart_check.specs.node_marks.inner.MarkContracts.{ListedRoom}
-use Rattle.chart_check.proofs.node_marks.MarkCases.{Turn, turn-lent, turn-few, lent-enlisted}
+use Rattle.words.proofs.graph.Lists.{list-node, Followed, followed-none, followed-more, followed-closed, joining-more}
+use Rattle.chart_check.proofs.node_marks.MarkCases.{turn-lent, turn-few, lent-enlisted}
 use Rattle.chart_check.proofs.node_marks.join.Goals as goal
 
 pub loop-i-init : goal.loop-i-init

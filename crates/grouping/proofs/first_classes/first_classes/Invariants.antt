@@ -1,5 +1,5 @@
 -- `grouping::first_classes::first_classes` meets its contract: the classes of the labels before l stand in the buffer.
-use Prim.Native.Nat.{◌+◌, ◌-◌}
+use Prim.Native.Nat.{◌-◌}
 use Rattle.tables.specs.Table.{tableImage}
 use Rattle.grouping.proofs.Rounds.{holdsSame}
 use Rattle.grouping.proofs.TableRounds.{FillingClasses}

@@ -4,7 +4,6 @@ use mathlib.Core.List.{List}
 use Prim.Native.Nat.{ℕ, ◌+◌}
 use lib.Dec.{eqb}
 use mathlib.Core.Bool.{false, not}
-use native.Mathlib.Omega.{arith}
 use Rattle.text.specs.frames.Frame.{size}
 use Rattle.image.specs.Check.{filled, badHandler, badCounts}
 use Rattle.image_check.proofs.PositionCases.{header-kind, header-filled, header-handler, header-counts, header-frames}

@@ -1,4 +1,4 @@
-use Rattle.std.proofs.Common.{rules, subst, List, ℕ, length, take, ◌≡◌}
+use Rattle.std.proofs.Common.{rules, subst, length, take, ◌≡◌}
 use Rattle.std.specs.Io.KnownBytes.{Appends}
 use Rattle.console.specs.Input.{IsFrontOf, AppendsFront}
 use Rattle.console.proofs.Inputs.{of-whole}

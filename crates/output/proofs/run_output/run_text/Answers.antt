@@ -2,7 +2,6 @@
 use native.Mathlib.Omega.{arith}
 use Rattle.output.proofs.output_lines.Printed.{printed-as}
 use Rattle.output.proofs.run_output.Runs.{program-few, output-is}
-use borrow.Author.Rules.{rules}
 use Rattle.output.proofs.run_output.run_text.Goals as goal
 
 pub put_run-requires : goal.put_run-requires

@@ -2,7 +2,6 @@
 use Rattle.std.specs.Prelude.{ℕ, ◌+◌, ◌-◌, ◌≡◌, List}
 use Rattle.words.specs.lists.Pick.{pick}
 use Rattle.text.specs.declared.frames.refusals.TheConstants.{NO_PLACE}
-use Rattle.text.specs.declared.frames.Answer.{Answer}
 use Rattle.text.specs.declared.frames.Answer.TheVariants.{Refused}
 use Rattle.state.specs.Bytes.{state_of}
 use Rattle.runs.specs.declared.TickReport.{TickReport}
